@@ -6,7 +6,7 @@ use Rattle.std.proofs.lemmas.Bool.{cases_lt, lt-ltb, le-ltb, ne_eqb}
 use Rattle.std.proofs.lemmas.List.{take_at, drop_at, take-append-drop, length-append, length-take-le}
 use Rattle.gw_base.specs.declared.tag.Tag.{Tag}
 use Rattle.ber_frame.specs.declared.fault.BerKind.{BerKind}
-use Rattle.ber_frame.specs.declared.fault.BerKind.TheVariants.{Cut, Trailing, Indefinite, LengthTooBig, TooDeep, TagTooBig}
+use Rattle.ber_frame.specs.declared.fault.BerKind.TheVariants.{Cut, Indefinite, LengthTooBig, TagTooBig}
 use Rattle.ber_frame.specs.Head.{number_in, low_bits, AreGroups, IsTagNumber, tag_of, IsIdentifier, IsLengthForm, IsInReach}
 use Rattle.ber_frame.specs.Faults.{IsIdentifierCut, IdentifierFails, IsLengthCut, IsLengthTooBig, LengthFails, AfterIdentifier, HeadFails, IsAllowed, AfterHead}
 use Rattle.ber_frame.specs.Reading.{◌>>=◌, capped, next_digit, groups_at, identifier_at, octets_number, long_length, length_at, allowed_head, head_at}
@@ -134,10 +134,7 @@ number_too_big leading groups rest n (inr l) le =
 pub identifier_fails : (octets : List ℕ) (kind : BerKind) → IdentifierFails octets kind → identifier_at octets ≡ Err kind
 identifier_fails octets Cut h = identifier_cut octets h
 identifier_fails octets TagTooBig h = ap identifier_at h.joined ∙ number_too_big h.leading h.groups h.rest h.number h.is_number h.too_big
-identifier_fails octets Trailing h = absurd h
-identifier_fails octets Indefinite h = absurd h
-identifier_fails octets LengthTooBig h = absurd h
-identifier_fails octets TooDeep h = absurd h
+identifier_fails octets _ h = absurd h
 
 pub record Identified (octets : List ℕ) : Type 0 where
   pub tag : Tag
@@ -360,9 +357,7 @@ length_fails : (tag : Tag) (constructed : Bool) (octets : List ℕ) (kind : BerK
 length_fails tag constructed octets Cut h = rw (length_cut octets h) refl
 length_fails tag constructed octets LengthTooBig h = rw (length_too_big octets h) refl
 length_fails tag constructed octets Indefinite h = indefinite tag constructed octets h
-length_fails tag constructed octets Trailing h = absurd h
-length_fails tag constructed octets TooDeep h = absurd h
-length_fails tag constructed octets TagTooBig h = absurd h
+length_fails tag constructed octets _ h = absurd h
 
 pub head_fails : (octets : List ℕ) (kind : BerKind) → HeadFails octets kind → head_at octets ≡ Err kind
 unfolding head_at

@@ -88,6 +88,5 @@ run_octets-append run last = rw (flat_map-append, append-nil)
 
 -- and a file was appended to at the moment of its last record
 pub last_moment-append : (run : List FiledRecord) (last : FiledRecord) → last_moment (run ++ last ∷ []) ≡ last.moment
-last_moment-append [] last = refl
-last_moment-append (first ∷ []) last = refl
 last_moment-append (first ∷ (next ∷ later)) last = last_moment-append (next ∷ later) last
+last_moment-append _ last = refl

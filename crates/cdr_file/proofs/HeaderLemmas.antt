@@ -2,7 +2,7 @@
 use Rattle.std.proofs.Common.{◌≡◌, ◌≢◌, ℕ, ◌+◌, ◌<◌, ◌≤◌, ◌^◌, List, [], ◌∷◌, ◌++◌, length, take, drop, Bool, true, false, true≢false, if◌then◌else◌, Option, None, Some, refl, ap, sym, subst, ◌∙◌, arith, append_assoc}
 use Rattle.std.specs.Prelude.{◌==◌, ◌&&◌, ◌||◌, not, slice_index, is_some}
 use Rattle.std.proofs.lemmas.Bool.{le-ltb, eq-eqb, ne_eqb}
-use Rattle.std.proofs.lemmas.List.{take_at, drop_at, get_or-drop, length-append}
+use Rattle.std.proofs.lemmas.List.{take_at, drop_at, get_or-drop, length-append, drop-drop}
 use Rattle.byteorder.specs.Endian.{big_bytes, big_number}
 use Rattle.byteorder.specs.Numbers.{big_number-reads_back}
 use Rattle.cdr_file.specs.FileHeader.{IsFileHeader, extends, field_octets, header_with, plain_header, release_octets, with_length}
@@ -13,7 +13,7 @@ use Rattle.cdr_file.specs.Spelling.{AreOctets}
 use Rattle.cdr_file.specs.declared.file_header.FileHeader.{FileHeader}
 use Rattle.cdr_file.proofs.CdrLemmas.{extension_fits, extension_is}
 use Rattle.cdr_file.proofs.FileLemmas.{length-field_octets}
-use Rattle.cdr_file.proofs.NumberLemmas.{drop-twice, high_again, length_of_part, low_again, number_fits, number_from_2, number_from_4, octet_from, octet_past, part_from, past_front, shared_from}
+use Rattle.cdr_file.proofs.NumberLemmas.{high_again, length_of_part, low_again, number_fits, number_from_2, number_from_4, octet_from, octet_past, part_from, past_front, shared_from}
 
 -- What is spelled is read.
 
@@ -79,19 +79,19 @@ parts_again h filter extension rest fits small_filter small_extension =
     let at_48 : drop 48 octets ≡ after_fields = past_front 48 octets (field_octets h) after_fields whole (length-field_octets h fits.address) in
     let filter_count : filter_length octets ≡ length filter =
     ap (λ (o : List ℕ). big_number 2 o) at_48 ∙ big_number-reads_back 2 (length filter) (filter ++ after_filter) small_filter in
-    let at_50 : drop 50 octets ≡ filter ++ after_filter = sym (drop-twice 48 2 octets) ∙ ap (λ (o : List ℕ). drop 2 o) at_48 in
+    let at_50 : drop 50 octets ≡ filter ++ after_filter = sym (drop-drop 2 48 octets) ∙ ap (λ (o : List ℕ). drop 2 o) at_48 in
     let is_filter : take (filter_length octets) (drop 50 octets) ≡ filter =
     ap (λ (o : List ℕ). take (filter_length octets) o) at_50 ∙ take_at filter after_filter (filter_length octets) (sym filter_count) in
     let at_place : drop (extension_place octets) octets ≡ after_filter =
-    sym (drop-twice 50 (filter_length octets) octets) ∙ ap (λ (o : List ℕ). drop (filter_length octets) o) at_50 ∙ drop_at filter after_filter (filter_length octets) (sym filter_count) in
+    sym (drop-drop (filter_length octets) 50 octets) ∙ ap (λ (o : List ℕ). drop (filter_length octets) o) at_50 ∙ drop_at filter after_filter (filter_length octets) (sym filter_count) in
     let extension_count : extension_length octets ≡ length extension =
     ap (λ (o : List ℕ). big_number 2 o) at_place ∙ big_number-reads_back 2 (length extension) (extension ++ rest) small_extension in
     let at_extension : drop (extension_place octets + 2) octets ≡ extension ++ rest =
-    sym (drop-twice (extension_place octets) 2 octets) ∙ ap (λ (o : List ℕ). drop 2 o) at_place in
+    sym (drop-drop 2 (extension_place octets) octets) ∙ ap (λ (o : List ℕ). drop 2 o) at_place in
     let is_extension : take (extension_length octets) (drop (extension_place octets + 2) octets) ≡ extension =
     ap (λ (o : List ℕ). take (extension_length octets) o) at_extension ∙ take_at extension rest (extension_length octets) (sym extension_count) in
     let past : drop (extension_place octets + 2 + extension_length octets) octets ≡ rest =
-    sym (drop-twice (extension_place octets + 2) (extension_length octets) octets) ∙ ap (λ (o : List ℕ). drop (extension_length octets) o) at_extension
+    sym (drop-drop (extension_length octets) (extension_place octets + 2) octets) ∙ ap (λ (o : List ℕ). drop (extension_length octets) o) at_extension
     ∙ drop_at extension rest (extension_length octets) (sym extension_count) in
     record {
       fields = ap fields_in whole ∙ fields_again h after_fields fits;
@@ -233,15 +233,12 @@ low_is octets fit =
     (fit (extension_end octets + one_if (is_seven 8 octets)))
 
 one_of : (a b : Bool) → one_if a + one_if b ≢ 0 → a || b ≡ true
-one_of true b some = refl
-one_of false true some = refl
 one_of false false some = absurd (some refl)
+one_of _ _ some = refl
 
 extends_by : (e a b : Bool) (x y : ℕ) → (e ≡ true → a || b ≡ true) → is_some (extension_if (e && a) x) || is_some (extension_if (e && b) y) ≡ e
-extends_by false a b x y some = refl
-extends_by true true b x y some = refl
-extends_by true false true x y some = refl
 extends_by true false false x y some = absurd (true≢false (sym (some refl)))
+extends_by _ _ _ x y some = refl
 
 -- one is there where octets follow the private extension
 pub extends_is : (octets : List ℕ) → HasHeader octets → extends (header_in octets) ≡ extends_in octets

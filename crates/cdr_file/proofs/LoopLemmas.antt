@@ -1,5 +1,5 @@
 -- Reading CDRs one after the other.
-use Rattle.std.proofs.Common.{◌≡◌, ℕ, zero, suc, ◌+◌, ◌-◌, ◌<◌, ◌≤◌, Bool, true, false, List, [], ◌∷◌, ◌++◌, length, drop, Option, Some, None, Result, Ok, Err, refl, ap, sym, ◌∙◌, arith, append_assoc}
+use Rattle.std.proofs.Common.{◌≡◌, ℕ, suc, ◌+◌, ◌-◌, ◌<◌, ◌≤◌, Bool, true, false, List, [], ◌∷◌, ◌++◌, length, drop, Option, Some, None, Result, Ok, Err, refl, ap, sym, ◌∙◌, arith, append_assoc}
 use Rattle.std.specs.Prelude.{◌==◌}
 use Rattle.std.proofs.lemmas.Bool.{eqb-true}
 use Rattle.std.proofs.lemmas.List.{append-nil, length-drop}
@@ -24,8 +24,6 @@ one_more cdrs cdr (Err fault) = refl
 -- more CDRs than as many as octets need not be looked for
 enough : (extends : Bool) (m n place : ℕ) (octets : List ℕ) → length octets ≤ m → length octets ≤ n → cdrs_up_to extends m place octets ≡ cdrs_up_to extends n place octets
 enough extends m n place [] in_m in_n = none_is extends m place ∙ sym (none_is extends n place)
-enough extends zero n place (octet ∷ octets) in_m in_n = absurd (omega arith)
-enough extends (suc m) zero place (octet ∷ octets) in_m in_n = absurd (omega arith)
 enough extends (suc m) (suc n) place (octet ∷ octets) in_m in_n =
     let all : List ℕ = octet ∷ octets in
     let less : length (drop (cdr_end extends all) all) ≤ length octets = omega (arith, length-drop (cdr_end extends all) all) in
@@ -33,6 +31,7 @@ enough extends (suc m) (suc n) place (octet ∷ octets) in_m in_n =
     ∙ ap (λ (read : Result (List Cdr) FileFault). unless (cdr_fault extends place all) (in_front (cdr_in extends all) read))
     (enough extends m n (place + cdr_end extends all) (drop (cdr_end extends all) all) (omega arith) (omega arith))
     ∙ sym (step_is extends n place all (omega arith))
+enough extends _ _ place (octet ∷ octets) in_m in_n = absurd (omega arith)
 
 from_step : (extends : Bool) (place : ℕ) (octets : List ℕ) → 0 < length octets →
     cdrs_from extends place octets ≡ unless (cdr_fault extends place octets) (in_front (cdr_in extends octets) (cdrs_from extends (place + cdr_end extends octets) (drop (cdr_end extends octets) octets)))

@@ -1,7 +1,7 @@
 -- Octets, and the numbers and lists that stand in them.
 use Rattle.std.proofs.Common.{◌≡◌, ℕ, zero, suc, ◌+◌, ◌/◌, ◌%◌, ◌<◌, ◌≤◌, ◌^◌, List, [], ◌∷◌, ◌++◌, length, take, drop, get_or, refl, ap, sym, ◌∙◌, arith}
 use Rattle.std.specs.Prelude.{slice_index}
-use Rattle.std.proofs.lemmas.List.{drop_at, take-append-drop, length-take, length-drop}
+use Rattle.std.proofs.lemmas.List.{drop_at, take-append-drop, length-take, length-drop, drop-drop}
 use Rattle.std.proofs.lemmas.Nat.{be_bytes_2, be_bytes_4}
 use Rattle.byteorder.specs.Endian.{big_bytes, big_number}
 use Rattle.byteorder.specs.Numbers.{big_from-lt}
@@ -11,16 +11,8 @@ use Rattle.cdr_file.specs.Spelling.{AreOctets}
 
 -- octets past a place are octets
 pub AreOctets-drop : (n : ℕ) (octets : List ℕ) → AreOctets octets → AreOctets (drop n octets)
-AreOctets-drop zero octets fit = fit
-AreOctets-drop (suc n) [] fit = fit
 AreOctets-drop (suc n) (octet ∷ octets) fit = AreOctets-drop n octets (λ k. fit (suc k))
-
--- octets past a place, and past another from there on
-pub drop-twice : (n m : ℕ) (octets : List ℕ) → drop m (drop n octets) ≡ drop (n + m) octets
-drop-twice zero m octets = let e : 0 + m ≡ m = omega arith in rw e refl
-drop-twice (suc n) zero [] = let e : suc n + 0 ≡ suc n = omega arith in rw e refl
-drop-twice (suc n) (suc m) [] = let e : suc n + suc m ≡ suc (n + suc m) = omega arith in rw e refl
-drop-twice (suc n) m (octet ∷ octets) = let e : suc n + m ≡ suc (n + m) = omega arith in rw e (drop-twice n m octets)
+AreOctets-drop _ _ fit = fit
 
 -- what follows a front of so many octets
 pub past_front : (place : ℕ) (octets front back : List ℕ) → octets ≡ front ++ back → length front ≡ place → drop place octets ≡ back
@@ -28,10 +20,6 @@ past_front place octets front back is long = ap (λ (o : List ℕ). drop place o
 
 -- octets are those of the number that they begin with, and what follows them
 pub number_front_4 : (octets : List ℕ) → AreOctets octets → 4 ≤ length octets → octets ≡ big_bytes 4 (big_number 4 octets) ++ drop 4 octets
-number_front_4 [] fit long = absurd (omega arith)
-number_front_4 (a ∷ []) fit long = absurd (omega arith)
-number_front_4 (a ∷ b ∷ []) fit long = absurd (omega arith)
-number_front_4 (a ∷ b ∷ c ∷ []) fit long = absurd (omega arith)
 number_front_4 (a ∷ b ∷ c ∷ d ∷ rest) fit long =
     ap (λ (front : List ℕ). front ++ rest)
     (sym (be_bytes_4 (a ∷ b ∷ c ∷ d ∷ []) (big_number 4 (a ∷ b ∷ c ∷ d ∷ [])) refl (four a b c d rest fit) (omega arith)))
@@ -42,10 +30,9 @@ number_front_4 (a ∷ b ∷ c ∷ d ∷ rest) fit long =
     four a b c d rest fit (suc (suc zero)) = fit 2
     four a b c d rest fit (suc (suc (suc zero))) = fit 3
     four a b c d rest fit (suc (suc (suc (suc k)))) = omega arith
+number_front_4 _ fit long = absurd (omega arith)
 
 pub number_front_2 : (octets : List ℕ) → AreOctets octets → 2 ≤ length octets → octets ≡ big_bytes 2 (big_number 2 octets) ++ drop 2 octets
-number_front_2 [] fit long = absurd (omega arith)
-number_front_2 (a ∷ []) fit long = absurd (omega arith)
 number_front_2 (a ∷ b ∷ rest) fit long =
     ap (λ (front : List ℕ). front ++ rest)
     (sym (be_bytes_2 (a ∷ b ∷ []) (big_number 2 (a ∷ b ∷ [])) refl (two a b rest fit) (omega arith)))
@@ -54,25 +41,26 @@ number_front_2 (a ∷ b ∷ rest) fit long =
     two a b rest fit zero = fit 0
     two a b rest fit (suc zero) = fit 1
     two a b rest fit (suc (suc k)) = omega arith
+number_front_2 _ fit long = absurd (omega arith)
 
 -- the same from a place on
 pub number_from_4 : (place : ℕ) (octets : List ℕ) → AreOctets octets → place + 4 ≤ length octets →
     drop place octets ≡ big_bytes 4 (number_at 4 place octets) ++ drop (place + 4) octets
 number_from_4 place octets fit long =
     number_front_4 (drop place octets) (AreOctets-drop place octets fit) (omega (arith, length-drop place octets))
-    ∙ ap (λ (rest : List ℕ). big_bytes 4 (number_at 4 place octets) ++ rest) (drop-twice place 4 octets)
+    ∙ ap (λ (rest : List ℕ). big_bytes 4 (number_at 4 place octets) ++ rest) (drop-drop 4 place octets)
 
 pub number_from_2 : (place : ℕ) (octets : List ℕ) → AreOctets octets → place + 2 ≤ length octets →
     drop place octets ≡ big_bytes 2 (number_at 2 place octets) ++ drop (place + 2) octets
 number_from_2 place octets fit long =
     number_front_2 (drop place octets) (AreOctets-drop place octets fit) (omega (arith, length-drop place octets))
-    ∙ ap (λ (rest : List ℕ). big_bytes 2 (number_at 2 place octets) ++ rest) (drop-twice place 2 octets)
+    ∙ ap (λ (rest : List ℕ). big_bytes 2 (number_at 2 place octets) ++ rest) (drop-drop 2 place octets)
 
 -- so many octets from a place on, and what follows them
 pub part_from : (place count : ℕ) (octets : List ℕ) → drop place octets ≡ take count (drop place octets) ++ drop (place + count) octets
 part_from place count octets =
     sym (take-append-drop count (drop place octets))
-    ∙ ap (λ (rest : List ℕ). take count (drop place octets) ++ rest) (drop-twice place count octets)
+    ∙ ap (λ (rest : List ℕ). take count (drop place octets) ++ rest) (drop-drop count place octets)
 
 pub length_of_part : (place count : ℕ) (octets : List ℕ) → place + count ≤ length octets → length (take count (drop place octets)) ≡ count
 length_of_part place count octets long = omega (arith, length-take count (drop place octets), length-drop place octets)

@@ -1,8 +1,8 @@
 -- A file is read exactly where octets spell it.
-use Rattle.std.proofs.Common.{◌≡◌, ℕ, ◌+◌, Bool, true, false, not, List, ◌++◌, length, drop, Option, None, Result, Ok, Err, refl, ap, sym, subst, ◌∙◌, arith, append_assoc}
+use Rattle.std.proofs.Common.{◌≡◌, ℕ, ◌+◌, Bool, true, false, List, ◌++◌, length, drop, Option, None, Result, Ok, Err, refl, ap, sym, subst, ◌∙◌, arith, append_assoc}
 use Rattle.std.specs.List.{flat_map}
 use Rattle.std.specs.Prelude.{◌==◌, ◌||◌}
-use Rattle.std.proofs.lemmas.Bool.{eq-eqb, eqb-true, ltb-false}
+use Rattle.std.proofs.lemmas.Bool.{eq-eqb, eqb-true, ltb-false, not-false}
 use Rattle.std.proofs.lemmas.List.{drop_at, length-append}
 use Rattle.cdr_file.specs.CdrHeader.{AreCdrs, spelled_cdr}
 use Rattle.cdr_file.specs.FileHeader.{IsFileHeader, extends, header_with, plain_header, release_octets}
@@ -15,10 +15,6 @@ use Rattle.cdr_file.specs.declared.file_header.FileHeader.{FileHeader}
 use Rattle.cdr_file.proofs.CdrLemmas.{cdrs_again, cdrs_are, no_fault, read_is}
 use Rattle.cdr_file.proofs.HeaderLemmas.{Extended, Parts, bare, extended_by, extends_is, header_fits, header_is, length-plain_header, no_header_fault, parts_again, releases_count}
 use Rattle.cdr_file.proofs.NumberLemmas.{AreOctets-drop, length_of_part, number_fits}
-
-not_false : (b : Bool) → not b ≡ false → b ≡ true
-not_false true e = refl
-not_false false e = absurd cc
 
 -- What is spelled is read.
 
@@ -87,11 +83,11 @@ has_header octets none =
     let bounds = neither _ _ header.0 in
     record {
       least = ltb-false _ _ short.0;
-      stated = eqb-true _ _ (not_false _ whole.0);
+      stated = eqb-true _ _ (not-false _ whole.0);
       from = ltb-false _ _ bounds.0;
       within = ltb-false _ _ bounds.1;
       filter = ltb-false _ _ filter.0;
-      extension = eqb-true _ _ (not_false _ extension.0);
+      extension = eqb-true _ _ (not-false _ extension.0);
     }
   where
     neither : (a b : Bool) → a || b ≡ false → (a ≡ false) × (b ≡ false)
@@ -111,7 +107,7 @@ counted_is octets file (Ok cdrs) e =
     let all = read_is (first_fault (count_tests octets cdrs)) (Ok (file_with octets cdrs)) file e in
     let count = no_fault _ _ _ all.0 in
     let same : file_with octets cdrs ≡ file = inside (file_with octets cdrs) file all.1 in
-    record { cdrs = cdrs; were = refl; count = eqb-true _ _ (not_false _ count.0); same = same }
+    record { cdrs = cdrs; were = refl; count = eqb-true _ _ (not-false _ count.0); same = same }
   where
     inside : (x y : CdrFile) → (let r : Result CdrFile FileFault = Ok x in r) ≡ Ok y → x ≡ y
     inside x y e = cc

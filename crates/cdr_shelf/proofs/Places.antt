@@ -1,8 +1,8 @@
 -- Places of unsealed files: empty ones more, and how many are taken.
-use Rattle.std.proofs.Common.{◌≡◌, ◌≤◌, ℕ, zero, suc, ◌+◌, Bool, true, false, List, [], ◌∷◌, ◌++◌, length, map, None, Some, get_or, sum_by, refl, arith}
+use Rattle.std.proofs.Common.{◌≡◌, ◌≤◌, ℕ, zero, suc, ◌+◌, Bool, false, List, [], ◌∷◌, ◌++◌, length, map, None, Some, get_or, sum_by, refl, arith}
 use Rattle.std.proofs.lemmas.List.Sums.{sum_by-append}
 use Rattle.area_disk.specs.declared.plan.Outcome3.{Outcome3}
-use Rattle.area_disk.specs.declared.plan.Outcome3.TheVariants.{Old, New, Rot}
+use Rattle.area_disk.specs.declared.plan.Outcome3.TheVariants.{Old}
 use Rattle.cdr_shelf.specs.Files.{Unsealed, UnsealedFile}
 use Rattle.cdr_shelf.specs.Holding.{is_there}
 use Rattle.cdr_shelf.specs.Steps.{left_by, left_where}
@@ -15,10 +15,8 @@ get_or-none (p ∷ places) zero = refl
 get_or-none (p ∷ places) (suc k) = get_or-none places k
 
 is_there-left_where : (b : Bool) (outcome : Outcome3) (f : UnsealedFile) → is_there (left_where b outcome f) ≤ 1
-is_there-left_where true outcome f = omega arith
 is_there-left_where false Old f = omega arith
-is_there-left_where false New f = omega arith
-is_there-left_where false Rot f = omega arith
+is_there-left_where _ _ f = omega arith
 
 is_there-left_by : (outcome : Outcome3) (place : Unsealed) → is_there (left_by outcome place) ≤ is_there place
 is_there-left_by outcome None = omega arith

@@ -108,10 +108,8 @@ both_pass p q r same (key ∷ keys) = by_tests (q key) (p key) refl (same key) (
     by_tests false b is e rest = rw e rest
 
 one_of_more : (a b c : Bool) → not (a && (b || (c || false))) ≡ (not (a && b) && not (a && c))
-one_of_more true true c = refl
 one_of_more true false true = refl
-one_of_more true false false = refl
-one_of_more false b c = refl
+one_of_more _ _ _ = refl
 
 pub next_named : (n : NodeId) (x : ℕ) (xs : List ℕ) (keys : List HeldKey)
     → filter (λ (key : HeldKey). stays_held (Seal n x) key) (filter (λ (key : HeldKey). stays_held (Release n xs) key) keys) ≡ filter (λ (key : HeldKey). stays_held (Release n (xs ++ x ∷ [])) key) keys

@@ -5,7 +5,7 @@ use Rattle.std.proofs.lemmas.List.{length-map}
 use Rattle.std.proofs.lemmas.List.Sums.{count_by-le-length, length-filter}
 use Rattle.gw_base.specs.declared.held.HeldKey.{HeldKey}
 use Rattle.gw_base.specs.declared.history.HistoryAct.{HistoryAct}
-use Rattle.gw_base.specs.declared.history.HistoryAct.TheVariants.{Start, Path, File, Hold, Seal, Release, Cancel, Tick, Close}
+use Rattle.gw_base.specs.declared.history.HistoryAct.TheVariants.{Start}
 use Rattle.gw_base.specs.declared.history.HistoryEntry.{HistoryEntry}
 use Rattle.gw_base.specs.HeldKeys.{held_by}
 use Rattle.gw_base.specs.History.{due_after}
@@ -93,14 +93,7 @@ left_free b keys firm live sum t size held promised result is which count owed l
 
 one_at_most : (act : HistoryAct) → length (held_by act []) ≤ 1
 one_at_most Start = omega arith
-one_at_most (Path n port counter) = omega arith
-one_at_most (File n x packet) = omega arith
-one_at_most (Hold n x packet) = omega arith
-one_at_most (Seal n x) = omega arith
-one_at_most (Release n xs) = omega arith
-one_at_most (Cancel n xs) = omega arith
-one_at_most Tick = omega arith
-one_at_most Close = omega arith
+one_at_most _ = omega arith
 
 pub length-in_order : (more keys : List HeldKey) → length (keys_in_order more keys) ≡ length keys + length more
 length-in_order [] keys = omega arith

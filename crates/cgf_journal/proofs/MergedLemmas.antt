@@ -12,6 +12,7 @@ use Rattle.cgf_journal.specs.Sorted.{keys_of}
 use Rattle.cgf_journal.specs.declared.sorted.SortedKeys.{SortedKeys}
 use Rattle.cgf_journal.proofs.Passings.{passing_all}
 use Rattle.cgf_journal.proofs.Ranks.{same_node}
+use Rattle.cgf_journal.proofs.KeysLemmas.{one}
 
 -- ---- which key comes next
 
@@ -159,17 +160,14 @@ length-merged r (a ∷ ks) ls = from (length-merged r ks) ls
 add-zero : (n : ℕ) → n + 0 ≡ n
 add-zero n = omega arith
 
-abbrev unit : Bool → ℕ
-unit b = if b then 1 else 0
-
 abbrev weight : (HeldKey → Bool) → Bool → ℕ → KeptKey → ℕ
-weight p s r kept = if counts s r kept then unit (p (key_of kept)) else 0
+weight p s r kept = if counts s r kept then one (p (key_of kept)) else 0
 
 pub amount-cons : (p : HeldKey → Bool) (s : Bool) (r : ℕ) (kept : KeptKey) (keys : List KeptKey) → passing p (counted_keys s r (kept ∷ keys)) ≡ weight p s r kept + passing p (counted_keys s r keys)
 amount-cons p s r kept keys = by_count (counts s r kept)
   where
     by_count : (b : Bool) → passing p (map key_of (cond b (kept ∷ filter (λ (k : KeptKey). counts s r k) keys) (filter (λ (k : KeptKey). counts s r k) keys)))
-        ≡ (if b then unit (p (key_of kept)) else 0) + passing p (counted_keys s r keys)
+        ≡ (if b then one (p (key_of kept)) else 0) + passing p (counted_keys s r keys)
     by_count true = refl
     by_count false = sym (zero-add (passing p (counted_keys s r keys)))
 
@@ -192,13 +190,13 @@ count-joined false r a b = refl
 
 weight-joined : (p : HeldKey → Bool) (s : Bool) (r : ℕ) (a b : KeptKey) → key_of a ≡ key_of b → (counts s r a ≡ true → counts s r b ≡ true → ⊥) → weight p s r (joined_key r a b) ≡ weight p s r a + weight p s r b
 weight-joined p s r a b same apart =
-    ap (λ (x : Bool). if x then unit (p (key_of a)) else 0) (count-joined s r a b) ∙ by_counts (counts s r a) (counts s r b) apart
-    ∙ ap (λ (key : HeldKey). weight p s r a + (if counts s r b then unit (p key) else 0)) same
+    ap (λ (x : Bool). if x then one (p (key_of a)) else 0) (count-joined s r a b) ∙ by_counts (counts s r a) (counts s r b) apart
+    ∙ ap (λ (key : HeldKey). weight p s r a + (if counts s r b then one (p key) else 0)) same
   where
-    by_counts : (x y : Bool) → (x ≡ true → y ≡ true → ⊥) → (if (x || y) then unit (p (key_of a)) else 0) ≡ (if x then unit (p (key_of a)) else 0) + (if y then unit (p (key_of a)) else 0)
+    by_counts : (x y : Bool) → (x ≡ true → y ≡ true → ⊥) → (if (x || y) then one (p (key_of a)) else 0) ≡ (if x then one (p (key_of a)) else 0) + (if y then one (p (key_of a)) else 0)
     by_counts true true apart = absurd (apart refl refl)
-    by_counts true false apart = sym (add-zero (unit (p (key_of a))))
-    by_counts false true apart = sym (zero-add (unit (p (key_of a))))
+    by_counts true false apart = sym (add-zero (one (p (key_of a))))
+    by_counts false true apart = sym (zero-add (one (p (key_of a))))
     by_counts false false apart = refl
 
 pub passing-merged : (p : HeldKey → Bool) (s : Bool) (r : ℕ) (ks ls : List KeptKey) → AreSmall ks → AreSmall ls → AreApart s r ks ls

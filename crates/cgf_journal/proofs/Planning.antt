@@ -6,12 +6,12 @@ use Rattle.area_disk.specs.ArmedLaws.{stopped_fails}
 use Rattle.area_disk.specs.Plan.{Prospect, Schedule, is_failure, is_stop, next_fate}
 use Rattle.area_disk.specs.declared.area.Area.{Ghosts}
 use Rattle.area_disk.specs.declared.plan.Fate.{Fate}
-use Rattle.area_disk.specs.declared.plan.Fate.TheVariants.{Runs, Fails, Stops}
+use Rattle.area_disk.specs.declared.plan.Fate.TheVariants.{Stops}
 use Rattle.gate_journal.specs.Moments.{Kept}
 use Rattle.gate_journal.specs.Opening.{is_device, is_device_fault}
 use Rattle.gate_journal.specs.Planned.{Course, ReadOn, ReadsRun, SyncPlanned, course_of, with_reads}
 use Rattle.gate_journal.specs.declared.faults.OpenFault.{OpenFault}
-use Rattle.gate_journal.specs.declared.faults.OpenFault.TheVariants.{Device, NoMemory, NotOurs}
+use Rattle.gate_journal.specs.declared.faults.OpenFault.TheVariants.{Device}
 use Rattle.cgf_journal.specs.OpenPlan.{MadeBy}
 use Rattle.cgf_journal.specs.Results.{OnArea}
 use Rattle.cgf_journal.specs.Trail.{area_of}
@@ -19,8 +19,7 @@ use Rattle.cgf_journal.specs.declared.trail.Trail.{Trail}
 
 pub not_device : (fault : OpenFault) → fault ≢ Device → is_device_fault fault ≡ false
 not_device Device other = absurd (other refl)
-not_device (NotOurs at) other = refl
-not_device NoMemory other = refl
+not_device _ other = refl
 
 -- a call ran: nothing is stopped
 running : (s : Schedule) → is_failure (next_fate s) ≡ false → s.stopped ≡ false
@@ -31,9 +30,8 @@ running s ran = either s.stopped refl
     either true is = absurd (true≢false (sym (ap is_failure (stopped_fails s is).0) ∙ ran))
 
 stop_is : (fate : Fate) → is_failure fate ≡ false → is_stop fate ≡ false
-stop_is Runs e = refl
-stop_is Fails e = refl
 stop_is (Stops o) e = absurd (true≢false e)
+stop_is _ e = refl
 
 -- reads after a sync and reads that came out as planned
 pub sync_on : (old mid new : Prospect) (failed : Bool) → SyncPlanned old false mid → ReadOn mid new → (ReadsRun mid.schedule → failed ≡ false) → SyncPlanned old failed new

@@ -15,8 +15,7 @@ use Rattle.cgf_journal.proofs.Entries.{entries_in-push}
 
 pub founded_is : (front : Front) → is_founded front ≡ true → front ≡ Founded
 founded_is Founded e = refl
-founded_is Draft e = cc
-founded_is Founding e = cc
+founded_is _ e = cc
 
 pub founded_still : (old new : Front) → new ≡ old → is_founded old ≡ true → is_founded new ≡ true
 founded_still old new same e = ap is_founded same ∙ e

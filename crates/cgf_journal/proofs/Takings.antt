@@ -1,5 +1,5 @@
 -- A content that is taken in entry by entry, from its front on.
-use Rattle.std.proofs.Common.{◌≡◌, ◌≢◌, ℕ, suc, ◌+◌, ◌*◌, ◌≤◌, ◌==◌, true, false, List, [], ◌∷◌, ◌++◌, length, drop, refl, sym, ap, subst, ◌∙◌, arith, append_assoc}
+use Rattle.std.proofs.Common.{◌≡◌, ◌≢◌, ℕ, ◌+◌, ◌*◌, ◌≤◌, ◌==◌, true, false, List, [], ◌∷◌, ◌++◌, length, drop, refl, sym, ap, subst, ◌∙◌, arith, append_assoc}
 use Rattle.std.proofs.lemmas.Bool.{eqb-false, eqb-true}
 use Rattle.std.proofs.lemmas.List.{append-nil, length-append, take-append-drop}
 use Rattle.gw_base.specs.declared.history.HistoryEntry.{HistoryEntry}
@@ -23,10 +23,6 @@ places_from-append at (e ∷ h) g =
     let behind : at + entry_length e + length (spelled h) ≡ at + length (spelled (e ∷ h)) = omega (arith, length-append (spelling e) (spelled h), length_of_spelling e) in
     ap (λ (ps : List Place). (let p : Place = record { at = at; length = entry_length e } in p) ∷ ps)
     (places_from-append (at + entry_length e) h g ∙ ap (λ (k : ℕ). places_from (at + entry_length e) h ++ places_from k g) behind)
-
-pub length-places_from : (at : ℕ) (h : List HistoryEntry) → length (places_from at h) ≡ length h
-length-places_from at [] = refl
-length-places_from at (e ∷ h) = ap suc (length-places_from (at + entry_length e) h)
 
 -- ---- costs
 

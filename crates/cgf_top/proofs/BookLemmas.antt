@@ -182,8 +182,7 @@ module _ {A : Type 0} {tells : Ghosts A} (old new : Book A tells) (size : ℕ) w
 
 is_fit : (i : Item) → IsWritable i → IsFit i
 is_fit (item.Part kind tag octets moment) h = h
-is_fit (item.Tick moment) h = h
-is_fit (item.Close moment) h = h
+is_fit _ h = h
 
 pub all_fit : (items : List Item) → All IsWritable items → All IsFit items
 all_fit items h = λ k d within. is_fit (get_or items k d) (h k d within)

@@ -25,13 +25,12 @@ other_values text name _ one four = refl
 -- a value that is no option is a file's name
 pub file_value : {A : Type 0} (text : A → List ℕ) (name : List ℕ) (values : List A) → length values ≡ 1 →
     list_any (λ value. is_option (text value)) values ≡ false → command_named name ≡ command_of (name ∷ map text values)
-file_value text name [] one none = absurd (omega (arith, one))
 file_value text name (a ∷ []) one none = go (is_option (text a)) (command_named name) none
   where
     go : (b : Bool) (of : Option Command) → (b || false) ≡ false → of ≡ cond b None of
     go true of is = absurd (true≢false is)
     go false of is = refl
-file_value text name (a ∷ b ∷ more) one none = absurd (omega (arith, one))
+file_value text name _ one none = absurd (omega (arith, one))
 
 -- What is asked for by a name and values, where both are there.
 
@@ -40,9 +39,8 @@ said_by (Some name) (Some values) = command_of (name ∷ values)
 said_by _ _ = None
 
 said_rows : (words : List Text) → said_by (first_of (codes "COMMAND") (found_in words)) (all_of (codes "VALUES") (found_in words)) ≡ command_of words
-said_rows [] = refl
 said_rows (name ∷ []) = refl
-said_rows (name ∷ v ∷ vs) = refl
+said_rows _ = refl
 
 pub said_found : (f : Found) (words : List Text) → rows_of f ≡ found_in words →
     said_by (first_value f (codes "COMMAND")) (option_map raw_values (matched_of f (codes "VALUES"))) ≡ command_of words

@@ -103,13 +103,7 @@ module _ {A F : Type 0} (tells : areas.Ghosts A) (files : shelves.Ghosts F) (of 
       (subst (λ (o : Option (List ℕ)). IsRead (most_text + 1) o job.rest read.0) left read.1) in
       subst (λ (s : Result (List Line) Refusal). EndsBy tells files of job area area' shelf shelf' links links' clock clock' (status.Input place why) s)
       (sym (sym (ap (λ (t : List ℕ). script_in kind.Serve t) same) ∙ bad.1)) (inr bad.2)
-  refused_complete status.Done r calm text left = absurd r
-  refused_complete status.Words r calm text left = absurd r
-  refused_complete status.Write r calm text left = absurd r
-  refused_complete (status.Store why) r calm text left = absurd r
-  refused_complete status.Link r calm text left = absurd r
-  refused_complete (status.Audit packet places wanted) r calm text left = absurd r
-  refused_complete (status.Unfinished turns packet count) r calm text left = absurd r
+  refused_complete _ r calm text left = absurd r
 
   refused_at : (ended : Status) → Refuses job ended → (place : ℕ) (why : InputKind) → ended ≡ status.Input place why
       → (text : List ℕ) × IsRead (most_text + 1) job.left job.rest text × IsRefusedAt (script_in kind.Serve text) ended

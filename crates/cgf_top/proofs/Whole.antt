@@ -148,15 +148,7 @@ ran_drill job ended played of has asked done =
 -- a listing hands nothing back
 pub shown_none : (ended : Status) (octets : List ℕ) → HandsBack (lines_run ended Show octets) None
 shown_none status.Done octets = refl
-shown_none status.Words octets = refl
-shown_none (status.Input place kind) octets = refl
-shown_none status.Read octets = refl
-shown_none status.Write octets = refl
-shown_none status.Memory octets = refl
-shown_none (status.Store why) octets = refl
-shown_none status.Link octets = refl
-shown_none (status.Audit packet places wanted) octets = refl
-shown_none (status.Unfinished turns packet count) octets = refl
+shown_none _ octets = refl
 
 -- the refusal of octets that are no file
 pub shown_refusal : (octets : List ℕ) (place : ℕ) (kind : FileKind) → file_in octets ≡ Err (fault.Bad place kind)

@@ -8,10 +8,7 @@ use Rattle.gw_base.specs.declared.place.Place.{Place}
 use Rattle.dup_buffer.specs.Stored.{AreHeld, HaveSame, IsOnce, copies_of, held_in, is_copy_of, is_of, place_of}
 use Rattle.dup_buffer.specs.declared.copy.HeldCopy.{HeldCopy}
 use Rattle.dup_buffer.proofs.OrderLemmas.{key_of}
-use Rattle.dup_buffer.proofs.StoredLemmas.{same_copies, stored}
-
-pub count-cons : (p : HeldCopy → Bool) (x : HeldCopy) (xs : List HeldCopy) (b : Bool) → p x ≡ b → count_by p (x ∷ xs) ≡ (if b then 1 else 0) + count_by p xs
-count-cons p x xs b e = sum_by-cons (λ c. if p c then 1 else 0) x xs ∙ ap (λ (t : Bool). (if t then 1 else 0) + count_by p xs) e
+use Rattle.dup_buffer.proofs.StoredLemmas.{count_by-pass, same_copies, stored}
 
 pub count-append : (p : HeldCopy → Bool) (xs ys : List HeldCopy) → count_by p (xs ++ ys) ≡ count_by p xs + count_by p ys
 count-append p xs ys = sum_by-append (λ c. if p c then 1 else 0) xs ys
@@ -23,8 +20,8 @@ none_of_none p [] e = refl
 none_of_none p (x ∷ xs) e = by (p x) refl (none_of_none p xs)
   where
     by : (b : Bool) → p x ≡ b → (count_by p xs ≡ 0 → find p xs ≡ None) → cond b (Some x) (find p xs) ≡ None
-    by true q rest = absurd (omega (arith, e, count-cons p x xs true q))
-    by false q rest = rest (omega (arith, e, count-cons p x xs false q))
+    by true q rest = absurd (omega (arith, e, count_by-pass p x xs true q))
+    by false q rest = rest (omega (arith, e, count_by-pass p x xs false q))
 
 pub none_if_none : (p : HeldCopy → Bool) (xs : List HeldCopy) → find p xs ≡ None → count_by p xs ≡ 0
 none_if_none p [] e = refl
@@ -32,7 +29,7 @@ none_if_none p (x ∷ xs) e = by (p x) refl e (none_if_none p xs)
   where
     by : (b : Bool) → p x ≡ b → cond b (Some x) (find p xs) ≡ None → (find p xs ≡ None → count_by p xs ≡ 0) → count_by p (x ∷ xs) ≡ 0
     by true q e rest = absurd (cc)
-    by false q e rest = omega (arith, count-cons p x xs false q, rest e)
+    by false q e rest = omega (arith, count_by-pass p x xs false q, rest e)
 
 pub found_passes : (p : HeldCopy → Bool) (xs : List HeldCopy) (c : HeldCopy) → find p xs ≡ Some c → p c ≡ true
 found_passes p [] c e = absurd (cc)
@@ -49,7 +46,7 @@ found_counts p q (x ∷ xs) c e t = by (p x) e (λ f. found_counts p q xs c f t)
     by : (b : Bool) → cond b (Some x) (find p xs) ≡ Some c → (find p xs ≡ Some c → 1 ≤ count_by q xs) → 1 ≤ count_by q (x ∷ xs)
     by true e rest =
         let same : x ≡ c = cc in
-        omega (arith, count-cons q x xs true (ap q same ∙ t))
+        omega (arith, count_by-pass q x xs true (ap q same ∙ t))
     by false e rest = omega (arith, sum_by-cons (λ d. if q d then 1 else 0) x xs, rest e)
 
 -- ---- the same copies in another order
@@ -61,15 +58,15 @@ count_split p r (x ∷ xs) = by (p x) (r x) refl refl (count_split p r xs)
     by : (a b : Bool) → p x ≡ a → r x ≡ b → count_by (λ y. p y && r y) xs + count_by (λ y. p y && not (r y)) xs ≡ count_by p xs
         → count_by (λ y. p y && r y) (x ∷ xs) + count_by (λ y. p y && not (r y)) (x ∷ xs) ≡ count_by p (x ∷ xs)
     by true true e f rest =
-        omega (arith, rest, count-cons p x xs true e, count-cons (λ y. p y && r y) x xs true (rw (e, f) refl), count-cons (λ y. p y && not (r y)) x xs false (rw (e, f) refl))
+        omega (arith, rest, count_by-pass p x xs true e, count_by-pass (λ y. p y && r y) x xs true (rw (e, f) refl), count_by-pass (λ y. p y && not (r y)) x xs false (rw (e, f) refl))
     by true false e f rest =
-        omega (arith, rest, count-cons p x xs true e, count-cons (λ y. p y && r y) x xs false (rw (e, f) refl), count-cons (λ y. p y && not (r y)) x xs true (rw (e, f) refl))
+        omega (arith, rest, count_by-pass p x xs true e, count_by-pass (λ y. p y && r y) x xs false (rw (e, f) refl), count_by-pass (λ y. p y && not (r y)) x xs true (rw (e, f) refl))
     by false b e f rest =
-        omega (arith, rest, count-cons p x xs false e, count-cons (λ y. p y && r y) x xs false (rw e refl), count-cons (λ y. p y && not (r y)) x xs false (rw e refl))
+        omega (arith, rest, count_by-pass p x xs false e, count_by-pass (λ y. p y && r y) x xs false (rw e refl), count_by-pass (λ y. p y && not (r y)) x xs false (rw e refl))
 
 pub count_all : (xs : List HeldCopy) → count_by (λ x. true) xs ≡ length xs
 count_all [] = refl
-count_all (x ∷ xs) = omega (arith, count-cons (λ y. true) x xs true refl, count_all xs)
+count_all (x ∷ xs) = omega (arith, count_by-pass (λ y. true) x xs true refl, count_all xs)
 
 pub once_same : (xs ys : List HeldCopy) → HaveSame xs ys → IsOnce xs → IsOnce ys
 once_same xs ys same once n k = omega (arith, same (is_copy_of n k), once n k)
@@ -118,9 +115,9 @@ once_more xs ys one none once n k = by (is_copy_of n k one) refl
         let key = key_of n k one e in
         let none_here : find (is_copy_of n k) (xs ++ ys) ≡ None = (λ i. find (is_copy_of (sym key.0 i) (sym key.1 i)) (xs ++ ys)) ∙ none in
         let zero_here = none_if_none (is_copy_of n k) (xs ++ ys) none_here in
-        omega (arith, zero_here, count-append (is_copy_of n k) xs (one ∷ ys), count-append (is_copy_of n k) xs ys, count-cons (is_copy_of n k) one ys true e)
+        omega (arith, zero_here, count-append (is_copy_of n k) xs (one ∷ ys), count-append (is_copy_of n k) xs ys, count_by-pass (is_copy_of n k) one ys true e)
     by false e =
-        omega (arith, once n k, count-append (is_copy_of n k) xs (one ∷ ys), count-append (is_copy_of n k) xs ys, count-cons (is_copy_of n k) one ys false e)
+        omega (arith, once n k, count-append (is_copy_of n k) xs (one ∷ ys), count-append (is_copy_of n k) xs ys, count_by-pass (is_copy_of n k) one ys false e)
 
 -- ---- those that are held
 
@@ -130,12 +127,12 @@ held_all (x ∷ xs) e = by x.held refl (held_all xs)
   where
     by : (b : Bool) → x.held ≡ b → (AreHeld xs → held_in xs ≡ xs) → cond b (x ∷ held_in xs) (held_in xs) ≡ x ∷ xs
     by true h rest = ap (λ (l : List HeldCopy). x ∷ l) (rest (omega (arith, e, sum_by-cons (λ c. if not c.held then 1 else 0) x xs)))
-    by false h rest = absurd (omega (arith, e, count-cons (λ c. not c.held) x xs true (ap not h)))
+    by false h rest = absurd (omega (arith, e, count_by-pass (λ c. not c.held) x xs true (ap not h)))
 
 pub held_are : (xs : List HeldCopy) → AreHeld (held_in xs)
 held_are [] = refl
 held_are (x ∷ xs) = by x.held refl (held_are xs)
   where
     by : (b : Bool) → x.held ≡ b → AreHeld (held_in xs) → AreHeld (cond b (x ∷ held_in xs) (held_in xs))
-    by true h rest = omega (arith, count-cons (λ c. not c.held) x (held_in xs) false (ap not h), rest)
+    by true h rest = omega (arith, count_by-pass (λ c. not c.held) x (held_in xs) false (ap not h), rest)
     by false h rest = rest

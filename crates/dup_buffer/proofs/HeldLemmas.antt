@@ -1,5 +1,5 @@
 -- Lists of which some copies were taken out, and what each step makes of those that are held.
-use Rattle.std.proofs.Common.{◌≡◌, ℕ, zero, suc, ◌+◌, ◌-◌, ◌<◌, ◌==◌, ◌&&◌, not, Bool, true, false, cond, if◌then◌else◌, List, [], ◌∷◌, ◌++◌, Option, None, Some, is_some, length, take, drop, filter, slice_index_or, refl, sym, ap, subst, ◌∙◌, true≢false, arith}
+use Rattle.std.proofs.Common.{◌≡◌, ℕ, zero, suc, ◌+◌, ◌-◌, ◌<◌, ◌==◌, ◌&&◌, not, Bool, true, false, cond, if◌then◌else◌, List, [], ◌∷◌, ◌++◌, Option, None, Some, is_some, length, take, drop, filter, slice_index_or, refl, sym, ap, subst, ◌∙◌, arith}
 use Rattle.std.specs.List.{count_by, find}
 use Rattle.std.specs.Option.{option_map}
 use Rattle.std.specs.Prelude.{slice_set}
@@ -11,9 +11,9 @@ use Rattle.gw_base.specs.declared.place.Place.{Place}
 use Rattle.dup_buffer.specs.Copies.{Copies, with_copy, without_copy}
 use Rattle.dup_buffer.specs.Stored.{AreFrom, AreHeld, AreStored, HaveSame, IsFound, IsOnce, all_held, copies_of, held_in, is_copy_of, place_of, rank}
 use Rattle.dup_buffer.specs.declared.copy.HeldCopy.{HeldCopy}
-use Rattle.dup_buffer.proofs.CountLemmas.{copies_of-same, count-append, count-cons, count_all, held_all, held_are, none_if_none, none_of_none, once_more, once_same}
+use Rattle.dup_buffer.proofs.CountLemmas.{copies_of-same, count-append, count_all, held_all, held_are, none_if_none, none_of_none, once_more, once_same}
 use Rattle.dup_buffer.proofs.OrderLemmas.{key_of}
-use Rattle.dup_buffer.proofs.StoredLemmas.{copies_of-one_more, find-one, none_left, same_copies, stored, whole}
+use Rattle.dup_buffer.proofs.StoredLemmas.{copies_of-one_more, count_by-pass, find-one, none_left, same_copies, stored, whole}
 
 -- ---- finding
 
@@ -49,14 +49,6 @@ held_found n k copies at d is =
 
 -- ---- marking
 
-pub if_not_true : (b : Bool) → not b ≡ true → b ≡ false
-if_not_true true e = absurd (true≢false (sym e))
-if_not_true false e = refl
-
-pub if_not_false : (b : Bool) → not b ≡ false → b ≡ true
-if_not_false true e = refl
-if_not_false false e = absurd (true≢false e)
-
 pub from-set : (low : ℕ) (copies : List HeldCopy) (at : ℕ) (y d : HeldCopy) → AreFrom low copies → rank y ≡ rank (slice_index_or copies at d) → at < length copies
     → AreFrom low (slice_set copies at y)
 from-set low [] at y d up same lt = absurd (omega (arith, lt))
@@ -69,8 +61,8 @@ count-filter p q (x ∷ xs) = by (q x) refl (count-filter p q xs)
   where
     by : (b : Bool) → q x ≡ b → count_by p (filter q xs) ≡ count_by (λ y. q y && p y) xs → count_by p (cond b (x ∷ filter q xs) (filter q xs)) ≡ count_by (λ y. q y && p y) (x ∷ xs)
     by true e rest =
-        omega (arith, rest, sum_by-cons (λ c. if p c then 1 else 0) x (filter q xs), count-cons (λ y. q y && p y) x xs (p x) (rw e refl))
-    by false e rest = omega (arith, rest, count-cons (λ y. q y && p y) x xs false (rw e refl))
+        omega (arith, rest, sum_by-cons (λ c. if p c then 1 else 0) x (filter q xs), count_by-pass (λ y. q y && p y) x xs (p x) (rw e refl))
+    by false e rest = omega (arith, rest, count_by-pass (λ y. q y && p y) x xs false (rw e refl))
 
 pub mark_same : (copies : List HeldCopy) (at : ℕ) (y d : HeldCopy) → at < length copies → (slice_index_or copies at d).held ≡ true → y.held ≡ false
     → HaveSame (held_in copies) (slice_index_or copies at d ∷ held_in (slice_set copies at y))
@@ -166,7 +158,7 @@ one_less one node number old new named once same = record {
     here = rw (eq-eqb node node refl, eq-eqb number number refl) refl
 
     none : find (is_copy_of node number) new ≡ None
-    none = none_of_none (is_copy_of node number) new (omega (arith, all node number, count-cons (is_copy_of node number) one new true named))
+    none = none_of_none (is_copy_of node number) new (omega (arith, all node number, count_by-pass (is_copy_of node number) one new true named))
 
     was : copies_of (stored old) ≡ with_copy node number (place_of one) (copies_of (stored new))
     was = copies_of-same old (one ∷ new) same once

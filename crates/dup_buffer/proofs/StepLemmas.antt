@@ -7,10 +7,10 @@ use Rattle.std.proofs.lemmas.List.Sums.{sum_by-cons}
 use Rattle.dup_buffer.specs.Copies.{with_copy, without_node}
 use Rattle.dup_buffer.specs.Stored.{AreFrom, AreHeld, AreStored, HaveSame, IsOnce, all_held, copies_of, held_in, is_copy_of, is_of, most_late, place_of}
 use Rattle.dup_buffer.specs.declared.copy.HeldCopy.{HeldCopy}
-use Rattle.dup_buffer.proofs.CountLemmas.{count-append, count-cons, count_all, found_counts, found_passes, held_all, held_are, none_if_none, none_of_none}
+use Rattle.dup_buffer.proofs.CountLemmas.{count-append, count_all, found_counts, found_passes, held_all, held_are, none_if_none, none_of_none}
 use Rattle.dup_buffer.proofs.HeldLemmas.{IsLess, IsMore, less_before, less_behind, more_behind, none_parts, one_less, one_more, same_length}
 use Rattle.dup_buffer.proofs.OrderLemmas.{from-filter}
-use Rattle.dup_buffer.proofs.StoredLemmas.{copies_of-node_out, count_by-is_of, find-append, first_of, stored}
+use Rattle.dup_buffer.proofs.StoredLemmas.{copies_of-node_out, count_by-is_of, count_by-pass, find-append, first_of, others, stored}
 
 -- ---- finding
 
@@ -67,7 +67,7 @@ held_one one old kept late new same none once held is room order more =
       lists = record {
         kept_order = is.kept_order;
         late_order = order;
-        held = omega (arith, is.held, more (λ c. not c.held), count-cons (λ c. not c.held) one late false (ap not held));
+        held = omega (arith, is.held, more (λ c. not c.held), count_by-pass (λ c. not c.held) one late false (ap not held));
         few = omega (arith, room, same_length (one ∷ late) new more);
         once = all.once;
       };
@@ -124,9 +124,6 @@ took_kept one node number kept late new is named order same =
 -- those of the other nodes that are held
 abbrev pub left_in : ℕ → List HeldCopy → List HeldCopy
 left_in node copies = filter (λ c. c.held && not (c.node == node)) copies
-
-abbrev others : ℕ → List HeldCopy → List HeldCopy
-others node copies = filter (λ c. not (c.node == node)) copies
 
 left_is : (node : ℕ) (copies : List HeldCopy) → left_in node copies ≡ others node (held_in copies)
 left_is node [] = refl

@@ -4,6 +4,7 @@ use Rattle.std.specs.List.{count_by, find}
 use Rattle.std.specs.Option.{option_map}
 use Rattle.std.specs.Prelude.{slice_index_or}
 use Rattle.std.proofs.lemmas.Bool.{and_parts, eqb-true}
+use Rattle.std.proofs.lemmas.List.{take-append-drop}
 use Rattle.std.proofs.lemmas.List.Edits.{length-insert}
 use Rattle.std.proofs.lemmas.List.Filters.{length-filter_both}
 use Rattle.std.proofs.lemmas.List.Sums.{length-filter, sum_by-cons, sum_by-insert}
@@ -45,12 +46,6 @@ unfolding first_of
 none_in_front None b e = refl
 none_in_front (Some x) b e = absurd (cc)
 
-parts : (copies : List HeldCopy) (at : ℕ) → take at copies ++ drop at copies ≡ copies
-parts [] zero = refl
-parts [] (suc at) = refl
-parts (copy ∷ copies) zero = refl
-parts (copy ∷ copies) (suc at) = ap (λ (l : List HeldCopy). copy ∷ l) (parts copies at)
-
 find-other : (p : HeldCopy → Bool) (xs ys : List HeldCopy) (one : HeldCopy) → p one ≡ false → find p (xs ++ one ∷ ys) ≡ find p (xs ++ ys)
 find-other p xs ys one fails =
     find-append p xs (one ∷ ys) ∙ ap (λ (b : Bool). first_of (find p xs) (cond b (Some one) (find p ys))) fails ∙ sym (find-append p xs ys)
@@ -77,9 +72,9 @@ copies_of-one_more one copies at inside absent = same_copies _ _
         let key = key_of n k one e in
         let none : find (is_copy_of n k) copies ≡ None = (λ i. find (is_copy_of (sym key.0 i) (sym key.1 i)) copies) ∙ absent in
         rw e (ap (λ (o : Option HeldCopy). option_map place_of o)
-        (find-one (is_copy_of n k) (take at copies) (drop at copies) one e (ap (λ (l : List HeldCopy). find (is_copy_of n k) l) (parts copies at) ∙ none)))
+        (find-one (is_copy_of n k) (take at copies) (drop at copies) one e (ap (λ (l : List HeldCopy). find (is_copy_of n k) l) (take-append-drop at copies) ∙ none)))
     place n k false e = rw e (ap (λ (o : Option HeldCopy). option_map place_of o)
-        (find-other (is_copy_of n k) (take at copies) (drop at copies) one e ∙ ap (λ (l : List HeldCopy). find (is_copy_of n k) l) (parts copies at)))
+        (find-other (is_copy_of n k) (take at copies) (drop at copies) one e ∙ ap (λ (l : List HeldCopy). find (is_copy_of n k) l) (take-append-drop at copies)))
 
     count : (n : ℕ) (b : Bool) → (one.node == n) ≡ b → count_by (is_of n) (with_one copies at one) ≡ (if one.node == n then count_by (is_of n) copies + 1 else count_by (is_of n) copies)
     count n true e = rw e (sum_by-insert (λ (c : HeldCopy). if is_of n c then 1 else 0) copies at one ∙ ap (λ (b : Bool). count_by (is_of n) copies + (if b then 1 else 0)) e)
@@ -91,7 +86,7 @@ abbrev nothing : HeldCopy
 nothing = record { number = 0; at = 0; node = 0; length = 0; held = false }
 
 pub whole : (copies : List HeldCopy) (at : ℕ) (d : HeldCopy) → at < length copies → take at copies ++ slice_index_or copies at d ∷ drop (suc at) copies ≡ copies
-whole copies at d lt = ap (λ (l : List HeldCopy). take at copies ++ l) (sym (drop-cons copies at d lt)) ∙ parts copies at
+whole copies at d lt = ap (λ (l : List HeldCopy). take at copies ++ l) (sym (drop-cons copies at d lt)) ∙ take-append-drop at copies
 
 -- in what is left no copy of the number stands
 pub none_left : (p : HeldCopy → Bool) (copies : List HeldCopy) (at : ℕ) → at < length copies → ((j : ℕ) (d : HeldCopy) → j < length copies → (j ≡ at → ⊥) → p (slice_index_or copies j d) ≡ false)
@@ -135,7 +130,7 @@ copies_of-none_less node number copies none = same_copies _ _
 -- ---- a node's copies
 
 -- those of the other nodes
-abbrev others : ℕ → List HeldCopy → List HeldCopy
+abbrev pub others : ℕ → List HeldCopy → List HeldCopy
 others node copies = filter (λ c. not (c.node == node)) copies
 
 find-filter : (node n k : ℕ) (copies : List HeldCopy) → find (is_copy_of n k) (others node copies) ≡ (if n == node then None else find (is_copy_of n k) copies)
@@ -160,7 +155,7 @@ find-filter node n k (e ∷ es) = by (e.node == node) (is_copy_of n k e) refl re
         rw (p, q, of_other) refl
     by false false p q rest = rw (p, q) rest
 
-count_by-pass : (f : HeldCopy → Bool) (e : HeldCopy) (es : List HeldCopy) (r : Bool) → f e ≡ r → count_by f (e ∷ es) ≡ (if r then 1 else 0) + count_by f es
+pub count_by-pass : (f : HeldCopy → Bool) (e : HeldCopy) (es : List HeldCopy) (r : Bool) → f e ≡ r → count_by f (e ∷ es) ≡ (if r then 1 else 0) + count_by f es
 count_by-pass f e es r p = sum_by-cons (λ x. if f x then 1 else 0) e es ∙ ap (λ (t : Bool). (if t then 1 else 0) + count_by f es) p
 
 count_by-filter : (node n : ℕ) (copies : List HeldCopy) → count_by (is_of n) (others node copies) ≡ (if n == node then 0 else count_by (is_of n) copies)

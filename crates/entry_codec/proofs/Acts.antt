@@ -24,14 +24,7 @@ kind_spelling kind = code_of kind ∷ []
 
 kind_from_code : (kind : Kind) → kind_from (code_of kind) ≡ Some kind
 kind_from_code kinds.Start = refl
-kind_from_code kinds.Path = refl
-kind_from_code kinds.File = refl
-kind_from_code kinds.Hold = refl
-kind_from_code kinds.Seal = refl
-kind_from_code kinds.Release = refl
-kind_from_code kinds.Cancel = refl
-kind_from_code kinds.Tick = refl
-kind_from_code kinds.Close = refl
+kind_from_code _ = refl
 
 chosen : (code number : ℕ) (kind one : Kind) (other : Option Kind) → number ≡ code_of one → (b : Bool) → (code == number) ≡ b → (let o : Option Kind = cond b (Some one) other in o) ≡ Some kind → (other ≡ Some kind → code ≡ code_of kind) → code ≡ code_of kind
 chosen code number kind one other is true at e rest = let same : one ≡ kind = cc in eqb-true code number at ∙ is ∙ ap code_of same
@@ -432,12 +425,8 @@ list_length node xs =
 
 -- an act has a length that its kind can have, and some kind has a length
 pub act_length : (act : HistoryAct) → fits_length (25 + length (body act)) (kind_of act) ≡ true
-act_length Start = refl
-act_length (Path node port counter) = refl
 act_length (File node number packet) = le-leb 37 _ (omega arith)
 act_length (Hold node number packet) = le-leb 37 _ (omega arith)
-act_length (Seal node number) = refl
 act_length (Release node numbers) = list_length node.0 numbers
 act_length (Cancel node numbers) = list_length node.0 numbers
-act_length Tick = refl
-act_length Close = refl
+act_length _ = refl

@@ -41,15 +41,13 @@ kind_for n e = by_tests (n == 25) refl (n == 32) refl (n == 33) refl (nat_le 37 
     by_tests false a false is-b false is-c false is-d e = absurd cc
 
 is_length_of : (n : ℕ) (kind : Kind) → IsKind n kind → is_length n ≡ true
-is_length_of n kinds.Start fits = ap is_length (eqb-true n 25 fits)
 is_length_of n kinds.Path fits = ap is_length (eqb-true n 32 fits)
 is_length_of n kinds.File fits = is_length_long n (leb-true 37 n fits)
 is_length_of n kinds.Hold fits = is_length_long n (leb-true 37 n fits)
 is_length_of n kinds.Seal fits = ap is_length (eqb-true n 37 fits)
 is_length_of n kinds.Release fits = list_is_length n fits
 is_length_of n kinds.Cancel fits = list_is_length n fits
-is_length_of n kinds.Tick fits = ap is_length (eqb-true n 25 fits)
-is_length_of n kinds.Close fits = ap is_length (eqb-true n 25 fits)
+is_length_of n _ fits = ap is_length (eqb-true n 25 fits)
 
 -- ---- entries
 

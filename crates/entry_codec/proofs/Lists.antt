@@ -11,9 +11,8 @@ AreBelow-back bound [] b p = p
 AreBelow-back bound (x ∷ a) b p = AreBelow-back bound a b p.1
 
 pub AreBelow-take : (bound n : ℕ) (a : List ℕ) → AreBelow bound a → AreBelow bound (take n a)
-AreBelow-take bound zero a p = tt
-AreBelow-take bound (suc n) [] p = tt
 AreBelow-take bound (suc n) (x ∷ a) p = (p.0, AreBelow-take bound n a p.1)
+AreBelow-take bound _ _ p = tt
 
 pub AreBelow-drop : (bound n : ℕ) (a : List ℕ) → AreBelow bound a → AreBelow bound (drop n a)
 AreBelow-drop bound zero a p = p

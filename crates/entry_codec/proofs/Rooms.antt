@@ -14,7 +14,8 @@ use Rattle.gw_base.specs.declared.history.HistoryEntry.{HistoryEntry}
 use Rattle.gw_base.specs.HeldKeys.{held_by, held_keys, holds, is_key, promised_octets}
 use Rattle.gw_base.specs.History.{due_after, is_close_due}
 use Rattle.gw_base.specs.View.{stays_held}
-use Rattle.gw_base.specs.ViewLaws.{view_of-append}
+use Rattle.gw_base.specs.HeldLaws.{held_keys-append}
+use Rattle.gw_base.specs.EntryLaws.{is_close_due-append}
 use Rattle.entry_codec.specs.LawTypes.{RoomIsOfTheAct}
 use Rattle.entry_codec.specs.Room.{IsWithin, capacity_of, costs_of, has_room}
 use Rattle.entry_codec.specs.Spelling.{body, cost_of}
@@ -97,12 +98,6 @@ released n (x ∷ xs) keys apart held =
 
 -- ---- promises behind one more entry
 
-pub held_behind : (h : List HistoryEntry) (e : HistoryEntry) → held_keys (h ++ e ∷ []) ≡ filter (λ (key : HeldKey). stays_held e.act key) (held_keys h) ++ held_by e.act []
-held_behind h e = ap (λ v. v.held) (view_of-append h e)
-
-pub due_goes_on : (h : List HistoryEntry) (e : HistoryEntry) → is_close_due (h ++ e ∷ []) ≡ due_after (is_close_due h) e.act
-due_goes_on h e = ap (λ v. v.is_close_due) (view_of-append h e)
-
 due_at_most : (b : Bool) → (if b then 30 else 0) ≤ 30
 due_at_most true = omega arith
 due_at_most false = omega arith
@@ -114,7 +109,7 @@ abbrev promised_after : List HistoryEntry → HistoryAct → ℕ
 promised_after h act = 76 * length (filter (λ (key : HeldKey). stays_held act key) (held_keys h) ++ held_by act []) + (if due_after (is_close_due h) act then 30 else 0)
 
 promises_are : (h : List HistoryEntry) (e : HistoryEntry) → promised_octets (h ++ e ∷ []) ≡ promised_after h e.act
-promises_are h e = λ i. 76 * length (held_behind h e i) + (if due_goes_on h e i then 30 else 0)
+promises_are h e = λ i. 76 * length (held_keys-append h e i) + (if is_close_due-append h e i then 30 else 0)
 
 pub same_room : RoomIsOfTheAct
 same_room h a b size same =
@@ -134,8 +129,8 @@ due_close h moment caller size within due =
     let e = made moment caller Close in
     let before : promised_octets h ≡ 76 * length (held_keys h) + 30 = rw due refl in
     let keys : length (held_keys (h ++ e ∷ [])) ≡ length (filter (λ (key : HeldKey). stays_held Close key) (held_keys h)) =
-    ap (λ (l : List HeldKey). length l) (held_behind h e ∙ append-nil (filter (λ (key : HeldKey). stays_held Close key) (held_keys h))) in
-    let after : promised_octets (h ++ e ∷ []) ≡ 76 * length (held_keys (h ++ e ∷ [])) = rw (due_goes_on h e) (omega arith) in
+    ap (λ (l : List HeldKey). length l) (held_keys-append h e ∙ append-nil (filter (λ (key : HeldKey). stays_held Close key) (held_keys h))) in
+    let after : promised_octets (h ++ e ∷ []) ≡ 76 * length (held_keys (h ++ e ∷ [])) = rw (is_close_due-append h e) (omega arith) in
     le-leb (costs_of h + cost_of e + promised_octets (h ++ e ∷ [])) (capacity_of size)
     (omega (arith, within, before, after, keys, length-filter-le (λ (key : HeldKey). stays_held Close key) (held_keys h)))
 
@@ -156,10 +151,10 @@ pub released_held : (h : List HistoryEntry) (moment : ℕ) (caller : Caller) (n 
     → All (λ x. holds n.0 x (held_keys h) ≡ true) xs → has_room h (made moment caller (Release n xs)) size ≡ true
 released_held h moment caller n xs size within some apart held =
     let e = made moment caller (Release n xs) in
-    let_go h e n xs size within some apart held (held_behind h e) (omega (arith, length_numbers xs)) (omega (arith, due_at_most (is_close_due (h ++ e ∷ []))))
+    let_go h e n xs size within some apart held (held_keys-append h e) (omega (arith, length_numbers xs)) (omega (arith, due_at_most (is_close_due (h ++ e ∷ []))))
 
 pub cancelled_held : (h : List HistoryEntry) (moment : ℕ) (caller : Caller) (n : NodeId) (xs : List ℕ) (size : ℕ) → IsWithin h size → xs ≢ [] → IsDistinct (λ x y. x == y) xs
     → All (λ x. holds n.0 x (held_keys h) ≡ true) xs → has_room h (made moment caller (Cancel n xs)) size ≡ true
 cancelled_held h moment caller n xs size within some apart held =
     let e = made moment caller (Cancel n xs) in
-    let_go h e n xs size within some apart held (held_behind h e) (omega (arith, length_numbers xs)) (omega (arith, due_at_most (is_close_due (h ++ e ∷ []))))
+    let_go h e n xs size within some apart held (held_keys-append h e) (omega (arith, length_numbers xs)) (omega (arith, due_at_most (is_close_due (h ++ e ∷ []))))

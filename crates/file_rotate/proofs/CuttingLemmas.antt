@@ -2,6 +2,7 @@
 use Rattle.std.proofs.Common.{◌≡◌, ℕ, List, [], ◌∷◌, ◌++◌, length-append, Option, Some, None, refl, sym, ap, ◌∙◌, arith}
 use Rattle.std.proofs.lemmas.List.{append-nil}
 use Rattle.std.proofs.lemmas.List.Sums.{sum_by-append, sum_by-cons}
+use Rattle.std.proofs.lemmas.Option.{same_Some}
 use Rattle.cdr_file.specs.declared.closure.ClosureReason.{ClosureReason}
 use Rattle.cdr_file.specs.declared.filed_kind.FiledKind.{FiledKind}
 use Rattle.file_rotate.specs.declared.limits.Limits.{Limits}
@@ -24,14 +25,11 @@ file_of-still : {P : Type 0} (reason : Option ClosureReason) (run : List (Filed 
 file_of-still None run = refl
 file_of-still (Some reason) run = refl
 
-some_is : {A : Type 0} {a b : A} → Some a ≡ Some b → a ≡ b
-some_is e = cc
-
 -- the limits are those of the run
 run_limit_reached-kept : {P : Type 0} (limits : Limits) (run : List (Filed P)) (file : OpenFile) → file_of run ≡ Some file → run_limit_reached limits run ≡ limit_reached limits file
 unfolding run_limit_reached
 run_limit_reached-kept limits [] file e = cc
-run_limit_reached-kept limits (first ∷ later) file e = ap (λ (f : OpenFile). limit_reached limits f) (some_is e)
+run_limit_reached-kept limits (first ∷ later) file e = ap (λ (f : OpenFile). limit_reached limits f) (same_Some _ _ e)
 
 ends_before-kept : {P : Type 0} (limits : Limits) (run : List (Filed P)) (item : Item P) → ends_before limits run item ≡ (item_cuts limits (file_of run) item).before
 unfolding ends_before
@@ -55,8 +53,7 @@ ends_after-kept : {P : Type 0} (limits : Limits) (run : List (Filed P)) (item : 
     → ends_after limits (joined (ends_before limits run item) run item) item ≡ (item_cuts limits (file_of run) item).after
 unfolding ends_after
 ends_after-kept limits run (Record filed) = run_limit_reached-kept limits (joined (ends_before limits run (Record filed)) run (Record filed)) _ (file_of-joined limits run filed)
-ends_after-kept limits run (Tick moment) = refl
-ends_after-kept limits run (Close moment) = refl
+ends_after-kept limits run _ = refl
 
 pub same_cuts : (before before' after after' : Option ClosureReason) → before ≡ before' → after ≡ after'
     → ◌≡◌ {A = Cuts} (record { before = before; after = after }) (record { before = before'; after = after' })

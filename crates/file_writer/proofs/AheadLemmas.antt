@@ -4,7 +4,7 @@ use Rattle.std.proofs.lemmas.Bool.Decides.{nat_tests}
 use Rattle.cdr_file.specs.CdrFile.{FileSettings}
 use Rattle.cdr_file.specs.declared.closure.ClosureReason.{ClosureReason}
 use Rattle.file_rotate.specs.Division.{Cuts, cuts_at, joined, run_after, still}
-use Rattle.file_rotate.specs.Items.{Filed, Record, Tick, Close}
+use Rattle.file_rotate.specs.Items.{Filed, Record}
 use Rattle.file_rotate.specs.Items as stream
 use Rattle.gw_base.specs.declared.item.Item.{Item}
 use Rattle.file_writer.specs.Calls.{Call, Writes, appending, beginning, calls_at, calls_below, calls_from, calls_of, closed_by, closing, unless_sealed}
@@ -29,8 +29,7 @@ same_closing settings s a b m sequence (Some reason) run e h = same_calls a b m 
 same_appending : (a b m sequence : ℕ) (run : List (Filed (List ℕ))) (item : stream.Item (List ℕ)) →
     max a m ≡ max b m → m < sequence → appending a sequence run item ≡ appending b sequence run item
 same_appending a b m sequence run (Record filed) e h = same_calls a b m sequence (beginning run ++ Writes ∷ Writes ∷ []) e h
-same_appending a b m sequence run (Tick moment) e h = refl
-same_appending a b m sequence run (Close moment) e h = refl
+same_appending a b m sequence run _ e h = refl
 
 no_fewer : (reason : Option ClosureReason) (closed : ℕ) → closed ≤ closed_by reason closed
 no_fewer None closed = omega arith

@@ -307,7 +307,7 @@ below_next settings closed sealed before item n = ap (λ (k : ℕ). calls_below 
 equal_numbers : (s t : ℕ) → s ≡ t → (t == s) ≡ true
 equal_numbers s t e = grind (arith, nat_tests)
 
-unequal_numbers : (s t : ℕ) → s ≢ t → (t == s) ≡ false
+pub unequal_numbers : (s t : ℕ) → s ≢ t → (t == s) ≡ false
 unequal_numbers s t h = grind (arith, nat_tests)
 
 pub not_here : (profile : ℕ) (rules : List Rule) (kind : CdrKind) (tag : Option Tag) (octets : List ℕ) (moment s t : ℕ)
@@ -351,9 +351,3 @@ calls-one settings closed sealed before xs x =
 pub take_next : (items : List Item) (i : ℕ) (x : Item) → i < length items → x ≡ slice_index_or items i x
     → take (i + 1) items ≡ take i items ++ x ∷ []
 take_next items i x h e = take_more items i x h ∙ ap (λ (y : Item). take i items ++ y ∷ []) (sym e)
-
-pub take_whole : (items : List Item) (i : ℕ) → length items ≤ i → take i items ≡ items
-take_whole [] zero h = refl
-take_whole [] (suc i) h = refl
-take_whole (x ∷ items) zero h = absurd (omega arith)
-take_whole (x ∷ items) (suc i) h = ap (λ (xs : List Item). x ∷ xs) (take_whole items i (omega arith))

@@ -1,7 +1,8 @@
 -- How many files items begin: more items begin no fewer, and a record goes to the last one that is begun.
 use Rattle.std.proofs.Common.{◌≡◌, inl, inr, ℕ, ◌+◌, ◌<◌, ◌≤◌, max, nat_lt, if◌then◌else◌, Bool, true, false, IsTrue, List, [], ◌∷◌, ◌++◌, length, take, drop, Option, None, Some, refl, sym, ap, ◌∙◌, subst, arith, append_assoc}
+use Rattle.std.proofs.lemmas.Bool.{cases_lt}
 use Rattle.std.proofs.lemmas.Bool.Decides.{nat_tests}
-use Rattle.std.proofs.lemmas.List.{append-nil, take-append-drop}
+use Rattle.std.proofs.lemmas.List.{append-nil, nil_from_length, take-append-drop}
 use Rattle.cdr_file.specs.declared.closure.ClosureReason.{ClosureReason}
 use Rattle.cdr_shelf.specs.Files.{SealedFile, UnsealedFile, greatest_in}
 use Rattle.cdr_shelf.specs.declared.shelf.Shelf.{Ghosts}
@@ -17,7 +18,7 @@ use Rattle.file_writer.specs.Laws.{DivisionGoesOn}
 use Rattle.file_writer.specs.Leaving.{AreAmong, AreOpenFiles, AreShut, IsOpenFile, LeavesUnsealed, begun_after, begun_of, count_open}
 use Rattle.file_writer.specs.Streams.{Settings, closed_of, stream_count, stream_division, stream_item, stream_items}
 use Rattle.file_writer.proofs.FilesLemmas.{closed_of-append}
-use Rattle.file_writer.proofs.LeavingLemmas.{either_way, is_empty, none_counted, none_was_open}
+use Rattle.file_writer.proofs.LeavingLemmas.{none_counted, none_was_open}
 use Rattle.file_writer.proofs.StreamsLemmas.{left_open-append}
 
 -- ---- more items
@@ -31,10 +32,10 @@ some_stay : (limits : Limits) (run : List (Filed (List ℕ))) (items : List (rot
     ≤ length (divided_from limits run items).closed + count_open (divided_from limits run items).left_open
 some_stay limits run items =
     let d : Division (List ℕ) = divided_from limits run items in
-    elim (either_way 0 (length d.closed + count_open d.left_open)) [
+    elim (cases_lt 0 (length d.closed + count_open d.left_open)) [
       | inl some ↦ omega (arith, some, few_counted run)
       | inr none ↦
-          let was : run ≡ [] = none_was_open limits run items (is_empty d.closed (omega (arith, none)))
+          let was : run ≡ [] = none_was_open limits run items (nil_from_length d.closed (omega (arith, none)))
           (none_counted d.left_open (omega (arith, none))) in
           omega (arith, ap count_open was)
     ]
@@ -148,7 +149,7 @@ outside begun s h = ap (λ (b : Bool). if b then begun s else 0) (is_not_less s 
 shut_from : (begun : ℕ → ℕ) (files : List SealedFile) (unsealed : ℕ → Option UnsealedFile)
     → AreShut begun files unsealed → (s : ℕ) → most_of begun s ≤ greatest_in s files → unsealed s ≡ None
 shut_from begun files unsealed shut s h =
-    elim (either_way s stream_count) [
+    elim (cases_lt s stream_count) [
       | inl within ↦ shut.each s within (omega (arith, h, inside begun s within))
       | inr far ↦ shut.beyond s far
     ]
@@ -208,7 +209,7 @@ pub shut_open : (settings : Settings) (closed sealed : ℕ → ℕ) (items : Lis
 shut_open settings closed sealed items files old new firsts shut leaves = record {
   each = λ s h.
       let first : ℕ = closed s + closed_of settings s [] in
-      elim (either_way (max first (sealed s)) (closed s + begun_of settings s items)) [
+      elim (cases_lt (max first (sealed s)) (closed s + begun_of settings s items)) [
         | inl wrote ↦ leaves.wrote s h wrote
         | inr none ↦
             let low = (firsts s h).0 in

@@ -3,6 +3,7 @@ use Rattle.std.proofs.Common.{◌≡◌, ◌≢◌, ℕ, max, take, ◌+◌, ◌
 use Rattle.std.specs.Result.{IsErr, IsErrAnd}
 use Rattle.std.proofs.lemmas.Bool.Decides.{nat_tests}
 use Rattle.std.proofs.lemmas.List.{append-nil, map-append}
+use Rattle.std.proofs.lemmas.Option.{same_Some}
 use Rattle.area_disk.specs.Armed.{Came, calls_under}
 use Rattle.area_disk.specs.Armed.Came.{Ran, FailedAt, StoppedAt}
 use Rattle.cdr_file.specs.CdrFile.{FileSettings, FiledRecord, cdr_header_length, cdr_octets, facts_of, facts_of_one, facts_with, file_octets, header_length, header_of, run_octets}
@@ -82,9 +83,6 @@ closing_long : (settings : FileSettings) (s : ℕ) (file : Progress) (u : Option
 closing_long settings s file u None run = refl
 closing_long settings s file u (Some reason) run = long_if (nat_le (file.closed + 1) file.sealed) _ _
 
-pub some_is : {A : Type 0} {a b : A} → Some a ≡ Some b → a ≡ b
-some_is e = cc
-
 abbrev file_by : FileSettings → FileName → ClosureReason → RunFacts → List ℕ → SealedFile
 file_by settings name reason facts octets =
     record { name = name; octets = header_octets (header_of facts name.sequence reason settings) ++ octets }
@@ -98,7 +96,7 @@ file_is settings name reason None run u e opens body = absurd opens
 file_is settings name reason (Some facts) [] u e opens body = absurd (cc)
 file_is settings name reason (Some facts) (first ∷ later) u e opens body =
     ap (λ (octets : List ℕ). file_by settings name reason facts octets) body
-    ∙ ap (λ (run : RunFacts). file_by settings name reason run (run_octets (first ∷ later))) (some_is e)
+    ∙ ap (λ (run : RunFacts). file_by settings name reason run (run_octets (first ∷ later))) (same_Some _ _ e)
 
 same_if : (b : Bool) (growing : Option RunFacts) (octets : List ℕ) (u : Option UnsealedFile) (f g : SealedFile)
     → BodyWhere b growing octets u
@@ -262,9 +260,8 @@ greatest_elsewhere settings s t file u (Some reason) files h =
 
 seals_if : (b : Bool) (growing : Option RunFacts)
     → seals (if b then [] else beginning_of growing ++ Writes ∷ Writes ∷ []) ≡ []
-seals_if true growing = refl
 seals_if false None = refl
-seals_if false (Some run) = refl
+seals_if _ _ = refl
 
 -- ---- a stream stays up
 

@@ -3,6 +3,7 @@ use Rattle.std.proofs.Common.{◌≡◌, ℕ, zero, suc, max, ◌+◌, ◌-◌, 
 use Rattle.std.proofs.lemmas.List.{append-nil}
 use Rattle.std.proofs.Math.Seq.{take-append_seam, take-append-add}
 use Rattle.cdr_shelf.specs.Files.{SealedFile, in_stream}
+use Rattle.cdr_shelf.specs.FileLaws.{in_stream-append}
 use Rattle.file_rotate.specs.Division.{ClosedRun, Division}
 use Rattle.gw_base.specs.declared.item.Item.{Item}
 use Rattle.file_writer.specs.Calls.{Call, calls_of, seals}
@@ -12,7 +13,7 @@ use Rattle.file_writer.specs.Laws.{DivisionGoesOn}
 use Rattle.file_writer.specs.Streams.{Settings, closed_of, stream_count, stream_division}
 use Rattle.file_writer.proofs.CallsLemmas.{seals-append}
 use Rattle.file_writer.proofs.FilesLemmas.{closed_of-append, division-append, files_from-append, length-files_from}
-use Rattle.file_writer.proofs.StreamsLemmas.{drop-append, in_stream-append, seals-calls_of}
+use Rattle.file_writer.proofs.StreamsLemmas.{drop-append, seals-calls_of}
 
 -- ---- lists
 

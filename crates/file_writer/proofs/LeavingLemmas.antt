@@ -1,6 +1,9 @@
 -- What calls for items leave unsealed.
 use Rattle.std.proofs.Common.{◌≡◌, ◌≢◌, ◌⊎◌, inl, inr, ℕ, max, ◌+◌, ◌<◌, ◌≤◌, Bool, true, false, nat_le, IsTrue, List, [], ◌∷◌, ◌++◌, length, drop, Option, None, Some, slice_index_or, slice_set, refl, sym, ap, ◌∙◌, subst, arith}
+use Rattle.std.proofs.lemmas.Bool.{cases_lt}
 use Rattle.std.proofs.lemmas.Bool.Decides.{nat_tests}
+use Rattle.std.proofs.lemmas.List.{nil_from_length}
+use Rattle.std.proofs.lemmas.Option.{same_Some}
 use Rattle.cdr_file.specs.CdrFile.{FiledRecord, header_length, run_octets}
 use Rattle.cdr_file.specs.declared.closure.ClosureReason.{ClosureReason}
 use Rattle.cdr_file.specs.declared.filed_kind.FiledKind.{FiledKind}
@@ -25,14 +28,10 @@ use Rattle.file_writer.specs.declared.progress.Progress.{Progress}
 use Rattle.file_writer.specs.declared.stream.Stream.{Stream}
 use Rattle.file_writer.proofs.AllLemmas.{each_set}
 use Rattle.file_writer.proofs.FilesLemmas.{closed_of-append}
-use Rattle.file_writer.proofs.FollowingLemmas.{some_is}
 use Rattle.file_writer.proofs.StreamsLemmas.{left_open-append}
 use Rattle.file_writer.proofs.WriterLemmas.{any_default, no_stream}
 
 -- ---- tests
-
-pub either_way : (n m : ℕ) → (n < m) ⊎ (m ≤ n)
-either_way n m = grind arith
 
 is_true : (n m : ℕ) → n ≤ m → nat_le n m ≡ true
 is_true n m h = grind (arith, nat_tests)
@@ -53,7 +52,7 @@ gone_by name kind n header (Some file) v w x h e f g = g ∙ ap left_unsealed (f
 
 by_test : (n m : ℕ) → ((nat_le n m ≡ true) × (n ≤ m)) ⊎ ((nat_le n m ≡ false) × (m < n))
 by_test n m =
-    elim (either_way m n) [
+    elim (cases_lt m n) [
       | inl less ↦ inr (untrue n m less, less)
       | inr most ↦ inl (is_true n m most, most)
     ]
@@ -183,7 +182,7 @@ file_open name (first ∷ later) (Some run) None e ready body none = absurd read
 file_open name (first ∷ later) (Some run) (Some f) e ready body none = (
   ready.0,
   subst (λ (kind : FiledKind). drop (header_length kind) f.octets ≡ run_octets (run_records (first ∷ later)))
-      (ap (λ (facts : RunFacts). facts.kind) (some_is e)) body,
+      (ap (λ (facts : RunFacts). facts.kind) (same_Some _ _ e)) body,
 )
 
 module _ {A : Type 0} (tells : Ghosts A) (settings : Settings) (closed sealed : ℕ → ℕ) (before after : List Item)
@@ -239,10 +238,6 @@ module _ {A : Type 0} (tells : Ghosts A) (settings : Settings) (closed sealed : 
 
 -- ---- more items
 
-pub is_empty : {B : Type 0} (xs : List B) → length xs ≡ 0 → xs ≡ []
-is_empty [] e = refl
-is_empty (x ∷ xs) e = absurd (omega (arith, e))
-
 cons_some : {B P : Type 0} (x : B) (xs : List B) → x ∷ xs ≡ [] → P
 cons_some x xs e = absurd (cc)
 
@@ -282,7 +277,7 @@ module _ (law : DivisionGoesOn) (settings : Settings) (s : ℕ) (items more : Li
   was_shut few shut =
       none_was_open settings.limits (stream_division settings s items).left_open
       (stream_items settings.profile settings.rules s more)
-      (is_empty (later_division settings s items more).closed
+      (nil_from_length (later_division settings s items more).closed
       (no_more (closed_of settings s (items ++ more)) (closed_of settings s items)
       (length (later_division settings s items more).closed) (closed_of-append law settings s items more) few))
       (sym (left_open-append law settings s items more) ∙ shut)
@@ -303,7 +298,7 @@ open_go_on law settings closed sealed before front rest old new few are leaves =
       let after : List Item = mid ++ rest in
       let most : ℕ = max (closed s + closed_of settings s before) (sealed s) in
       let run : List (Filed (List ℕ)) = (stream_division settings s after).left_open in
-      elim (either_way most (closed s + begun_of settings s after)) [
+      elim (cases_lt most (closed s + begun_of settings s after)) [
         | inl wrote ↦ leaves.wrote s h wrote
         | inr none ↦
             let first = closed_grow law settings s before front in

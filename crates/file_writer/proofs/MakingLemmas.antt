@@ -11,7 +11,7 @@ use Rattle.area_disk.specs.Plan.{Schedule, after_call, is_failure, next_fate}
 use Rattle.area_disk.specs.declared.plan.Fate.{Fate}
 use Rattle.area_disk.specs.declared.plan.Fate.TheVariants.{Runs, Fails, Stops}
 use Rattle.area_disk.specs.declared.plan.Outcome3.{Outcome3}
-use Rattle.area_disk.specs.declared.plan.Outcome3.TheVariants.{Old, New, Rot}
+use Rattle.area_disk.specs.declared.plan.Outcome3.TheVariants.{Old, New}
 use Rattle.cdr_shelf.specs.Files.{SealedFile}
 use Rattle.cdr_shelf.specs.Steps.{is_done}
 use Rattle.cdr_shelf.specs.declared.shelf.Shelf.{Ghosts}
@@ -98,9 +98,8 @@ module _ {A : Type 0} (tells : Ghosts A) (call : Call) (old new : A) where
 
   stopped_left : (outcome : Outcome3) → Left (Stops outcome)
       → tells.files new ≡ tells.files old ++ seals (take (done_at 1 outcome) (call ∷ []))
-  stopped_left Old left = none_sealed left
   stopped_left New left = left
-  stopped_left Rot left = none_sealed left
+  stopped_left _ left = none_sealed left
 
   or_true : (b : Bool) → (b || true) ≡ true
   or_true true = refl
@@ -216,14 +215,12 @@ less_one : (m k : ℕ) → 1 ≤ k → m + (k - 1) ≡ m + k - 1
 less_one m k h = omega arith
 
 done_later : (m k : ℕ) (o : Outcome3) → 1 ≤ k → m + done_at k o ≡ done_at (m + k) o
-done_later m k Old h = less_one m k h
 done_later m k New h = refl
-done_later m k Rot h = less_one m k h
+done_later m k _ h = less_one m k h
 
 done_within : (k : ℕ) (o : Outcome3) → done_at k o ≤ k
 done_within k Old = omega arith
-done_within k New = omega arith
-done_within k Rot = omega arith
+done_within k _ = omega arith
 
 pub take-length : (xs : List Call) → take (length xs) xs ≡ xs
 take-length [] = refl
@@ -276,8 +273,7 @@ module _ {A : Type 0} (tells : Ghosts A) (xs ys : List Call) where
       → Comes tells (xs ++ ys) ended (length xs + tried) old new (then_calls (length xs) (length ys) came)
   comes_then ended tried old mid new first some (Ran b) c next =
       comes_behind ended tried old mid new first some (calls_under b (length ys)) (next b c.is_armed)
-  comes_then ended tried old mid new first some (FailedAt k) c next = went_not_failed _ c.fails
-  comes_then ended tried old mid new first some (StoppedAt k o) c next = went_not_failed _ c.fails
+  comes_then ended tried old mid new first some _ c next = went_not_failed _ c.fails
 
   -- calls that all ran, and then others
   pub makes_then : (ended : Ending) (old mid new : A) → Makes tells xs Went old mid → Makes tells ys ended mid new

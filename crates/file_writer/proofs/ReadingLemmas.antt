@@ -1,7 +1,7 @@
 -- The files of items are read back: each number that a header says of their records fits its field.
 use Rattle.std.proofs.Common.{◌≡◌, ℕ, zero, suc, ◌+◌, ◌^◌, ◌<◌, ◌≤◌, ◌==◌, ◌&&◌, ◌||◌, nat_le, if◌then◌else◌, Bool, true, false, All, Contains, List, [], ◌∷◌, ◌++◌, length, map, slice_get, sum_by, Option, None, Some, Ok, refl, sym, ap, ◌∙◌, subst, arith, ℤ, append-nil}
 use Rattle.std.specs.Prelude.{is_some}
-use Rattle.std.proofs.lemmas.Bool.{eqb-true, leb-false}
+use Rattle.std.proofs.lemmas.Bool.{and_parts, eqb-true, leb-false}
 use Rattle.std.proofs.lemmas.List.Elements.{All-head, All-tail}
 use Rattle.std.proofs.lemmas.List.Sums.{sum_by-append, sum_by-cons}
 use Rattle.std.proofs.lemmas.Option.{get_or_from_slice_get, none-some, slice_get_within}
@@ -45,8 +45,7 @@ AreSayable offset (filed ∷ run) = IsSayable offset filed × AreSayable offset 
 
 abbrev IsItemSayable : ℤ → stream.Item (List ℕ) → Type 0
 IsItemSayable offset (Record filed) = IsSayable offset filed
-IsItemSayable offset (Tick moment) = Unit {0}
-IsItemSayable offset (Close moment) = Unit {0}
+IsItemSayable offset _ = Unit {0}
 
 abbrev AreItemsSayable : ℤ → List (stream.Item (List ℕ)) → Type 0
 AreItemsSayable offset [] = Unit {0}
@@ -106,10 +105,8 @@ IsOneKind (first ∷ later) = AreOf first.kind later
 
 -- an item that is a record is of that kind too
 abbrev Joins : List (Filed (List ℕ)) → stream.Item (List ℕ) → Type 0
-Joins [] i = Unit {0}
 Joins (first ∷ later) (Record filed) = filed.kind ≡ first.kind
-Joins (first ∷ later) (Tick moment) = Unit {0}
-Joins (first ∷ later) (Close moment) = Unit {0}
+Joins _ _ = Unit {0}
 
 of_more : (kind : FiledKind) (run : List (Filed (List ℕ))) (filed : Filed (List ℕ)) → AreOf kind run
     → filed.kind ≡ kind → AreOf kind (run ++ filed ∷ [])
@@ -121,10 +118,6 @@ kinds_more : (run : List (Filed (List ℕ))) (filed : Filed (List ℕ)) → IsOn
 kinds_more [] filed one is = tt
 kinds_more (first ∷ later) filed one is = of_more first.kind later filed one is
 
-both_of : (a b : Bool) → (a && b) ≡ true → (a ≡ true) × (b ≡ true)
-both_of true b e = (refl, e)
-both_of false b e = absurd (cc)
-
 extension_is : (extension other : Option ℕ) → same_extension extension other ≡ true → extension ≡ other
 extension_is None None e = refl
 extension_is None (Some other) e = absurd (cc)
@@ -133,9 +126,9 @@ extension_is (Some extension) (Some other) e = ap (λ (x : ℕ). Some x) (eqb-tr
 
 kind_is : (kind other : FiledKind) → same_kind kind other ≡ true → kind ≡ other
 kind_is kind other e =
-    let first = both_of (kind.release == other.release) _ e in
-    let second = both_of (kind.version == other.version) _ first.1 in
-    let third = both_of (kind.format == other.format) _ second.1 in
+    let first = and_parts (kind.release == other.release) _ e in
+    let second = and_parts (kind.version == other.version) _ first.1 in
+    let third = and_parts (kind.format == other.format) _ second.1 in
     let release : kind.release ≡ other.release = eqb-true kind.release other.release first.0 in
     let version : kind.version ≡ other.version = eqb-true kind.version other.version second.0 in
     let format : kind.format ≡ other.format = eqb-true kind.format other.format third.0 in
@@ -236,8 +229,7 @@ module _ (limits : Limits) (are : AreLimits limits) (offset : ℤ) where
     each = sayable_more offset run filed is.each sayable;
     kinds = kinds_more run filed is.kinds joint;
   }
-  with_item run (Tick moment) is sayable joint = subst (IsReadable offset) (sym (append-nil run)) (readable run is)
-  with_item run (Close moment) is sayable joint = subst (IsReadable offset) (sym (append-nil run)) (readable run is)
+  with_item run _ is sayable joint = subst (IsReadable offset) (sym (append-nil run)) (readable run is)
 
   short_of : (run : List (Filed (List ℕ))) → run_limit_reached limits run ≡ None → run_length run < limits.size
   unfolding run_limit_reached
@@ -260,8 +252,7 @@ module _ (limits : Limits) (are : AreLimits limits) (offset : ℤ) where
     each = sayable_more offset run filed is.each sayable;
     kinds = kinds_more run filed is.kinds joint;
   }
-  left_open run (Tick moment) is sayable joint None e = subst IsOpen (sym (append-nil run)) is
-  left_open run (Close moment) is sayable joint None e = subst IsOpen (sym (append-nil run)) is
+  left_open run _ is sayable joint None e = subst IsOpen (sym (append-nil run)) is
 
   all_closed : (run : List (Filed (List ℕ))) → IsOpen run → (items : List (stream.Item (List ℕ)))
       → AreItemsSayable offset items → AllReadable offset (divided_from limits run items).closed
@@ -286,15 +277,7 @@ address_is ip = refl
 
 reason_is : (r : ClosureReason) → code_of r < 256
 reason_is reason.Normal = omega arith
-reason_is reason.SizeLimit = omega arith
-reason_is reason.OpenTimeLimit = omega arith
-reason_is reason.CountLimit = omega arith
-reason_is reason.Manual = omega arith
-reason_is reason.KindChange = omega arith
-reason_is reason.Abnormal = omega arith
-reason_is reason.FileSystemError = omega arith
-reason_is reason.StorageExhausted = omega arith
-reason_is reason.IntegrityError = omega arith
+reason_is _ = omega arith
 
 last_stamp : (offset : ℤ) (first : Filed (List ℕ)) (later : List (Filed (List ℕ))) → AreSayable offset (first ∷ later)
     → stamp_of (last_moment (run_records (first ∷ later))) offset < 2 ^ 32

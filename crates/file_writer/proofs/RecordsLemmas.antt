@@ -2,7 +2,6 @@
 use Rattle.std.proofs.Common.{◌≡◌, ℕ, zero, suc, ◌+◌, ◌-◌, ◌<◌, ◌≤◌, ◌==◌, nat_lt, if◌then◌else◌, Bool, true, false, List, [], ◌∷◌, ◌++◌, length, map, take, slice_get, Option, None, Some, refl, sym, ap, ◌∙◌, subst, arith, append_assoc, append-nil, length-append}
 use Rattle.std.specs.List.{flat_map}
 use Rattle.std.proofs.lemmas.Bool.{ltb-false, ltb-true}
-use Rattle.std.proofs.lemmas.Bool.Decides.{nat_tests}
 use Rattle.std.proofs.lemmas.Option.{none-some, same_Some, slice_get_within}
 use Rattle.file_rotate.specs.Division.{ClosedRun, Division}
 use Rattle.file_rotate.specs.Items.{Filed, Record, record_in, records_of}
@@ -15,6 +14,7 @@ use Rattle.route_filter.specs.Rules.{stream_of}
 use Rattle.route_filter.specs.declared.rule.Rule.{Rule}
 use Rattle.file_writer.specs.Places.{FilePlace, HasPlace, in_run, nth_place, place_in, place_of_item, record_at, records_to, run_with, runs_of}
 use Rattle.file_writer.specs.Streams.{Settings, record_if, stream_division, stream_item, stream_items, stream_record}
+use Rattle.file_writer.proofs.FilesLemmas.{same_number as same}
 
 -- ---- elements of joined lists
 
@@ -239,9 +239,6 @@ one_more_after profile rules s (x ∷ xs) (suc k) (suc l) found filed h is less 
     )
 
 -- ---- items that are records
-
-same : (n : ℕ) → (n == n) ≡ true
-same n = grind (arith, nat_tests)
 
 -- the division of a stream has each of its records, in order
 abbrev pub HasAll : Type 0

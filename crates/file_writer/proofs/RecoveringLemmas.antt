@@ -8,8 +8,9 @@ use Rattle.gw_base.specs.declared.item.Item.{Item}
 use Rattle.file_writer.specs.Files.{files_from}
 use Rattle.file_writer.specs.Holding.{HoldsOf, files_after}
 use Rattle.file_writer.specs.Streams.{Settings, closed_of, stream_division}
-use Rattle.file_writer.proofs.FilesLemmas.{length-files_from, same_number}
+use Rattle.file_writer.proofs.FilesLemmas.{length-files_from}
 use Rattle.file_writer.proofs.HoldingLemmas.{take_nothing}
+use Rattle.file_writer.proofs.WritingLemmas.{own_number}
 
 -- ---- the greatest number of a stream is that of its own files
 
@@ -27,15 +28,11 @@ greatest_own s (f ∷ files) =
 
 -- ---- files that are numbered one after the other
 
-named : (s n : ℕ) → number_in s (record { stream = s; sequence = n }) ≡ n
-named s n = ap (λ (t : Bool). if t then n else 0) (same_number s)
-
 counted : (settings : FileSettings) (s before n : ℕ) (runs : List (ClosedRun (List ℕ)))
     → max (greatest_in s (take n (files_from settings s (before + 1) runs))) before ≡ before + min n (length runs)
-counted settings s before zero runs = omega arith
-counted settings s before (suc n) [] = omega arith
 counted settings s before (suc n) (run ∷ runs) =
-    omega (arith, named s (before + 1), counted settings s (before + 1) n runs)
+    omega (arith, own_number s (before + 1), counted settings s (before + 1) n runs)
+counted settings s before _ _ = omega arith
 
 -- ---- no more are taken than there are
 

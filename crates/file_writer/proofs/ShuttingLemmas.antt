@@ -1,6 +1,5 @@
 -- Calls keep streams shut of which all files are sealed, whatever comes of them.
-use Rattle.std.proofs.Common.{◌≡◌, ◌≢◌, inl, inr, ℕ, ◌<◌, ◌≤◌, ◌==◌, max, Bool, true, false, if◌then◌else◌, IsTrue, List, [], ◌∷◌, ◌++◌, None, Some, Result, refl, sym, ap, ◌∙◌, subst, arith}
-use Rattle.std.proofs.lemmas.Bool.Decides.{nat_tests}
+use Rattle.std.proofs.Common.{◌≡◌, ◌≢◌, inl, inr, ℕ, ◌<◌, ◌≤◌, max, Bool, true, false, if◌then◌else◌, IsTrue, List, [], ◌∷◌, ◌++◌, None, Some, Result, refl, sym, ap, ◌∙◌, subst, arith}
 use Rattle.area_disk.specs.declared.plan.Fate.{Fate}
 use Rattle.area_disk.specs.declared.plan.Fate.TheVariants.{Runs, Fails, Stops}
 use Rattle.area_disk.specs.Plan.{next_fate}
@@ -11,7 +10,7 @@ use Rattle.cdr_shelf.specs.Steps.{LeavesAfter, SealLeaves, files_after, is_done,
 use Rattle.cdr_shelf.specs.declared.file_name.FileName.{FileName}
 use Rattle.cdr_shelf.specs.declared.shelf.Shelf.{Ghosts}
 use Rattle.file_writer.specs.Shutting.{BeginsShut, StaysShut}
-use Rattle.file_writer.proofs.AllLemmas.{is_same}
+use Rattle.file_writer.proofs.AllLemmas.{is_same, unequal_numbers}
 
 -- ---- one call
 
@@ -113,13 +112,10 @@ gone : (u : Unsealed) (file : SealedFile) → sealed_as u ≡ file ∷ [] → le
 gone None file e = absurd (cc)
 gone (Some f) file e = gone_where f.is_synced f file e
 
-unequal : (a b : ℕ) → a ≢ b → (b == a) ≡ false
-unequal a b h = grind (arith, nat_tests)
-
 -- a name of another stream
 other_number : (s stream : ℕ) (name : FileName) → name.stream ≡ stream → s ≢ stream → number_in s name ≡ 0
 other_number s stream name e h =
-    ap (λ (b : Bool). if b then name.sequence else 0) (unequal s name.stream (λ (same : s ≡ name.stream). h (same ∙ e)))
+    ap (λ (b : Bool). if b then name.sequence else 0) (unequal_numbers s name.stream (λ (same : s ≡ name.stream). h (same ∙ e)))
 
 here_by : (b : Bool) (most : ℕ → ℕ) (stream : ℕ) (u : Unsealed) (files : List SealedFile) (file : SealedFile)
     → sealed_as u ≡ file ∷ [] → (most stream ≤ greatest_in stream files → u ≡ None)

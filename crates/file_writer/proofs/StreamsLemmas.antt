@@ -1,8 +1,8 @@
 -- What calls for items seal of each stream.
 use Rattle.std.proofs.Common.{◌≡◌, ◌≢◌, ◌⊎◌, inl, inr, ℕ, zero, suc, ◌+◌, ◌-◌, ◌≤◌, ◌<◌, List, [], ◌∷◌, ◌++◌, length, drop, refl, sym, ap, ◌∙◌, arith}
-use Rattle.std.proofs.lemmas.List.Elements.{filter-append}
 use Rattle.cdr_file.specs.CdrFile.{FileSettings}
 use Rattle.cdr_shelf.specs.Files.{SealedFile, in_stream}
+use Rattle.cdr_shelf.specs.FileLaws.{in_stream-append}
 use Rattle.file_rotate.specs.Division.{ClosedRun, Division, divided_from, goes_on}
 use Rattle.file_rotate.specs.Items.{Filed}
 use Rattle.file_rotate.specs.Items as stream
@@ -34,9 +34,6 @@ drop-append (suc n) (x ∷ xs) ys = drop-append n xs ys ∙ ap (λ (k : ℕ). dr
 pub drop_nothing : {A : Type 0} (n : ℕ) → drop {A = A} n [] ≡ []
 drop_nothing zero = refl
 drop_nothing (suc n) = refl
-
-pub in_stream-append : (s : ℕ) (xs ys : List SealedFile) → in_stream s (xs ++ ys) ≡ in_stream s xs ++ in_stream s ys
-in_stream-append s xs ys = filter-append _ xs ys
 
 up_to : (s n : ℕ) → s < suc n → (s < n) ⊎ (s ≡ n)
 up_to s n h = grind arith

@@ -3,11 +3,11 @@ use Rattle.std.proofs.Common.{◌≡◌, ℕ, false, Result, Ok, Err, refl, ◌�
 use Rattle.area_disk.specs.Plan.{Prospect, Schedule, next_fate, after_call, is_failure, fate_with}
 use Rattle.area_disk.specs.declared.area.Area.{Ghosts}
 use Rattle.area_disk.specs.declared.plan.Fate.{Fate}
-use Rattle.area_disk.specs.declared.plan.Fate.TheVariants.{Runs, Fails, Stops}
+use Rattle.area_disk.specs.declared.plan.Fate.TheVariants.{Runs}
 use Rattle.gate_journal.specs.Journal.{area_of}
 use Rattle.gate_journal.specs.OpenPlanned.{MadeBy}
 use Rattle.gate_journal.specs.Planned.{Course, Ending, SyncPlanned, after_append, after_put, after_sync, append_fails, course_after, course_by, course_of, ending_by, ending_of, fate_of_sync, is_ended, with_reads}
-use Rattle.gate_journal.specs.Planned.Ending.{BothRan, AtWrite, AtSync}
+use Rattle.gate_journal.specs.Planned.Ending.{BothRan}
 use Rattle.gate_journal.specs.declared.faults.OpenFault.{OpenFault}
 use Rattle.gate_journal.specs.declared.journal.Journal.{Journal}
 use Rattle.gate_journal.proofs.Turns.{other_bool}
@@ -27,8 +27,7 @@ ending_reads r c =
 
 course_reads : (write sync : Fate) (r : ℕ) (c : Course) → course_by write sync (with_reads r c) ≡ with_reads r (course_by write sync c)
 course_reads Runs sync r c = refl
-course_reads Fails sync r c = refl
-course_reads (Stops o) sync r c = refl
+course_reads _ sync r c = refl
 
 pub put_reads : (r : ℕ) (c : Course) → after_put (with_reads r c) ≡ with_reads r (after_put c)
 put_reads r c =
@@ -38,8 +37,7 @@ put_reads r c =
 
 course_after_reads : (e : Ending) (r : ℕ) (one two : Course) → course_after e (with_reads r one) (with_reads r two) ≡ with_reads r (course_after e one two)
 course_after_reads BothRan r one two = refl
-course_after_reads (AtWrite f) r one two = refl
-course_after_reads (AtSync f) r one two = refl
+course_after_reads _ r one two = refl
 
 pub append_reads : (r : ℕ) (c : Course) → after_append (with_reads r c) ≡ with_reads r (after_append c)
 append_reads r c =
@@ -51,8 +49,7 @@ append_reads r c =
 -- no call of an append is to fail
 both_ran : (e f : Ending) → append_fails e f ≡ false → (e ≡ BothRan) × (is_ended f ≡ false)
 both_ran BothRan f runs = (refl, runs)
-both_ran (AtWrite x) f runs = absurd (other_bool runs)
-both_ran (AtSync x) f runs = absurd (other_bool runs)
+both_ran _ f runs = absurd (other_bool runs)
 
 module _ (old : Course) (runs : append_fails (ending_of old) (ending_of (after_put old)) ≡ false) where
   pub first_runs : is_ended (ending_of old) ≡ false
@@ -63,8 +60,7 @@ module _ (old : Course) (runs : append_fails (ending_of old) (ending_of (after_p
 
 fate_runs : (fate : Fate) → is_failure fate ≡ false → fate ≡ Runs
 fate_runs Runs runs = refl
-fate_runs Fails runs = absurd (other_bool runs)
-fate_runs (Stops o) runs = absurd (other_bool runs)
+fate_runs _ runs = absurd (other_bool runs)
 
 -- the plan behind a sync that ran and reads
 pub looked : (old mid : Prospect) → SyncPlanned old false mid → is_failure (fate_of_sync (course_of old)) ≡ false → course_of mid ≡ with_reads mid.schedule.reads (after_sync Runs (course_of old))

@@ -14,9 +14,8 @@ use Rattle.gate_journal.specs.Spelling.{spelled-append, spelled-one, length-spel
 
 -- a front with its first octet apart
 pub front-cons : (place : ℕ) (octets : List ℕ) → 1 ≤ place → 1 ≤ length octets → take place octets ≡ get_or octets 0 0 ∷ drop 1 (take place octets)
-front-cons zero octets low long = absurd (omega arith)
-front-cons (suc place) [] low long = absurd (omega arith)
 front-cons (suc place) (x ∷ octets) low long = refl
+front-cons _ _ low long = absurd (omega arith)
 
 pub list-cons : (octets : List ℕ) → 1 ≤ length octets → octets ≡ get_or octets 0 0 ∷ drop 1 octets
 list-cons [] long = absurd (omega arith)

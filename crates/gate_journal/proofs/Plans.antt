@@ -23,8 +23,7 @@ Parts write sync course old at from failed new =
 write_ended : (write sync : Fate) (course : Course) (old : Outcome3 → List ℕ) (at : ℕ) (from : List ℕ) (mid : Prospect) → is_failure write ≡ true → mid.schedule ≡ after_call write course.schedule → mid.spare ≡ spare_after_write write course.spare
     → LeavesAfterWrite write old at from mid.leaves → Parts write sync course old at from true mid
 write_ended Runs sync course old at from mid failed schedule spare leaves = absurd (other_bool (sym failed))
-write_ended Fails sync course old at from mid failed schedule spare leaves = (refl, (λ i. record { schedule = schedule i; spare = spare i }), leaves)
-write_ended (Stops outcome) sync course old at from mid failed schedule spare leaves = (refl, (λ i. record { schedule = schedule i; spare = spare i }), leaves)
+write_ended _ sync course old at from mid failed schedule spare leaves = (refl, (λ i. record { schedule = schedule i; spare = spare i }), leaves)
 
 -- a put whose write failed
 pub put_failed : {T E : Type 0} (old : Prospect) (at : ℕ) (from : List ℕ) (wrote result : Result T E) (mid : Prospect) → WriteAsPlanned old at from wrote mid → is_err wrote ≡ true → is_err result ≡ true → PutPlanned old at from result mid
@@ -44,8 +43,7 @@ sync_ended (Stops outcome) course old at from mid new came wrote schedule spare 
 write_ran : (write : Fate) (course : Course) (old : Outcome3 → List ℕ) (at : ℕ) (from : List ℕ) (mid : Prospect) → is_failure write ≡ false → mid.schedule ≡ after_call write course.schedule → mid.spare ≡ spare_after_write write course.spare
     → LeavesAfterWrite write old at from mid.leaves → (write ≡ Runs) × (course_of mid ≡ after_write Runs course) × ((o : Outcome3) → mid.leaves o ≡ written_as o (old o) at from)
 write_ran Runs course old at from mid ran schedule spare leaves = (refl, (λ i. record { schedule = schedule i; spare = spare i }), leaves)
-write_ran Fails course old at from mid ran schedule spare leaves = absurd (other_bool ran)
-write_ran (Stops outcome) course old at from mid ran schedule spare leaves = absurd (other_bool ran)
+write_ran _ course old at from mid ran schedule spare leaves = absurd (other_bool ran)
 
 -- a put whose write ran
 pub put_synced : {T E F : Type 0} (old : Prospect) (at : ℕ) (from : List ℕ) (wrote : Result T F) (result : Result T E) (mid new : Prospect) → WriteAsPlanned old at from wrote mid → is_err wrote ≡ false → SyncAsPlanned mid result new → PutPlanned old at from result new
@@ -88,33 +86,27 @@ closed_test octets gate shut = ⊎_elim (λ yes. absurd (shut yes.1)) (λ no. no
 frame_ended : (ending : Ending) (old : Outcome3 → List ℕ) (octets : List ℕ) (gate : ℕ) (framed : List ℕ) → gate + 1 ≤ length octets → gate_at octets gate ≢ open_gate → ((o : Outcome3) → old o ≡ octets) → is_ended ending ≡ true
     → (o : Outcome3) → gate_at (left_by ending old (gate + 1) framed o) gate ≢ open_gate
 frame_ended BothRan old octets gate framed inside shut same ended o e = other_bool (sym ended)
-frame_ended (AtWrite Runs) old octets gate framed inside shut same ended o e = shut (ap (λ (l : List ℕ). gate_at l gate) (sym (same o)) ∙ e)
-frame_ended (AtWrite Fails) old octets gate framed inside shut same ended o e = shut (ap (λ (l : List ℕ). gate_at l gate) (sym (same o)) ∙ e)
 frame_ended (AtWrite (Stops p)) old octets gate framed inside shut same ended o e = shut (sym (behind_written gate framed octets inside p) ∙ ap (λ (l : List ℕ). gate_at (written_as p l (gate + 1) framed) gate) (sym (same p)) ∙ e)
-frame_ended (AtSync Runs) old octets gate framed inside shut same ended o e = shut (ap (λ (l : List ℕ). gate_at l gate) (sym (same o)) ∙ e)
 frame_ended (AtSync Fails) old octets gate framed inside shut same ended o e = shut (sym (behind_written gate framed octets inside o) ∙ ap (λ (l : List ℕ). gate_at (written_as o l (gate + 1) framed) gate) (sym (same o)) ∙ e)
 frame_ended (AtSync (Stops p)) old octets gate framed inside shut same ended o e = shut (sym (behind_written gate framed octets inside p) ∙ ap (λ (l : List ℕ). gate_at (written_as p l (gate + 1) framed) gate) (sym (same p)) ∙ e)
+frame_ended _ old octets gate framed inside shut same ended o e = shut (ap (λ (l : List ℕ). gate_at l gate) (sym (same o)) ∙ e)
 
 -- whether it is open where the opening of the gate ended
 gate_ended : (ending : Ending) (old : Outcome3 → List ℕ) (octets : List ℕ) (gate : ℕ) → gate + 1 ≤ length octets → gate_at octets gate ≢ open_gate → ((o : Outcome3) → old o ≡ octets)
     → (o : Outcome3) → (gate_at (left_by ending old gate (open_gate ∷ []) o) gate == open_gate) ≡ batch_stands BothRan ending o
 gate_ended BothRan old octets gate inside shut same o = ap (λ (l : List ℕ). gate_at (overwritten l gate (open_gate ∷ [])) gate == open_gate) (same New) ∙ ap (λ x. x == open_gate) (at_written gate [] octets inside open_gate)
-gate_ended (AtWrite Runs) old octets gate inside shut same o = ap (λ (l : List ℕ). gate_at l gate == open_gate) (same o) ∙ closed_test octets gate shut
-gate_ended (AtWrite Fails) old octets gate inside shut same o = ap (λ (l : List ℕ). gate_at l gate == open_gate) (same o) ∙ closed_test octets gate shut
 gate_ended (AtWrite (Stops p)) old octets gate inside shut same o = ap (λ (l : List ℕ). gate_at (written_as p l gate (open_gate ∷ [])) gate == open_gate) (same p) ∙ gate_written gate [] octets inside shut p
-gate_ended (AtSync Runs) old octets gate inside shut same o = ap (λ (l : List ℕ). gate_at l gate == open_gate) (same o) ∙ closed_test octets gate shut
 gate_ended (AtSync Fails) old octets gate inside shut same o = ap (λ (l : List ℕ). gate_at (written_as o l gate (open_gate ∷ [])) gate == open_gate) (same o) ∙ gate_written gate [] octets inside shut o
 gate_ended (AtSync (Stops p)) old octets gate inside shut same o = ap (λ (l : List ℕ). gate_at (written_as p l gate (open_gate ∷ [])) gate == open_gate) (same p) ∙ gate_written gate [] octets inside shut p
+gate_ended _ old octets gate inside shut same o = ap (λ (l : List ℕ). gate_at l gate == open_gate) (same o) ∙ closed_test octets gate shut
 
 ended_parts : (first second : Ending) (one two : Course) → is_ended first ≡ true → (append_fails first second ≡ true) × (course_after first one two ≡ one) × ((o : Outcome3) → batch_stands first second o ≡ false)
 ended_parts BothRan second one two ended = absurd (other_bool (sym ended))
-ended_parts (AtWrite f) second one two ended = (refl, refl, λ o. refl)
-ended_parts (AtSync f) second one two ended = (refl, refl, λ o. refl)
+ended_parts _ second one two ended = (refl, refl, λ o. refl)
 
 ran_is : (ending : Ending) → is_ended ending ≡ false → ending ≡ BothRan
 ran_is BothRan ran = refl
-ran_is (AtWrite f) ran = absurd (other_bool ran)
-ran_is (AtSync f) ran = absurd (other_bool ran)
+ran_is _ ran = absurd (other_bool ran)
 
 module _ (old : Prospect) (gate : ℕ) (framed octets : List ℕ) (inside : gate + 1 ≤ length octets) (shut : gate_at octets gate ≢ open_gate) (same : (o : Outcome3) → old.leaves o ≡ octets) where
   -- the frame wasn't written

@@ -22,33 +22,28 @@ use Rattle.gate_journal.proofs.Turns.{other_bool, is_adding, added_open, adding,
 
 -- a journal that isn't closed may be added to
 pub ready_of : (front : Front) (is_torn : Bool) → closed_by front is_torn ≡ false → IsReady front is_torn
-ready_of Founded is_torn open' = record { whole = open'; founded = λ e. cc }
-ready_of Draft is_torn open' = record { whole = open'; founded = λ e. cc }
 ready_of Founding is_torn open' = absurd (let e = open' in cc)
+ready_of _ is_torn open' = record { whole = open'; founded = λ e. cc }
 
 pub closed_when_ready : (front : Front) (is_torn : Bool) → IsReady front is_torn → closed_by front is_torn ≡ false
-closed_when_ready Founded is_torn ready = ready.whole
-closed_when_ready Draft is_torn ready = ready.whole
 closed_when_ready Founding is_torn ready = absurd (ready.founded refl)
+closed_when_ready _ is_torn ready = ready.whole
 
 pub closed_when_torn : (front : Front) → closed_by front true ≡ true
 closed_when_torn Founded = refl
-closed_when_torn Draft = refl
-closed_when_torn Founding = refl
+closed_when_torn _ = refl
 
 pub closed_as_torn : (front : Front) (is_torn : Bool) → (front ≡ Founded) ⊎ (front ≡ Draft) → is_torn ≡ closed_by front is_torn
-closed_as_torn Founded is_torn is = refl
-closed_as_torn Draft is_torn is = refl
 closed_as_torn Founding is_torn is = absurd (⊎_elim (λ e. let f : ⊥ = cc in f) (λ e. let f : ⊥ = cc in f) is)
+closed_as_torn _ is_torn is = refl
 
 pub open_after : (front : Front) (first : ℕ) → closed_by (front_after front first) false ≡ false
-open_after Founded first = refl
-open_after Draft first = refl
 open_after Founding first = either (first == 67)
   where
     either : (b : Bool) → closed_by (if b then Founded else Draft) false ≡ false
     either true = refl
     either false = refl
+open_after _ first = refl
 
 small_after : (b : Bool) (batches : List (List ℕ)) (batch : List ℕ) → All IsSmall batches → IsSmall batch → All IsSmall (if b then batches ++ batch ∷ [] else batches)
 small_after true batches batch small short = All-push IsSmall batches batch small short

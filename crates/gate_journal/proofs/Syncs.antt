@@ -20,8 +20,7 @@ running s ran = either s.stopped refl
 -- what the outcomes leave after a sync
 left_after : (fate : Fate) (old new : Outcome3 → List ℕ) → LeavesAfterSync fate old new → (outcome : Outcome3) → new outcome ≡ old (outcome_left fate outcome)
 left_after Runs old new leaves outcome = leaves outcome
-left_after Fails old new leaves outcome = leaves outcome
-left_after (Stops stop) old new leaves outcome = leaves outcome
+left_after _ old new leaves outcome = leaves outcome
 
 course_synced : (old new : Prospect) (fate : Fate) → new.schedule ≡ after_call fate old.schedule → new.spare ≡ spare_after_sync fate old.spare → course_of new ≡ after_sync fate (course_of old)
 course_synced old new fate schedule spare = λ i. record { schedule = schedule i; spare = spare i }

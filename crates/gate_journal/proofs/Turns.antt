@@ -127,8 +127,6 @@ after_gate header long front batches batch place low octets true octet inside is
 -- and octet 0 read
 pub after_first : (header : List ℕ) (begins : get_or header 0 0 ≡ 67) (front : Front) (batches : List (List ℕ)) (batch : List ℕ) (place : ℕ) (octets : List ℕ) (first : ℕ) → first ≡ get_or octets 0 0
     → Content header front false batches batch place octets → Content header (front_after front first) false batches batch place octets
-after_first header begins Founded batches batch place octets first is content = content
-after_first header begins Draft batches batch place octets first is content = content
 after_first header begins Founding batches batch place octets first is content =
     let P : Bool → Type 0 = λ b. Content header (if b then Founded else Draft) false batches batch place octets in
     ⊎_elim (λ yes.
@@ -148,6 +146,7 @@ after_first header begins Founding batches batch place octets first is content =
       framed = content.framed;
     }))
     (eqb_tells first 67)
+after_first header begins _ batches batch place octets first is content = content
 
 -- what a crash leaves of a journal, whether a batch may stand or not
 pub content_keeps_any : (header : List ℕ) (long : length header ≡ 32) (front : Front) (is_torn : Bool) (batches : List (List ℕ)) (place : ℕ) (low : 32 ≤ place) (small : All IsSmall batches) (batch c : List ℕ) → IsSmall batch → place < length c

@@ -48,10 +48,6 @@ abbrev pub packet_count : List ℕ → ℕ
 packet_count packet = form_count (packet_of packet)
 
 pub packet_few : (packet : List ℕ) → packet_count packet ≤ length packet
-packet_few [] = omega arith
-packet_few (a ∷ []) = omega arith
-packet_few (a ∷ b ∷ []) = omega arith
-packet_few (a ∷ b ∷ c ∷ []) = omega arith
 packet_few (count ∷ format ∷ high ∷ low ∷ octets) = by_test (count == 0)
   where
     form_few : (o : Option (List (List ℕ))) → form_count (option_map (λ (rs : List (List ℕ)). record { format = format; version = two_octets high low; records = rs }) o) ≡ so_many o
@@ -62,6 +58,7 @@ packet_few (count ∷ format ∷ high ∷ low ∷ octets) = by_test (count == 0)
         ≤ length (count ∷ format ∷ high ∷ low ∷ octets)
     by_test true = omega arith
     by_test false = let few = records_few count octets in let is = form_few (records_at count octets) in omega (arith, few, is)
+packet_few _ = omega arith
 
 -- ---- how many records are filed
 

@@ -1,5 +1,5 @@
 -- Packets that are fit, and numbers that differ.
-use Rattle.std.proofs.Common.{◌≡◌, ◌⊎◌, inl, inr, ℕ, zero, suc, ◌-◌, ◌<◌, ◌≤◌, ◌==◌, ◌&&◌, ◌||◌, not, Bool, true, false, List, [], ◌∷◌, length, drop, refl, subst, sym, ap, ◌∙◌, arith}
+use Rattle.std.proofs.Common.{◌≡◌, ◌⊎◌, inl, inr, ℕ, suc, ◌-◌, ◌<◌, ◌≤◌, ◌==◌, ◌&&◌, ◌||◌, not, Bool, true, false, List, [], ◌∷◌, length, drop, refl, subst, sym, ap, ◌∙◌, arith}
 use Rattle.std.proofs.lemmas.List.{drop_more}
 use Rattle.std.specs.Prelude.{slice_index_or}
 use Rattle.std.specs.List.{list_all, list_any}
@@ -58,13 +58,12 @@ module _ (x : ℕ) (xs : List ℕ) where
 
 -- numbers don't differ where some of the last ones don't
 pub last_same : (i : ℕ) (xs : List ℕ) → are_distinct (drop i xs) ≡ false → are_distinct xs ≡ false
-last_same zero xs is = is
-last_same (suc i) [] is = is
 last_same (suc i) (x ∷ xs) is = by_test (list_all (λ y. not (x == y)) xs) (last_same i xs is)
   where
     by_test : (a : Bool) → are_distinct xs ≡ false → (a && are_distinct xs) ≡ false
     by_test true rest = rest
     by_test false rest = refl
+last_same _ _ is = is
 
 pub none_within : (least greatest : ℕ) → AreWithin least greatest []
 none_within least greatest y is = absurd (true≢false (sym is))

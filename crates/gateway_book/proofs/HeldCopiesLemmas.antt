@@ -13,7 +13,7 @@ use Rattle.std.proofs.lemmas.Option.{none-some}
 use Rattle.gw_base.specs.History.{begins_epoch, names}
 use Rattle.gw_base.specs.declared.address.NodeId.{NodeId}
 use Rattle.gw_base.specs.declared.history.HistoryAct.{HistoryAct}
-use Rattle.gw_base.specs.declared.history.HistoryAct.TheVariants.{Start, Path, File, Hold, Seal, Release, Cancel, Tick, Close}
+use Rattle.gw_base.specs.declared.history.HistoryAct.TheVariants.{Path, File, Hold, Seal, Release, Cancel}
 use Rattle.gw_base.specs.declared.history.HistoryEntry.{HistoryEntry}
 use Rattle.gateway_book.specs.Filed.{held_packet, packet_of_hold}
 use Rattle.gateway_book.specs.HeldCopies.{AreBelow, CopyPlaces, HoldCopies, copies_after, copy_at, copy_order, hold_by, hold_in, if_after, packet_at, path_in, with_hold, with_path, without_holds}
@@ -33,8 +33,7 @@ order_is a b = by_test (nat_lt a b) (a == b) refl refl
 
 then_is : (o p : Ordering) → is_eq (ordering_then o p) ≡ (is_eq o && is_eq p)
 then_is Less p = refl
-then_is Equal p = refl
-then_is Greater p = refl
+then_is _ p = refl
 
 pub on_ok : {T E P Q : Type 0} (r : Result T E) → (P → Q) → OnOk r P → OnOk r Q
 on_ok (Ok x) f p = f p
@@ -152,9 +151,6 @@ none_after k None le = refl
 none_after k (Some j) le = rw (le-ltb k j (le j refl)) refl
 
 hold_by_is : (k : ℕ) (act : HistoryAct) → ForSome (hold_by k act) (λ j. j ≡ k)
-hold_by_is k Start = λ x e. absurd (none-some x e)
-hold_by_is k (Path n port counter) = λ x e. absurd (none-some x e)
-hold_by_is k (File n y packet) = λ x e. absurd (none-some x e)
 hold_by_is k (Hold n y packet) = λ x e. same k x e
   where
     same : (a b : ℕ) → Some a ≡ Some b → b ≡ a
@@ -163,29 +159,17 @@ hold_by_is k (Hold n y packet) = λ x e. same k x e
         or_zero : Option ℕ → ℕ
         or_zero None = 0
         or_zero (Some n) = n
-hold_by_is k (Seal n y) = λ x e. absurd (none-some x e)
-hold_by_is k (Release n ys) = λ x e. absurd (none-some x e)
-hold_by_is k (Cancel n ys) = λ x e. absurd (none-some x e)
-hold_by_is k Tick = λ x e. absurd (none-some x e)
-hold_by_is k Close = λ x e. absurd (none-some x e)
+hold_by_is k _ = λ x e. absurd (none-some x e)
 
 -- what comes last comes after each path
 last_after : (path : Option ℕ) (k : ℕ) (hold : Option ℕ) → ForSome path (λ p. p < k) → ForSome hold (λ j. j ≡ k) → if_after path hold ≡ hold
-last_after None k hold lt is = refl
-last_after (Some p) k None lt is = refl
 last_after (Some p) k (Some j) lt is = let later = lt p refl in let last = is j refl in rw (lt-ltb p j (omega (arith, later, last))) refl
+last_after _ k _ lt is = refl
 
 packet_of_last : (h : List HistoryEntry) (e : HistoryEntry) (act : HistoryAct) → e.act ≡ act → packet_at (h ++ e ∷ []) (hold_by (length h) act) ≡ packet_of_hold act
-packet_of_last h e Start is = refl
-packet_of_last h e (Path n port counter) is = refl
-packet_of_last h e (File n y packet) is = refl
 packet_of_last h e (Hold n y packet) is =
     ap (option_and_then (λ (x : HistoryEntry). packet_of_hold x.act)) (get_last h e) ∙ ap (λ (a : HistoryAct). packet_of_hold a) is
-packet_of_last h e (Seal n y) is = refl
-packet_of_last h e (Release n ys) is = refl
-packet_of_last h e (Cancel n ys) is = refl
-packet_of_last h e Tick is = refl
-packet_of_last h e Close is = refl
+packet_of_last h e _ is = refl
 
 -- ---- one entry more
 

@@ -158,11 +158,4 @@ copies-le (e ∷ h) = by_act e.act (copies_of h) (copies-le h)
 
     by_act : (act : HistoryAct) (copies : Copies) → copies.held + copies.stranded ≤ length h → (with_entry act h copies).held + (with_entry act h copies).stranded ≤ length (e ∷ h)
     by_act (Hold n x packet) copies most = by_fate (fate_of n.0 x h) copies most
-    by_act Start copies most = omega (arith, most)
-    by_act (Path n port counter) copies most = omega (arith, most)
-    by_act (File n x packet) copies most = omega (arith, most)
-    by_act (Seal n x) copies most = omega (arith, most)
-    by_act (Release n xs) copies most = omega (arith, most)
-    by_act (Cancel n xs) copies most = omega (arith, most)
-    by_act Tick copies most = omega (arith, most)
-    by_act Close copies most = omega (arith, most)
+    by_act _ copies most = omega (arith, most)

@@ -1,5 +1,6 @@
 -- What each step on held copies makes of those of a list of keys.
 use Rattle.std.proofs.Common.{◌≡◌, ℕ, ◌+◌, ◌-◌, ◌≤◌, ◌==◌, ◌&&◌, ◌||◌, not, cond, Bool, true, false, if◌then◌else◌, List, [], ◌∷◌, ◌++◌, Option, Some, None, is_some, length-append, filter, count_by, refl, sym, ap, subst, ◌∙◌, true≢false, arith}
+use Rattle.std.proofs.Math.Bool.{and-false, and-true, or-false, or-true}
 use Rattle.std.specs.List.{list_any}
 use Rattle.std.proofs.lemmas.Bool.{and_parts, eqb-true, eq-eqb}
 use Rattle.std.proofs.lemmas.List.{append-nil}
@@ -30,22 +31,6 @@ same_numbers a b = by_tests (a == b) (b == a) refl refl
     by_tests true false e f = sym (eq-eqb b a (sym (eqb-true a b e))) ∙ f
     by_tests false true e f = sym e ∙ eq-eqb a b (sym (eqb-true b a f))
 
-and_false : (b : Bool) → (b && false) ≡ false
-and_false true = refl
-and_false false = refl
-
-and_true : (b : Bool) → (b && true) ≡ b
-and_true true = refl
-and_true false = refl
-
-or_true : (b : Bool) → (b || true) ≡ true
-or_true true = refl
-or_true false = refl
-
-or_false : (b : Bool) → (b || false) ≡ b
-or_false true = refl
-or_false false = refl
-
 same_tests : (p q : HeldKey → Bool) → ((key : HeldKey) → p key ≡ q key) → (keys : List HeldKey) → filter p keys ≡ filter q keys
 same_tests p q same keys = ap (λ (r : HeldKey → Bool). filter r keys) (λ i key. same key i)
 
@@ -65,7 +50,7 @@ filter_both p q (key ∷ keys) = by_tests (q key) (p key) refl (filter_both p q 
 
 -- among those that pass one test is one that passes another exactly where the other's pass the first, and there is one
 any_filter : (p q : HeldKey → Bool) (b : Bool) → ((key : HeldKey) → p key ≡ true → q key ≡ b) → (keys : List HeldKey) → list_any p (filter q keys) ≡ (b && list_any p keys)
-any_filter p q b same [] = sym (and_false b)
+any_filter p q b same [] = sym (and-false b)
 any_filter p q b same (key ∷ keys) = by_tests (q key) (p key) refl refl (any_filter p q b same keys)
   where
     by_tests : (s t : Bool) → q key ≡ s → p key ≡ t → list_any p (filter q keys) ≡ (b && list_any p keys) → list_any p (cond s (key ∷ filter q keys) (filter q keys)) ≡ (b && (t || list_any p keys))
@@ -160,8 +145,8 @@ with_one node number place copies keys are = record {
     key = record { node = node; number = number }
 
     placed : (n x : ℕ) (b : Bool) → is_some (if b then Some place else copies.place_of n x) ≡ (holds n x keys || (b || false))
-    placed n x true = sym (or_true (holds n x keys))
-    placed n x false = are.places n x ∙ sym (or_false (holds n x keys))
+    placed n x true = sym (or-true (holds n x keys))
+    placed n x false = are.places n x ∙ sym (or-false (holds n x keys))
 
     counted : (n : ℕ) (b : Bool) → (node.0 == n) ≡ b → (if b then copies.count_of n + 1 else copies.count_of n) ≡ count_by (of_node n) keys + count_by (of_node n) (key ∷ [])
     counted n true e =
@@ -189,7 +174,7 @@ is_other node numbers key = not ((node == key.node.0) && list_any (λ y. y == ke
 
 without_list : (node : ℕ) (numbers : List ℕ) (copies : Copies) (keys : List HeldKey) → AreOnce keys → AreCopiesOf copies keys → AreCopiesOf (without_copies node numbers copies) (filter (is_other node numbers) keys)
 unfolding without_copies
-without_list node [] copies keys once are = subst (λ (ks : List HeldKey). AreCopiesOf copies ks) (sym (pass_all (is_other node []) (λ key. ap not (and_false (node == key.node.0))) keys)) are
+without_list node [] copies keys once are = subst (λ (ks : List HeldKey). AreCopiesOf copies ks) (sym (pass_all (is_other node []) (λ key. ap not (and-false (node == key.node.0))) keys)) are
 without_list node (number ∷ numbers) copies keys once are =
     subst (λ (ks : List HeldKey). AreCopiesOf (without_copies node numbers (without_copy node number copies)) ks)
     (filter_both (is_other node numbers) (λ key. not (is_key node number key)) keys ∙ same_tests (λ key. not (is_key node number key) && is_other node numbers key) (is_other node (number ∷ numbers)) both keys)
@@ -254,7 +239,7 @@ held_after side h moment caller act free are = subst (λ (ks : List HeldKey). Ar
     by_act (Path n port counter) free =
         to (without_node n.0 side.held) (filter (λ key. not (of_node n.0 key)) keys) (filter (λ key. stays_held (Path n port counter) key) keys ++ [])
         (append-nil (filter (λ key. stays_held (Path n port counter) key) keys)
-        ∙ same_tests (λ key. stays_held (Path n port counter) key) (λ key. not (of_node n.0 key)) (λ key. and_true (not (n.0 == key.node.0)) ∙ ap not (same_numbers n.0 key.node.0)) keys)
+        ∙ same_tests (λ key. stays_held (Path n port counter) key) (λ key. not (of_node n.0 key)) (λ key. and-true (not (n.0 == key.node.0)) ∙ ap not (same_numbers n.0 key.node.0)) keys)
         (without_all n.0 side.held keys are)
     by_act (Release n xs) free =
         to (without_copies n.0 xs side.held) (filter (is_other n.0 xs) keys) (filter (λ key. stays_held (Release n xs) key) keys ++ [])

@@ -28,7 +28,8 @@ use Rattle.gateway_book.specs.Told.{key_of}
 use Rattle.gateway_book.specs.Windows.{if_held, narrowed}
 use Rattle.gateway_book.specs.declared.index.Index.{Index}
 use Rattle.gateway_book.proofs.Tellings.{CountLaw, HeldLaw, PresentLaw, WindowLaw, fit_is, new_is_free, observed_is, tells_after}
-use Rattle.gateway_book.proofs.WindowLemmas.{meant_is_near, narrowed_answer}
+use Rattle.gateway_book.proofs.WindowLemmas.{narrowed_answer}
+use Rattle.gateway_book.specs.FitLaws.{nearest_in_window}
 
 -- ---- what is fit
 
@@ -188,7 +189,7 @@ key_as held_law present_law firm index h node wire follows =
     narrowed_key = λ i. record {
       start = start_of node.0 h;
       number = nearest o.top wire;
-      state = ap (λ (b : Bool). if b then o.state (nearest o.top wire) else if_held (o.state (nearest o.top wire))) (meant_is_near o.top wire) i;
+      state = ap (λ (b : Bool). if b then o.state (nearest o.top wire) else if_held (o.state (nearest o.top wire))) (nearest_in_window o.top wire) i;
     }
 
 pub totals_are : (firm : Bool) (index : Index) (h : List HistoryEntry) → Follows firm index h → (side_of firm index).totals ≡ totals_of h

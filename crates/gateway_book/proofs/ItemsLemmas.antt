@@ -12,7 +12,7 @@ use Rattle.gw_base.specs.Lists.{once}
 use Rattle.gw_base.specs.Observed.{observed}
 use Rattle.gw_base.specs.declared.address.NodeId.{NodeId}
 use Rattle.gw_base.specs.declared.history.HistoryAct.{HistoryAct}
-use Rattle.gw_base.specs.declared.history.HistoryAct.TheVariants.{Start, Path, File, Hold, Seal, Release, Cancel, Tick, Close}
+use Rattle.gw_base.specs.declared.history.HistoryAct.TheVariants.{File, Release}
 use Rattle.gw_base.specs.declared.history.HistoryEntry.{HistoryEntry}
 use Rattle.gw_base.specs.declared.history.PacketKey.{PacketKey}
 use Rattle.gw_base.specs.declared.item.Item.{Item}
@@ -37,12 +37,9 @@ no_records : (count format version : ℕ) (octets : List ℕ) → (count == 0) �
 no_records count format version octets none = rw none refl
 
 empty_is_none : (octets : List ℕ) → is_empty_packet octets ≡ true → packet_of octets ≡ None
-empty_is_none [] empty = refl
-empty_is_none (count ∷ []) empty = refl
-empty_is_none (count ∷ format ∷ []) empty = refl
-empty_is_none (count ∷ format ∷ high ∷ []) empty = refl
 empty_is_none (count ∷ format ∷ high ∷ low ∷ []) empty = no_records count format (two_octets high low) [] empty
 empty_is_none (count ∷ format ∷ high ∷ low ∷ x ∷ octets) empty = absurd (true≢false (sym empty))
+empty_is_none _ empty = refl
 
 -- the items of what a packet's octets say
 pub items_of_packet : (key : PacketKey) (moment : ℕ) (octets : List ℕ) (value : PacketValue) → Some value ≡ packet_reading octets → packet_items moment value ≡ map part_of (filed_under key moment octets)
@@ -149,19 +146,12 @@ fit_at size before (x ∷ h) (suc k) e fit is =
 
 -- a fit release names no number twice
 names_once : (size : ℕ) (h : List HistoryEntry) (e : HistoryEntry) (act : HistoryAct) → e.act ≡ act → IsFit size h e → NamesOnce act
-names_once size h e Start is fit = tt
-names_once size h e (Path n port counter) is fit = tt
-names_once size h e (File n x packet) is fit = tt
-names_once size h e (Hold n x packet) is fit = tt
-names_once size h e (Seal n x) is fit = tt
 names_once size h e (Release n xs) is fit = by_list xs is
   where
     by_list : (ys : List ℕ) → e.act ≡ Release n ys → are_distinct ys ≡ true
     by_list [] a = refl
     by_list (y ∷ ys) a = (and_parts _ (are_distinct (y ∷ ys)) (subst (λ (b : HistoryAct). is_act_fit (observed h) b ≡ true) a fit.act)).1
-names_once size h e (Cancel n xs) is fit = tt
-names_once size h e Tick is fit = tt
-names_once size h e Close is fit = tt
+names_once size h e _ is fit = tt
 
 pub fit_names_once : (size : ℕ) (h : List HistoryEntry) (k : ℕ) (e : HistoryEntry) → FitBehind size [] h → slice_get h k ≡ Some e → NamesOnce e.act
 fit_names_once size h k e fit is = names_once size (take k h) e e.act refl (fit_at size [] h k e fit is)

@@ -19,7 +19,7 @@ use Rattle.gateway_book.specs.declared.totals.Totals.{Totals}
 
 -- ---- lengths
 
-costs_at_least : (h : List HistoryEntry) → 30 * length h ≤ costs_of h
+pub costs_at_least : (h : List HistoryEntry) → 30 * length h ≤ costs_of h
 costs_at_least [] = omega arith
 costs_at_least (e ∷ h) = omega (arith, costs_at_least h)
 

@@ -10,10 +10,6 @@ use Rattle.gateway_book.proofs.ListsLemmas.{held_from}
 pub none_marked : (top : Option ℕ) (marks : List Bool) → AreClear marks → AreMarked top marks []
 none_marked top marks are = record { size = are.size; marked = are.clear }
 
-or_true : (b c : Bool) → c ≡ true → (b || c) ≡ true
-or_true true c e = refl
-or_true false c e = e
-
 or_false : (b c : Bool) → c ≡ false → (b || c) ≡ b
 or_false true c e = refl
 or_false false c e = e

@@ -35,8 +35,7 @@ nothing_comes (suc n) = refl
 
 earlier : (came : Came) (b : Armed) → one_later came ≡ Ran b → came ≡ Ran b
 earlier (Ran a) b is = is
-earlier (FailedAt k) b is = cc
-earlier (StoppedAt k outcome) b is = cc
+earlier _ b is = cc
 
 failed_apart : (k : ℕ) (b : Armed) → FailedAt k ≡ Ran b → ⊥
 failed_apart k b e = cc
@@ -137,13 +136,11 @@ module _ {A : Type 0} (tells : Ghosts A) (area : A) (a b : Armed) (armed : IsArm
 
 memory_is : (fault : OpenFault) → is_memory_fault (book_fault fault) ≡ trails.is_memory_fault fault
 memory_is opening.Device = refl
-memory_is (opening.NotOurs at) = refl
-memory_is opening.NoMemory = refl
+memory_is _ = refl
 
 device_fault_is : (fault : OpenFault) → is_device_fault (book_fault fault) ≡ gates.is_device_fault fault
 device_fault_is opening.Device = refl
-device_fault_is (opening.NotOurs at) = refl
-device_fault_is opening.NoMemory = refl
+device_fault_is _ = refl
 
 module _ {A : Type 0} {tells : Ghosts A} (header : List ℕ) (area : A) where
   -- where the trail was opened

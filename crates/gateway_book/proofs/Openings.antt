@@ -1,11 +1,11 @@
 -- A book that is opened: what its index follows, and the Start that it adds.
-use Rattle.std.proofs.Common.{◌≡◌, ◌≢◌, ◌⊎◌, inl, inr, ℕ, ◌*◌, ◌≤◌, true, false, if◌then◌else◌, max, List, [], ◌∷◌, ◌++◌, length, refl, sym, ap, subst, ◌∙◌, arith}
+use Rattle.std.proofs.Common.{◌≡◌, ◌≢◌, ◌⊎◌, inl, inr, ℕ, ◌≤◌, true, false, if◌then◌else◌, max, List, [], ◌∷◌, ◌++◌, length, refl, sym, ap, subst, ◌∙◌, arith}
 use Rattle.area_disk.specs.declared.area.Area.{Ghosts}
 use Rattle.gate_journal.specs.Format.{most_octets}
 use Rattle.gate_journal.specs.Moments.{Told}
 use Rattle.gate_journal.specs.declared.faults.OpenFault.{OpenFault}
 use Rattle.gate_journal.specs.declared.faults.OpenFault.TheVariants as opening
-use Rattle.entry_codec.specs.Room.{IsWithin, costs_of, has_room}
+use Rattle.entry_codec.specs.Room.{IsWithin, has_room}
 use Rattle.gw_base.specs.History.{last_moment, moment_after}
 use Rattle.gw_base.specs.Observed.{observed}
 use Rattle.gw_base.specs.declared.history.HistoryAct.{HistoryAct}
@@ -28,10 +28,7 @@ use Rattle.gateway_book.specs.FitHistory.{AllFit}
 use Rattle.gateway_book.specs.FitHistoryLaws.{fit_is_within, last_is_in_range}
 use Rattle.gateway_book.specs.Index.{MayGrow}
 use Rattle.gateway_book.specs.Value.{BookValue, history_of, opened, recorded, started}
-
-costs_at_least : (h : List HistoryEntry) → 30 * length h ≤ costs_of h
-costs_at_least [] = omega arith
-costs_at_least (e ∷ h) = omega (arith, costs_at_least h)
+use Rattle.gateway_book.proofs.JudgeLemmas.{costs_at_least}
 
 -- a fit history may grow
 pub fit_may_grow : (size : ℕ) (h : List HistoryEntry) → size ≤ most_octets → AllFit size h → MayGrow h
@@ -77,14 +74,12 @@ module _ (v : BookValue) (size : ℕ) (e : HistoryEntry) (whole : v.is_broken �
 -- ---- from the trail's opening to the book's
 
 pub not_ours_is : (fault : OpenFault) (at : ℕ) → book_fault fault ≡ NotOurs at → fault ≡ opening.NotOurs at
-not_ours_is opening.Device at e = cc
 not_ours_is (opening.NotOurs k) at e = let same : k ≡ at = cc in ap opening.NotOurs same
-not_ours_is opening.NoMemory at e = cc
+not_ours_is _ at e = cc
 
 pub device_is : (fault : OpenFault) → book_fault fault ≡ Device → fault ≡ opening.Device
 device_is opening.Device e = refl
-device_is (opening.NotOurs k) e = cc
-device_is opening.NoMemory e = cc
+device_is _ e = cc
 
 module _ {A : Type 0} {tells : Ghosts A} (header : List ℕ) (area : A) (t : Trail A tells) (open_time : ℕ) (book : Book A tells) (begun : IsBegun t open_time book) where
   -- what the trail's area is, the book's is

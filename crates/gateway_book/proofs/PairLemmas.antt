@@ -42,9 +42,8 @@ seen_set firm (one ∷ pairs) (suc place) (suc k) pair inside =
     seen_set firm pairs place k pair (omega (arith, inside)) ∙ ap (λ (b : Bool). if b then seen_in firm pair else seen_at firm pairs k) (same_successors place k)
 
 pub length_set : (pairs : List WindowPair) (place : ℕ) (pair : WindowPair) → length (slice_set pairs place pair) ≡ length pairs
-length_set [] place pair = refl
-length_set (one ∷ pairs) zero pair = refl
 length_set (one ∷ pairs) (suc place) pair = ap suc (length_set pairs place pair)
+length_set _ _ pair = refl
 
 -- a step of the pair at a place
 pub stepped_at : (step : Seen → Seen) (pairs : List WindowPair) (place : ℕ) (d new : WindowPair) → place < length pairs → IsPairStep step (slice_index_or pairs place d) new

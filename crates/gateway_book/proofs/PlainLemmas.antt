@@ -10,20 +10,13 @@ use Rattle.gw_base.specs.History.{is_close_due}
 use Rattle.gw_base.specs.View.{stays_held}
 use Rattle.gw_base.specs.declared.held.HeldKey.{HeldKey}
 use Rattle.gw_base.specs.declared.history.HistoryAct.{HistoryAct}
-use Rattle.gw_base.specs.declared.history.HistoryAct.TheVariants.{Start, Path, File, Hold, Seal, Release, Cancel, Tick, Close}
+use Rattle.gw_base.specs.declared.history.HistoryAct.TheVariants.{Start}
 use Rattle.gw_base.specs.declared.history.HistoryEntry.{HistoryEntry}
 use Rattle.gateway_book.specs.Steps.{holds_one, promised_by}
 
 held_alone : (a : HistoryAct) → length (held_by a []) ≡ holds_one a
 held_alone Start = refl
-held_alone (Path n port counter) = refl
-held_alone (File n x packet) = refl
-held_alone (Hold n x packet) = refl
-held_alone (Seal n x) = refl
-held_alone (Release n xs) = refl
-held_alone (Cancel n xs) = refl
-held_alone Tick = refl
-held_alone Close = refl
+held_alone _ = refl
 
 pub promised_after : (h : List HistoryEntry) (e : HistoryEntry) → promised_octets (h ++ e ∷ []) ≡ promised_by (held_keys h) (is_close_due h) e.act
 promised_after h e = λ i. 76 * keys i + (if is_close_due-append h e i then 30 else 0)

@@ -28,9 +28,8 @@ HeldKeysAreHeld = (node : NodeId) (number : ℕ) (h : List HistoryEntry)
 -- ---- an entry leaves what it doesn't name
 
 both_not : (a b : Bool) → (not a && not b) ≡ true → (a ≡ false) × (b ≡ false)
-both_not true b is = absurd (false≢true is)
-both_not false true is = absurd (false≢true is)
 both_not false false is = (refl, refl)
+both_not _ _ is = absurd (false≢true is)
 
 pub named_after : (h : List HistoryEntry) (e : HistoryEntry) (node number : ℕ) → begins_epoch node e.act ≡ false
     → last_naming node number (present_entries node (h ++ e ∷ [])) ≡ (if names node number e.act then Some e else last_naming node number (present_entries node h))

@@ -1,7 +1,7 @@
 -- A book's cursor, as firm entries come after the others.
 use Rattle.std.proofs.Common.{◌≡◌, ℕ, zero, suc, ◌+◌, ◌-◌, ◌<◌, ◌≤◌, ◌==◌, ◌^◌, true, false, if◌then◌else◌, Bool, List, [], ◌∷◌, ◌++◌, length, drop, take, refl, sym, ap, subst, ◌∙◌, arith, length-append}
 use Rattle.std.specs.Prelude.{min}
-use Rattle.std.proofs.lemmas.List.{append-nil, take-append-drop}
+use Rattle.std.proofs.lemmas.List.{append-nil, take-append-drop, take-append-le}
 use Rattle.area_disk.specs.Disk.{Rose, counted}
 use Rattle.area_disk.specs.declared.area.Area.{Ghosts}
 use Rattle.gate_journal.specs.Moments.{Told}
@@ -26,16 +26,11 @@ use Rattle.gateway_book.proofs.GatheringLemmas.{drop_over}
 
 -- ---- more entries
 
-take_still : (k : ℕ) (h more : List HistoryEntry) → k ≤ length h → take k (h ++ more) ≡ take k h
-take_still zero h more le = refl
-take_still (suc k) [] more le = absurd (omega (arith, le))
-take_still (suc k) (x ∷ h) more le = ap (λ (xs : List HistoryEntry). x ∷ xs) (take_still k h more (omega (arith, le)))
-
 at_longer : (h more : List HistoryEntry) (c : Cursor) → IsAt h c → IsAt (h ++ more) c
 at_longer h more c at = record {
   within = let le = at.within in let sum : length (h ++ more) ≡ length h + length more = length-append h more in omega (arith, le, sum);
-  items = at.items ∙ sym (ap (λ (xs : List HistoryEntry). min (length (items_of xs)) (2 ^ 64 - 1)) (take_still c.entry h more at.within));
-  copies = subst (λ (xs : List HistoryEntry). HoldCopies (places_of c.copies) xs) (sym (take_still c.entry h more at.within)) at.copies;
+  items = at.items ∙ sym (ap (λ (xs : List HistoryEntry). min (length (items_of xs)) (2 ^ 64 - 1)) (take-append-le c.entry h more at.within));
+  copies = subst (λ (xs : List HistoryEntry). HoldCopies (places_of c.copies) xs) (sym (take-append-le c.entry h more at.within)) at.copies;
 }
 
 within_longer : (m n : ℕ) (c : Cursor) → m ≤ n → IsWithin m c → IsWithin n c

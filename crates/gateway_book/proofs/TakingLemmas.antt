@@ -15,7 +15,7 @@ use Rattle.gw_base.specs.declared.history.Caller.{Caller}
 use Rattle.gw_base.specs.declared.history.HistoryAct.{HistoryAct}
 use Rattle.gw_base.specs.declared.history.HistoryEntry.{HistoryEntry}
 use Rattle.gateway_book.specs.Adding.{AddsIf, IsAdded, IsSame, entry_of, room_told}
-use Rattle.gateway_book.specs.Answer.{Decided, Given, Drops, Replies, Says, Silent, answer_within, decided, node_of}
+use Rattle.gateway_book.specs.Answer.{Decided, Given, Replies, Says, Silent, answer_within, decided, node_of}
 use Rattle.gateway_book.specs.Answered.{act_decided, answer, answer_to, entry_by, room_for}
 use Rattle.gateway_book.specs.Calls.{left_by, outcome_at}
 use Rattle.gateway_book.specs.Fit.{IsFit, latest_moment}
@@ -88,9 +88,8 @@ answered_at h g from datagram octets size other hs ds ss = λ i. decided (answer
 
 -- what is recorded is fit
 pub fit_of : (size : ℕ) (h : List HistoryEntry) (now : ℕ) (who : Caller) (given : Given) (reply : List ℕ) (a : HistoryAct) → IfRecords (λ number message b. IsFit size h (entry_by h now who b)) given → decided given ≡ Says reply (Some a) → IsFit size h (entry_by h now who a)
-fit_of size h now who (Drops why) reply a fits e = absurd (cc e)
-fit_of size h now who (Replies number message None) reply a fits e = absurd (cc e)
 fit_of size h now who (Replies number message (Some b)) reply a fits e = let same : b ≡ a = cc e in subst (λ (c : HistoryAct). IsFit size h (entry_by h now who c)) same fits
+fit_of size h now who _ reply a fits e = absurd (cc e)
 
 -- ---- what a book stands for afterwards
 

@@ -17,11 +17,11 @@ use Rattle.gw_base.specs.View.{strands}
 use Rattle.gw_base.specs.declared.address.NodeId.{NodeId}
 use Rattle.gw_base.specs.declared.held.HeldKey.{HeldKey}
 use Rattle.gw_base.specs.declared.history.HistoryAct.{HistoryAct}
-use Rattle.gw_base.specs.declared.history.HistoryAct.TheVariants.{Start, Path, File, Hold, Seal, Release, Cancel, Tick, Close}
+use Rattle.gw_base.specs.declared.history.HistoryAct.TheVariants.{Start, Path, File, Hold, Seal, Release, Cancel}
 use Rattle.gw_base.specs.declared.history.HistoryEntry.{HistoryEntry}
 use Rattle.gw_base.specs.declared.history.Opening.{Opening}
 use Rattle.gw_base.specs.declared.key_state.KeyState.{KeyState}
-use Rattle.gw_base.specs.declared.key_state.KeyState.TheVariants.{Fresh, Filed, Held, Sealed, Released, Cancelled}
+use Rattle.gw_base.specs.declared.key_state.KeyState.TheVariants.{Fresh, Held}
 use Rattle.seq_window.specs.Histories.{IsFreshAbove, NamesHeld, seen_after, window_of}
 use Rattle.seq_window.specs.Seen.{Seen, is_within}
 use Rattle.transfer_cmd.specs.Lists.{is_held as is_held_state}
@@ -59,19 +59,11 @@ pub record WindowLaw : Type 0 where
 
 pub held_state : (s : KeyState) → is_held s ≡ true → s ≡ Held
 held_state Held e = refl
-held_state Fresh e = absurd (true≢false (sym e))
-held_state Filed e = absurd (true≢false (sym e))
-held_state Sealed e = absurd (true≢false (sym e))
-held_state Released e = absurd (true≢false (sym e))
-held_state Cancelled e = absurd (true≢false (sym e))
+held_state _ e = absurd (true≢false (sym e))
 
 pub same_held : (s : KeyState) → is_held_state s ≡ is_held s
 same_held Fresh = refl
-same_held Filed = refl
-same_held Sealed = refl
-same_held Held = refl
-same_held Released = refl
-same_held Cancelled = refl
+same_held _ = refl
 
 module _ (held_law : HeldLaw) (present_law : PresentLaw) (side : Side) (h : List HistoryEntry) (t : Tells side h) where
   held_there : (node : NodeId) (number : ℕ) → is_some (side.held.place_of node.0 number) ≡ is_held (present_state node.0 number h)
@@ -138,17 +130,12 @@ new_is_free side node number new =
     by_test false e fresh = refl
 
 names_free : (side : Side) (act : HistoryAct) → is_act_fit (observed_in side) act ≡ true → NamesFree act side.held
-names_free side Start fit = tt
-names_free side (Path n port counter) fit = tt
 names_free side (File n x packet) fit = new_is_free side n x ((and_parts (is_new (observed_in side n) x) (is_packet_fit packet) fit).0)
 names_free side (Hold n x packet) fit =
     let both = and_parts (is_new (observed_in side n) x && is_packet_fit packet) (may_hold (observed_in side n)) fit in
     new_is_free side n x ((and_parts (is_new (observed_in side n) x) (is_packet_fit packet) both.0).0)
 names_free side (Seal n x) fit = new_is_free side n x fit
-names_free side (Release n xs) fit = tt
-names_free side (Cancel n xs) fit = tt
-names_free side Tick fit = tt
-names_free side Close fit = tt
+names_free side _ fit = tt
 
 -- what holds of all numbers of a list holds of each
 each_of : (p : ℕ → Bool) (xs : List ℕ) (n : ℕ) → list_all p xs ≡ true → list_any (λ x. x == n) xs ≡ true → p n ≡ true
@@ -173,53 +160,26 @@ named_held h m xs node n fit named =
     ap (λ (k : ℕ). present_state k n h) (sym (eqb-true m.0 node parts.0)) ∙ list_held (observed h m) xs n fit parts.1
 
 names_held : (h : List HistoryEntry) (act : HistoryAct) (node : ℕ) → is_act_fit (observed h) act ≡ true → NamesHeld node h act
-names_held h Start node fit = tt
-names_held h (Path n port counter) node fit = tt
-names_held h (File n x packet) node fit = tt
-names_held h (Hold n x packet) node fit = tt
-names_held h (Seal n x) node fit = tt
 names_held h (Release m xs) node fit = λ n named. named_held h m xs node n fit named
 names_held h (Cancel m xs) node fit = λ n named. named_held h m xs node n fit named
-names_held h Tick node fit = tt
-names_held h Close node fit = tt
+names_held h _ node fit = tt
 
 -- ---- what an act changes of each part
 
 acted_window : (side : Side) (act : HistoryAct) (node : ℕ) → (acted act side).nodes.window node ≡ seen_after half node act (side.nodes.window node)
 unfolding numbered_nodes listed_nodes opened_nodes
 acted_window side Start node = refl
-acted_window side (Path n port counter) node = refl
-acted_window side (File n x packet) node = refl
-acted_window side (Hold n x packet) node = refl
-acted_window side (Seal n x) node = refl
-acted_window side (Release n xs) node = refl
-acted_window side (Cancel n xs) node = refl
-acted_window side Tick node = refl
-acted_window side Close node = refl
+acted_window side _ node = refl
 
 acted_opening : (side : Side) (act : HistoryAct) (node : ℕ) → (acted act side).nodes.opening node ≡ opening_after node (side.nodes.opening node) act
 unfolding numbered_nodes listed_nodes opened_nodes
 acted_opening side Start node = refl
-acted_opening side (Path n port counter) node = refl
-acted_opening side (File n x packet) node = refl
-acted_opening side (Hold n x packet) node = refl
-acted_opening side (Seal n x) node = refl
-acted_opening side (Release n xs) node = refl
-acted_opening side (Cancel n xs) node = refl
-acted_opening side Tick node = refl
-acted_opening side Close node = refl
+acted_opening side _ node = refl
 
 acted_known : (side : Side) (act : HistoryAct) → (acted act side).nodes.known ≡ with_node side.nodes.known (named_node act)
 unfolding numbered_nodes listed_nodes opened_nodes
 acted_known side Start = refl
-acted_known side (Path n port counter) = refl
-acted_known side (File n x packet) = refl
-acted_known side (Hold n x packet) = refl
-acted_known side (Seal n x) = refl
-acted_known side (Release n xs) = refl
-acted_known side (Cancel n xs) = refl
-acted_known side Tick = refl
-acted_known side Close = refl
+acted_known side _ = refl
 
 -- Totals say the same of all but stranded copies.
 record SameRest (a b : Totals) : Type 0 where
@@ -229,14 +189,7 @@ record SameRest (a b : Totals) : Type 0 where
 
 acted_rest : (act : HistoryAct) (side : Side) → SameRest (acted act side).totals side.totals
 acted_rest Start side = record { starts = refl; is_close_due = refl; last_tick = refl }
-acted_rest (Path node port counter) side = record { starts = refl; is_close_due = refl; last_tick = refl }
-acted_rest (File node number packet) side = record { starts = refl; is_close_due = refl; last_tick = refl }
-acted_rest (Hold node number packet) side = record { starts = refl; is_close_due = refl; last_tick = refl }
-acted_rest (Seal node number) side = record { starts = refl; is_close_due = refl; last_tick = refl }
-acted_rest (Release node numbers) side = record { starts = refl; is_close_due = refl; last_tick = refl }
-acted_rest (Cancel node numbers) side = record { starts = refl; is_close_due = refl; last_tick = refl }
-acted_rest Tick side = record { starts = refl; is_close_due = refl; last_tick = refl }
-acted_rest Close side = record { starts = refl; is_close_due = refl; last_tick = refl }
+acted_rest _ side = record { starts = refl; is_close_due = refl; last_tick = refl }
 
 none_counts : (p : HeldKey → Bool) → ((key : HeldKey) → p key ≡ false) → (keys : List HeldKey) → count_by p keys ≡ 0
 none_counts p none [] = refl
@@ -253,18 +206,11 @@ module _ (count_law : CountLaw) (side : Side) (h : List HistoryEntry) (e : Histo
   still begins = stranded_is ∙ sym (unstranded h e begins)
 
   stranded_after : (act : HistoryAct) → e.act ≡ act → (acted act side).totals.stranded ≡ (copies_of (h ++ e ∷ [])).stranded
-  stranded_after Start is = still (λ m. ap (λ a. begins_epoch m a) is)
-  stranded_after (File n x packet) is = still (λ m. ap (λ a. begins_epoch m a) is)
-  stranded_after (Hold n x packet) is = still (λ m. ap (λ a. begins_epoch m a) is)
-  stranded_after (Seal n x) is = still (λ m. ap (λ a. begins_epoch m a) is)
-  stranded_after (Release n xs) is = still (λ m. ap (λ a. begins_epoch m a) is)
-  stranded_after (Cancel n xs) is = still (λ m. ap (λ a. begins_epoch m a) is)
-  stranded_after Tick is = still (λ m. ap (λ a. begins_epoch m a) is)
-  stranded_after Close is = still (λ m. ap (λ a. begins_epoch m a) is)
   stranded_after (Path n port counter) is =
       let of : count_by (λ (key : HeldKey). strands e.act key) (held_keys h) ≡ count_by (λ (key : HeldKey). key.node.0 == n.0) (held_keys h) =
       ap (λ (p : HeldKey → Bool). count_by p (held_keys h)) (λ i key. (ap (λ a. begins_epoch key.node.0 a) is ∙ same_numbers n.0 key.node.0) i) in
       omega (arith, fits, of, stranded_is, t.held.counts n.0, stranded-append h e, copies-le h, count_law h, count_by-le-length (λ (key : HeldKey). key.node.0 == n.0) (held_keys h))
+  stranded_after _ is = still (λ m. ap (λ a. begins_epoch m a) is)
 
 -- ---- the law
 

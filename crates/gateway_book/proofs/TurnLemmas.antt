@@ -19,7 +19,7 @@ use Rattle.gateway_book.specs.Answered.{act_decided, answer_to, entry_by}
 use Rattle.gateway_book.specs.Book.{HasCause, Stays, area_of, fortune_of, reopening_of, value_of}
 use Rattle.gateway_book.specs.Calls.{Left, given_at, length_at, marked_at, marked_if_ready, taken}
 use Rattle.gateway_book.specs.Marks.{Mark, Makes, NoRoom, NotDue}
-use Rattle.gateway_book.specs.Preparing.{PreparedValue, Drop, OtherVersion, Path, Refused as Refuses, Request}
+use Rattle.gateway_book.specs.Preparing.{PreparedValue, Drop}
 use Rattle.gateway_book.specs.Read.{IsUnchanged}
 use Rattle.gateway_book.specs.Turning.{IsTurn, act_in, act_marked, added_to, drops_of, facts_of, is_gone, tells_lists}
 use Rattle.gateway_book.specs.Value.{BookValue, Fortune, Gone, Refused, Reopening, Whole, after_commit, faulted, history_of, is_batch_full, readied, recorded_if, reopened, torn_of, tried, tried_with}
@@ -257,10 +257,7 @@ by_caller m now who (Some a) = All-cons (λ (e : HistoryEntry). e.caller.session
 
 failure_has_none : (datagram : PreparedValue) → act_decided (decided (failure_answer datagram)) ≡ None
 failure_has_none (Drop why) = refl
-failure_has_none (OtherVersion number) = refl
-failure_has_none (Refuses cause number) = refl
-failure_has_none (Path event) = refl
-failure_has_none (Request number body) = refl
+failure_has_none _ = refl
 
 -- what a book records goes on
 records_open : (m : BookValue) (from : Addr) (datagram : PreparedValue) (size : ℕ) (a : HistoryAct) → act_decided (decided (given_at m from datagram size)) ≡ Some a → m.is_broken ≡ false

@@ -1,7 +1,6 @@
 -- Answers ask of the numbers alone that a number on the wire may mean.
-use Rattle.std.proofs.Common.{◌≡◌, ℕ, ◌==◌, ◌&&◌, Bool, true, false, if◌then◌else◌, List, [], ◌∷◌, Option, Some, None, map, filter, refl, sym, ap, ◌∙◌, arith}
+use Rattle.std.proofs.Common.{◌≡◌, ℕ, ◌==◌, ◌&&◌, Bool, true, false, if◌then◌else◌, List, [], ◌∷◌, map, filter, refl, sym, ap, ◌∙◌}
 use Rattle.std.specs.List.{list_all}
-use Rattle.std.proofs.lemmas.Grind.{common_steps}
 use Rattle.gtpp_message.specs.Message.{TransferValue, Send, Possible, Cancel, Release}
 use Rattle.gtpp_message.specs.Packet.{packet_octets}
 use Rattle.gw_base.specs.Lists.{once}
@@ -12,15 +11,16 @@ use Rattle.gw_base.specs.declared.address.NodeId.{NodeId}
 use Rattle.gw_base.specs.declared.history.HistoryAct.{HistoryAct}
 use Rattle.gw_base.specs.declared.history.HistoryAct.TheVariants as act
 use Rattle.gw_base.specs.declared.key_state.KeyState.{KeyState}
-use Rattle.gw_base.specs.declared.key_state.KeyState.TheVariants.{Fresh, Filed, Sealed, Held, Released, Cancelled}
+use Rattle.gw_base.specs.declared.key_state.KeyState.TheVariants.{Fresh}
 use Rattle.transfer_cmd.specs.Lists.{is_held, verdict_cause, verdict_of}
 use Rattle.transfer_cmd.specs.Table.{answer_cause, state_given}
 use Rattle.transfer_cmd.specs.declared.decision.Ask.{Ask}
 use Rattle.gateway_book.specs.Answer.{answer_within, asked_by, changes, listed, may_record, node_of, recorded_as, sending, sending_again, sent, tabled}
 use Rattle.gateway_book.specs.Fit.{are_distinct, is_act_fit, is_fresh, is_in_window, is_list_fit, is_new, is_packet_fit}
 use Rattle.gateway_book.specs.Limits.{has_place, is_in_range, may_hold}
-use Rattle.gateway_book.specs.Preparing.{PreparedValue, Drop, OtherVersion, Refused, Path, Request}
+use Rattle.gateway_book.specs.Preparing.{PreparedValue, Request}
 use Rattle.gateway_book.specs.Windows.{AgreeWhereMeant, if_held, narrowed}
+use Rattle.gateway_book.specs.FitLaws.{nearest_in_window}
 
 -- ---- other states of numbers that none means
 
@@ -52,24 +52,14 @@ module _ (o : Observed) (s : ℕ → KeyState) (moment : ℕ) (same : (wire : �
 
   may_is : (room : HistoryAct → Bool) (a : HistoryAct) → may_record (record o { state = s; moment = moment }) room a ≡ may_record o room a
   may_is room act.Start = refl
-  may_is room (act.Path n port counter) = refl
-  may_is room (act.File n x packet) = refl
-  may_is room (act.Hold n x packet) = refl
-  may_is room (act.Seal n x) = refl
-  may_is room (act.Release n xs) = refl
-  may_is room (act.Cancel n xs) = refl
-  may_is room act.Tick = refl
-  may_is room act.Close = refl
+  may_is room _ = refl
 
   answer_is : (from : Addr) (datagram : PreparedValue) (room : HistoryAct → Bool)
       → answer_within (record o { state = s; moment = moment }) from datagram room ≡ answer_within o from datagram room
-  answer_is from (Drop why) room = refl
-  answer_is from (OtherVersion number) room = refl
-  answer_is from (Refused cause number) room = refl
-  answer_is from (Path event) room = refl
   answer_is from (Request number body) room =
       ap (λ (may : HistoryAct → Bool). asked_by (record o { state = s; moment = moment }) may (node_of from) number body) (λ i a. may_is room a i)
       ∙ asked_is (may_record o room) (node_of from) number body
+  answer_is from _ room = refl
 
 pub agreed_answer : (o p : Observed) (from : Addr) (datagram : PreparedValue) (room : HistoryAct → Bool) → AgreeWhereMeant o p → answer_within o from datagram room ≡ answer_within p from datagram room
 agreed_answer o p from datagram room agree =
@@ -80,22 +70,13 @@ agreed_answer o p from datagram room agree =
 
 -- ---- windows
 
--- a number that is meant lies in the window
-pub meant_is_near : (top : Option ℕ) (wire : ℕ) → is_in_window top (nearest top wire) ≡ true
-meant_is_near None wire = refl
-meant_is_near (Some h) wire = grind (arith, common_steps)
-
 pub narrowed_answer : (o : Observed) (from : Addr) (datagram : PreparedValue) (room : HistoryAct → Bool) → answer_within (narrowed o) from datagram room ≡ answer_within o from datagram room
 narrowed_answer o from datagram room = answer_is o (narrowed o).state o.moment
-    (λ wire. ap (λ b. if b then o.state (nearest o.top wire) else if_held (o.state (nearest o.top wire))) (meant_is_near o.top wire)) from datagram room
+    (λ wire. ap (λ b. if b then o.state (nearest o.top wire) else if_held (o.state (nearest o.top wire))) (nearest_in_window o.top wire)) from datagram room
 
 held_still : (state : KeyState) → is_held (if_held state) ≡ is_held state
 held_still Fresh = refl
-held_still Filed = refl
-held_still Sealed = refl
-held_still Held = refl
-held_still Released = refl
-held_still Cancelled = refl
+held_still _ = refl
 
 held_is : (o : Observed) (number : ℕ) → is_held ((narrowed o).state number) ≡ is_held (o.state number)
 held_is o number = by_window (is_in_window o.top number)
@@ -126,12 +107,9 @@ list_is o [] = refl
 list_is o (x ∷ xs) = ap (λ (test : ℕ → Bool). list_all test (x ∷ xs) && are_distinct (x ∷ xs)) (λ i y. held_is o y i)
 
 pub narrowed_fit : (of : NodeId → Observed) (a : HistoryAct) → is_act_fit (λ node. narrowed (of node)) a ≡ is_act_fit of a
-narrowed_fit of act.Start = refl
-narrowed_fit of (act.Path n port counter) = refl
 narrowed_fit of (act.File n x packet) = ap (λ b. b && is_packet_fit packet) (new_is (of n) x)
 narrowed_fit of (act.Hold n x packet) = ap (λ b. b && is_packet_fit packet && may_hold (of n)) (new_is (of n) x)
 narrowed_fit of (act.Seal n x) = new_is (of n) x
 narrowed_fit of (act.Release n xs) = list_is (of n) xs
 narrowed_fit of (act.Cancel n xs) = list_is (of n) xs
-narrowed_fit of act.Tick = refl
-narrowed_fit of act.Close = refl
+narrowed_fit of _ = refl

@@ -1,5 +1,5 @@
 -- Reading the elements of a body, one after the other.
-use Rattle.std.proofs.Common.{◌≡◌, ℕ, zero, suc, ◌-◌, ◌<◌, ◌≤◌, Bool, true, false, not, cond, List, [], ◌∷◌, length, drop, Option, Some, None, Result, Ok, Err, is_ok, nat_lt, refl, ap, sym, ◌∙◌, ◌⊎◌, inl, inr, arith}
+use Rattle.std.proofs.Common.{◌≡◌, ℕ, suc, ◌-◌, ◌<◌, ◌≤◌, Bool, true, false, not, cond, List, [], ◌∷◌, length, drop, Option, Some, None, Result, Ok, Err, is_ok, nat_lt, refl, ap, sym, ◌∙◌, ◌⊎◌, inl, inr, arith}
 use Rattle.std.specs.Bool.{◌==◌}
 use Rattle.std.specs.Result.{result_err, result_unwrap_or}
 use Rattle.std.proofs.lemmas.Bool.Decides.{eqb_tells}
@@ -20,13 +20,12 @@ shorter_fixed at kind (octet ∷ rest) found e =
     let same : rest ≡ found.1 = cc in omega (arith, ap length same)
 
 shorter_sized : (at kind : ℕ) (octets : List ℕ) (found : Element × List ℕ) → sized_at at kind octets ≡ Ok found → length found.1 ≤ length octets
-shorter_sized at kind [] found e = cc
-shorter_sized at kind (high ∷ []) found e = cc
 shorter_sized at kind (high ∷ low ∷ octets) found e =
     elim (chosen (nat_lt (length octets) (two_octets high low)) _ _ _ e) [
       | inl cut ↦ cc (cut.1)
       | inr whole ↦ let same : drop (two_octets high low) octets ≡ found.1 = cc (whole.1) in omega (arith, ap length same, length-drop (two_octets high low) octets)
     ]
+shorter_sized at kind _ found e = cc
 
 -- an element takes an octet at least
 pub shorter : (at : ℕ) (octets : List ℕ) (found : Element × List ℕ) → element_at at octets ≡ Ok found → length found.1 < length octets
@@ -49,11 +48,10 @@ same_behind (Err fault) f g same = refl
 enough : (m n total : ℕ) (octets : List ℕ) → length octets ≤ m → length octets ≤ n → elements_left m total octets ≡ elements_left n total octets
 unfolding elements_left
 enough m n total [] in_m in_n = refl
-enough zero n total (kind ∷ octets) in_m in_n = absurd (omega arith)
-enough (suc m) zero total (kind ∷ octets) in_m in_n = absurd (omega arith)
 enough (suc m) (suc n) total (kind ∷ octets) in_m in_n =
     same_behind (element_at (total - length (kind ∷ octets)) (kind ∷ octets)) (elements_left m total) (elements_left n total)
     (λ found e. let less : length found.1 ≤ length octets = omega (arith, shorter (total - length (kind ∷ octets)) (kind ∷ octets) found e) in enough m n total found.1 (omega arith) (omega arith))
+enough _ _ total (kind ∷ octets) in_m in_n = absurd (omega arith)
 
 -- what is left of a body
 abbrev pub left : List ℕ → List ℕ → Result (List Element) ElementFault

@@ -26,8 +26,6 @@ found_fixed at kind (octet ∷ rest) found fixed known e =
     (record { front = kind ∷ octet ∷ []; whole = refl; spelled = inl (record { octet = octet; fixed = fixed; known = known; value = refl; spelled = refl }) })
 
 found_sized : (at kind : ℕ) (octets : List ℕ) (found : Element × List ℕ) → is_fixed kind ≡ false → sized_at at kind octets ≡ Ok found → Found (kind ∷ octets) found
-found_sized at kind [] found sized e = cc
-found_sized at kind (high ∷ []) found sized e = cc
 found_sized at kind (high ∷ low ∷ octets) found sized e =
     elim (chosen (nat_lt (length octets) (two_octets high low)) _ _ _ e) [
       | inl cut ↦ cc (cut.1)
@@ -40,6 +38,7 @@ found_sized at kind (high ∷ low ∷ octets) found sized e =
             spelled = inr (record { high = high; low = low; sized = sized; stated = length-take-le (two_octets high low) octets fits; spelled = refl });
           })
     ]
+found_sized at kind _ found sized e = cc
 
 -- an element that is read is spelled at the front
 found_element : (at : ℕ) (octets : List ℕ) (found : Element × List ℕ) → element_at at octets ≡ Ok found → Found octets found
@@ -288,9 +287,8 @@ first_fault_again body (UnknownFixed kind at) found =
 -- SENT ELEMENTS
 
 one_octet : (value : List ℕ) → length value ≡ 1 → (octet : ℕ) × (value ≡ octet ∷ [])
-one_octet [] one = absurd (omega arith)
 one_octet (octet ∷ []) one = (octet, refl)
-one_octet (octet ∷ second ∷ rest) one = absurd (omega arith)
+one_octet _ one = absurd (omega arith)
 
 sent_by : (fixed : Bool) (element : Element) → is_fixed element.kind ≡ fixed → MatchBool fixed (IsTrue (is_known_fixed element.kind) × (length element.value ≡ 1)) (length element.value ≤ 65535) →
     SpellsElement element (cond fixed (element.kind ∷ element.value) (element.kind ∷ length element.value / 256 ∷ length element.value % 256 ∷ element.value))

@@ -2,6 +2,7 @@
 use Rattle.std.proofs.Common.{◌≡◌, ◌≢◌, ℕ, zero, suc, ◌-◌, ◌<◌, ◌==◌, Bool, true, false, cond, List, [], ◌∷◌, length, drop, Option, Some, None, is_some, slice_get, option_map, option_and_then, unwrap_or, refl, ap, sym, subst, ◌∙◌, arith}
 use Rattle.std.proofs.lemmas.Bool.{eqb-false}
 use Rattle.std.proofs.Math.Dec.{eqb-suc-zero}
+use Rattle.std.proofs.lemmas.Option.{same_Some}
 use Rattle.gtpp_header.specs.Header.{two_octets}
 use Rattle.gtpp_message.specs.Packet.{IsPacket, PacketForm, packet_of, PacketValue, Empty, Full, full_packet, is_empty_packet, nth_record, packet_in, packet_reading, record_at, records_at, records_in, stated_form}
 
@@ -122,9 +123,6 @@ counted_in count octets some =
     let facts = counted_some count octets (records_at count octets) refl (records_length count octets) some in
     record { there = facts.0; read = facts.1; so_many = facts.2 }
 
-form_is : (a b : PacketForm) → ◌≡◌ {A = Option PacketForm} (Some a) (Some b) → a ≡ b
-form_is a b e = cc
-
 -- the packet that is read of so many records has one
 form_some : (count format version : ℕ) (octets : List ℕ) (form : PacketForm) → packet_in count format version octets ≡ Some form → 0 < length form.records
 form_some count format version octets form e = by_test (count == 0) refl (records_at count octets) (records_length count octets) e
@@ -135,16 +133,13 @@ form_some count format version octets form e = by_test (count == 0) refl (record
     by_test false is None of e = cc
     by_test false is (Some records) of e =
         let stated : PacketForm = record { format = format; version = version; records = records } in
-        let same : stated ≡ form = form_is stated form e in
+        let same : stated ≡ form = same_Some stated form e in
         let some : count ≢ 0 = eqb-false count 0 is in
         omega (arith, of, ap (λ (p : PacketForm). length p.records) same, some)
 
 packet_some : (value : List ℕ) (form : PacketForm) → packet_of value ≡ Some form → 0 < length form.records
-packet_some [] form e = cc
-packet_some (a ∷ []) form e = cc
-packet_some (a ∷ b ∷ []) form e = cc
-packet_some (a ∷ b ∷ c ∷ []) form e = cc
 packet_some (a ∷ b ∷ c ∷ d ∷ octets) form e = form_some a b (two_octets c d) octets form e
+packet_some _ form e = cc
 
 -- a packet whose value says what it states has as many records as it says
 pub packet_counted : (count format version : ℕ) (value : List ℕ) → packet_of value ≡ Some (stated_form count format version value) → IsCounted count (drop 4 value)
@@ -204,12 +199,9 @@ not_in count format version octets form e = by_test (count == 0) (records_at cou
     by_test false records e = refl
 
 not_empty : (value : List ℕ) (form : PacketForm) → packet_of value ≡ Some form → is_empty_packet value ≡ false
-not_empty [] form e = cc
-not_empty (a ∷ []) form e = cc
-not_empty (a ∷ b ∷ []) form e = cc
-not_empty (a ∷ b ∷ c ∷ []) form e = cc
 not_empty (a ∷ b ∷ c ∷ d ∷ []) form e = not_in a b (two_octets c d) [] form e
 not_empty (a ∷ b ∷ c ∷ d ∷ octet ∷ octets) form e = refl
+not_empty _ form e = cc
 
 -- a packet is read of its value
 pub packet_back : (form : PacketForm) (value : List ℕ) → packet_of value ≡ Some form → packet_reading value ≡ Some (Full form value)

@@ -2,13 +2,11 @@
 use Rattle.std.proofs.Common.{◌≡◌, ◌↔◌, ℕ, ◌==◌, Bool, true, false, cond, List, [], ◌∷◌, length, Option, Some, None, option_map, refl, ap, sym, subst, ◌∙◌, inl, inr, arith}
 use Rattle.std.proofs.lemmas.Bool.{eqb-false, ne_eqb}
 use Rattle.std.proofs.lemmas.Bool.Decides.{eqb_tells}
+use Rattle.std.proofs.lemmas.Option.{same_Some}
 use Rattle.gtpp_header.specs.Header.{two_octets}
 use Rattle.gtpp_message.specs.Packet.{PacketForm, PacketValue, Empty, Full, SpellsEmpty, SpellsForm, SpellsPacket, full_packet, is_empty_packet, packet_in, packet_of, packet_reading, records_at}
 use Rattle.gtpp_message.proofs.PacketLemmas.{full_read, packet_back}
 use Rattle.gtpp_message.proofs.RecordLemmas.{Counted, counted, records_again}
-
-form_is : (a b : PacketForm) → ◌≡◌ {A = Option PacketForm} (Some a) (Some b) → a ≡ b
-form_is a b e = cc
 
 -- The full packet.
 
@@ -26,7 +24,7 @@ spelled_in count format high low octets form e = by_test (count == 0) refl (reco
         let stated : PacketForm = record { format = format; version = two_octets high low; records = records } in
         let those = counted count octets records read in
         let some = eqb-false count 0 is in
-        subst (λ (f : PacketForm). SpellsForm f (count ∷ format ∷ high ∷ low ∷ octets)) (form_is stated form e)
+        subst (λ (f : PacketForm). SpellsForm f (count ∷ format ∷ high ∷ low ∷ octets)) (same_Some stated form e)
         (record {
           version_high = high;
           version_low = low;
@@ -38,11 +36,8 @@ spelled_in count format high low octets form e = by_test (count == 0) refl (reco
         })
 
 form_spelled : (value : List ℕ) (form : PacketForm) → packet_of value ≡ Some form → SpellsForm form value
-form_spelled [] form e = cc
-form_spelled (a ∷ []) form e = cc
-form_spelled (a ∷ b ∷ []) form e = cc
-form_spelled (a ∷ b ∷ c ∷ []) form e = cc
 form_spelled (a ∷ b ∷ c ∷ d ∷ octets) form e = spelled_in a b c d octets form e
+form_spelled _ form e = cc
 
 form_again : (form : PacketForm) (value : List ℕ) → SpellsForm form value → packet_of value ≡ Some form
 form_again form value spells =
@@ -68,18 +63,14 @@ by_emptiness false (Some form) value e = cc
 empty_spelled : (value : List ℕ) → is_empty_packet value ≡ true → SpellsEmpty value
 empty_spelled [] e = tt
 empty_spelled (a ∷ []) e = zero_is a e
-empty_spelled (a ∷ b ∷ []) e = cc
-empty_spelled (a ∷ b ∷ c ∷ []) e = cc
 empty_spelled (a ∷ b ∷ c ∷ d ∷ []) e = zero_is a e
-empty_spelled (a ∷ b ∷ c ∷ d ∷ octet ∷ octets) e = cc
+empty_spelled _ e = cc
 
 empty_again : (value : List ℕ) → SpellsEmpty value → is_empty_packet value ≡ true
 empty_again [] none = refl
 empty_again (a ∷ []) none = ap (λ (n : ℕ). n == 0) none
-empty_again (a ∷ b ∷ []) none = absurd none
-empty_again (a ∷ b ∷ c ∷ []) none = absurd none
 empty_again (a ∷ b ∷ c ∷ d ∷ []) none = ap (λ (n : ℕ). n == 0) none
-empty_again (a ∷ b ∷ c ∷ d ∷ octet ∷ octets) none = absurd none
+empty_again _ none = absurd none
 
 pub packet_said : (packet : PacketValue) (value : List ℕ) → packet_reading value ≡ Some packet → SpellsPacket packet value
 packet_said Empty value e = empty_spelled value (by_emptiness (is_empty_packet value) (packet_of value) value e)

@@ -16,8 +16,6 @@ parts_are a b e = cc
 
 -- a record that is read is spelled at the front
 spelled_record : (octets : List ℕ) (parts : List ℕ × List ℕ) → record_at octets ≡ Some parts → SpellsRecord parts.0 parts.1 octets
-spelled_record [] parts e = cc
-spelled_record (high ∷ []) parts e = cc
 spelled_record (high ∷ low ∷ rest) parts e =
     let n = two_octets high low in
     elim (chosen (nat_lt (length rest) n) _ _ _ e) [
@@ -32,6 +30,7 @@ spelled_record (high ∷ low ∷ rest) parts e =
             whole = ap (λ (v : List ℕ). high ∷ low ∷ v) (sym (take-append-drop n rest));
           })
     ]
+spelled_record _ parts e = cc
 
 -- a record that is spelled at the front is read
 record_again : (first rest octets : List ℕ) → SpellsRecord first rest octets → record_at octets ≡ Some (first, rest)

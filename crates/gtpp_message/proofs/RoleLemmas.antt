@@ -1,5 +1,5 @@
 -- What an end of a path reads, behind the header and beside what is read at neither end.
-use Rattle.std.proofs.Common.{◌≡◌, ℕ, ◌==◌, Bool, true, false, not, nat_lt, if◌then◌else◌, List, [], ◌∷◌, length, take, drop, Result, Ok, Err, refl, ap, sym, subst, ◌∙◌}
+use Rattle.std.proofs.Common.{◌≡◌, ℕ, ◌==◌, Bool, true, false, not, nat_lt, if◌then◌else◌, List, ◌∷◌, length, take, drop, Result, Ok, Err, refl, ap, sym, subst, ◌∙◌}
 use Rattle.gtpp_header.specs.Header.{protocol_type_of, two_octets, version_of}
 use Rattle.gtpp_header.specs.Reading.{header_reading}
 use Rattle.gtpp_header.specs.declared.fault.HeadFault.TheVariants as head
@@ -23,23 +23,16 @@ behind_header : (role : Role) (gtp other cut : Bool) (version kind stated number
     ≡ (if gtp then Drop why.NotPrime else if other then (if kind == 3 then Drop why.Stray else OtherVersion kind number) else if cut then Drop why.Cut
     else if not (is_message_type kind) then Drop why.UnknownType else if is_stray role kind then Drop why.Stray
     else by_body kind number (body_of kind (elements_in (take stated (drop 6 octets)))))
-behind_header role true other cut version kind stated number octets = refl
-behind_header role false true cut version kind stated number octets = refl
 behind_header role false false true version kind stated number octets = refl
-behind_header role false false false version kind stated number octets = refl
+behind_header role _ _ _ version kind stated number octets = refl
 
 -- what is read behind the header is what the conditions say
 pub in_order : (role : Role) (octets : List ℕ) → read_at role (header_reading octets) octets ≡ role_reading role octets
-in_order role [] = refl
-in_order role (a ∷ []) = refl
-in_order role (a ∷ b ∷ []) = refl
-in_order role (a ∷ b ∷ c ∷ []) = refl
-in_order role (a ∷ b ∷ c ∷ d ∷ []) = refl
-in_order role (a ∷ b ∷ c ∷ d ∷ e ∷ []) = refl
 in_order role (flags ∷ kind ∷ length_high ∷ length_low ∷ number_high ∷ number_low ∷ rest) =
     let stated = two_octets length_high length_low in
     behind_header role (protocol_type_of flags == 1) (not (version_of flags == 2)) (nat_lt (length rest) stated) (version_of flags) kind stated
     (two_octets number_high number_low) (flags ∷ kind ∷ length_high ∷ length_low ∷ number_high ∷ number_low ∷ rest)
+in_order role _ = refl
 
 -- Beside what is read at neither end.
 
@@ -70,23 +63,16 @@ by_header : (role : Role) (gtp other cut : Bool) (version kind stated number : �
     else by_body kind number (body_of kind (elements_in (take stated (drop 6 octets)))))
     ≡ for_role role (behind (if gtp then Err head.NotPrime else if other then Err (head.Version version kind number) else if cut then Err (head.Cut stated)
     else Ok (record { kind = kind; length = stated; number = number })) octets)
-by_header role true other cut version kind stated number octets = refl
-by_header role false true cut version kind stated number octets = refl
-by_header role false false true version kind stated number octets = refl
 by_header role false false false version kind stated number octets = by_known (is_message_type kind) role kind number (elements_in (take stated (drop 6 octets))) refl
+by_header role _ _ _ version kind stated number octets = refl
 
 -- what an end reads is what is read at neither, but for what is stray there and for what no message answers
 pub role_beside : (role : Role) (octets : List ℕ) → role_reading role octets ≡ for_role role (reading octets)
-role_beside role [] = refl
-role_beside role (a ∷ []) = refl
-role_beside role (a ∷ b ∷ []) = refl
-role_beside role (a ∷ b ∷ c ∷ []) = refl
-role_beside role (a ∷ b ∷ c ∷ d ∷ []) = refl
-role_beside role (a ∷ b ∷ c ∷ d ∷ e ∷ []) = refl
 role_beside role (flags ∷ kind ∷ length_high ∷ length_low ∷ number_high ∷ number_low ∷ rest) =
     let stated = two_octets length_high length_low in
     by_header role (protocol_type_of flags == 1) (not (version_of flags == 2)) (nat_lt (length rest) stated) (version_of flags) kind stated
     (two_octets number_high number_low) (flags ∷ kind ∷ length_high ∷ length_low ∷ number_high ∷ number_low ∷ rest)
+role_beside role _ = refl
 
 -- What an end reads may be sent.
 

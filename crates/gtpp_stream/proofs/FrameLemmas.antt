@@ -28,12 +28,6 @@ whole_more further octets more k e = ap length_of (further octets more (final_of
 
 pub whole_bounds : (octets : List ℕ) (k : ℕ) → whole_length octets ≡ Some k → (6 ≤ k) × (k ≤ length octets)
 unfolding whole_length
-whole_bounds [] k e = absurd (cc)
-whole_bounds (a ∷ []) k e = absurd (cc)
-whole_bounds (a ∷ b ∷ []) k e = absurd (cc)
-whole_bounds (a ∷ b ∷ c ∷ []) k e = absurd (cc)
-whole_bounds (a ∷ b ∷ c ∷ d ∷ []) k e = absurd (cc)
-whole_bounds (a ∷ b ∷ c ∷ d ∷ x ∷ []) k e = absurd (cc)
 whole_bounds (a ∷ b ∷ c ∷ d ∷ x ∷ y ∷ rest) k e = by (protocol_type_of a == 1) (version_of a == 2) (nat_lt (length rest) (two_octets c d)) refl e
   where
     by : (p v s : Bool) → nat_lt (length rest) (two_octets c d) ≡ s
@@ -46,6 +40,7 @@ whole_bounds (a ∷ b ∷ c ∷ d ∷ x ∷ y ∷ rest) k e = by (protocol_type_
         let is : 6 + two_octets c d ≡ k = cc in
         let fits : two_octets c d ≤ length rest = ltb-false (length rest) (two_octets c d) t in
         (omega (arith, is), omega (arith, is, fits))
+whole_bounds _ k e = absurd (cc)
 
 -- ---- one message after the other
 
@@ -161,12 +156,6 @@ cut_in_two further part more = cut_within further (length part) part more (omega
 
 pub bad_none : (octets : List ℕ) (kind : FrameKind) → first_fault octets ≡ Some kind → whole_length octets ≡ None
 unfolding whole_length
-bad_none [] kind e = refl
-bad_none (a ∷ []) kind e = refl
-bad_none (a ∷ b ∷ []) kind e = refl
-bad_none (a ∷ b ∷ c ∷ []) kind e = refl
-bad_none (a ∷ b ∷ c ∷ d ∷ []) kind e = refl
-bad_none (a ∷ b ∷ c ∷ d ∷ x ∷ []) kind e = refl
 bad_none (a ∷ b ∷ c ∷ d ∷ x ∷ y ∷ rest) kind e = by (protocol_type_of a == 1) (version_of a == 2) (nat_lt (length rest) (two_octets c d)) e
   where
     by : (p v s : Bool) → (if p then Some kinds.NotPrime else (if v then None else Some kinds.Version)) ≡ Some kind
@@ -174,3 +163,4 @@ bad_none (a ∷ b ∷ c ∷ d ∷ x ∷ y ∷ rest) kind e = by (protocol_type_o
     by true v s e = refl
     by false false s e = refl
     by false true s e = absurd (cc)
+bad_none _ kind e = refl

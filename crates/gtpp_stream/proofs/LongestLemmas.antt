@@ -24,12 +24,6 @@ taken_alone a b c d x y rest e f fits =
 
 whole_alone : (octets : List ℕ) (k : ℕ) → whole_length octets ≡ Some k → whole_length (take k octets) ≡ Some k
 unfolding whole_length
-whole_alone [] k e = absurd (cc)
-whole_alone (a ∷ []) k e = absurd (cc)
-whole_alone (a ∷ b ∷ []) k e = absurd (cc)
-whole_alone (a ∷ b ∷ c ∷ []) k e = absurd (cc)
-whole_alone (a ∷ b ∷ c ∷ d ∷ []) k e = absurd (cc)
-whole_alone (a ∷ b ∷ c ∷ d ∷ x ∷ []) k e = absurd (cc)
 whole_alone (a ∷ b ∷ c ∷ d ∷ x ∷ y ∷ rest) k e = by (protocol_type_of a == 1) (version_of a == 2) (nat_lt (length rest) (two_octets c d)) refl refl refl e
   where
     by : (p v s : Bool) → (protocol_type_of a == 1) ≡ p → (version_of a == 2) ≡ v → nat_lt (length rest) (two_octets c d) ≡ s
@@ -41,6 +35,7 @@ whole_alone (a ∷ b ∷ c ∷ d ∷ x ∷ y ∷ rest) k e = by (protocol_type_o
     by false true false f g h e =
         let is : 6 + two_octets c d ≡ k = cc in
         subst (λ (j : ℕ). whole_length (take j (a ∷ b ∷ c ∷ d ∷ x ∷ y ∷ rest)) ≡ Some j) is (taken_alone a b c d x y rest f g (ltb-false (length rest) (two_octets c d) h))
+whole_alone _ k e = absurd (cc)
 
 pub is_whole_alone : (octets : List ℕ) (k : ℕ) → whole_length octets ≡ Some k → IsWhole (take k octets)
 is_whole_alone octets k e =

@@ -60,13 +60,8 @@ from_header a b c d x y rest piece n good short is =
 -- ---- fewer octets than a header has
 
 short_read : (octets : List ℕ) → length octets < 6 → header_reading octets ≡ Err Short
-short_read [] lt = refl
-short_read (a ∷ []) lt = refl
-short_read (a ∷ b ∷ []) lt = refl
-short_read (a ∷ b ∷ c ∷ []) lt = refl
-short_read (a ∷ b ∷ c ∷ d ∷ []) lt = refl
-short_read (a ∷ b ∷ c ∷ d ∷ x ∷ []) lt = refl
 short_read (a ∷ b ∷ c ∷ d ∷ x ∷ y ∷ rest) lt = absurd (omega (arith, lt))
+short_read _ lt = refl
 
 short_none : (octets : List ℕ) → length octets < 6 → whole_length octets ≡ None
 unfolding whole_length
@@ -92,12 +87,6 @@ whole_read a b c d x y rest good le = ap length_of (reads a b c d x y rest false
 -- a message whose header has come
 pub with_header : (octets piece : List ℕ) (n : ℕ) → 6 ≤ length octets → first_fault octets ≡ None → ((k : ℕ) → whole_length octets ≡ Some k → k ≡ length octets)
     → n ≡ min (lack_of (header_reading octets) (length octets)) (length piece) → IsDone piece n (octets ++ take n piece)
-with_header [] piece n long good exact is = absurd (omega (arith, long))
-with_header (a ∷ []) piece n long good exact is = absurd (omega (arith, long))
-with_header (a ∷ b ∷ []) piece n long good exact is = absurd (omega (arith, long))
-with_header (a ∷ b ∷ c ∷ []) piece n long good exact is = absurd (omega (arith, long))
-with_header (a ∷ b ∷ c ∷ d ∷ []) piece n long good exact is = absurd (omega (arith, long))
-with_header (a ∷ b ∷ c ∷ d ∷ x ∷ []) piece n long good exact is = absurd (omega (arith, long))
 with_header (a ∷ b ∷ c ∷ d ∷ x ∷ y ∷ rest) piece n long good exact is = elim (cases_lt (length rest) (two_octets c d)) [
   | inl lt ↦
       let read : header_reading (a ∷ b ∷ c ∷ d ∷ x ∷ y ∷ rest) ≡ Err (Cut (two_octets c d)) =
@@ -110,15 +99,15 @@ with_header (a ∷ b ∷ c ∷ d ∷ x ∷ y ∷ rest) piece n long good exact i
       inl ((λ i. whole_length (none_taken (a ∷ b ∷ c ∷ d ∷ x ∷ y ∷ rest) piece n none i)) ∙ full
       ∙ (λ i. Some (length (sym (none_taken (a ∷ b ∷ c ∷ d ∷ x ∷ y ∷ rest) piece n none) i))))
 ]
+with_header _ piece n long good exact is = absurd (omega (arith, long))
 
 -- ---- both rounds
 
 pub fault_front : (octets piece : List ℕ) (n : ℕ) → first_fault (octets ++ piece) ≡ None → first_fault (octets ++ take n piece) ≡ None
-fault_front (a ∷ octets) piece n good = good
 fault_front [] [] zero good = refl
 fault_front [] [] (suc n) good = refl
 fault_front [] (a ∷ piece) zero good = refl
-fault_front [] (a ∷ piece) (suc n) good = good
+fault_front _ _ _ good = good
 
 taken_on : (octets piece : List ℕ) (n m : ℕ) → (octets ++ take n piece) ++ take m (drop n piece) ≡ octets ++ take (n + m) piece
 taken_on octets piece n m = append_assoc octets (take n piece) (take m (drop n piece)) ∙ ap (λ (l : List ℕ). octets ++ l) (sym (take-add n m piece))

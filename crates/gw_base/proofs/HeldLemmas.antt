@@ -1,11 +1,12 @@
 -- The held keys are as many as the held copies, and are the keys whose state is Held.
 use Rattle.std.proofs.Common.{◌≡◌, ℕ, ◌==◌, ◌&&◌, ◌||◌, not, Bool, true, false, cond, if◌then◌else◌, List, [], ◌∷◌, ◌++◌, length, filter, refl, sym, ap, ◌∙◌, arith}
+use Rattle.std.proofs.Math.Bool.{and-false, and-true, or-false}
 use Rattle.std.proofs.lemmas.Bool.{and_parts, eqb-true}
 use Rattle.std.proofs.lemmas.List.Folds.{list_any-append}
 use Rattle.gw_base.specs.declared.address.NodeId.{NodeId}
 use Rattle.gw_base.specs.declared.held.HeldKey.{HeldKey}
 use Rattle.gw_base.specs.declared.history.HistoryAct.{HistoryAct}
-use Rattle.gw_base.specs.declared.history.HistoryAct.TheVariants.{Start, Path, File, Hold, Seal, Release, Cancel, Tick, Close}
+use Rattle.gw_base.specs.declared.history.HistoryAct.TheVariants.{File, Hold, Seal, Release, Cancel}
 use Rattle.gw_base.specs.declared.history.HistoryEntry.{HistoryEntry}
 use Rattle.gw_base.specs.declared.key_state.KeyState.TheVariants.{Fresh}
 use Rattle.gw_base.specs.declared.scan.Copies.{Copies}
@@ -22,19 +23,11 @@ use Rattle.gw_base.specs.View.{stays_held}
 
 more_by_fate : (f : HoldFate) (n : NodeId) (x : ℕ) (keys : List HeldKey) (copies : Copies) → length keys ≡ copies.held → length (held_if f n x ++ keys) ≡ (with_fate f copies).held
 more_by_fate fate.Held n x keys copies h = omega arith
-more_by_fate fate.Stranded n x keys copies h = h
-more_by_fate fate.Settled n x keys copies h = h
+more_by_fate _ n x keys copies h = h
 
 more_by_entry : (act : HistoryAct) (later : List HistoryEntry) (keys : List HeldKey) (copies : Copies) → length keys ≡ copies.held → length (held_by act later ++ keys) ≡ (with_entry act later copies).held
 more_by_entry (Hold n x packet) later keys copies h = more_by_fate (fate_of n.0 x later) n x keys copies h
-more_by_entry Start later keys copies h = h
-more_by_entry (Path n port counter) later keys copies h = h
-more_by_entry (File n x packet) later keys copies h = h
-more_by_entry (Seal n x) later keys copies h = h
-more_by_entry (Release n xs) later keys copies h = h
-more_by_entry (Cancel n xs) later keys copies h = h
-more_by_entry Tick later keys copies h = h
-more_by_entry Close later keys copies h = h
+more_by_entry _ later keys copies h = h
 
 pub length-held_keys : (h : List HistoryEntry) → length (held_keys h) ≡ (copies_of h).held
 length-held_keys [] = refl
@@ -42,33 +35,18 @@ length-held_keys (e ∷ h) = more_by_entry e.act h (held_keys h) (copies_of h) (
 
 -- ---- the same as the state says
 
-or_false : (b : Bool) → (b || false) ≡ b
-or_false true = refl
-or_false false = refl
-
-and_true : (b : Bool) → (b && true) ≡ b
-and_true true = refl
-and_true false = refl
-
-and_false : (b : Bool) → (b && false) ≡ false
-and_false true = refl
-and_false false = refl
-
 -- whether an entry holds a number, where nothing follows it
 held_alone : (act : HistoryAct) (node number : ℕ) → holds node number (held_by act []) ≡ (names node number act && is_held (given_state act))
-held_alone (Hold n x packet) node number = or_false ((n.0 == node) && (x == number)) ∙ sym (and_true ((n.0 == node) && (x == number)))
-held_alone Start node number = refl
-held_alone (Path n port counter) node number = refl
-held_alone (File n x packet) node number = sym (and_false (names node number (File n x packet)))
-held_alone (Seal n x) node number = sym (and_false (names node number (Seal n x)))
-held_alone (Release n xs) node number = sym (and_false (names node number (Release n xs)))
-held_alone (Cancel n xs) node number = sym (and_false (names node number (Cancel n xs)))
-held_alone Tick node number = refl
-held_alone Close node number = refl
+held_alone (Hold n x packet) node number = or-false ((n.0 == node) && (x == number)) ∙ sym (and-true ((n.0 == node) && (x == number)))
+held_alone (File n x packet) node number = sym (and-false (names node number (File n x packet)))
+held_alone (Seal n x) node number = sym (and-false (names node number (Seal n x)))
+held_alone (Release n xs) node number = sym (and-false (names node number (Release n xs)))
+held_alone (Cancel n xs) node number = sym (and-false (names node number (Cancel n xs)))
+held_alone _ node number = refl
 
 -- whether a number is among the keys that stay held
 held_staying : (act : HistoryAct) (node number : ℕ) (keys : List HeldKey) → holds node number (filter (λ key. stays_held act key) keys) ≡ ((not (begins_epoch node act) && not (names node number act)) && holds node number keys)
-held_staying act node number [] = sym (and_false (not (begins_epoch node act) && not (names node number act)))
+held_staying act node number [] = sym (and-false (not (begins_epoch node act) && not (names node number act)))
 held_staying act node number (key ∷ keys) = choose (stays_held act key) (is_key node number key) same refl (held_staying act node number keys)
   where
     stay : Bool
@@ -109,4 +87,4 @@ state_is_held node number h = by_last (λ (k : List HistoryEntry). holds node.0 
         by_tests true true none = absurd (let f = none refl in cc)
         by_tests true false none = refl
         by_tests false true none = refl
-        by_tests false false none = or_false (holds node.0 number (held_keys k)) ∙ rest
+        by_tests false false none = or-false (holds node.0 number (held_keys k)) ∙ rest

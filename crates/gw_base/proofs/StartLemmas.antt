@@ -3,7 +3,7 @@ use Rattle.std.proofs.Common.{◌≡◌, ℕ, ◌+◌, ◌==◌, Bool, true, fal
 use Rattle.std.specs.List.{cons_option, enumerate_from, last_or}
 use Rattle.std.proofs.lemmas.List.Elements.{filter_map-append}
 use Rattle.gw_base.specs.declared.history.HistoryAct.{HistoryAct}
-use Rattle.gw_base.specs.declared.history.HistoryAct.TheVariants.{Start, Path, File, Hold, Seal, Release, Cancel, Tick, Close}
+use Rattle.gw_base.specs.declared.history.HistoryAct.TheVariants.{Path}
 use Rattle.gw_base.specs.declared.history.HistoryEntry.{HistoryEntry}
 use Rattle.gw_base.specs.declared.history.Opening.{Opening}
 use Rattle.gw_base.specs.EntryLaws.{epoch_of-append}
@@ -18,14 +18,7 @@ one_opening node (Path n port counter) = by_test (n.0 == node)
     by_test : (b : Bool) → (if b then 1 else 0) ≡ length {A = Opening} (cons_option (if b then Some (record { port = port; counter = counter }) else None) [])
     by_test true = refl
     by_test false = refl
-one_opening node Start = refl
-one_opening node (File n x packet) = refl
-one_opening node (Hold n x packet) = refl
-one_opening node (Seal n x) = refl
-one_opening node (Release n xs) = refl
-one_opening node (Cancel n xs) = refl
-one_opening node Tick = refl
-one_opening node Close = refl
+one_opening node _ = refl
 
 as_many_openings : (node : ℕ) (h : List HistoryEntry) → epoch_of node h ≡ length (openings_of node h)
 as_many_openings node h = by_last (λ (k : List HistoryEntry). epoch_of node k ≡ length (openings_of node k)) refl more h

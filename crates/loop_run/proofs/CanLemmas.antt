@@ -54,8 +54,7 @@ module _ {L : Type 0} (tells : paths.Ghosts L) (setup : LoopSetup) (count : ℕ)
     known_gateway place g.address less behind is.address,
   )
   sits_can place less (seat.RanNode ended linked) sits = absurd sits
-  sits_can place less (seat.RanGateway stops g) sits = absurd sits
-  sits_can place less seat.Empty sits = absurd sits
+  sits_can place less _ sits = absurd sits
 
   ran_can : (place : ℕ) → place < count → (s : Seat L) → RanAt tells setup place s → CanLeave tells now s
   ran_can place less (seat.RanNode ended linked) (inside, ran) = (
@@ -70,8 +69,7 @@ module _ {L : Type 0} (tells : paths.Ghosts L) (setup : LoopSetup) (count : ℕ)
     served.cause,
   )
   ran_can place less (seat.Node linked) ran = absurd ran
-  ran_can place less (seat.Gateway g) ran = absurd ran
-  ran_can place less seat.Empty ran = absurd ran
+  ran_can place less _ ran = absurd ran
 
   pub all_sit_can : (seats : List (Seat L)) → length seats ≡ count → AllSit tells setup seats
       → All (CanLeave tells now) seats

@@ -1,5 +1,5 @@
 -- How the seats are taken apart, one after the other.
-use Rattle.std.proofs.Common.{◌≡◌, ◌≢◌, inl, inr, ◌∙◌, ℕ, suc, ◌+◌, ◌-◌, ◌<◌, ◌≤◌, ◌^◌, List, [], ◌∷◌, ◌++◌, length, Option, None, Some, refl, sym, subst, arith}
+use Rattle.std.proofs.Common.{◌≡◌, ◌≢◌, inl, inr, ◌∙◌, ℕ, suc, ◌<◌, ◌≤◌, ◌^◌, List, [], ◌∷◌, ◌++◌, length, Option, None, Some, refl, sym, subst, arith}
 use Rattle.std.specs.Prelude.{All}
 use Rattle.std.specs.Option.{option_or}
 use Rattle.std.proofs.lemmas.List.Elements.{All-head, All-tail, All-weaker}
@@ -54,11 +54,8 @@ module _ {L : Type 0} (tells : paths.Ghosts L) where
 
   module _ (old new : LinksState) (was now : Looped) (why : Option Stop) where
     pub grows_on : (s : Seat L) → Leaves tells s old new was now why → GrowsOn old new
-    grows_on (seat.Node linked) left = left.only.on
-    grows_on (seat.RanNode ended linked) left = left.only.on
-    grows_on (seat.Gateway g) left = left.only.on
-    grows_on (seat.RanGateway stops g) left = left.only.on
     grows_on seat.Empty left = left.0.on
+    grows_on _ left = left.only.on
 
     link_rose : (s : Seat L) → CanLeave tells old s → Leaves tells s old new was now why → why ≡ Some stop.Link
         → Rose old.faults new.faults
@@ -70,12 +67,11 @@ module _ {L : Type 0} (tells : paths.Ghosts L) where
     link_rose seat.Empty can left is = absurd (none-some stop.Link (sym left.2 ∙ is))
 
     no_clock : (s : Seat L) → CanLeave tells old s → Leaves tells s old new was now why → why ≢ Some stop.Clock
-    no_clock (seat.Node linked) can left is = left.no_clock is
-    no_clock (seat.RanNode ended linked) can left is = left.no_clock is
     no_clock (seat.Gateway g) can left is = none-some stop.Clock (left.clock is)
     no_clock (seat.RanGateway stops g) can left is = none_rose
         (subst (λ (o : Option Stop). HasStopCause tells 0 0 g.links.items o) (left.clock is) can.1)
     no_clock seat.Empty can left is = none-some stop.Clock (sym left.2 ∙ is)
+    no_clock _ can left is = left.no_clock is
 
   all_before : (setup : LoopSetup) (seats : List (Seat L)) (s : Seat L) → AllRan tells setup (seats ++ s ∷ [])
       → AllRan tells setup seats
@@ -110,8 +106,7 @@ module _ {L : Type 0} (tells : paths.Ghosts L) where
       one_left (seat.RanGateway stops g) few (behind, served) had left =
           gateway_left tells setup within old mid new few was now (length seats) had stay reply g stops behind served left
       one_left (seat.Node linked) few ran had left = absurd ran
-      one_left (seat.Gateway g) few ran had left = absurd ran
-      one_left seat.Empty few ran had left = absurd ran
+      one_left _ few ran had left = absurd ran
 
       -- one more
       pub left_more : (s : Seat L) (before why : Option Stop) → IsLeftSo setup old mid seats was before → CanLeave tells mid s

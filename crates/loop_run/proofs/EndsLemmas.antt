@@ -165,8 +165,7 @@ module _ (setup : LoopSetup) (links links' : LinksState) (old new : List LoopBoo
   )
   alike_counts (end.Wrong packet places wanted) (none, wrong) = (none, same_verdict ∙ wrong)
   alike_counts (end.Unfinished turns packet count) c = c
-  alike_counts end.Link c = c
-  alike_counts end.NoMemory c = c
+  alike_counts _ c = c
 
 -- A loop that nothing stopped.
 module _ (setup : LoopSetup) (old mid new : LinksState) (keeps : Keeps old mid) (collected : Collected)

@@ -43,10 +43,9 @@ module _ {L : Type 0} (tells : paths.Ghosts L) where
   for_memory ended = record { stops = λ is. absurd (cc is); link = λ is. absurd (cc is); no_clock = λ is. cc is }
 
   pub at_end : (ended : NodeEnd) → StopsAs ended (stop_of_node ended)
-  at_end end.Done = record { stops = λ is. refl; link = λ is. absurd (cc is); no_clock = λ is. cc is }
-  at_end end.Spent = record { stops = λ is. refl; link = λ is. absurd (cc is); no_clock = λ is. cc is }
   at_end end.Link = record { stops = λ is. absurd (cc is); link = λ is. refl; no_clock = λ is. cc is }
   at_end end.NoMemory = record { stops = λ is. absurd (cc is); link = λ is. absurd (cc is); no_clock = λ is. cc is }
+  at_end _ = record { stops = λ is. refl; link = λ is. absurd (cc is); no_clock = λ is. cc is }
 
   pub gateway_leaves : (g : LoopGateway L) (stops : Option Stop) (old new : LinksState) (was now : Looped)
       (why : Option Stop) → ((told : Told) (links : List L) → sent_with tells told links ≡ joined told (sent_by tells links))

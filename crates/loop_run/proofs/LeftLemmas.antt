@@ -1,7 +1,7 @@
 -- Those who took part, once they were taken apart one after the other.
 use Rattle.std.proofs.Common.{◌≡◌, ◌≢◌, ◌⊎◌, ⊎_elim, ◌∙◌, ℕ, suc, ◌+◌, ◌-◌, ◌<◌, ◌≤◌, ◌^◌, min, IsTrue, List, [], ◌∷◌, ◌++◌, length, Option, None, Some, refl, sym, ap, subst, arith}
 use Rattle.std.proofs.lemmas.Option.{slice_get_within}
-use Rattle.std.specs.Prelude.{All, slice_get}
+use Rattle.std.specs.Prelude.{slice_get}
 use Rattle.gateway_book.specs.Book.{value_of}
 use Rattle.gateway_book.specs.Value.{BookValue, standing_for}
 use Rattle.gw_base.specs.declared.address.Addr.{Addr}

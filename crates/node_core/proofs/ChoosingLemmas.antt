@@ -8,7 +8,7 @@ use Rattle.node_core.specs.declared.copy.Order.{Order}
 use Rattle.node_core.specs.declared.copy.Order.TheVariants.{Release, Cancel}
 use Rattle.node_core.specs.declared.copy.PacketCopy.{PacketCopy}
 use Rattle.node_core.specs.declared.copy.Verdict.{Verdict}
-use Rattle.node_core.specs.declared.copy.Verdict.TheVariants.{Unknown, Filed, Sealed, Held}
+use Rattle.node_core.specs.declared.copy.Verdict.TheVariants.{Unknown, Sealed, Held}
 use Rattle.node_core.specs.declared.peer.Peer.{Peer}
 use Rattle.node_core.specs.declared.sending.Sending.{Sending}
 use Rattle.node_core.specs.declared.sending.Sending.TheVariants as send
@@ -34,10 +34,8 @@ NamesBy copies number packet gateway named Release = (number ≡ packet) × IsCh
 NamesBy copies number packet gateway named Cancel = Unit {0}
 
 abbrev Names : List PacketCopy → ℕ → Sending → Type 0
-Names copies number (send.Probe gateway path) = Unit {0}
-Names copies number (send.Data packet gateway drawn is_plain is_new) = Unit {0}
-Names copies number (send.Test packet gateway drawn) = Unit {0}
 Names copies number (send.Command packet gateway named drawn order is_new) = NamesBy copies number packet gateway named order
+Names copies number _ = Unit {0}
 
 module _ (copies : List PacketCopy) (number : ℕ) (peers : List Peer) where
   abbrev AllName : List Sending → Type 0
@@ -67,9 +65,8 @@ module _ (copies : List PacketCopy) (number : ℕ) (peers : List Peer) where
 
   settling_names : (verdict : Verdict) (copy : PacketCopy) → AllName (settling_by verdict peers number copy)
   settling_names Unknown copy = (tt, tt)
-  settling_names Filed copy = tt
-  settling_names Sealed copy = tt
   settling_names Held copy = cancel_names copy
+  settling_names _ copy = tt
 
   all_name : (duplicates : List PacketCopy) → AllName (flat_map (settling peers number) duplicates)
   all_name [] = tt
@@ -118,9 +115,8 @@ module _ (copies : List PacketCopy) (number : ℕ) (peers : List Peer) where
   verdict_names : (verdict : Verdict) (favourite : ℕ) (up : Bool) (plain : PacketCopy) (duplicates : List PacketCopy) → copies ≡ plain ∷ duplicates →
       plain.verdict ≡ verdict → AllName (due_by_verdict verdict favourite up peers number plain duplicates)
   verdict_names Unknown favourite up plain duplicates whole is = asking_names favourite up plain duplicates
-  verdict_names Filed favourite up plain duplicates whole is = all_name duplicates
   verdict_names Sealed favourite up plain duplicates whole is = releasing_names plain duplicates (chosen duplicates) whole is refl
-  verdict_names Held favourite up plain duplicates whole is = all_name duplicates
+  verdict_names _ favourite up plain duplicates whole is = all_name duplicates
 
   copies_name : (favourite : ℕ) (up : Bool) (those : List PacketCopy) → copies ≡ those → AllName (due_by_copies favourite up peers number those)
   copies_name favourite up [] whole = copy_to_names favourite up true
@@ -142,30 +138,22 @@ NamesOneBy packets packet gateway named Release = IsChoiceOf packets packet gate
 NamesOneBy packets packet gateway named Cancel = Unit {0}
 
 abbrev NamesOne : List PacketState → Sending → Type 0
-NamesOne packets (send.Probe gateway path) = Unit {0}
-NamesOne packets (send.Data packet gateway drawn is_plain is_new) = Unit {0}
-NamesOne packets (send.Test packet gateway drawn) = Unit {0}
 NamesOne packets (send.Command packet gateway named drawn order is_new) = NamesOneBy packets packet gateway named order
+NamesOne packets _ = Unit {0}
 
 names_here : (state : PacketState) (packets : List PacketState) (sending : Sending) → Names state.copies state.number sending → NamesOne (state ∷ packets) sending
-names_here state packets (send.Probe gateway path) names = tt
-names_here state packets (send.Data packet gateway drawn is_plain is_new) names = tt
-names_here state packets (send.Test packet gateway drawn) names = tt
 names_here state packets (send.Command packet gateway named drawn Release is_new) names =
     record { state = state; kept = (0, omega arith, refl); number_is = names.0; choice = names.1 }
-names_here state packets (send.Command packet gateway named drawn Cancel is_new) names = tt
+names_here state packets _ names = tt
 
 names_later : (state : PacketState) (packets : List PacketState) (sending : Sending) → NamesOne packets sending → NamesOne (state ∷ packets) sending
-names_later state packets (send.Probe gateway path) names = tt
-names_later state packets (send.Data packet gateway drawn is_plain is_new) names = tt
-names_later state packets (send.Test packet gateway drawn) names = tt
 names_later state packets (send.Command packet gateway named drawn Release is_new) names = record {
   state = names.state;
   kept = contains_more packets state names.state names.kept;
   number_is = names.number_is;
   choice = names.choice;
 }
-names_later state packets (send.Command packet gateway named drawn Cancel is_new) names = tt
+names_later state packets _ names = tt
 
 each_of : {A : Type 0} (P Q : A → Type 0) → ((x : A) → P x → Q x) → (xs : List A) → AllByRecursion P xs → AllByRecursion Q xs
 each_of P Q f [] all = tt

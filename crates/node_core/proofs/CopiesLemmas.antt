@@ -1,5 +1,6 @@
 -- Loops over copies: one copy more.
-use Rattle.std.proofs.Common.{◌≡◌, ℕ, zero, suc, ◌+◌, ◌<◌, ◌==◌, ◌||◌, min, if◌then◌else◌, Bool, true, false, List, [], ◌∷◌, ◌++◌, length, map, take, drop, set, get_or, Option, Some, None, refl, ap, ◌∙◌, add-one, arith}
+use Rattle.std.proofs.Common.{◌≡◌, ℕ, zero, suc, ◌+◌, ◌<◌, ◌==◌, min, if◌then◌else◌, Bool, true, false, List, [], ◌∷◌, ◌++◌, length, map, take, drop, set, get_or, Option, Some, None, refl, ap, ◌∙◌, add-one, arith}
+use Rattle.std.proofs.Math.Bool.{or-false}
 use Rattle.std.proofs.lemmas.List.Edits.{map_over_more}
 use Rattle.std.specs.Prelude.{option_map}
 use Rattle.gw_base.specs.declared.cause.TheConstants.{SYSTEM_FAILURE}
@@ -60,18 +61,12 @@ failure_told false port is_plain = refl
 
 stays_told : (known : Verdict) → first_told known verdict.Unknown ≡ known
 stays_told verdict.Unknown = refl
-stays_told verdict.Filed = refl
-stays_told verdict.Sealed = refl
-stays_told verdict.Held = refl
-
-stays_answered : (is : Bool) → (is || false) ≡ is
-stays_answered true = refl
-stays_answered false = refl
+stays_told _ = refl
 
 failure_commands : (numbers : List ℕ) (command : Option Command) →
     option_map (command_hearing SYSTEM_FAILURE numbers) command ≡ command
 failure_commands numbers None = refl
-failure_commands numbers (Some command) = λ i. Some (record command { is_answered = stays_answered command.is_answered i })
+failure_commands numbers (Some command) = λ i. Some (record command { is_answered = or-false command.is_answered i })
 
 failure_keeps_own : (port : Port) (numbers : List ℕ) (copy : PacketCopy) → copy_hearing_own port SYSTEM_FAILURE numbers copy ≡ copy
 failure_keeps_own port numbers copy =

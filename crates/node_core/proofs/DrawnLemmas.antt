@@ -8,7 +8,7 @@ use Rattle.node_core.specs.declared.copy.Order.{Order}
 use Rattle.node_core.specs.declared.copy.Order.TheVariants.{Release, Cancel}
 use Rattle.node_core.specs.declared.copy.PacketCopy.{PacketCopy}
 use Rattle.node_core.specs.declared.copy.Verdict.{Verdict}
-use Rattle.node_core.specs.declared.copy.Verdict.TheVariants.{Unknown, Filed, Sealed, Held}
+use Rattle.node_core.specs.declared.copy.Verdict.TheVariants.{Unknown, Sealed, Held}
 use Rattle.node_core.specs.declared.peer.Peer.{Peer}
 use Rattle.node_core.specs.declared.sending.Sending.{Sending}
 use Rattle.node_core.specs.declared.sending.Sending.TheVariants as send
@@ -23,21 +23,20 @@ use Rattle.node_core.specs.Reached.{NodeCall, log_of, reached}
 use Rattle.node_core.specs.Ticks.{due_now}
 use Rattle.node_core.specs.Value.{befallen, logged, node_of}
 use Rattle.node_core.proofs.ChoosingLemmas.{each_append}
-use Rattle.node_core.proofs.KeptLemmas.{AllKept, GoOn, all_kept_on, one_place, peers_go_on}
+use Rattle.node_core.proofs.KeptLemmas.{AllKept, GoOn, all_kept_on, peers_go_on}
 use Rattle.node_core.proofs.Moves.{Moves, onward, still}
 use Rattle.node_core.proofs.PlanLemmas.{all_drawn_append}
 use Rattle.node_core.proofs.ReachedLemmas.{Alike, Within, go_on, probes_alike, stands}
 use Rattle.node_core.proofs.RestingLemmas.{each_weaker}
 use Rattle.node_core.proofs.SingleLemmas.{nothing_more}
 use Rattle.node_core.proofs.TickMoves.{all_kept_after, one_packet, size_after, tick_moves}
-use Rattle.node_core.proofs.WeightLemmas.{Bounded, bounded_after}
+use Rattle.node_core.proofs.WeightLemmas.{Bounded, bounded_after, one_within}
 
 -- a number that the sending draws is at least the next one of the gateway
 abbrev pub DrawsNext : List Peer → Sending → Type 0
-DrawsNext peers (send.Probe gateway path) = Unit {0}
 DrawsNext peers (send.Data packet gateway drawn is_plain is_new) = is_new ≡ true → next_number peers gateway ≤ drawn
-DrawsNext peers (send.Test packet gateway drawn) = Unit {0}
 DrawsNext peers (send.Command packet gateway named drawn order is_new) = is_new ≡ true → next_number peers gateway ≤ drawn
+DrawsNext peers _ = Unit {0}
 
 abbrev pub AllDraw : List Peer → List Sending → Type 0
 AllDraw peers sendings = AllByRecursion (DrawsNext peers) sendings
@@ -58,9 +57,8 @@ module _ (number : ℕ) (peers : List Peer) where
 
   settling_draws : (verdict : Verdict) (copy : PacketCopy) → AllDraw peers (settling_by verdict peers number copy)
   settling_draws Unknown copy = (tt, tt)
-  settling_draws Filed copy = tt
-  settling_draws Sealed copy = tt
   settling_draws Held copy = command_draws Cancel copy
+  settling_draws _ copy = tt
 
   all_settle : (duplicates : List PacketCopy) → AllDraw peers (flat_map (settling peers number) duplicates)
   all_settle [] = tt
@@ -100,9 +98,8 @@ module _ (number : ℕ) (peers : List Peer) where
   verdict_draws : (verdict : Verdict) (favourite : ℕ) (up : Bool) (plain : PacketCopy) (duplicates : List PacketCopy) →
       AllDraw peers (due_by_verdict verdict favourite up peers number plain duplicates)
   verdict_draws Unknown favourite up plain duplicates = asking_draws favourite up plain duplicates
-  verdict_draws Filed favourite up plain duplicates = all_settle duplicates
   verdict_draws Sealed favourite up plain duplicates = releasing_draws (chosen duplicates) duplicates
-  verdict_draws Held favourite up plain duplicates = all_settle duplicates
+  verdict_draws _ favourite up plain duplicates = all_settle duplicates
 
   copies_draw : (favourite : ℕ) (up : Bool) (copies : List PacketCopy) → AllDraw peers (due_by_copies favourite up peers number copies)
   copies_draw favourite up [] = copy_draws favourite up true
@@ -119,10 +116,9 @@ due_draws favourite up peers packet = by (is_done packet.copies)
 
 -- where the numbers have gone on, one that is drawn there is at least the next one from before too
 draws_before : (peers later : List Peer) → GoOn peers later → (sending : Sending) → DrawsNext later sending → DrawsNext peers sending
-draws_before peers later on (send.Probe gateway path) is = tt
 draws_before peers later on (send.Data packet gateway drawn is_plain is_new) is = λ new. omega (arith, on.numbers gateway, is new)
-draws_before peers later on (send.Test packet gateway drawn) is = tt
 draws_before peers later on (send.Command packet gateway named drawn order is_new) is = λ new. omega (arith, on.numbers gateway, is new)
+draws_before peers later on _ is = tt
 
 goes_further : {peers between later : List Peer} → GoOn peers between → GoOn between later → GoOn peers later
 goes_further first second = record {
@@ -132,7 +128,7 @@ goes_further first second = record {
 
 moves_go_on : {peers later : List Peer} {packets after : List PacketState} → Moves peers packets later after → GoOn peers later
 moves_go_on still = record { size = refl; numbers = λ gateway. omega arith }
-moves_go_on {peers} (onward move one rest) = goes_further (peers_go_on move peers (one_place one)) (moves_go_on rest)
+moves_go_on {peers} (onward move one rest) = goes_further (peers_go_on move peers (one_within one)) (moves_go_on rest)
 
 module _ (favourite : ℕ) (up : Bool) where
   all_due_draws : (most : ℕ) (peers : List Peer) (packets : List PacketState) → most ≤ 9223372036854775808 → favourite < length peers →

@@ -8,7 +8,7 @@ use Rattle.node_core.specs.declared.copy.Order.{Order}
 use Rattle.node_core.specs.declared.copy.Order.TheVariants.{Release, Cancel}
 use Rattle.node_core.specs.declared.copy.PacketCopy.{PacketCopy}
 use Rattle.node_core.specs.declared.copy.Verdict.{Verdict}
-use Rattle.node_core.specs.declared.copy.Verdict.TheVariants.{Unknown, Filed, Sealed, Held}
+use Rattle.node_core.specs.declared.copy.Verdict.TheVariants.{Unknown, Sealed, Held}
 use Rattle.node_core.specs.declared.peer.Peer.{Peer}
 use Rattle.node_core.specs.declared.sending.Sending.{Sending}
 use Rattle.node_core.specs.Copies.{is_answered, is_chosen, is_held}
@@ -29,8 +29,8 @@ pub data Does (number : ℕ) : List Peer → List PacketCopy → List Sending �
       is_of number sending ≡ true → drawn sending peers ≡ peers_moved move peers → copies_after sending copies ≡ copies_moved peers move copies →
       Does number (peers_moved move peers) (copies_moved peers move copies) sendings → Does number peers copies (sending ∷ sendings)
 
-own : (number : ℕ) → (number == number) ≡ true
-own number = elim (eqb_tells number number) [ inl is ↦ is.0 | inr isnt ↦ absurd (isnt.1 refl) ]
+pub own_number : (number : ℕ) → (number == number) ≡ true
+own_number number = elim (eqb_tells number number) [ inl is ↦ is.0 | inr isnt ↦ absurd (isnt.1 refl) ]
 
 -- ---- what stands before the commands of a tick: the copy as it was, and the next number of its gateway too
 
@@ -66,10 +66,10 @@ module _ (number : ℕ) (first peers : List Peer) (copies : List PacketCopy) whe
   command_goes order copy sendings ready right goes = unless (is_answered copy)
     where
       by : (command : Option Command) → copy.command ≡ command → Does number peers copies (command_by command first number order copy ∷ sendings)
-      by (Some command) e = idles (own number) refl refl (goes peers copies (λ other apart is. is))
+      by (Some command) e = idles (own_number number) refl refl (goes peers copies (λ other apart is. is))
       by None e =
           moves (Commanding copy.gateway order) (ready.place, record { copy = copy; found = ready.found; fresh = e; right = right })
-          (own number)
+          (own_number number)
           (ap (λ (n : ℕ). number_drawn copy.gateway n peers) ready.same ∙ raised copy.gateway _ peers (ready.room e))
           (ap (λ (n : ℕ). map (commanded copy.gateway (command_with order n)) copies) ready.same)
           (goes _ _ (moved_stays copy.gateway order))
@@ -80,10 +80,9 @@ module _ (number : ℕ) (first peers : List Peer) (copies : List PacketCopy) whe
 
   settling_goes : (verdict : Verdict) (copy : PacketCopy) (sendings : List Sending) → IsReady first peers copies copy →
       Goes copy.gateway sendings → Does number peers copies (settling_by verdict first number copy ++ sendings)
-  settling_goes Unknown copy sendings ready goes = idles (own number) refl refl (goes peers copies (λ other apart is. is))
-  settling_goes Filed copy sendings ready goes = goes peers copies (λ other apart is. is)
-  settling_goes Sealed copy sendings ready goes = goes peers copies (λ other apart is. is)
+  settling_goes Unknown copy sendings ready goes = idles (own_number number) refl refl (goes peers copies (λ other apart is. is))
   settling_goes Held copy sendings ready goes = command_goes Cancel copy sendings ready tt goes
+  settling_goes _ copy sendings ready goes = goes peers copies (λ other apart is. is)
 
 -- the copies are at as many gateways
 abbrev pub AreApart : List PacketCopy → Type 0
@@ -153,7 +152,7 @@ pub all_there : (peers : List Peer) (copies : List PacketCopy) → AreApart copi
     AllByRecursion (IsThere peers copies) copies
 all_there peers [] apart places = tt
 all_there peers (copy ∷ copies) apart places = (
-  record { found = rw (own copy.gateway) refl; place = places.0 },
+  record { found = rw (own_number copy.gateway) refl; place = places.0 },
   behind copies apart.0 (all_there peers copies apart.1 places.1),
 )
   where
@@ -206,7 +205,7 @@ module _ (number favourite : ℕ) (up : Bool) (peers : List Peer) (within : favo
       Does number peers copies (copy_to favourite alive peers number is_plain)
   copy_does false copies is_plain room first absent = ends
   copy_does true copies is_plain room first absent =
-      moves (Copying favourite) (within, absent) (own number)
+      moves (Copying favourite) (within, absent) (own_number number)
       (raised favourite _ peers (room favourite within (omega (arith, weight_absent favourite copies absent))))
       (ap (λ (plain : Bool). copies ++ record {
         gateway = favourite;
@@ -222,12 +221,12 @@ module _ (number favourite : ℕ) (up : Bool) (peers : List Peer) (within : favo
     where
       repeats : (there : Option PacketCopy) → find_at favourite (plain ∷ duplicates) ≡ there →
           Does number peers (plain ∷ duplicates) (repeating there favourite up peers number)
-      repeats (Some copy) e = idles (own number) refl refl ends
+      repeats (Some copy) e = idles (own_number number) refl refl ends
       repeats None e = copy_does up (plain ∷ duplicates) false room refl e
 
       by : (held : Bool) → Does number peers (plain ∷ duplicates)
           (if held then test_of number plain ∷ [] else repeating (find_at favourite (plain ∷ duplicates)) favourite up peers number)
-      by true = idles (own number) refl refl ends
+      by true = idles (own_number number) refl refl ends
       by false = repeats (find_at favourite (plain ∷ duplicates)) refl
 
   releasing_does : (plain : PacketCopy) (duplicates : List PacketCopy) → IsPlaced peers (plain ∷ duplicates) → HasRoom peers (plain ∷ duplicates) → plain.verdict ≡ Sealed →
@@ -254,10 +253,8 @@ module _ (number favourite : ℕ) (up : Bool) (peers : List Peer) (within : favo
   verdict_does : (plain : PacketCopy) (duplicates : List PacketCopy) → IsPlaced peers (plain ∷ duplicates) → HasRoom peers (plain ∷ duplicates) → (verdict : Verdict) → plain.verdict ≡ verdict →
       Does number peers (plain ∷ duplicates) (due_by_verdict verdict favourite up peers number plain duplicates)
   verdict_does plain duplicates placed room Unknown is = asking_does plain duplicates room
-  verdict_does plain duplicates placed room Filed is =
-      all_settle number peers peers (plain ∷ duplicates) duplicates placed.apart.1 (all_ready peers (plain ∷ duplicates) placed room).1
   verdict_does plain duplicates placed room Sealed is = releasing_does plain duplicates placed room is (chosen duplicates) refl
-  verdict_does plain duplicates placed room Held is =
+  verdict_does plain duplicates placed room _ is =
       all_settle number peers peers (plain ∷ duplicates) duplicates placed.apart.1 (all_ready peers (plain ∷ duplicates) placed room).1
 
   pub due_does : (copies : List PacketCopy) → IsPlaced peers copies → HasRoom peers copies → Does number peers copies (due_by_copies favourite up peers number copies)

@@ -5,13 +5,13 @@ use Rattle.std.specs.Option.{option_map_or, option_or}
 use Rattle.node_core.specs.declared.copy.Command.{Command}
 use Rattle.node_core.specs.declared.copy.PacketCopy.{PacketCopy}
 use Rattle.node_core.specs.declared.copy.Verdict.{Verdict}
-use Rattle.node_core.specs.declared.copy.Verdict.TheVariants.{Unknown, Filed, Sealed, Held}
+use Rattle.node_core.specs.declared.copy.Verdict.TheVariants.{Unknown}
 use Rattle.node_core.specs.declared.port.Port.{Port}
 use Rattle.node_core.specs.declared.sending.Sending.{Sending}
 use Rattle.node_core.specs.declared.sending.Sending.TheVariants as send
 use Rattle.node_core.specs.Copies.{command_hearing, copy_hearing, copy_hearing_own, first_told, is_filed, is_release, is_released, is_unknown}
 use Rattle.node_core.specs.Growing.{CommandGrows, CopyGrows, Extends, PacketGrows, is_within_start}
-use Rattle.node_core.specs.Log.{LogEntry, Began, Halted, Submitted, Appointed, Ticked, Heard, Saying, Path, Redirects, Responds, Other, packets_of}
+use Rattle.node_core.specs.Log.{LogEntry, Submitted, Appointed, Ticked, Heard, Saying, Responds, packets_of}
 use Rattle.node_core.proofs.NumberedLemmas.{after_all-number}
 use Rattle.node_core.specs.Packets.{PacketState, commanded, copies_after, is_done, is_of, is_resolved, packet_after, packet_after_all, packet_hearing, while_open, with_command}
 
@@ -75,9 +75,7 @@ commanded_grows gateway command copy = by (copy.gateway == gateway)
 
 first_stays : (verdict later : Verdict) → is_unknown verdict ≡ false → first_told verdict later ≡ verdict
 first_stays Unknown later known = absurd (cc)
-first_stays Filed later known = refl
-first_stays Sealed later known = refl
-first_stays Held later known = refl
+first_stays _ later known = refl
 
 hearing_grows : (port : Port) (gateway cause : ℕ) (numbers : List ℕ) (copy : PacketCopy) → CopyGrows copy (copy_hearing port gateway cause numbers copy)
 hearing_grows port gateway cause numbers copy = by (copy.gateway == gateway)
@@ -106,12 +104,9 @@ pub same_copies : (copies : List PacketCopy) → Extends CopyGrows copies copies
 same_copies = extends_itself CopyGrows same_copy
 
 copies_grow : (sending : Sending) (copies : List PacketCopy) → Extends CopyGrows copies (copies_after sending copies)
-copies_grow (send.Probe gateway number) copies = same_copies copies
 copies_grow (send.Data packet gateway number is_plain true) copies = extends_push CopyGrows same_copy copies _
-copies_grow (send.Data packet gateway number is_plain false) copies = same_copies copies
-copies_grow (send.Test packet gateway number) copies = same_copies copies
 copies_grow (send.Command packet gateway named number order true) copies = extends_map CopyGrows _ (commanded_grows gateway _) copies
-copies_grow (send.Command packet gateway named number order false) copies = same_copies copies
+copies_grow _ copies = same_copies copies
 
 after_grows : (sending : Sending) (packet : PacketState) → Extends CopyGrows packet.copies (packet_after sending packet).copies
 after_grows sending packet = by (is_of packet.number sending)
@@ -130,9 +125,7 @@ after_all_grows (sending ∷ sendings) packet =
 
 filed_known : (verdict : Verdict) → is_filed verdict ≡ true → is_unknown verdict ≡ false
 filed_known Unknown is = absurd (cc)
-filed_known Filed is = refl
-filed_known Sealed is = refl
-filed_known Held is = refl
+filed_known _ is = refl
 
 released_stays : (copy after : PacketCopy) → CopyGrows copy after → is_released copy ≡ true → is_released after ≡ true
 released_stays copy after grows = by copy.command after.command grows.command
@@ -217,20 +210,17 @@ open_grows f keeps grows packet = by (is_done packet.copies) refl
 
 saying_grows : (port : Port) (gateway : ℕ) (saying : Saying) (log : List LogEntry) →
     Extends PacketGrows (packets_of log) (packets_of (Heard port gateway saying ∷ log))
-saying_grows port gateway (Path event) log = extends_itself PacketGrows same_packet (packets_of log)
-saying_grows port gateway (Redirects to) log = extends_itself PacketGrows same_packet (packets_of log)
 saying_grows port gateway (Responds cause numbers) log =
     extends_map PacketGrows _
     (open_grows (packet_hearing port gateway cause numbers) (λ packet. refl)
     (λ packet. extends_map CopyGrows _ (hearing_grows port gateway cause numbers) packet.copies)) (packets_of log)
-saying_grows port gateway Other log = extends_itself PacketGrows same_packet (packets_of log)
+saying_grows port gateway _ log = extends_itself PacketGrows same_packet (packets_of log)
 
 pub entry_grows : (entry : LogEntry) (log : List LogEntry) → is_within_start entry ≡ true →
     Extends PacketGrows (packets_of log) (packets_of (entry ∷ log))
-entry_grows Began log is = absurd (cc)
-entry_grows Halted log is = absurd (cc)
 entry_grows (Submitted form) log is = extends_push PacketGrows same_packet (packets_of log) _
 entry_grows (Appointed gateway) log is = extends_itself PacketGrows same_packet (packets_of log)
 entry_grows (Ticked sendings) log is =
     extends_map PacketGrows _ (open_grows (packet_after_all sendings) (after_all-number sendings) (after_all_grows sendings)) (packets_of log)
 entry_grows (Heard port gateway saying) log is = saying_grows port gateway saying log
+entry_grows _ log is = absurd (cc)

@@ -15,6 +15,7 @@ use Rattle.node_core.specs.Peers.{next_number}
 use Rattle.node_core.proofs.DueMoves.{AreApart, IsPlaced}
 use Rattle.node_core.proofs.Moves.{Copying, Commanding, IsMove, Move, One, are_none, command_with, commanded_gateway, copies_moved, find_at, here, beyond, length_drawn, next_drawn, next_drawn_other, peers_moved, place}
 use Rattle.node_core.proofs.RestingLemmas.{each_map, each_push, each_weaker}
+use Rattle.node_core.proofs.WeightLemmas.{one_within}
 
 -- ---- the gateways go on
 
@@ -239,10 +240,6 @@ pub move_place : (move : Move) (peers : List Peer) (copies : List PacketCopy) �
 move_place (Copying gateway) peers copies is = is.0
 move_place (Commanding gateway order) peers copies is = is.0
 
-pub one_place : {peers : List Peer} {move : Move} {packets after : List PacketState} → One peers move packets after → place move < length peers
-one_place {peers} {move} (here {packet} open_yet is) = move_place move peers packet.copies is
-one_place (beyond one) = one_place one
-
 pub kept_moved : (move : Move) (peers : List Peer) (copies : List PacketCopy) → IsMove peers copies move → IsKept peers copies →
     IsKept (peers_moved move peers) (copies_moved peers move copies)
 kept_moved (Copying gateway) peers copies is kept = kept_copied gateway peers copies is.0 is.1 kept
@@ -255,4 +252,4 @@ all_kept_moved {peers} {move} (here {packet} {packets} open_yet is) kept = (
   all_kept_on peers (peers_moved move peers) packets (peers_go_on move peers (move_place move peers packet.copies is)) kept.1,
 )
 all_kept_moved {peers} {move} (beyond {packet} one) kept =
-    (kept_on peers (peers_moved move peers) packet.copies (peers_go_on move peers (one_place one)) kept.0, all_kept_moved one kept.1)
+    (kept_on peers (peers_moved move peers) packet.copies (peers_go_on move peers (one_within one)) kept.0, all_kept_moved one kept.1)

@@ -1,5 +1,6 @@
 -- What a node knows of a copy of an open packet is what the first response tells that says something of its number.
 use Rattle.std.proofs.Common.{◌≡◌, ℕ, ◌<◌, ◌≤◌, ◌==◌, ◌&&◌, ◌||◌, nat_lt, Bool, true, false, if◌then◌else◌, List, [], ◌∷◌, ◌++◌, length, map, Option, Some, None, option_map, refl, sym, ap, ◌∙◌, inl, inr}
+use Rattle.std.proofs.Math.Bool.{or-false}
 use Rattle.std.specs.List.{All, AllByRecursion, list_any}
 use Rattle.std.specs.Option.{IfSome, option_or}
 use Rattle.std.proofs.lemmas.Bool.Decides.{eqb_tells}
@@ -60,13 +61,7 @@ first_pushed is_plain (response ∷ responses) port cause = by (told response.po
 
 nothing_told : (verdict : Verdict) → first_told verdict Unknown ≡ verdict
 nothing_told Unknown = refl
-nothing_told Filed = refl
-nothing_told Sealed = refl
-nothing_told Held = refl
-
-or_false : (is : Bool) → (is || false) ≡ is
-or_false true = refl
-or_false false = refl
+nothing_told _ = refl
 
 -- ---- what each copy of a packet, or of an open one, is by the log
 
@@ -125,10 +120,9 @@ module _ (sendings : List Sending) (log : List LogEntry) where
 
   -- what is drawn in the tick
   abbrev Drawn : List Sending → Sending → Type 0
-  Drawn all (send.Probe gateway path) = Unit {0}
   Drawn all (send.Data packet gateway number is_plain is_new) = is_new ≡ true → list_any (draws gateway number) all ≡ true
-  Drawn all (send.Test packet gateway number) = Unit {0}
   Drawn all (send.Command packet gateway named number order is_new) = is_new ≡ true → list_any (draws gateway number) all ≡ true
+  Drawn all _ = Unit {0}
 
   own : (number : ℕ) → (number == number) ≡ true
   own number = elim (eqb_tells number number) [ inl is ↦ is.0 | inr isnt ↦ absurd (isnt.1 refl) ]
@@ -138,16 +132,14 @@ module _ (sendings : List Sending) (log : List LogEntry) where
   or_true false = refl
 
   drawn_first : (sending : Sending) (rest : List Sending) → Drawn (sending ∷ rest) sending
-  drawn_first (send.Probe gateway path) rest = tt
   drawn_first (send.Data packet gateway number is_plain is_new) rest = λ is. rw (is, own gateway, own number) refl
-  drawn_first (send.Test packet gateway number) rest = tt
   drawn_first (send.Command packet gateway named number order is_new) rest = λ is. rw (is, own gateway, own number) refl
+  drawn_first _ rest = tt
 
   drawn_later : (first : Sending) (rest : List Sending) (sending : Sending) → Drawn rest sending → Drawn (first ∷ rest) sending
-  drawn_later first rest (send.Probe gateway path) is = tt
   drawn_later first rest (send.Data packet gateway number is_plain is_new) is = λ new. rw (is new) (or_true (draws gateway number first))
-  drawn_later first rest (send.Test packet gateway number) is = tt
   drawn_later first rest (send.Command packet gateway named number order is_new) is = λ new. rw (is new) (or_true (draws gateway number first))
+  drawn_later first rest _ is = tt
 
   all_drawn_in : (all : List Sending) → AllByRecursion (Drawn all) all
   all_drawn_in [] = tt
@@ -182,14 +174,11 @@ module _ (sendings : List Sending) (log : List LogEntry) where
 
   copies_known : (sending : Sending) → Drawn sendings sending → (copies : List PacketCopy) → AllByRecursion (IsKnown after_tick) copies →
       AllByRecursion (IsKnown after_tick) (copies_after sending copies)
-  copies_known (send.Probe gateway number) is copies known = known
   copies_known (send.Data packet gateway number is_plain true) is copies known =
       each_push (IsKnown after_tick) copies _ known (new_known gateway number is_plain (is refl))
-  copies_known (send.Data packet gateway number is_plain false) is copies known = known
-  copies_known (send.Test packet gateway number) is copies known = known
   copies_known (send.Command packet gateway named number order true) is copies known =
       each_map (IsKnown after_tick) (IsKnown after_tick) _ (commanded_known order number gateway (is refl)) copies known
-  copies_known (send.Command packet gateway named number order false) is copies known = known
+  copies_known _ is copies known = known
 
   after_known : (sending : Sending) → Drawn sendings sending → (packet : PacketState) → Known after_tick packet → Known after_tick (packet_after sending packet)
   after_known sending is packet known = by (is_of packet.number sending)
@@ -273,7 +262,7 @@ module _ (port : Port) (place cause : ℕ) (numbers : List ℕ) (log : List LogE
           and_true true = refl
           and_true false = refl
       answered command false e was =
-          ap (λ (b : Bool). command.is_answered || b) (and_false (is_fulfilled cause)) ∙ or_false command.is_answered ∙ was
+          ap (λ (b : Bool). command.is_answered || b) (and_false (is_fulfilled cause)) ∙ or-false command.is_answered ∙ was
           ∙ sym (ap (list_any (λ (r : Response). is_fulfilled r.cause)) (now command.number false e ∙ append-nil (before copy command.number)))
         where
           and_false : (is : Bool) → (is && false) ≡ false

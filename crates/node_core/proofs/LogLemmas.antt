@@ -6,14 +6,14 @@ use Rattle.std.specs.Option.{option_map_or}
 use Rattle.gw_base.specs.declared.address.Addr.{Addr}
 use Rattle.path_mgmt.specs.NodePath.{PathsOfNode, node_after, node_anew}
 use Rattle.path_mgmt.specs.declared.event.PathEvent.{PathEvent}
-use Rattle.path_mgmt.specs.declared.event.PathEvent.TheVariants.{EchoAsked, EchoTold, AliveAsked, AliveTold}
+use Rattle.path_mgmt.specs.declared.event.PathEvent.TheVariants.{EchoAsked}
 use Rattle.gtpp_message.specs.Packet.{PacketForm}
 use Rattle.node_core.specs.declared.fault.SubmitFault.{SubmitFault}
 use Rattle.node_core.specs.declared.peer.Peer.{Peer}
 use Rattle.node_core.specs.declared.port.Port.{Port}
 use Rattle.node_core.specs.declared.sending.Sending.{Sending}
 use Rattle.node_core.specs.declared.sending.Sending.TheVariants as send
-use Rattle.node_core.specs.Log.{LogEntry, Began, Halted, Submitted, Appointed, Ticked, Heard, NodeSetup, Saying, Path, Redirects, Responds, Other, counter_of, favourite, has_entries, paths_hearing, paths_of, peers_of, quiet_ticks, restarted}
+use Rattle.node_core.specs.Log.{LogEntry, Began, Halted, Submitted, Appointed, Ticked, Heard, NodeSetup, Saying, Path, counter_of, favourite, has_entries, paths_hearing, paths_of, peers_of, quiet_ticks, restarted}
 use Rattle.node_core.specs.Hearing.{Dropped, Says, Taken, entries_from, heard_entries, taken, taken_entries}
 use Rattle.node_core.specs.Moving.{appointing, moved_at_tick, moved_by}
 use Rattle.node_core.specs.Peers.{all_drawn, at_place, drawn, end_of_numbers, number_drawn, peer_anew, place_of}
@@ -63,13 +63,11 @@ anew_again [] = refl
 anew_again (gateway ∷ gateways) = ap (λ (ps : List Peer). peer_anew gateway ∷ ps) (anew_again gateways)
 
 pub gateways_stay : (gateways : List Addr) (log : List LogEntry) → peers_anew (peers_of gateways log) ≡ map peer_anew gateways
-gateways_stay gateways [] = anew_again gateways
-gateways_stay gateways (Began ∷ log) = anew_again gateways
-gateways_stay gateways (Halted ∷ log) = anew_again gateways
 gateways_stay gateways (Submitted form ∷ log) = gateways_stay gateways log
 gateways_stay gateways (Appointed gateway ∷ log) = gateways_stay gateways log
 gateways_stay gateways (Ticked sendings ∷ log) = all_drawn_keeps sendings (peers_of gateways log) ∙ gateways_stay gateways log
 gateways_stay gateways (Heard port gateway saying ∷ log) = gateways_stay gateways log
+gateways_stay gateways _ = anew_again gateways
 
 -- a log has as many gateways as its node was made with
 pub gateways_count : (gateways : List Addr) (log : List LogEntry) → length (peers_of gateways log) ≡ length gateways
@@ -82,24 +80,18 @@ gateways_count gateways log =
 
 pub event_keeps : (paths : PathsOfNode) (gateway : ℕ) (event : PathEvent) → (node_after paths gateway event).counter ≡ paths.counter
 event_keeps paths gateway (EchoAsked number) = refl
-event_keeps paths gateway (EchoTold number counter) = refl
-event_keeps paths gateway (AliveAsked number) = refl
-event_keeps paths gateway (AliveTold number) = refl
+event_keeps paths gateway _ = refl
 
 pub saying_keeps : (paths : PathsOfNode) (gateway : ℕ) (saying : Saying) → (paths_hearing gateway saying paths).counter ≡ paths.counter
 saying_keeps paths gateway (Path event) = event_keeps paths gateway event
-saying_keeps paths gateway (Redirects to) = refl
-saying_keeps paths gateway (Responds cause numbers) = refl
-saying_keeps paths gateway Other = refl
+saying_keeps paths gateway _ = refl
 
 pub counter_stays : (first : ℕ) (log : List LogEntry) → (paths_of first log).counter ≡ counter_of first log
-counter_stays first [] = refl
-counter_stays first (Began ∷ log) = refl
-counter_stays first (Halted ∷ log) = refl
 counter_stays first (Submitted form ∷ log) = counter_stays first log
 counter_stays first (Appointed gateway ∷ log) = counter_stays first log
 counter_stays first (Ticked sendings ∷ log) = counter_stays first log
 counter_stays first (Heard port gateway saying ∷ log) = saying_keeps (paths_of first log) gateway saying ∙ counter_stays first log
+counter_stays first _ = refl
 
 -- ---- one more entry
 
@@ -125,12 +117,11 @@ entry_befalls setup Halted log begun = λ i. record (node_of setup (Halted ∷ l
   gateways = sym (gateways_stay setup.gateways log) i;
   paths = node_anew (sym (counter_stays setup.counter log) i);
 }
-entry_befalls setup (Submitted form) log begun = refl
-entry_befalls setup (Appointed gateway) log begun = refl
 entry_befalls setup (Ticked sendings) log begun =
     λ i. record (node_of setup (Ticked sendings ∷ log)) { quiet = quiet_tick (quiet_ticks log) i }
 entry_befalls setup (Heard port gateway saying) log begun =
     λ i. record (node_of setup (Heard port gateway saying ∷ log)) { quiet = quiet_heard (gateway == favourite log) (quiet_ticks log) i }
+entry_befalls setup _ log begun = refl
 
 pub entries_befall : (setup : NodeSetup) (entries log : List LogEntry) → CanFollowAll entries log →
     node_of setup (logged entries log) ≡ befallen entries (node_of setup log)
@@ -194,11 +185,9 @@ running_follow node Halt log = (tt, tt)
 running_follow node Start log = tt
 
 halted_follow : (call : NodeCall) (log : List LogEntry) → has_entries log ≡ true → CanFollowAll (entries_halted call) log
-halted_follow (Submit form) log has = tt
-halted_follow Tick log has = tt
-halted_follow (Hear port from octets) log has = tt
 halted_follow Halt log has = (tt, tt)
 halted_follow Start log has = (has, tt)
+halted_follow _ log has = tt
 
 call_follow : (node : NodeValue) (call : NodeCall) (log : List LogEntry) → has_entries log ≡ true → CanFollowAll (call_entries node call) log
 call_follow node call log has = by node.is_running

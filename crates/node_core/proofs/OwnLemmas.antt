@@ -7,7 +7,7 @@ use Rattle.node_core.specs.declared.copy.Command.{Command}
 use Rattle.node_core.specs.declared.copy.Order.{Order}
 use Rattle.node_core.specs.declared.copy.PacketCopy.{PacketCopy}
 use Rattle.node_core.specs.declared.copy.Verdict.{Verdict}
-use Rattle.node_core.specs.declared.copy.Verdict.TheVariants.{Unknown, Filed, Sealed, Held}
+use Rattle.node_core.specs.declared.copy.Verdict.TheVariants.{Unknown, Sealed, Held}
 use Rattle.node_core.specs.declared.peer.Peer.{Peer}
 use Rattle.node_core.specs.declared.sending.Sending.{Sending}
 use Rattle.node_core.specs.Copies.{is_answered, is_held}
@@ -60,9 +60,8 @@ module _ (number packet : ℕ) (other : (packet == number) ≡ false) where
 
   settling-others : (verdict : Verdict) (peers : List Peer) (copy : PacketCopy) → AreOfOthers number (settling_by verdict peers packet copy)
   settling-others Unknown peers copy = more other none
-  settling-others Filed peers copy = none
-  settling-others Sealed peers copy = none
   settling-others Held peers copy = unless-others (is_answered copy) peers _ copy
+  settling-others _ peers copy = none
 
   all-others : (peers : List Peer) (copies : List PacketCopy) → AreOfOthers number (flat_map (settling peers packet) copies)
   all-others peers [] = none
@@ -104,9 +103,8 @@ module _ (number packet : ℕ) (other : (packet == number) ≡ false) where
   verdict-others : (verdict : Verdict) (favourite : ℕ) (up : Bool) (peers : List Peer) (plain : PacketCopy) (duplicates : List PacketCopy) →
       AreOfOthers number (due_by_verdict verdict favourite up peers packet plain duplicates)
   verdict-others Unknown favourite up peers plain duplicates = asking-others favourite up peers plain duplicates
-  verdict-others Filed favourite up peers plain duplicates = all-others peers duplicates
   verdict-others Sealed favourite up peers plain duplicates = releasing-others (chosen duplicates) peers duplicates
-  verdict-others Held favourite up peers plain duplicates = all-others peers duplicates
+  verdict-others _ favourite up peers plain duplicates = all-others peers duplicates
 
   copies-others : (favourite : ℕ) (up : Bool) (peers : List Peer) (copies : List PacketCopy) →
       AreOfOthers number (due_by_copies favourite up peers packet copies)

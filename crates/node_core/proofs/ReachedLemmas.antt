@@ -16,7 +16,7 @@ use Rattle.node_core.specs.declared.port.Port.{Port}
 use Rattle.node_core.specs.declared.sending.Sending.{Sending}
 use Rattle.node_core.specs.Drafts.{is_without_records}
 use Rattle.node_core.specs.Hearing.{Taken, Dropped, Says, entries_from, taken, taken_entries}
-use Rattle.node_core.specs.Log.{LogEntry, Began, Halted, Submitted, Appointed, Ticked, Heard, NodeSetup, Saying, Path, Redirects, Responds, Other, favourite, packets_of, peers_of, submitted}
+use Rattle.node_core.specs.Log.{LogEntry, Began, Halted, Submitted, Appointed, Ticked, Heard, NodeSetup, Saying, Redirects, Responds, favourite, packets_of, peers_of, submitted}
 use Rattle.node_core.specs.Moving.{another, appointing, is_refusal, is_silent, moved_at_tick, moved_by, next_place, place_at, redirected}
 use Rattle.node_core.specs.Packets.{PacketState, is_done, packet_after_all, packet_hearing, while_open}
 use Rattle.node_core.specs.Peers.{all_drawn, has_ip, next_number, path_drawn, peer_anew, place_of}
@@ -157,7 +157,6 @@ tick_within node = by (is_silent node)
     by false = tt
 
 moved_within : (node : NodeValue) (port : Port) (gateway : ℕ) (saying : Saying) → Within (length node.gateways) (moved_by node port gateway saying)
-moved_within node port gateway (Path event) = tt
 moved_within node port gateway (Redirects to) = by (gateway == node.favourite_place)
   where
     by : (is : Bool) → Within (length node.gateways) (if is then redirected node.gateways gateway to else None)
@@ -168,7 +167,7 @@ moved_within node port gateway (Responds cause numbers) = by ((gateway == node.f
     by : (is : Bool) → Within (length node.gateways) (if is then next_place (length node.gateways) gateway else None)
     by true = next_within (length node.gateways) gateway
     by false = tt
-moved_within node port gateway Other = tt
+moved_within node port gateway _ = tt
 
 -- ---- the numbers that are left
 
@@ -197,9 +196,8 @@ module _ (setup : NodeSetup) (some : 1 ≤ length setup.gateways) (Q : List Peer
     pub law_holds : Q (peers_of setup.gateways log) (packets_of log)
 
   anew_next : (addresses : List Addr) (gateway : ℕ) → next_number (map peer_anew addresses) gateway ≡ 65536
-  anew_next [] gateway = refl
-  anew_next (address ∷ addresses) zero = refl
   anew_next (address ∷ addresses) (suc gateway) = anew_next addresses gateway
+  anew_next _ _ = refl
 
   began : (log : List LogEntry) → submitted log ≤ 4611686018427355136 → Stands (Began ∷ log)
   began log few = record {
@@ -267,28 +265,6 @@ module _ (setup : NodeSetup) (some : 1 ≤ length setup.gateways) (Q : List Peer
       by false = kept_hearing peers port gateway cause numbers packet.copies kept
 
   is_heard : (port : Port) (gateway : ℕ) (saying : Saying) (log : List LogEntry) → Stands log → Stands (Heard port gateway saying ∷ log)
-  is_heard port gateway (Path event) log is = record {
-    size = is.size;
-    place = is.place;
-    before = is.before;
-    numbered = is.numbered;
-    counted = is.counted;
-    kept = is.kept;
-    few = is.few;
-    bounded = is.bounded;
-    law_holds = is.law_holds;
-  }
-  is_heard port gateway (Redirects to) log is = record {
-    size = is.size;
-    place = is.place;
-    before = is.before;
-    numbered = is.numbered;
-    counted = is.counted;
-    kept = is.kept;
-    few = is.few;
-    bounded = is.bounded;
-    law_holds = is.law_holds;
-  }
   is_heard port heard_gateway (Responds cause numbers) log is =
       let f : PacketState → PacketState = while_open (packet_hearing port heard_gateway cause numbers) in
       record {
@@ -308,7 +284,7 @@ module _ (setup : NodeSetup) (some : 1 ≤ length setup.gateways) (Q : List Peer
         );
         law_holds = law.heard _ (packets_of log) port heard_gateway cause numbers is.kept is.law_holds;
       }
-  is_heard port gateway Other log is = record {
+  is_heard port gateway _ log is = record {
     size = is.size;
     place = is.place;
     before = is.before;

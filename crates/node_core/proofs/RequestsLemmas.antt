@@ -54,20 +54,16 @@ all_ready peers (packet ∷ packets) kept chosen_were waits = (
 sent_here : (number : ℕ) (state : PacketState) (packets : List PacketState) → state.number ≡ number → (sending : Sending) → Own number state.copies sending →
     IsSent (state ∷ packets) sending
 sent_here number state packets same (send.Probe gateway path) own = tt
-sent_here number state packets same (send.Data packet gateway drawn is_plain is_new) own =
-    (record { state = state; kept = in_head state packets; packet_is = same ∙ own.0; at = own.1 }, own.2)
 sent_here number state packets same (send.Test packet gateway drawn) own =
     record { state = state; kept = in_head state packets; packet_is = same ∙ own.0; at = own.1 }
-sent_here number state packets same (send.Command packet gateway named drawn order is_new) own =
+sent_here number state packets same _ own =
     (record { state = state; kept = in_head state packets; packet_is = same ∙ own.0; at = own.1 }, own.2)
 
 sent_later : (state : PacketState) (packets : List PacketState) (sending : Sending) → IsSent packets sending → IsSent (state ∷ packets) sending
 sent_later state packets (send.Probe gateway path) is = tt
-sent_later state packets (send.Data packet gateway drawn is_plain is_new) is =
-    (record { state = is.0.state; kept = contains_more packets state is.0.state is.0.kept; packet_is = is.0.packet_is; at = is.0.at }, is.1)
 sent_later state packets (send.Test packet gateway drawn) is =
     record { state = is.state; kept = contains_more packets state is.state is.kept; packet_is = is.packet_is; at = is.at }
-sent_later state packets (send.Command packet gateway named drawn order is_new) is =
+sent_later state packets _ is =
     (record { state = is.0.state; kept = contains_more packets state is.0.state is.0.kept; packet_is = is.0.packet_is; at = is.0.at }, is.1)
 
 module _ (favourite : ℕ) (up : Bool) where

@@ -12,7 +12,7 @@ use Rattle.node_core.specs.declared.port.Port.{Port}
 use Rattle.node_core.specs.declared.sending.Sending.{Sending}
 use Rattle.node_core.specs.declared.sending.Sending.TheVariants as send
 use Rattle.node_core.specs.Copies.{command_hearing, copy_hearing, copy_hearing_own, first_told, is_fulfilled, is_unknown, names, new_copy, told_if}
-use Rattle.node_core.specs.Log.{LogEntry, Began, Halted, Submitted, Appointed, Ticked, Heard, Saying, Path, Redirects, Responds, Other, packets_of}
+use Rattle.node_core.specs.Log.{LogEntry, Submitted, Appointed, Ticked, Heard, Saying, Responds, packets_of}
 use Rattle.node_core.specs.Packets.{PacketState, commanded, copies_after, is_done, is_of, packet_after, packet_after_all, packet_hearing, while_open, with_command}
 use Rattle.node_core.specs.Resting.{AllRestOn, IsFulfilled, IsTold, RestsOn, since_start}
 
@@ -114,13 +114,10 @@ module _ (entries : List LogEntry) where
 
   copies_rest : (sending : Sending) (copies : List PacketCopy) → AllByRecursion (RestsOn entries) copies →
       AllByRecursion (RestsOn entries) (copies_after sending copies)
-  copies_rest (send.Probe gateway number) copies all = all
   copies_rest (send.Data packet gateway number is_plain true) copies all = each_push (RestsOn entries) copies _ all (new_rests gateway number is_plain)
-  copies_rest (send.Data packet gateway number is_plain false) copies all = all
-  copies_rest (send.Test packet gateway number) copies all = all
   copies_rest (send.Command packet gateway named number order true) copies all =
       each_map (RestsOn entries) (RestsOn entries) _ (commanded_rests order number gateway) copies all
-  copies_rest (send.Command packet gateway named number order false) copies all = all
+  copies_rest _ copies all = all
 
   after_rests : (sending : Sending) (packet : PacketState) → Each entries packet → Each entries (packet_after sending packet)
   after_rests sending packet each = by (is_of packet.number sending)
@@ -244,19 +241,14 @@ module _ (port : Port) (gateway cause : ℕ) (numbers : List ℕ) (since : List 
 
 saying_rests : (port : Port) (gateway : ℕ) (saying : Saying) (log : List LogEntry) → AllByRecursion (Each (since_start log)) (packets_of log) →
     AllByRecursion (Each (Heard port gateway saying ∷ since_start log)) (packets_of (Heard port gateway saying ∷ log))
-saying_rests port gateway (Path event) log all = more_each _ (since_start log) (packets_of log) all
-saying_rests port gateway (Redirects to) log all = more_each _ (since_start log) (packets_of log) all
 saying_rests port gateway (Responds cause numbers) log all =
     let entries : List LogEntry = Heard port gateway (Responds cause numbers) ∷ since_start log in
     each_map (Each entries) (Each entries) (while_open (packet_hearing port gateway cause numbers))
     (open_rests entries (packet_hearing port gateway cause numbers) (packet_hears port gateway cause numbers (since_start log)))
     (packets_of log) (more_each _ (since_start log) (packets_of log) all)
-saying_rests port gateway Other log all = more_each _ (since_start log) (packets_of log) all
+saying_rests port gateway _ log all = more_each _ (since_start log) (packets_of log) all
 
 rests : (log : List LogEntry) → AllByRecursion (Each (since_start log)) (packets_of log)
-rests [] = tt
-rests (Began ∷ log) = tt
-rests (Halted ∷ log) = tt
 rests (Submitted form ∷ log) =
     each_push (Each (Submitted form ∷ since_start log)) (packets_of log) _ (more_each _ (since_start log) (packets_of log) (rests log)) tt
 rests (Appointed gateway ∷ log) = more_each _ (since_start log) (packets_of log) (rests log)
@@ -266,6 +258,7 @@ rests (Ticked sendings ∷ log) =
     (open_rests entries (packet_after_all sendings) (after_all_rests entries sendings))
     (packets_of log) (more_each _ (since_start log) (packets_of log) (rests log))
 rests (Heard port gateway saying ∷ log) = saying_rests port gateway saying log (rests log)
+rests _ = tt
 
 pub all_rest : (log : List LogEntry) → All (AllRestOn (since_start log)) (packets_of log)
 all_rest log =

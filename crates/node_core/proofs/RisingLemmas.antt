@@ -30,17 +30,16 @@ module _ (peers : List Peer) (packets : List PacketState) (kept : AllKept peers 
       All-contains (IsBelow peers) of.state.copies of.at.copy (All-from_recursion (IsBelow peers) of.state.copies its.below) of.at.among
 
   between : (before : List Peer) (sending : Sending) → DrawsNext before sending → IsSent packets sending → DrawsBetween before peers sending
-  between before (send.Probe gateway path) draws sent = tt
   between before (send.Data packet gateway number is_plain is_new) draws sent =
       let below : IsBelow peers sent.0.at.copy = of_below sent.0 in
       λ new. (draws new, omega (arith, below.number, sent.0.at.number_is, ap (next_number peers) sent.0.at.gateway_is))
-  between before (send.Test packet gateway number) draws sent = tt
   between before (send.Command packet gateway named number order is_new) draws sent =
       let copy : PacketCopy = sent.0.at.copy in
       let below : IsBelow peers copy = of_below sent.0 in
       let its : CommandBelow copy.number (next_number peers copy.gateway) (Some sent.1.command) =
       subst (CommandBelow copy.number (next_number peers copy.gateway)) sent.1.sent below.command in
       λ new. (draws new, omega (arith, its.1, sent.1.number_is, ap (next_number peers) sent.0.at.gateway_is))
+  between before _ draws sent = tt
 
   all_between : (before : List Peer) (sendings : List Sending) → All (DrawsNext before) sendings → All (IsSent packets) sendings →
       All (DrawsBetween before peers) sendings

@@ -1,5 +1,5 @@
 -- Each number that is drawn is that of one copy, or of one release or cancel.
-use Rattle.std.proofs.Common.{◌≡◌, ◌≢◌, ℕ, zero, suc, ◌+◌, ◌<◌, ◌≤◌, ◌==◌, Bool, true, false, if◌then◌else◌, List, [], ◌∷◌, ◌++◌, length, map, Option, Some, None, option_map, refl, sym, ap, subst, ◌∙◌, arith, inl, inr}
+use Rattle.std.proofs.Common.{◌≡◌, ◌≢◌, ℕ, suc, ◌+◌, ◌<◌, ◌≤◌, ◌==◌, Bool, true, false, if◌then◌else◌, List, [], ◌∷◌, ◌++◌, length, map, Option, Some, None, option_map, refl, sym, ap, subst, ◌∙◌, arith, inl, inr}
 use Rattle.std.specs.List.{AllByRecursion}
 use Rattle.std.specs.Option.{option_or}
 use Rattle.std.proofs.lemmas.Bool.Decides.{eqb_tells}
@@ -163,10 +163,9 @@ pub record OneUse (peers : List Peer) (packets : List PacketState) (gateway numb
 abbrev pub OneUses : List Peer → List PacketState → Type 0
 OneUses peers packets = (gateway number : ℕ) → gateway < length peers → OneUse peers packets gateway number
 
-anew_next : (addresses : List Addr) (gateway : ℕ) → next_number (map peer_anew addresses) gateway ≡ 65536
-anew_next [] gateway = refl
-anew_next (address ∷ addresses) zero = refl
+pub anew_next : (addresses : List Addr) (gateway : ℕ) → next_number (map peer_anew addresses) gateway ≡ 65536
 anew_next (address ∷ addresses) (suc gateway) = anew_next addresses gateway
+anew_next _ _ = refl
 
 use_same : (number : ℕ) → use_of number number ≡ 1
 use_same number = elim (eqb_tells number number) [ inl is ↦ rw is.0 refl | inr isnt ↦ absurd (isnt.1 refl) ]

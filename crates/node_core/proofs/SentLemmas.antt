@@ -8,7 +8,7 @@ use Rattle.node_core.specs.declared.copy.Order.{Order}
 use Rattle.node_core.specs.declared.copy.Order.TheVariants.{Cancel}
 use Rattle.node_core.specs.declared.copy.PacketCopy.{PacketCopy}
 use Rattle.node_core.specs.declared.copy.Verdict.{Verdict}
-use Rattle.node_core.specs.declared.copy.Verdict.TheVariants.{Unknown, Filed, Sealed, Held}
+use Rattle.node_core.specs.declared.copy.Verdict.TheVariants.{Unknown, Held}
 use Rattle.node_core.specs.declared.peer.Peer.{Peer}
 use Rattle.node_core.specs.declared.sending.Sending.{Sending}
 use Rattle.node_core.specs.declared.sending.Sending.TheVariants as send
@@ -18,7 +18,7 @@ use Rattle.node_core.specs.Packets.{PacketState, commanded, copies_after, is_of,
 use Rattle.node_core.specs.Peers.{next_number}
 use Rattle.node_core.specs.Sendings.{command_by, command_of, command_unless, settling, settling_beside, settling_by}
 use Rattle.node_core.specs.Sent.{HasCopyAt, IsCommandOf}
-use Rattle.node_core.proofs.DueMoves.{AreApart}
+use Rattle.node_core.proofs.DueMoves.{AreApart, own_number}
 use Rattle.node_core.proofs.GrowingLemmas.{after_all_grows}
 use Rattle.node_core.proofs.Moves.{command_with}
 use Rattle.node_core.proofs.RestingLemmas.{contains_more, each_weaker}
@@ -61,9 +61,6 @@ module _ {A : Type 0} where
       by : (passes : Bool) → (if passes then Some y else find test xs) ≡ Some x → (find test xs ≡ Some x → Contains xs x) → Contains (y ∷ xs) x
       by true found rest = let same : y ≡ x = cc in subst (Contains (y ∷ xs)) same (in_head y xs)
       by false found rest = contains_more xs y x (rest found)
-
-pub own_number : (number : ℕ) → (number == number) ≡ true
-own_number number = elim (eqb_tells number number) [ inl is ↦ is.0 | inr isnt ↦ absurd (isnt.1 refl) ]
 
 -- ---- a sending of the packet with a number is of one of its copies
 
@@ -192,9 +189,8 @@ module _ (number : ℕ) (peers : List Peer) where
       Goes copy.gateway copies sendings → Sents number copies (settling_by verdict peers number copy ++ sendings)
   settling_sent Unknown copy copies sendings there has goes =
       more (own_number number) (refl, record { copy = copy; among = there; gateway_is = refl; number_is = refl }) (goes copies (λ other apart is. is))
-  settling_sent Filed copy copies sendings there has goes = goes copies (λ other apart is. is)
-  settling_sent Sealed copy copies sendings there has goes = goes copies (λ other apart is. is)
   settling_sent Held copy copies sendings there has goes = command_sent Cancel copy copies sendings there has goes
+  settling_sent _ copy copies sendings there has goes = goes copies (λ other apart is. is)
 
   still_in : (gateway : ℕ) (copies later others : List PacketCopy) → Stays gateway copies later →
       AllByRecursion (λ (other : PacketCopy). gateway ≢ other.gateway) others → AllByRecursion (Contains copies) others → AllByRecursion (Contains later) others

@@ -38,11 +38,10 @@ resolved_first (plain ∷ duplicates) done = and_left (is_resolved (plain ∷ du
 -- ---- the packets from the first open one on
 
 open_of : (n : ℕ) (packets : List PacketState) → AllDone (take n packets) → open_among (drop n packets) ≡ open_among packets
-open_of zero packets done = refl
-open_of (suc n) [] done = refl
 open_of (suc n) (packet ∷ packets) done =
     open_of n packets done.1
     ∙ sym (count_by-pass (λ (p : PacketState). not (is_done p.copies)) packet packets false (ap not done.0) ∙ (omega arith))
+open_of _ _ done = refl
 
 pub open_settled : (kept : KeptPackets) → IsSettled kept → open_among (drop kept.settled kept.packets) ≡ open_among kept.packets
 open_settled kept settled = open_of kept.settled kept.packets settled.done
@@ -82,10 +81,9 @@ waits_not gateway packet done = rw done refl
 
 waits_of : (gateway n : ℕ) (packets : List PacketState) → AllDone (take n packets) →
     list_any (waits_at gateway) (drop n packets) ≡ list_any (waits_at gateway) packets
-waits_of gateway zero packets done = refl
-waits_of gateway (suc n) [] done = refl
 waits_of gateway (suc n) (packet ∷ packets) done =
     waits_of gateway n packets done.1 ∙ sym (ap (λ (b : Bool). b || list_any (waits_at gateway) packets) (waits_not gateway packet done.0))
+waits_of gateway _ _ done = refl
 
 pub waits_settled : (gateway : ℕ) (kept : KeptPackets) → IsSettled kept →
     list_any (waits_at gateway) (drop kept.settled kept.packets) ≡ list_any (waits_at gateway) kept.packets
@@ -102,11 +100,10 @@ unsettled_none gateway packet done = rw done refl
 
 oldest_of : (gateway next n : ℕ) (packets : List PacketState) → AllDone (take n packets) →
     oldest_number gateway next (drop n packets) ≡ oldest_number gateway next packets
-oldest_of gateway next zero packets done = refl
-oldest_of gateway next (suc n) [] done = refl
 oldest_of gateway next (suc n) (packet ∷ packets) done =
     oldest_of gateway next n packets done.1
     ∙ sym (ap (λ (xs : List ℕ). least next (xs ++ flat_map (unsettled_at gateway) packets)) (unsettled_none gateway packet done.0))
+oldest_of gateway next _ _ done = refl
 
 pub oldest_settled : (gateway next : ℕ) (kept : KeptPackets) → IsSettled kept →
     oldest_number gateway next (drop kept.settled kept.packets) ≡ oldest_number gateway next kept.packets
@@ -161,9 +158,8 @@ module _ (test : List PacketCopy → Bool) (change : PacketState → PacketState
 
 due_of : (favourite : ℕ) (up : Bool) (peers : List Peer) (n : ℕ) (packets : List PacketState) → AllDone (take n packets) →
     due_for_all favourite up peers (drop n packets) ≡ due_for_all favourite up peers packets
-due_of favourite up peers zero packets done = refl
-due_of favourite up peers (suc n) [] done = refl
 due_of favourite up peers (suc n) (packet ∷ packets) done = rw done.0 (due_of favourite up peers n packets done.1)
+due_of favourite up peers _ _ done = refl
 
 pub due_settled : (favourite : ℕ) (up : Bool) (peers : List Peer) (kept : KeptPackets) → IsSettled kept →
     due_for_all favourite up peers (drop kept.settled kept.packets) ≡ due_for_all favourite up peers kept.packets
@@ -173,11 +169,10 @@ due_settled favourite up peers kept settled = due_of favourite up peers kept.set
 
 open_map : (f : PacketState → PacketState) (n : ℕ) (packets : List PacketState) → AllDone (take n packets) →
     take n packets ++ map (while_open f) (drop n packets) ≡ map (while_open f) packets
-open_map f zero packets done = refl
-open_map f (suc n) [] done = refl
 open_map f (suc n) (packet ∷ packets) done =
     ap (λ (p : PacketState). p ∷ (take n packets ++ map (while_open f) (drop n packets))) (sym (rw done.0 refl))
     ∙ ap (λ (ps : List PacketState). while_open f packet ∷ ps) (open_map f n packets done.1)
+open_map f _ _ done = refl
 
 pub changed_settled : (f : PacketState → PacketState) (kept : KeptPackets) → IsSettled kept →
     take kept.settled kept.packets ++ map (while_open f) (drop kept.settled kept.packets) ≡ map (while_open f) kept.packets
@@ -190,18 +185,16 @@ still_done f packet done = rw done refl
 
 pub changed_front : (f : PacketState → PacketState) (n : ℕ) (packets : List PacketState) → AllDone (take n packets) →
     packets ≡ map (while_open f) (take n packets) ++ drop n packets
-changed_front f zero packets done = refl
-changed_front f (suc n) [] done = refl
 changed_front f (suc n) (packet ∷ packets) done =
     ap (λ (ps : List PacketState). packet ∷ ps) (changed_front f n packets done.1)
     ∙ ap (λ (p : PacketState). p ∷ (map (while_open f) (take n packets) ++ drop n packets)) (sym (still_done f packet done.0))
+changed_front f _ _ done = refl
 
 pub done_front : (f : PacketState → PacketState) (n : ℕ) (packets : List PacketState) → AllDone (take n packets) →
     AllDone (take n (map (while_open f) packets))
-done_front f zero packets done = tt
-done_front f (suc n) [] done = tt
 done_front f (suc n) (packet ∷ packets) done =
     (subst (λ (p : PacketState). is_done p.copies ≡ true) (sym (still_done f packet done.0)) done.0, done_front f n packets done.1)
+done_front f _ _ done = tt
 
 never_both : (b : Bool) → (not b && b) ≡ false
 never_both true = refl
@@ -209,12 +202,11 @@ never_both false = refl
 
 pub made_front : (test : List PacketCopy → Bool) (f : PacketState → PacketState) (n : ℕ) (packets : List PacketState) → AllDone (take n packets) →
     ◌≡◌ {A = Option ℕ} None (first_made test (while_open f) (take n packets))
-made_front test f zero packets done = refl
-made_front test f (suc n) [] done = refl
 made_front test f (suc n) (packet ∷ packets) done =
     let not_now : (not (test packet.copies) && test (while_open f packet).copies) ≡ false =
     ap (λ (p : PacketState). not (test packet.copies) && test p.copies) (still_done f packet done.0) ∙ never_both (test packet.copies) in
     rw not_now (made_front test f n packets done.1)
+made_front test f _ _ done = refl
 
 middle : (f : PacketState → PacketState) (xs : List PacketState) (i : ℕ) (d : PacketState) → i < length xs →
     get_or (map f (take i xs) ++ drop i xs) i d ≡ get_or xs i d

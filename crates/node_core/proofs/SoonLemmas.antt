@@ -3,7 +3,6 @@ use Rattle.std.proofs.Common.{◌≡◌, ◌≢◌, ℕ, zero, suc, ◌+◌, ◌
 use Rattle.std.specs.List.{AllByRecursion, Contains}
 use Rattle.std.specs.Option.{option_or}
 use Rattle.std.proofs.lemmas.Bool.Decides.{eqb_tells}
-use Rattle.gw_base.specs.declared.address.Addr.{Addr}
 use Rattle.node_core.specs.declared.copy.Command.{Command}
 use Rattle.node_core.specs.declared.copy.Order.{Order}
 use Rattle.node_core.specs.declared.copy.PacketCopy.{PacketCopy}
@@ -13,15 +12,16 @@ use Rattle.node_core.specs.Copies.{command_hearing, copy_hearing, copy_hearing_o
 use Rattle.node_core.specs.Log.{NodeSetup}
 use Rattle.node_core.specs.Nearness.{ComesSoon, HasCopy, HasOpenCopy, IsCopyOrBase}
 use Rattle.node_core.specs.Packets.{PacketState, commanded, is_done, packet_hearing, while_open, with_command}
-use Rattle.node_core.specs.Peers.{next_number, peer_anew}
+use Rattle.node_core.specs.Peers.{next_number}
 use Rattle.node_core.specs.Reached.{NodeCall, reached}
 use Rattle.node_core.proofs.KeptLemmas.{AllKept, IsBelow}
 use Rattle.node_core.proofs.Moves.{CommandsOne, Copying, Commanding, Move, One, are_none, beyond, command_with, commanded_gateway, copies_moved, find_at, here, length_drawn, next_drawn, next_drawn_other, peers_moved, place}
 use Rattle.node_core.proofs.NearLemmas.{open_near, opens, opens_are, opens_heard, opens_moved, opens_pushed}
 use Rattle.node_core.proofs.ReachedLemmas.{Closed, new_packet, stands}
 use Rattle.node_core.proofs.RestingLemmas.{contains_more}
-use Rattle.node_core.proofs.WeightLemmas.{find_commanded_there, find_pushed_other, one_within, weight_unless, weight_with}
+use Rattle.node_core.proofs.WeightLemmas.{find_commanded_there, find_pushed_other, one_within, unless_least, weight_unless, weight_with}
 use Rattle.node_core.proofs.Moves.{find_commanded}
+use Rattle.node_core.proofs.RolesLemmas.{anew_next}
 
 -- ---- numbers of copies
 
@@ -194,10 +194,6 @@ lone_most (Some copy) = by copy.command
     by None = omega arith
     by (Some command) = omega arith
 
-unless_least : (done : Bool) (n : ℕ) → weight_unless done n ≤ n
-unless_least true n = omega arith
-unless_least false n = omega arith
-
 lones_few : (gateway : ℕ) (packets : List PacketState) → lones gateway packets ≤ opens packets
 unfolding opens
 lones_few gateway [] = omega arith
@@ -354,11 +350,6 @@ all_soon_moved peers move packets after kept one is = record {
         let next : next_number (peers_moved move peers) (place move) ≡ suc (next_number peers (place move)) = next_drawn (place move) _ peers (one_within one) in
         inl (subst (λ (g : ℕ). next_number (peers_moved move peers) g + lones g after ≤ number + 65) new.0
         (omega (arith, next, new.1, lones_few (place move) after, opens_moved one, is.few)))
-
-anew_next : (addresses : List Addr) (gateway : ℕ) → next_number (map peer_anew addresses) gateway ≡ 65536
-anew_next [] gateway = refl
-anew_next (address ∷ addresses) zero = refl
-anew_next (address ∷ addresses) (suc gateway) = anew_next addresses gateway
 
 none_open : opens [] ≤ 64
 unfolding opens

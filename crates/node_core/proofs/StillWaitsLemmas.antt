@@ -18,11 +18,11 @@ use Rattle.node_core.specs.Packets.{PacketState, chosen, copies_after, is_done, 
 use Rattle.node_core.specs.Peers.{next_number}
 use Rattle.node_core.specs.Sendings.{again, asking, command_by, command_of, command_unless, copy_to, due_by_copies, due_by_verdict, due_for, releasing, repeating, settling, settling_beside, settling_by, test_of}
 use Rattle.node_core.specs.Sent.{HasCopyAt, IsCommandOf}
-use Rattle.node_core.proofs.DueMoves.{AreApart, chosen_is}
+use Rattle.node_core.proofs.DueMoves.{AreApart, chosen_is, own_number}
 use Rattle.node_core.proofs.GrowingLemmas.{after_all_grows, extends_push, same_copy}
 use Rattle.node_core.proofs.ReleasedLemmas.{Chosen, find_none, find_passes, hearing_keeps}
 use Rattle.node_core.proofs.RestingLemmas.{each_map, each_push}
-use Rattle.node_core.proofs.SentLemmas.{Own, all_own, in_cons, in_found, in_none, own_number, packet_with}
+use Rattle.node_core.proofs.SentLemmas.{Own, all_own, in_cons, in_found, in_none, packet_with}
 use Rattle.node_core.proofs.WaitsLemmas.{Waits, any_found, due_sent, is_waiting, releasing_sent}
 
 -- ---- one packet stays so

@@ -1,5 +1,6 @@
 -- What a tick makes of the packets and of the numbers is a row of moves.
 use Rattle.std.proofs.Common.{◌≡◌, ℕ, ◌<◌, ◌≤◌, ◌==◌, ◌&&◌, ◌||◌, Bool, true, false, if◌then◌else◌, List, [], ◌∷◌, ◌++◌, length, map, Option, Some, None, refl, sym, ap, subst, ◌∙◌, arith}
+use Rattle.std.proofs.lemmas.Bool.{and_right}
 use Rattle.std.specs.List.{list_all, list_any}
 use Rattle.std.specs.Option.{option_map_or, option_or}
 use Rattle.std.proofs.lemmas.List.Folds.{list_all-append}
@@ -14,25 +15,22 @@ use Rattle.node_core.specs.Packets.{PacketState, commanded, copies_after, is_don
 use Rattle.node_core.specs.Peers.{all_drawn, next_number}
 use Rattle.node_core.specs.Sendings.{due_by_copies, due_for, due_for_all}
 use Rattle.node_core.specs.Sound.{planned}
-use Rattle.node_core.proofs.WeightLemmas.{Bounded, bounded_after, packet_weight, weight, weight_unless}
+use Rattle.node_core.proofs.WeightLemmas.{Bounded, bounded_after, one_within, packet_weight, weight, weight_unless}
 use Rattle.node_core.proofs.DueMoves.{Does, HasRoom, due_does, ends, idles, moves}
-use Rattle.node_core.proofs.KeptLemmas.{AllKept, IsKept, all_kept_moved, one_place, peers_go_on}
+use Rattle.node_core.proofs.KeptLemmas.{AllKept, IsKept, all_kept_moved, peers_go_on}
 use Rattle.node_core.proofs.Moves.{Copying, Commanding, Move, Moves, are_none, beyond, command_with, copies_moved, here, onward, peers_moved, still}
 use Rattle.node_core.proofs.PlanLemmas.{all_drawn_append}
+use Rattle.node_core.proofs.SentLemmas.{packet_with}
 
 -- ---- an open packet stays open
-
-not_both : (one two : Bool) → two ≡ false → (one && two) ≡ false
-not_both true two is = is
-not_both false two is = refl
 
 pub open_copied : (gateway number : ℕ) (copies : List PacketCopy) → is_done (copies ++ new_copy gateway number (are_none copies) ∷ []) ≡ false
 open_copied gateway number [] = refl
 open_copied gateway number (plain ∷ duplicates) =
     let copy : PacketCopy = new_copy gateway number false in
     let last : list_all is_settled (duplicates ++ copy ∷ []) ≡ false =
-    list_all-append is_settled duplicates (copy ∷ []) ∙ not_both (list_all is_settled duplicates) false refl in
-    not_both (is_resolved (plain ∷ (duplicates ++ copy ∷ []))) (list_all is_settled (duplicates ++ copy ∷ [])) last
+    list_all-append is_settled duplicates (copy ∷ []) ∙ and_right (list_all is_settled duplicates) false refl in
+    and_right (is_resolved (plain ∷ (duplicates ++ copy ∷ []))) (list_all is_settled (duplicates ++ copy ∷ [])) last
 
 module _ (gateway number : ℕ) (order : Order) where
   abbrev after_command : PacketCopy → PacketCopy
@@ -65,7 +63,7 @@ module _ (gateway number : ℕ) (order : Order) where
           (option_map_or (λ (c : Command). is_release c.order) (option_or command (Some (command_with order number))) false
           && option_map_or (λ (c : Command). c.is_answered) (option_or command (Some (command_with order number))) false)
           ≡ (option_map_or (λ (c : Command). is_release c.order) command false && option_map_or (λ (c : Command). c.is_answered) command false)
-      at None = not_both (is_release order) false refl
+      at None = and_right (is_release order) false refl
       at (Some command) = refl
 
       by : (is : Bool) → is_released (if is then with_command (command_with order number) copy else copy) ≡ is_released copy
@@ -101,9 +99,6 @@ open_moved (Copying gateway) peers copies open_yet = open_copied gateway (next_n
 open_moved (Commanding gateway order) peers copies open_yet = done_commanded gateway (next_number peers gateway) order copies ∙ open_yet
 
 -- ---- the moves of one packet, and of all
-
-abbrev packet_with : ℕ → List PacketCopy → PacketState
-packet_with number copies = record { number = number; copies = copies }
 
 own_after : (number : ℕ) (copies : List PacketCopy) (sending : Sending) → is_of number sending ≡ true →
     packet_after sending (packet_with number copies) ≡ packet_with number (copies_after sending copies)
@@ -147,7 +142,7 @@ all_kept_after (onward move one rest) kept = all_kept_after rest (all_kept_moved
 
 pub size_after : {peers after_peers : List Peer} {packets after : List PacketState} → Moves peers packets after_peers after → length after_peers ≡ length peers
 size_after still = refl
-size_after {peers} (onward move one rest) = size_after rest ∙ (peers_go_on move peers (one_place one)).size
+size_after {peers} (onward move one rest) = size_after rest ∙ (peers_go_on move peers (one_within one)).size
 
 module _ (favourite : ℕ) (up : Bool) where
   -- so many numbers are left

@@ -12,18 +12,17 @@ use Rattle.node_core.specs.declared.peer.Peer.{Peer}
 use Rattle.node_core.specs.Copies.{is_chosen, is_held, is_release}
 use Rattle.node_core.specs.Packets.{chosen}
 use Rattle.node_core.specs.Sendings.{asking, copy_to, due_by_copies, due_by_verdict, releasing, repeating, settling, settling_beside, test_of}
-use Rattle.node_core.proofs.DueMoves.{AreApart, chosen_is}
+use Rattle.node_core.proofs.DueMoves.{AreApart, chosen_is, own_number}
 use Rattle.node_core.proofs.ReleasedLemmas.{Chosen, IsFirstChosen, NoneChosen, OneChosen, find_none, find_passes}
 use Rattle.node_core.proofs.RestingLemmas.{contains_more, each_weaker}
-use Rattle.node_core.proofs.SentLemmas.{CancelBeside, HasOrder, Sents, all_settle, command_sent, each_in, in_found, in_head, in_last, more, none, others_settle, own_number}
+use Rattle.node_core.proofs.SentLemmas.{CancelBeside, HasOrder, Sents, all_settle, command_sent, each_in, in_found, in_head, in_last, more, none, others_settle}
 
 -- nothing was sent for any duplicate, or a release for one, for as long as the first copy waits for it: it isn't known to be
 -- filed
 abbrev pub is_waiting : Verdict → Bool
-is_waiting Unknown = true
 is_waiting Filed = false
-is_waiting Sealed = true
 is_waiting Held = false
+is_waiting _ = true
 
 abbrev pub Waits : List PacketCopy → Type 0
 Waits [] = Unit {0}

@@ -101,7 +101,7 @@ pub weight_moved_other : (move : Move) (peers : List Peer) (copies : List Packet
 weight_moved_other (Copying there) peers copies gateway apart = ap weight_by (find_pushed_other gateway copies (new_copy there (next_number peers there) (are_none copies)) apart)
 weight_moved_other (Commanding there order) peers copies gateway apart = ap weight_by (find_commanded there gateway (command_with order (next_number peers there)) copies apart)
 
-unless_least : (done : Bool) (n : ℕ) → weight_unless done n ≤ n
+pub unless_least : (done : Bool) (n : ℕ) → weight_unless done n ≤ n
 unless_least true n = omega arith
 unless_least false n = omega arith
 

@@ -10,7 +10,7 @@ use Rattle.node_core.specs.declared.peer.Peer.{Peer}
 use Rattle.node_core.specs.declared.port.Port.{Port}
 use Rattle.node_core.specs.declared.sending.Sending.{Sending}
 use Rattle.node_core.specs.Copies.{copy_hearing}
-use Rattle.node_core.specs.Log.{Saying, Path, Redirects, Responds, Other, packets_hearing}
+use Rattle.node_core.specs.Log.{Saying, Responds, packets_hearing}
 use Rattle.node_core.specs.Moving.{favourite_by, moved_at_tick}
 use Rattle.node_core.specs.Packets.{PacketState, packet_after_all, packet_hearing, while_open}
 use Rattle.node_core.specs.Sendings.{probes_from}
@@ -38,10 +38,8 @@ hearing_more port gateway cause numbers = map_over_more (copy_hearing port gatew
 -- what is heard makes no packet and forgets none
 pub heard_count : (port : Port) (gateway : ℕ) (saying : Saying) (packets : List PacketState) →
     length (packets_hearing port gateway saying packets) ≡ length packets
-heard_count port gateway (Path event) packets = refl
-heard_count port gateway (Redirects to) packets = refl
 heard_count port gateway (Responds cause numbers) packets = length-map packets (while_open (packet_hearing port gateway cause numbers))
-heard_count port gateway Other packets = refl
+heard_count port gateway _ packets = refl
 
 -- ---- one more
 

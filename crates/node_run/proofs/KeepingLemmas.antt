@@ -1,7 +1,6 @@
 -- A node that runs keeps its packets under their numbers.
-use Rattle.std.proofs.Common.{◌≡◌, ◌∙◌, ℕ, zero, suc, ◌+◌, ◌-◌, ◌<◌, ◌≤◌, ◌^◌, Bool, true, false, if◌then◌else◌, List, [], ◌∷◌, ◌++◌, Option, None, Some, refl, sym, ap, subst, arith}
+use Rattle.std.proofs.Common.{◌≡◌, ◌∙◌, ℕ, zero, suc, ◌+◌, ◌-◌, ◌<◌, ◌^◌, Bool, true, false, if◌then◌else◌, List, [], ◌∷◌, ◌++◌, None, Some, refl, sym, ap, arith}
 use Rattle.std.specs.List.{range_with_len}
-use Rattle.net_link.specs.Datagrams.{Datagram}
 use Rattle.node_core.specs.Log.{Began, NodeSetup}
 use Rattle.node_core.specs.Packets.{PacketState}
 use Rattle.node_core.specs.Value.{NodeValue, node_of}

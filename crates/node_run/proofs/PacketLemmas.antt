@@ -1,5 +1,5 @@
 -- The packets that a node sends of itself fit a request, record by record.
-use Rattle.std.proofs.Common.{◌≡◌, ℕ, zero, suc, ◌+◌, ◌<◌, List, None, map, refl, sym, ap, arith}
+use Rattle.std.proofs.Common.{◌≡◌, ℕ, suc, ◌+◌, ◌<◌, List, None, map, refl, sym, ap, arith}
 use Rattle.std.proofs.lemmas.List.FromFn.{map-range_with_len_more}
 use Rattle.std.specs.List.{range_with_len}
 use Rattle.ber_frame.specs.Checked.{checked, value_at}
@@ -20,12 +20,8 @@ packet_upto packet n =
 -- up to the fifth, each record is added
 pub adds_next : (packet n : ℕ) → n < 5 → addition_fault (packet_upto packet n) (record_octets packet n) ≡ None
 unfolding checked value_at head_at identifier_at length_at
-adds_next packet zero few = refl
-adds_next packet (suc zero) few = refl
-adds_next packet (suc (suc zero)) few = refl
-adds_next packet (suc (suc (suc zero))) few = refl
-adds_next packet (suc (suc (suc (suc zero)))) few = refl
 adds_next packet (suc (suc (suc (suc (suc n))))) few = absurd (omega (arith, few))
+adds_next packet _ few = refl
 
 pub with_next_record : (packet n : ℕ)
     → with_record (packet_upto packet n) (record_octets packet n) ≡ packet_upto packet (n + 1)

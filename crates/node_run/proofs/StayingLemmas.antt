@@ -2,7 +2,7 @@
 use Rattle.std.proofs.Common.{◌≡◌, ℕ, Bool, true, false, if◌then◌else◌, List, [], ◌∷◌, ◌++◌, map, Option, None, Some, refl, ◌∙◌}
 use Rattle.gw_base.specs.declared.address.Addr.{Addr}
 use Rattle.node_core.specs.Hearing.{Dropped, Says, Taken, entries_from, heard_entries, taken, taken_entries}
-use Rattle.node_core.specs.Log.{Heard, Other, Path, Redirects, Responds, Saying, Ticked, packets_hearing}
+use Rattle.node_core.specs.Log.{Heard, Responds, Saying, Ticked, packets_hearing}
 use Rattle.node_core.specs.Moving.{appointing, moved_at_tick, moved_by}
 use Rattle.node_core.specs.Packets.{PacketState, copies_after, is_done, is_of, packet_after, packet_after_all, packet_hearing, while_open}
 use Rattle.node_core.specs.Peers.{place_of}
@@ -57,12 +57,10 @@ after_all (sending ∷ sendings) p = after_all sendings (packet_after sending p)
 
 hearing_numbered : (port : Port) (gateway : ℕ) (saying : Saying) (packets : List PacketState)
     → numbers_of (packets_hearing port gateway saying packets) ≡ numbers_of packets
-hearing_numbered port gateway (Path event) packets = refl
-hearing_numbered port gateway (Redirects to) packets = refl
 hearing_numbered port gateway (Responds cause numbers) packets =
     numbered_as (while_open (packet_hearing port gateway cause numbers))
     (while_numbered (packet_hearing port gateway cause numbers) (λ p. refl)) packets
-hearing_numbered port gateway Other packets = refl
+hearing_numbered port gateway _ packets = refl
 
 -- What befalls it.
 

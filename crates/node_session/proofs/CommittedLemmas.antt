@@ -11,7 +11,7 @@ use Rattle.gateway_book.specs.Read.{IsUnchanged}
 use Rattle.gateway_book.specs.Caller.{IsCommitTold}
 use Rattle.gateway_book.specs.Calls.{commit_left, length_at, settled_by, settled_of}
 use Rattle.gateway_book.specs.Turning.{facts_of, tells_lists}
-use Rattle.gateway_book.specs.Value.{BookValue, Fortune, Gone, Refused, Reopening, Whole, after_commit, committed, faulted, history_of, reopened, tried, tried_with}
+use Rattle.gateway_book.specs.Value.{BookValue, Fortune, Refused, Reopening, after_commit, committed, faulted, history_of, reopened, tried, tried_with}
 use Rattle.gateway_book.specs.declared.book.Book.{Book}
 use Rattle.gateway_book.specs.declared.outcome.Broken.{Broken}
 use Rattle.gateway_book.specs.declared.outcome.Settled.{Settled}
@@ -27,9 +27,8 @@ rests_if true v w first second = first refl
 rests_if false v w first second = second refl
 
 reopened_rests : (v : BookValue) (r : Reopening) → Rests (reopened v r)
-reopened_rests v Whole runs = refl
-reopened_rests v Gone runs = refl
 reopened_rests v Refused runs = absurd (true≢false runs)
+reopened_rests v _ runs = refl
 
 tried_rests : (f : Fortune) (v : BookValue) → Rests (tried f v)
 tried_rests f v = rests_if f.fails (faulted v) (committed v) (λ fails runs. absurd (true≢false runs)) (λ fails runs. refl)

@@ -143,14 +143,12 @@ left_behind (suc n) [] less = absurd (omega (arith, less))
 left_behind (suc n) (x ∷ xs) less = let more = left_behind n xs (omega (arith, less)) in omega (arith, more)
 
 taken_part : (n : ℕ) (xs : List Item) → length (take n xs) ≤ length xs
-taken_part zero xs = omega arith
-taken_part (suc n) [] = omega arith
 taken_part (suc n) (x ∷ xs) = let less = taken_part n xs in omega (arith, less)
+taken_part _ _ = omega arith
 
 dropped_length : (n : ℕ) (xs : List Item) → length xs ≤ n + length (drop n xs)
-dropped_length zero xs = omega arith
-dropped_length (suc n) [] = omega arith
 dropped_length (suc n) (x ∷ xs) = let less = dropped_length n xs in omega (arith, less)
+dropped_length _ _ = omega arith
 
 -- a writer that took the items to their end has taken all
 pub all_given : {F : Type 0} {tells : Ghosts F} (h : List HistoryEntry) (new : Writer F tells) (from most : ℕ) (items : List Item)
@@ -171,9 +169,8 @@ all_given h new from most items are few ready count w =
     }
 
 taken_within : (n : ℕ) (xs : List Item) → length (take n xs) ≤ n
-taken_within zero xs = omega arith
-taken_within (suc n) [] = omega arith
 taken_within (suc n) (x ∷ xs) = let less = taken_within n xs in omega (arith, less)
+taken_within _ _ = omega arith
 
 -- a writer was given so many items at most, and took them
 pub given_some : {F : Type 0} {tells : Ghosts F} (told : Bool) (h : List HistoryEntry) (old new : Writer F tells) (most : ℕ) (items : List Item)

@@ -115,7 +115,6 @@ module _ (inboxes : List Inbox) (old between new : Dispatcher) (link_old link_ne
     kept = comes.kept ∙ hands;
     full = subst (λ (hs : List Hand). WasFull inboxes (session_for comes.job (length inboxes)) hs) hands comes.full;
   }
-  told_of dispatched.Quiet comes same = absurd comes
-  told_of dispatched.Link comes same = absurd comes
   told_of dispatched.Clock comes same = ((record { peer = from; octets = heard }, link), comes.0, still_idle comes.1)
   told_of dispatched.NoMemory comes same = ((record { peer = from; octets = heard }, link), still_idle comes)
+  told_of _ comes same = absurd comes

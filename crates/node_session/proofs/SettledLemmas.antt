@@ -12,7 +12,7 @@ use Rattle.gw_base.specs.declared.history.HistoryEntry.{HistoryEntry}
 use Rattle.gateway_book.specs.Answered.{entry_by, with_act}
 use Rattle.gateway_book.specs.Book.{IsLeft, fortune_of, value_of}
 use Rattle.gateway_book.specs.Calls.{Left, closed, commit_left, marked_at, marked_if_ready}
-use Rattle.gateway_book.specs.Marks.{Makes, Mark, NoRoom, NotDue, close_mark}
+use Rattle.gateway_book.specs.Marks.{Mark, NotDue, close_mark}
 use Rattle.gateway_book.specs.Turning.{IsTurn, act_in, act_marked, added_to, drops_of, facts_of, is_gone, tells_lists}
 use Rattle.gateway_book.specs.Value.{BookValue, history_of, readied, torn_of}
 use Rattle.gateway_book.specs.declared.book.Book.{Book}
@@ -34,8 +34,7 @@ joined_open v runs = ap (λ (h : List HistoryEntry). history_of v ++ h) (none_to
 
 marked_broken : (ready : BookValue) (now : ℕ) (who : Caller) (mark : Mark) → (marked_at ready now who mark).value.is_broken ≡ ready.is_broken
 marked_broken ready now who NotDue = refl
-marked_broken ready now who NoRoom = refl
-marked_broken ready now who (Makes act) = refl
+marked_broken ready now who _ = refl
 
 abbrev left_if : Bool → BookValue → ℕ → Caller → Mark → Left Marked
 left_if b ready now who mark = if b then record { value = ready; answer = marked.Device } else marked_at ready now who mark

@@ -266,14 +266,13 @@ module _ {A : Type 0} (tells : Ghosts A) (session : ℕ) where
     )
     gone_more [] (o ∷ outcomes) results taken now after old sent new job outcome result goes more = absurd (cc goes.0)
     gone_more [] [] (r ∷ results) taken now after old sent new job outcome result goes more = absurd (cc goes.1)
-    gone_more (j ∷ jobs) [] results taken now after old sent new job outcome result goes more = absurd goes
-    gone_more (j ∷ jobs) (o ∷ outcomes) [] taken now after old sent new job outcome result goes more = absurd goes
     gone_more (j ∷ jobs) (o ∷ outcomes) (r ∷ results) taken now after old sent new job outcome result goes more = (
       goes.0,
       goes.1,
       goes.2,
       gone_more jobs outcomes results goes.0 now after goes.1 sent new job outcome result goes.3 more,
     )
+    gone_more (j ∷ jobs) _ _ taken now after old sent new job outcome result goes more = absurd goes
 
     pub gone_next : (jobs : List Job) (outcomes : List Outcome) (i : ℕ) (job : Job) (outcome : Outcome) (results : List Served)
         (taken now after : Knowledge) (old sent new : LinkState) (result : Served)
@@ -317,8 +316,6 @@ module _ {A : Type 0} (tells : Ghosts A) (session : ℕ) where
       one_each = omega arith;
       adds_none = All-nil (λ (t : KeptTurn). t.added ≡ []);
     }
-    laters_of (job ∷ jobs) [] results taken after old new goes = absurd goes
-    laters_of (job ∷ jobs) (o ∷ outcomes) [] taken after old new goes = absurd goes
     laters_of (job ∷ jobs) (o ∷ outcomes) (r ∷ results) taken after old new goes =
         let one : Later taken goes.0 = later_on tells may session job old goes.1 r taken goes.0 o goes.2 in
         let rest : Laters jobs goes.0 after = laters_of jobs outcomes results goes.0 after goes.1 new goes.3 in
@@ -330,6 +327,7 @@ module _ {A : Type 0} (tells : Ghosts A) (session : ℕ) where
           one_each = let a = one.one_more in let b = rest.one_each in let both = length-append one.later rest.later in omega (arith, a, b, both);
           adds_none = All-append (λ (t : KeptTurn). t.added ≡ []) one.later rest.later one.adds_none rest.adds_none;
         }
+    laters_of (job ∷ jobs) _ _ taken after old new goes = absurd goes
 
     pub number_on : (jobs : List Job) (outcomes : List Outcome) (results : List Served) (taken after : Knowledge) (old new : LinkState)
         → GoOn tells may session jobs outcomes results taken after old new → after.number ≡ taken.number
@@ -349,8 +347,6 @@ module _ {A : Type 0} (tells : Ghosts A) (session : ℕ) where
         → AreTaken tells session jobs outcomes before taken → GoOn tells may session jobs outcomes results now after old new
         → EachTells told session jobs results before now after old new
     each_tells [] outcomes results before taken now after old new more is takes goes = (goes.1, goes.2, goes.3)
-    each_tells (job ∷ jobs) [] results before taken now after old new more is takes goes = absurd goes
-    each_tells (job ∷ jobs) (o ∷ outcomes) [] before taken now after old new more is takes goes = absurd goes
     each_tells (job ∷ jobs) (o ∷ outcomes) (r ∷ results) before taken now after old new more is takes goes =
         let rest : Firsts jobs takes.0 taken = firsts_of jobs outcomes takes.0 taken takes.2 in
         let between : List KeptTurn = rest.firsts ++ more in
@@ -372,16 +368,16 @@ module _ {A : Type 0} (tells : Ghosts A) (session : ℕ) where
           each_tells jobs outcomes results takes.0 taken goes.0 after goes.1 new (more ++ one.later)
               (one.turns ∙ ap (λ (ts : List KeptTurn). ts ++ one.later) is ∙ append_assoc taken.turns more one.later) takes.2 goes.3,
         )
+    each_tells (job ∷ jobs) _ _ before taken now after old new more is takes goes = absurd goes
 
     each_may_have : (jobs : List Job) (outcomes : List Outcome) (results : List Served) (taken after : Knowledge) (old new : LinkState)
         → GoOn tells may session jobs outcomes results taken after old new → EachMayHave may session jobs results
     each_may_have [] outcomes results taken after old new goes = goes.1
-    each_may_have (job ∷ jobs) [] results taken after old new goes = absurd goes
-    each_may_have (job ∷ jobs) (o ∷ outcomes) [] taken after old new goes = absurd goes
     each_may_have (job ∷ jobs) (o ∷ outcomes) (r ∷ results) taken after old new goes = (
       may_on tells may session job old goes.1 r taken goes.0 o goes.2,
       each_may_have jobs outcomes results goes.0 after goes.1 new goes.3,
     )
+    each_may_have (job ∷ jobs) _ _ taken after old new goes = absurd goes
 
     module _ (jobs : List Job) (old new : LinkState) (results : List Served) (before after : Knowledge)
         (is : AreServed tells may session jobs old new results before after) where

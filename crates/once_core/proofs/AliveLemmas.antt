@@ -7,10 +7,10 @@ use Rattle.std.proofs.lemmas.List.Elements.{Contains-append_cases, Contains-push
 use Rattle.gtpp_message.specs.Packet.{PacketForm}
 use Rattle.path_mgmt.specs.NodePath.{PathsOfNode, is_alive, node_after, node_anew}
 use Rattle.path_mgmt.specs.declared.event.PathEvent.{PathEvent}
-use Rattle.path_mgmt.specs.declared.event.PathEvent.TheVariants.{EchoAsked, EchoTold, AliveAsked, AliveTold}
+use Rattle.path_mgmt.specs.declared.event.PathEvent.TheVariants.{AliveTold}
 use Rattle.node_core.specs.Copies.{copy_hearing, copy_hearing_own, is_answered, is_held, new_copy}
 use Rattle.node_core.specs.Hearing.{Dropped, Says, Taken, entries_from, taken, taken_entries}
-use Rattle.node_core.specs.Log.{LogEntry, NodeSetup, Began, Halted, Submitted, Appointed, Ticked, Heard, Saying, Path, Redirects, Responds, Other, packets_of, paths_hearing, paths_of, runs, submitted}
+use Rattle.node_core.specs.Log.{LogEntry, NodeSetup, Began, Halted, Submitted, Appointed, Ticked, Heard, Saying, Path, Responds, packets_of, paths_hearing, paths_of, runs, submitted}
 use Rattle.node_core.specs.Moving.{appointing, moved_at_tick, moved_by}
 use Rattle.node_core.specs.Packets.{PacketState, chosen, commanded, copies_after, is_done, is_of, packet_after, packet_after_all, packet_hearing, while_open, with_command}
 use Rattle.node_core.specs.Peers.{all_drawn, next_number, place_of}
@@ -25,7 +25,7 @@ use Rattle.node_core.specs.declared.copy.Order.{Order}
 use Rattle.node_core.specs.declared.copy.Order.TheVariants.{Release, Cancel}
 use Rattle.node_core.specs.declared.copy.PacketCopy.{PacketCopy}
 use Rattle.node_core.specs.declared.copy.Verdict.{Verdict}
-use Rattle.node_core.specs.declared.copy.Verdict.TheVariants.{Unknown, Filed, Sealed, Held}
+use Rattle.node_core.specs.declared.copy.Verdict.TheVariants.{Unknown, Sealed, Held}
 use Rattle.node_core.specs.declared.fault.SubmitFault.{SubmitFault}
 use Rattle.node_core.specs.declared.peer.Peer.{Peer}
 use Rattle.node_core.specs.declared.port.Port.{Port}
@@ -39,9 +39,8 @@ use Rattle.once_core.proofs.WaitingLemmas.{of_map}
 
 -- to a node that was made anew none is
 none_of_all : (count place : ℕ) → slice_index_or (replicate count false) place false ≡ false
-none_of_all zero place = refl
-none_of_all (suc count) zero = refl
 none_of_all (suc count) (suc place) = none_of_all count place
+none_of_all _ _ = refl
 
 pub none_alive : (counter gateway : ℕ) → is_alive (node_anew counter) gateway ≡ false
 none_alive counter gateway = none_of_all 256 gateway
@@ -66,24 +65,18 @@ told_cases paths from number gateway is = set_cases paths.alive from gateway is
 
 event_keeps : (paths : PathsOfNode) (from : ℕ) (event : PathEvent) (gateway : ℕ) → is_alive paths gateway ≡ true → is_alive (node_after paths from event) gateway ≡ true
 event_keeps paths from (AliveTold number) gateway is = set_keeps paths.alive from gateway is
-event_keeps paths from (EchoAsked number) gateway is = is
-event_keeps paths from (EchoTold number told) gateway is = is
-event_keeps paths from (AliveAsked number) gateway is = is
+event_keeps paths from _ gateway is = is
 
 hearing_keeps : (paths : PathsOfNode) (from : ℕ) (saying : Saying) (gateway : ℕ) → is_alive paths gateway ≡ true → is_alive (paths_hearing from saying paths) gateway ≡ true
 hearing_keeps paths from (Path event) gateway is = event_keeps paths from event gateway is
-hearing_keeps paths from (Redirects to) gateway is = is
-hearing_keeps paths from (Responds cause numbers) gateway is = is
-hearing_keeps paths from Other gateway is = is
+hearing_keeps paths from _ gateway is = is
 
 -- ---- a copy is first sent to a gateway that is alive
 
 module _ (paths : PathsOfNode) where
   abbrev IsUp : Sending → Type 0
-  IsUp (send.Probe gateway number) = Unit {0}
   IsUp (send.Data packet gateway number is_plain is_new) = is_new ≡ true → is_alive paths gateway ≡ true
-  IsUp (send.Test packet gateway number) = Unit {0}
-  IsUp (send.Command packet gateway named number order is_new) = Unit {0}
+  IsUp _ = Unit {0}
 
   abbrev AllUp : List Sending → Type 0
   AllUp sendings = (s : Sending) → Contains sendings s → IsUp s
@@ -118,9 +111,8 @@ module _ (paths : PathsOfNode) where
 
     settling_up : (verdict : Verdict) (peers : List Peer) (number : ℕ) (copy : PacketCopy) → AllUp (settling_by verdict peers number copy)
     settling_up Unknown peers number copy = one_up (test_of number copy) tt
-    settling_up Filed peers number copy = none_up
-    settling_up Sealed peers number copy = none_up
     settling_up Held peers number copy = command_up peers number Cancel copy
+    settling_up _ peers number copy = none_up
 
     beside_up : (choice : PacketCopy) (peers : List Peer) (number : ℕ) (copy : PacketCopy) → AllUp (settling_beside choice peers number copy)
     beside_up choice peers number copy = by (copy.gateway == choice.gateway)
@@ -153,9 +145,8 @@ module _ (paths : PathsOfNode) where
     verdict_up : (verdict : Verdict) (peers : List Peer) (number : ℕ) (plain : PacketCopy) (duplicates : List PacketCopy)
         → AllUp (due_by_verdict verdict favourite up peers number plain duplicates)
     verdict_up Unknown peers number plain duplicates = asking_up peers number plain duplicates
-    verdict_up Filed peers number plain duplicates = all_settling_up peers number duplicates
     verdict_up Sealed peers number plain duplicates = releasing_up (chosen duplicates) peers number duplicates
-    verdict_up Held peers number plain duplicates = all_settling_up peers number duplicates
+    verdict_up _ peers number plain duplicates = all_settling_up peers number duplicates
 
     copies_up : (peers : List Peer) (number : ℕ) (copies : List PacketCopy) → AllUp (due_by_copies favourite up peers number copies)
     copies_up peers number [] = copy_up peers number true
@@ -237,15 +228,12 @@ commanded_stays gateway command copy = by (copy.gateway == gateway)
     by false = refl
 
 sending_alive : (paths : PathsOfNode) (s : Sending) → IsUp paths s → (copies : List PacketCopy) → CopiesAlive paths copies → CopiesAlive paths (copies_after s copies)
-sending_alive paths (send.Probe gateway number) up copies all = all
 sending_alive paths (send.Data packet gateway number is_plain true) up copies all = λ c is.
     ⊎_elim (λ old. all c old) (λ same. subst (λ (d : PacketCopy). is_alive paths d.gateway ≡ true) same (up refl)) (Contains-push_cases copies (new_copy gateway number is_plain) c is)
-sending_alive paths (send.Data packet gateway number is_plain false) up copies all = all
-sending_alive paths (send.Test packet gateway number) up copies all = all
 sending_alive paths (send.Command packet gateway named number order true) up copies all =
     copies_moved paths paths (commanded gateway (record { order = order; number = number; is_answered = false })) (commanded_stays gateway (record { order = order; number = number; is_answered = false }))
     (λ there is. is) copies all
-sending_alive paths (send.Command packet gateway named number order false) up copies all = all
+sending_alive paths _ up copies all = all
 
 sent_alive : (paths : PathsOfNode) (s : Sending) → IsUp paths s → (p : PacketState) → CopiesAlive paths p.copies → CopiesAlive paths (packet_after s p).copies
 sent_alive paths s up p all = by (is_of p.number s)
@@ -288,13 +276,12 @@ module _ (first : ℕ) where
 
   heard_alive : (port : Port) (gateway : ℕ) (saying : Saying) (log : List LogEntry) → AliveIn log → AliveIn (Heard port gateway saying ∷ log)
   heard_alive port gateway (Path event) log all = λ p is c there. event_keeps (paths_of first log) gateway event c.gateway (all p is c there)
-  heard_alive port gateway (Redirects to) log all = all
   heard_alive port gateway (Responds cause numbers) log all =
       map_alive (paths_of first log) (paths_of first log) (while_open (packet_hearing port gateway cause numbers))
       (open_alive (paths_of first log) (paths_of first log) (packet_hearing port gateway cause numbers) (λ copies is. is)
       (λ p is. copies_moved (paths_of first log) (paths_of first log) (copy_hearing port gateway cause numbers) (heard_stays port gateway cause numbers) (λ there alive. alive) p.copies is))
       (packets_of log) all
-  heard_alive port gateway Other log all = all
+  heard_alive port gateway _ log all = all
 
   appointed_alive : (o : Option ℕ) (log : List LogEntry) → AliveIn log → AliveIn (logged (appointing o) log)
   appointed_alive None log all = all
@@ -339,11 +326,9 @@ module _ (setup : NodeSetup) where
     running_alive call.Start = all
 
     halted_alive : (next : NodeCall) → Alive (logged (entries_halted next) log)
-    halted_alive (call.Submit form) = all
-    halted_alive call.Tick = all
-    halted_alive (call.Hear port from octets) = all
     halted_alive call.Halt = none_alive_in setup.counter (paths_of setup.counter (Halted ∷ log))
     halted_alive call.Start = none_alive_in setup.counter (paths_of setup.counter (Began ∷ log))
+    halted_alive _ = all
 
     called_alive : (next : NodeCall) → Alive (logged (call_entries node next) log)
     called_alive next = by (runs log)

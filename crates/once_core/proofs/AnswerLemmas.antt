@@ -158,21 +158,15 @@ module _ (letters : List Letter) (h : List HistoryEntry) (letter : Letter) (rise
         then_is e named Released (names_one named) Released refl (state_given_now h e letter.node named rise (names_one named)))
         (λ fulfilled. absurd (false≢true fulfilled))
     release_table named Released is says = silent (Orders order.Release named) number DUPLICATE_ALREADY_FULFILLED (λ telling. known_is named Released is refl) (λ fulfilled. now_is named Released is)
-    release_table named Fresh is says = silent (Orders order.Release named) number NUMBERS_INCORRECT (λ telling. absurd (false≢true telling)) (λ fulfilled. absurd (false≢true fulfilled))
-    release_table named Filed is says = silent (Orders order.Release named) number NUMBERS_INCORRECT (λ telling. absurd (false≢true telling)) (λ fulfilled. absurd (false≢true fulfilled))
-    release_table named Sealed is says = silent (Orders order.Release named) number NUMBERS_INCORRECT (λ telling. absurd (false≢true telling)) (λ fulfilled. absurd (false≢true fulfilled))
-    release_table named Cancelled is says = silent (Orders order.Release named) number NUMBERS_INCORRECT (λ telling. absurd (false≢true telling)) (λ fulfilled. absurd (false≢true fulfilled))
+    release_table named _ is says = silent (Orders order.Release named) number NUMBERS_INCORRECT (λ telling. absurd (false≢true telling)) (λ fulfilled. absurd (false≢true fulfilled))
 
     cancel_table : (named : ℕ) (s : KeyState) → present_state letter.node named h ≡ s
         → IsSound letters h letter (Orders order.Cancel named)
         (tabled may number (verdict_cause (verdict_of false (s ∷ []))) (changes (verdict_of false (s ∷ [])) false node (one_held s named)))
     cancel_table named Held is =
         recorded may (Orders order.Cancel named) number (act.Cancel node (named ∷ [])) (record { number = named; alone = refl; held = is }) (names_one named) (λ now who. tt) tt
-    cancel_table named Released is = silent (Orders order.Cancel named) number NUMBERS_INCORRECT (λ telling. absurd (false≢true telling)) tt
-    cancel_table named Fresh is = silent (Orders order.Cancel named) number NUMBERS_INCORRECT (λ telling. absurd (false≢true telling)) tt
-    cancel_table named Filed is = silent (Orders order.Cancel named) number NUMBERS_INCORRECT (λ telling. absurd (false≢true telling)) tt
-    cancel_table named Sealed is = silent (Orders order.Cancel named) number NUMBERS_INCORRECT (λ telling. absurd (false≢true telling)) tt
     cancel_table named Cancelled is = silent (Orders order.Cancel named) number DUPLICATE_ALREADY_FULFILLED (λ telling. known_is named Cancelled is refl) tt
+    cancel_table named _ is = silent (Orders order.Cancel named) number NUMBERS_INCORRECT (λ telling. absurd (false≢true telling)) tt
 
 -- the answer to a timely request
 pub answer_is_sound : (letters : List Letter) (h : List HistoryEntry) (letter : Letter) (request : Request) (may : HistoryAct → Bool) → StartsRise h

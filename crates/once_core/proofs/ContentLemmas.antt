@@ -114,13 +114,7 @@ module _ (letters : List Letter) (gateway : ℕ) (key : PacketKey) where
       }
   by_act h moment who (act.Release n xs) rise rests so_far filing kept same =
       by_release h moment who n xs rests.names.number rise rests.names.alone rests.names.held so_far filing kept same
-  by_act h moment who (act.Hold n x packet) rise rests so_far filing kept same = absurd (in_none filing kept)
-  by_act h moment who (act.Seal n x) rise rests so_far filing kept same = absurd (in_none filing kept)
-  by_act h moment who (act.Cancel n xs) rise rests so_far filing kept same = absurd (in_none filing kept)
-  by_act h moment who act.Start rise rests so_far filing kept same = absurd (in_none filing kept)
-  by_act h moment who (act.Path n port counter) rise rests so_far filing kept same = absurd (in_none filing kept)
-  by_act h moment who act.Tick rise rests so_far filing kept same = absurd (in_none filing kept)
-  by_act h moment who act.Close rise rests so_far filing kept same = absurd (in_none filing kept)
+  by_act h moment who _ rise rests so_far filing kept same = absurd (in_none filing kept)
 
   pub brought : (h : List HistoryEntry) → Rests letters gateway h → Brings h (filed h)
   brought =

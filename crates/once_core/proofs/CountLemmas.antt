@@ -15,7 +15,7 @@ use Rattle.gw_base.specs.declared.history.HistoryAct.TheVariants as act
 use Rattle.gw_base.specs.declared.history.HistoryEntry.{HistoryEntry}
 use Rattle.gw_base.specs.declared.history.PacketKey.{PacketKey}
 use Rattle.gw_base.specs.declared.key_state.KeyState.{KeyState}
-use Rattle.gw_base.specs.declared.key_state.KeyState.TheVariants.{Fresh, Filed, Sealed, Held, Released, Cancelled}
+use Rattle.gw_base.specs.declared.key_state.KeyState.TheVariants.{Fresh, Filed, Held, Released}
 use Rattle.node_core.specs.declared.copy.Order.TheVariants as order
 use Rattle.gateway_book.specs.Filed.{filed, filed_by, filed_by_act, filed_under, held_packet, packet_of_hold, present_key, released_by, released_records}
 use Rattle.gateway_book.specs.FiledLaws.{along-append}
@@ -112,14 +112,12 @@ module _ (letters : List Letter) (gateway : ℕ) (key : PacketKey) where
 
     -- what was filed under the key, and the requests for it, by the key's state
     abbrev pub Counted : List HistoryEntry → KeyState → Type 0
-    Counted h Fresh = times h ≡ 0
     Counted h Filed = (octets : List ℕ) × (times h ≡ within index octets) × IsBacked h key.number (Sends true octets)
-    Counted h Sealed = times h ≡ 0
     Counted h Held = (octets : List ℕ) × (times h ≡ 0) × (held_at h ≡ Some octets) × IsBacked h key.number (Sends false octets)
     Counted h Released =
         (octets : List ℕ) × (times h ≡ within index octets) × IsBacked h key.number (Sends false octets)
         × (own : ℕ) × IsBacked h own (Orders order.Release key.number)
-    Counted h Cancelled = times h ≡ 0
+    Counted h _ = times h ≡ 0
 
     grown : (h : List HistoryEntry) (e : HistoryEntry) → times (h ++ e ∷ []) ≡ times h + times_filed key index (filed_by h e)
     grown h e =
@@ -129,13 +127,11 @@ module _ (letters : List Letter) (gateway : ℕ) (key : PacketKey) where
 
     -- an entry that doesn't name the key and files nothing under it changes nothing
     kept : (h : List HistoryEntry) (e : HistoryEntry) (s : KeyState) → times (h ++ e ∷ []) ≡ times h → held_at (h ++ e ∷ []) ≡ held_at h → Counted h s → Counted (h ++ e ∷ []) s
-    kept h e Fresh same held is = same ∙ is
     kept h e Filed same held is = (is.0, same ∙ is.1, backed_stays h (e ∷ []) key.number (Sends true is.0) is.2)
-    kept h e Sealed same held is = same ∙ is
     kept h e Held same held is = (is.0, same ∙ is.1, held ∙ is.2, backed_stays h (e ∷ []) key.number (Sends false is.0) is.3)
     kept h e Released same held is =
         (is.0, same ∙ is.1, backed_stays h (e ∷ []) key.number (Sends false is.0) is.2, is.3, backed_stays h (e ∷ []) is.3 (Orders order.Release key.number) is.4)
-    kept h e Cancelled same held is = same ∙ is
+    kept h e _ same held is = same ∙ is
 
     -- ---- one entry more
 

@@ -1,5 +1,5 @@
 -- What a node knows at the end of a start follows what it did in it.
-use Rattle.std.proofs.Common.{◌≡◌, ⊎_elim, ℕ, ◌+◌, ◌==◌, ◌||◌, Bool, true, false, if◌then◌else◌, List, [], ◌∷◌, ◌++◌, map, Option, Some, None, IfSome, All, Contains, get_or, refl, sym, ap, subst, ◌∙◌, append_assoc}
+use Rattle.std.proofs.Common.{◌≡◌, ⊎_elim, ℕ, ◌==◌, ◌||◌, Bool, true, false, if◌then◌else◌, List, [], ◌∷◌, ◌++◌, map, Option, Some, None, IfSome, All, Contains, get_or, refl, sym, ap, subst, ◌∙◌, append_assoc}
 use Rattle.std.proofs.lemmas.Bool.{eq-eqb, eqb-true, false≢true}
 use Rattle.std.proofs.lemmas.List.Elements.{Contains-append_left, Contains-append_right}
 use Rattle.std.specs.List.{flat_map}
@@ -51,9 +51,6 @@ in_told node start port gateway cause number (n ∷ numbers) named = by (n == nu
 heard_since : (node : ℕ) (values : ℕ → List ℕ) (entries : List LogEntry) (port : Port) (gateway cause number : ℕ) (numbers : List ℕ)
     → Contains (since_start entries) (log.Heard port gateway (Responds cause numbers)) → names numbers number ≡ true
     → Contains (heard_in (starts_in entries) (deeds_of node values entries)) (log.Heard port gateway (Responds cause (number ∷ [])))
-heard_since node values [] port gateway cause number numbers is named = absurd (in_none (log.Heard port gateway (Responds cause numbers)) is)
-heard_since node values (log.Began ∷ entries) port gateway cause number numbers is named = absurd (in_none (log.Heard port gateway (Responds cause numbers)) is)
-heard_since node values (log.Halted ∷ entries) port gateway cause number numbers is named = absurd (in_none (log.Heard port gateway (Responds cause numbers)) is)
 heard_since node values (log.Submitted form ∷ entries) port gateway cause number numbers is named = ⊎_elim
     (λ e. absurd (cc))
     (λ later. subst (λ (s : ℕ). Contains (heard_in s (deeds_of node values entries)) (log.Heard port gateway (Responds cause (number ∷ []))))
@@ -93,6 +90,7 @@ heard_since node values (log.Heard at place saying ∷ entries) port gateway cau
     Contains-append_left (heard_in (starts_in entries) (deeds_of node values entries)) (heard_in (starts_in entries) more) (log.Heard port gateway (Responds cause (number ∷ [])))
     (heard_since node values entries port gateway cause number numbers later named))
     (in_cons (log.Heard at place saying) (log.Heard port gateway (Responds cause numbers)) (since_start entries) is)))
+heard_since node values _ port gateway cause number numbers is named = absurd (in_none (log.Heard port gateway (Responds cause numbers)) is)
 
 -- ---- what is known rests on it
 

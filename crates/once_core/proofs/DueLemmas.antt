@@ -14,7 +14,7 @@ use Rattle.node_core.specs.declared.copy.Order.{Order}
 use Rattle.node_core.specs.declared.copy.Order.TheVariants.{Release, Cancel}
 use Rattle.node_core.specs.declared.copy.PacketCopy.{PacketCopy}
 use Rattle.node_core.specs.declared.copy.Verdict.{Verdict}
-use Rattle.node_core.specs.declared.copy.Verdict.TheVariants.{Unknown, Filed, Sealed, Held}
+use Rattle.node_core.specs.declared.copy.Verdict.TheVariants.{Unknown, Sealed, Held}
 use Rattle.node_core.specs.declared.peer.Peer.{Peer}
 use Rattle.node_core.specs.declared.sending.Sending.{Sending}
 use Rattle.node_core.specs.declared.sending.Sending.TheVariants as send
@@ -58,9 +58,8 @@ module _ (number : ℕ) where
 
   settling_of : (verdict : Verdict) (peers : List Peer) (copy : PacketCopy) → AllOf (settling_by verdict peers number copy)
   settling_of Unknown peers copy = one_of (test_of number copy) own
-  settling_of Filed peers copy = none_of
-  settling_of Sealed peers copy = none_of
   settling_of Held peers copy = command_is_of peers Cancel copy
+  settling_of _ peers copy = none_of
 
   beside_of : (choice : PacketCopy) (peers : List Peer) (copy : PacketCopy) → AllOf (settling_beside choice peers number copy)
   beside_of choice peers copy = by (copy.gateway == choice.gateway)
@@ -93,9 +92,8 @@ module _ (number : ℕ) where
   verdict_of : (verdict : Verdict) (favourite : ℕ) (up : Bool) (peers : List Peer) (plain : PacketCopy) (duplicates : List PacketCopy)
       → AllOf (due_by_verdict verdict favourite up peers number plain duplicates)
   verdict_of Unknown favourite up peers plain duplicates = asking_of favourite up peers plain duplicates
-  verdict_of Filed favourite up peers plain duplicates = all_settling_of peers duplicates
   verdict_of Sealed favourite up peers plain duplicates = releasing_of (chosen duplicates) peers duplicates
-  verdict_of Held favourite up peers plain duplicates = all_settling_of peers duplicates
+  verdict_of _ favourite up peers plain duplicates = all_settling_of peers duplicates
 
   copies_of : (favourite : ℕ) (up : Bool) (peers : List Peer) (copies : List PacketCopy) → AllOf (due_by_copies favourite up peers number copies)
   copies_of favourite up peers [] = copy_of favourite up peers true
@@ -127,9 +125,7 @@ all_of_open favourite up (packet ∷ packets) all peers within s is = ⊎_elim
 -- a probe is of no packet
 abbrev pub is_probe : Sending → Bool
 is_probe (send.Probe gateway number) = true
-is_probe (send.Data packet gateway number is_plain is_new) = false
-is_probe (send.Test packet gateway number) = false
-is_probe (send.Command packet gateway named number order is_new) = false
+is_probe _ = false
 
 pub probes_are : (gateway : ℕ) (paths : PathsOfNode) (peers : List Peer) (s : Sending) → Contains (probes_from gateway paths peers) s → is_probe s ≡ true
 probes_are gateway paths [] s is = absurd (in_none s is)
@@ -221,12 +217,9 @@ module _ (gateway : ℕ) (o : Order) (number : ℕ) where
       ∙ ap (λ (b : Bool). is_resolved (plain ∷ duplicates) && b) (settled_same duplicates)
 
 still_open : (s : Sending) (copies : List PacketCopy) → is_done copies ≡ false → is_done (copies_after s copies) ≡ false
-still_open (send.Probe gateway number) copies open_yet = open_yet
 still_open (send.Data packet gateway number is_plain true) copies open_yet = more_open copies gateway number is_plain
-still_open (send.Data packet gateway number is_plain false) copies open_yet = open_yet
-still_open (send.Test packet gateway number) copies open_yet = open_yet
 still_open (send.Command packet gateway named number o true) copies open_yet = done_same gateway o number copies ∙ open_yet
-still_open (send.Command packet gateway named number o false) copies open_yet = open_yet
+still_open _ copies open_yet = open_yet
 
 pub stays_open : (sendings : List Sending) (packet : PacketState) → is_done packet.copies ≡ false → is_done (packet_after_all sendings packet).copies ≡ false
 stays_open [] packet open_yet = open_yet

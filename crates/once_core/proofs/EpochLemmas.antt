@@ -10,7 +10,7 @@ use Rattle.gw_base.specs.History.{begins_epoch, epoch_of}
 use Rattle.gw_base.specs.Starts.{opening_after, opening_by, opening_of, openings_of, start_by, start_of}
 use Rattle.gw_base.specs.declared.address.NodeId.{NodeId}
 use Rattle.gw_base.specs.declared.history.HistoryAct.{HistoryAct}
-use Rattle.gw_base.specs.declared.history.HistoryAct.TheVariants.{Start, Path, File, Hold, Seal, Release, Cancel, Tick, Close}
+use Rattle.gw_base.specs.declared.history.HistoryAct.TheVariants.{Path}
 use Rattle.gw_base.specs.declared.history.HistoryEntry.{HistoryEntry}
 use Rattle.gw_base.specs.declared.history.Opening.{Opening}
 use Rattle.once_core.specs.Epochs.{RisesBy, StartsRise, epoch_with}
@@ -142,14 +142,7 @@ by_entry node h e = by_act e.act refl
 
     by_act : (a : HistoryAct) → e.act ≡ a → Begins node h e ⊎ Stays node h e
     by_act (Path n port counter) act = by_path n port counter (n.0 == node) refl act
-    by_act Start act = inr (stays (ap (opening_by node) act) (ap (opening_after node (opening_of node h)) act) (ap (begins_epoch node) act))
-    by_act (File n x packet) act = inr (stays (ap (opening_by node) act) (ap (opening_after node (opening_of node h)) act) (ap (begins_epoch node) act))
-    by_act (Hold n x packet) act = inr (stays (ap (opening_by node) act) (ap (opening_after node (opening_of node h)) act) (ap (begins_epoch node) act))
-    by_act (Seal n x) act = inr (stays (ap (opening_by node) act) (ap (opening_after node (opening_of node h)) act) (ap (begins_epoch node) act))
-    by_act (Release n xs) act = inr (stays (ap (opening_by node) act) (ap (opening_after node (opening_of node h)) act) (ap (begins_epoch node) act))
-    by_act (Cancel n xs) act = inr (stays (ap (opening_by node) act) (ap (opening_after node (opening_of node h)) act) (ap (begins_epoch node) act))
-    by_act Tick act = inr (stays (ap (opening_by node) act) (ap (opening_after node (opening_of node h)) act) (ap (begins_epoch node) act))
-    by_act Close act = inr (stays (ap (opening_by node) act) (ap (opening_after node (opening_of node h)) act) (ap (begins_epoch node) act))
+    by_act _ act = inr (stays (ap (opening_by node) act) (ap (opening_after node (opening_of node h)) act) (ap (begins_epoch node) act))
 
 -- the present epoch has the greatest start
 record IsLast (node : ℕ) (h : List HistoryEntry) : Type 0 where

@@ -6,7 +6,7 @@ use Rattle.std.specs.Prelude.{count_by, find, sum_by}
 use Rattle.std.specs.List.{enumerate_from, flat_map}
 use Rattle.std.specs.Option.{option_map_or}
 use Rattle.file_rotate.specs.Division.{ClosedRun, division_of}
-use Rattle.file_rotate.specs.Items.{Filed, Item, Record, Tick, Close, records_of}
+use Rattle.file_rotate.specs.Items.{Filed, Item, Record, records_of}
 use Rattle.file_rotate.specs.declared.limits.Limits.{Limits}
 use Rattle.file_writer.specs.Places.{FilePlace}
 use Rattle.file_writer.specs.Streams.{Settings}
@@ -134,8 +134,7 @@ sum_both f g (s ∷ ss) =
 pub records_append : (xs ys : List (Item FiledRecord)) → records_of (xs ++ ys) ≡ records_of xs ++ records_of ys
 records_append [] ys = refl
 records_append (Record r ∷ xs) ys = ap (λ (rs : List (Filed FiledRecord)). r ∷ rs) (records_append xs ys)
-records_append (Tick moment ∷ xs) ys = records_append xs ys
-records_append (Close moment ∷ xs) ys = records_append xs ys
+records_append (_ ∷ xs) ys = records_append xs ys
 
 -- ---- runs
 
@@ -233,14 +232,13 @@ module _ (p : FiledRecord → Bool) where
 
     dealt : (items : List (Item FiledRecord)) → sum_by (share items) ss ≡ sum_by filed_so (records_of items)
     dealt [] = sum_none ss
-    dealt (Tick moment ∷ items) = dealt items
-    dealt (Close moment ∷ items) = dealt items
     dealt (Record r ∷ items) =
         ap (λ (f : ℕ → ℕ). sum_by f ss) (λ i s. shared r items s i)
         ∙ sum_both (λ s. cond (goes r s) (filed_so r) 0) (share items) ss
         ∙ ap (λ (n : ℕ). n + sum_by (share items) ss) (somewhere r)
         ∙ ap (λ (n : ℕ). filed_so r + n) (dealt items)
         ∙ sym (sum_by-cons filed_so r (records_of items))
+    dealt (_ ∷ items) = dealt items
 
   -- ---- the records that a history files
 
@@ -253,15 +251,9 @@ module _ (p : FiledRecord → Bool) where
 
   act_so : (profile : ℕ) (before : List HistoryEntry) (moment : ℕ) (a : HistoryAct)
       → sum_by filed_so (records_of (filed_items_by profile before moment a)) ≡ sum_by record_so (filed_by_act before moment a)
-  act_so profile before moment act.Start = refl
-  act_so profile before moment (act.Path n port counter) = refl
   act_so profile before moment (act.File n x packet) = records_so profile (filed_by_act before moment (act.File n x packet))
-  act_so profile before moment (act.Hold n x packet) = refl
-  act_so profile before moment (act.Seal n x) = refl
   act_so profile before moment (act.Release n xs) = records_so profile (filed_by_act before moment (act.Release n xs))
-  act_so profile before moment (act.Cancel n xs) = refl
-  act_so profile before moment act.Tick = refl
-  act_so profile before moment act.Close = refl
+  act_so profile before moment _ = refl
 
   abbrev items_at : ℕ → List HistoryEntry → HistoryEntry → List (Item FiledRecord)
   items_at profile before e = filed_items_by profile before e.moment e.act

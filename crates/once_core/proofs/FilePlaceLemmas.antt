@@ -5,7 +5,7 @@ use Rattle.std.proofs.lemmas.List.Elements.{Contains-append_cases, Contains-appe
 use Rattle.std.proofs.lemmas.Option.{same_Some, slice_get-map}
 use Rattle.std.specs.Prelude.{option_map}
 use Rattle.std.specs.List.{enumerate_from, flat_map}
-use Rattle.file_rotate.specs.Items.{Filed, Item, Record, Tick, Close, records_of}
+use Rattle.file_rotate.specs.Items.{Filed, Item, Record, records_of}
 use Rattle.file_writer.specs.Places.{FilePlace, in_run, record_at, run_with}
 use Rattle.file_writer.specs.Streams.{Settings, stream_record}
 use Rattle.gateway_book.specs.Filed.{along, filed, filed_by, filed_by_act}
@@ -64,8 +64,6 @@ stream_kept : (settings : Settings) (s : ℕ) (items : List (Item FiledRecord)) 
     → Contains (records_of (filter (goes_to settings s) items)) r
     → Contains (records_of items) r × (stream_of settings.rules r.payload.tag r.kind.format ≡ s)
 stream_kept settings s [] r is = absurd (in_none r is)
-stream_kept settings s (Tick moment ∷ items) r is = stream_kept settings s items r is
-stream_kept settings s (Close moment ∷ items) r is = stream_kept settings s items r is
 stream_kept settings s (Record x ∷ items) r is =
     by (stream_of settings.rules x.payload.tag x.kind.format == s) refl is (λ there. stream_kept settings s items r there)
   where
@@ -84,6 +82,7 @@ stream_kept settings s (Record x ∷ items) r is =
         ))
         (λ others. let kept = later others in (in_tail x r (records_of items) kept.0, kept.1))
         (in_cons x r (records_of rest) there)
+stream_kept settings s (_ ∷ items) r is = stream_kept settings s items r is
 
 of_records : (profile : ℕ) (rs : List FiledRecord) (r : Filed FiledRecord) → Contains (records_of (map (filed_item profile) rs)) r → Contains rs r.payload × (r ≡ as_filed profile r.payload)
 of_records profile [] r is = absurd (in_none r is)
@@ -97,15 +96,9 @@ of_records profile (x ∷ rs) r is = ⊎_elim
 
 of_act : (profile : ℕ) (before : List HistoryEntry) (moment : ℕ) (a : HistoryAct) (r : Filed FiledRecord) → Contains (records_of (filed_items_by profile before moment a)) r
     → Contains (filed_by_act before moment a) r.payload × (r ≡ as_filed profile r.payload)
-of_act profile before moment act.Start r is = absurd (in_none r is)
-of_act profile before moment (act.Path n port counter) r is = absurd (in_none r is)
 of_act profile before moment (act.File n x packet) r is = of_records profile (filed_by_act before moment (act.File n x packet)) r is
-of_act profile before moment (act.Hold n x packet) r is = absurd (in_none r is)
-of_act profile before moment (act.Seal n x) r is = absurd (in_none r is)
 of_act profile before moment (act.Release n xs) r is = of_records profile (filed_by_act before moment (act.Release n xs)) r is
-of_act profile before moment (act.Cancel n xs) r is = absurd (in_none r is)
-of_act profile before moment act.Tick r is = absurd (in_none r is)
-of_act profile before moment act.Close r is = absurd (in_none r is)
+of_act profile before moment _ r is = absurd (in_none r is)
 
 abbrev items_at : ℕ → List HistoryEntry → HistoryEntry → List (Item FiledRecord)
 items_at profile before e = filed_items_by profile before e.moment e.act

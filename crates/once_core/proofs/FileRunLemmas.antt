@@ -62,17 +62,14 @@ module _ {A B : Type 0} (f : A → B) where
   before_same : (limits : Limits) (run : List (Filed A)) (item : Item A)
       → ends_before limits (map carried run) (carried_item item) ≡ ends_before limits run item
   unfolding ends_before
-  before_same limits [] item = refl
   before_same limits (r ∷ run) (Record other) = refl
-  before_same limits (r ∷ run) (Tick moment) = refl
-  before_same limits (r ∷ run) (Close moment) = refl
+  before_same limits _ _ = refl
 
   after_same : (limits : Limits) (run : List (Filed A)) (item : Item A)
       → ends_after limits (map carried run) (carried_item item) ≡ ends_after limits run item
   unfolding ends_after
   after_same limits run (Record r) = limits_same limits run
-  after_same limits run (Tick moment) = refl
-  after_same limits run (Close moment) = refl
+  after_same limits run _ = refl
 
   still_same : (o : Option ClosureReason) (run : List (Filed A)) → still o (map carried run) [] ≡ map carried (still o run [])
   still_same None run = refl
@@ -81,11 +78,10 @@ module _ {A B : Type 0} (f : A → B) where
   joined_same : (o : Option ClosureReason) (run : List (Filed A)) (item : Item A)
       → joined o (map carried run) (carried_item item) ≡ map carried (joined o run item)
   joined_same None run (Record r) = sym (map-append carried run (r ∷ []))
-  joined_same None run (Tick moment) = sym (map-append carried run [])
-  joined_same None run (Close moment) = sym (map-append carried run [])
   joined_same (Some reason) run (Record r) = refl
   joined_same (Some reason) run (Tick moment) = refl
   joined_same (Some reason) run (Close moment) = refl
+  joined_same None run _ = sym (map-append carried run [])
 
   first_same : (o : Option ClosureReason) (run : List (Filed A)) (one : Division B) (other : Division A)
       → runs_of one ≡ map (map carried) (runs_of other)
@@ -167,15 +163,9 @@ module _ (settings : Settings) (s : ℕ) where
 
   act_same : (before : List HistoryEntry) (moment : ℕ) (a : HistoryAct)
       → flat_map (stream_item settings.profile settings.rules s) (items_by_act before moment a) ≡ of_stream (filed_items_by settings.profile before moment a)
-  act_same before moment act.Start = refl
-  act_same before moment (act.Path n port counter) = refl
   act_same before moment (act.File n x packet) = records_same (filed_by_act before moment (act.File n x packet))
-  act_same before moment (act.Hold n x packet) = refl
-  act_same before moment (act.Seal n x) = refl
   act_same before moment (act.Release n xs) = records_same (filed_by_act before moment (act.Release n xs))
-  act_same before moment (act.Cancel n xs) = refl
-  act_same before moment act.Tick = refl
-  act_same before moment act.Close = refl
+  act_same before moment _ = refl
 
   abbrev items_at : List HistoryEntry → HistoryEntry → List (Item FiledRecord)
   items_at before e = filed_items_by settings.profile before e.moment e.act

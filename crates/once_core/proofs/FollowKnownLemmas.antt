@@ -83,9 +83,8 @@ Below start p = p.start < start
 
 as_now : (start : ℕ) (packets : List PacketState) (forms : List PacketForm) →
     AllByRecursion (UpTo start) (map (λ (p : PacketState × PacketForm). record { start = start; state = p.0; form = p.1 }) (zip packets forms))
-as_now start [] forms = tt
-as_now start (packet ∷ packets) [] = tt
 as_now start (packet ∷ packets) (form ∷ forms) = (omega arith, as_now start packets forms)
+as_now start _ _ = tt
 
 -- while a node runs those before are of earlier starts
 record Behind (before : List LogEntry) : Type 0 where

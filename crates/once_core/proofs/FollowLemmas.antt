@@ -1,11 +1,11 @@
 -- The packets of each start of a node only grow, and what it may send goes on being of them.
-use Rattle.std.proofs.Common.{◌≡◌, ⊎_elim, ℕ, suc, ◌+◌, ◌==◌, Bool, true, false, cond, List, [], ◌∷◌, ◌++◌, length, map, zip, filter, Option, Some, None, Contains, refl, sym, ap, subst, ◌∙◌, arith, length-append}
+use Rattle.std.proofs.Common.{◌≡◌, ⊎_elim, ℕ, suc, ◌==◌, Bool, true, false, cond, List, [], ◌∷◌, ◌++◌, length, map, zip, filter, Option, Some, None, Contains, refl, sym, ap, subst, ◌∙◌, arith, length-append}
 use Rattle.std.proofs.lemmas.Bool.{eq-eqb, eqb-true}
 use Rattle.std.proofs.lemmas.List.{append-nil, length-map, map-append}
 use Rattle.std.proofs.lemmas.List.Elements.{Contains-append_right, filter-append}
 use Rattle.gtpp_message.specs.Packet.{PacketForm}
 use Rattle.node_core.specs.Growing.{CommandGrows, CopyGrows, Extends, PacketGrows, is_within_start}
-use Rattle.node_core.specs.Log.{LogEntry, Began, Halted, Submitted, Appointed, Ticked, Heard, Saying, Path, Redirects, Responds, Other, forms_of, packets_of, submitted}
+use Rattle.node_core.specs.Log.{LogEntry, Began, Halted, Submitted, Appointed, Ticked, Heard, Saying, Responds, forms_of, packets_of, submitted}
 use Rattle.node_core.specs.Packets.{PacketState, packet_after_all, packet_hearing, while_open}
 use Rattle.node_core.specs.declared.copy.Command.{Command}
 use Rattle.node_core.specs.declared.copy.Order.{Order}
@@ -14,7 +14,7 @@ use Rattle.node_core.specs.declared.port.Port.{Port}
 use Rattle.once_core.specs.Expired.{starts_in}
 use Rattle.once_core.specs.Followed.{Followed, followed_before, following, packets_in}
 use Rattle.once_core.specs.Following.{AnyHasCopyAt, MaySend}
-use Rattle.once_core.specs.Happenings.{Asks, Answers, Else, Letter, Meaning, Orders, Sends, Tests}
+use Rattle.once_core.specs.Happenings.{Asks, Letter, Meaning, Orders, Sends, Tests}
 use Rattle.once_core.proofs.ListLemmas.{in_cons, in_head, in_none, in_tail}
 use Rattle.once_core.proofs.LogLemmas.{starts_same}
 
@@ -105,8 +105,7 @@ may_send_on packets after values letter (Asks (Orders order named)) grows is =
     let on = copy_on packets after letter.gateway named grows is.2.at in
     let command = command_on is.2.at.copy on.now.copy order letter.number is.1 on.grows is.2.sent in
     (is.0, command.0, record { at = on.now; sent = command.1 })
-may_send_on packets after values letter (Answers cause) grows is = tt
-may_send_on packets after values letter Else grows is = tt
+may_send_on packets after values letter _ grows is = tt
 
 copy_behind : (front packets : List PacketState) (gateway number : ℕ) → AnyHasCopyAt packets gateway number → AnyHasCopyAt (front ++ packets) gateway number
 copy_behind front packets gateway number at = record {
@@ -126,8 +125,7 @@ may_send_behind front packets values letter (Asks (Sends is_plain octets)) is =
 may_send_behind front packets values letter (Asks Tests) is = (is.0, copy_behind front packets letter.gateway letter.number is.1)
 may_send_behind front packets values letter (Asks (Orders order named)) is =
     (is.0, is.1, record { at = copy_behind front packets letter.gateway named is.2.at; sent = is.2.sent })
-may_send_behind front packets values letter (Answers cause) is = tt
-may_send_behind front packets values letter Else is = tt
+may_send_behind front packets values letter _ is = tt
 
 -- ---- the packets of a start
 
@@ -153,30 +151,25 @@ states_same start (packet ∷ packets) (form ∷ forms) same =
 
 states_other : (start other : ℕ) → (other == start) ≡ false → (packets : List PacketState) (forms : List PacketForm) →
     states_at start (followed_as other packets forms) ≡ []
-states_other start other isnt [] forms = refl
-states_other start other isnt (packet ∷ packets) [] = refl
 states_other start other isnt (packet ∷ packets) (form ∷ forms) =
     let one : Followed = record { start = other; state = packet; form = form } in
     let rest : List Followed = filter (λ (p : Followed). p.start == start) (followed_as other packets forms) in
     ap (λ (b : Bool). map (λ (p : Followed). p.state) (cond b (one ∷ rest) rest)) isnt
     ∙ states_other start other isnt packets forms
+states_other start other isnt _ _ = refl
 
 as_many_heard : (port : Port) (gateway : ℕ) (saying : Saying) (log : List LogEntry) → length (forms_of log) ≡ length (packets_of log) →
     length (forms_of log) ≡ length (packets_of (Heard port gateway saying ∷ log))
-as_many_heard port gateway (Path event) log same = same
-as_many_heard port gateway (Redirects to) log same = same
 as_many_heard port gateway (Responds cause numbers) log same = same ∙ sym (length-map (packets_of log) (while_open (packet_hearing port gateway cause numbers)))
-as_many_heard port gateway Other log same = same
+as_many_heard port gateway _ log same = same
 
 as_many_forms : (log : List LogEntry) → length (forms_of log) ≡ length (packets_of log)
-as_many_forms [] = refl
-as_many_forms (Began ∷ log) = refl
-as_many_forms (Halted ∷ log) = refl
 as_many_forms (Submitted form ∷ log) =
     omega (arith, as_many_forms log, length-append (forms_of log) (form ∷ []), length-append (packets_of log) (record { number = suc (submitted log); copies = [] } ∷ []))
 as_many_forms (Appointed gateway ∷ log) = as_many_forms log
 as_many_forms (Ticked sendings ∷ log) = as_many_forms log ∙ sym (length-map (packets_of log) (while_open (packet_after_all sendings)))
 as_many_forms (Heard port gateway saying ∷ log) = as_many_heard port gateway saying log (as_many_forms log)
+as_many_forms _ = refl
 
 pub in_present : (start : ℕ) (log : List LogEntry) → starts_in log ≡ start → packets_in start log ≡ states_at start (followed_before log) ++ packets_of log
 in_present start log is =
@@ -202,20 +195,16 @@ pub starts_halted : (log : List LogEntry) → starts_in (Halted ∷ log) ≡ sta
 starts_halted log = starts_same Halted log refl
 
 pub starts_within : (entry : LogEntry) (log : List LogEntry) → is_within_start entry ≡ true → starts_in (entry ∷ log) ≡ starts_in log
-starts_within Began log is = absurd (cc)
-starts_within Halted log is = absurd (cc)
 starts_within (Submitted form) log is = starts_same (Submitted form) log refl
 starts_within (Appointed gateway) log is = starts_same (Appointed gateway) log refl
 starts_within (Ticked sendings) log is = starts_same (Ticked sendings) log refl
 starts_within (Heard port gateway saying) log is = starts_same (Heard port gateway saying) log refl
+starts_within _ log is = absurd (cc)
 
 pub before_within : (entry : LogEntry) (log : List LogEntry) → is_within_start entry ≡ true → followed_before (entry ∷ log) ≡ followed_before log
 before_within Began log is = absurd (cc)
 before_within Halted log is = absurd (cc)
-before_within (Submitted form) log is = refl
-before_within (Appointed gateway) log is = refl
-before_within (Ticked sendings) log is = refl
-before_within (Heard port gateway saying) log is = refl
+before_within _ log is = refl
 
 -- within a start the packets of another one stay
 pub other_same : (start : ℕ) (entry : LogEntry) (log : List LogEntry) → is_within_start entry ≡ true → (starts_in log == start) ≡ false →

@@ -101,12 +101,8 @@ none_sent (first ∷ letters) letter there = ⊎_elim
 
 -- what a tick sends is of copies
 abbrev pub IsFine : LogEntry → List LogEntry → Type 0
-IsFine log.Began before = Unit {0}
-IsFine log.Halted before = Unit {0}
-IsFine (log.Submitted form) before = Unit {0}
-IsFine (log.Appointed gateway) before = Unit {0}
 IsFine (log.Ticked sendings) before = All (IsSent (packets_of (log.Ticked sendings ∷ before))) sendings
-IsFine (log.Heard port gateway saying) before = Unit {0}
+IsFine _ before = Unit {0}
 
 abbrev pub AreFine : List LogEntry → List LogEntry → Type 0
 AreFine [] before = Unit {0}

@@ -10,7 +10,7 @@ use Rattle.gw_base.specs.declared.history.HistoryAct.TheVariants as act
 use Rattle.gw_base.specs.declared.history.HistoryEntry.{HistoryEntry}
 use Rattle.gw_base.specs.declared.history.PacketKey.{PacketKey}
 use Rattle.gw_base.specs.declared.key_state.KeyState.{KeyState}
-use Rattle.gw_base.specs.declared.key_state.KeyState.TheVariants.{Fresh, Filed, Sealed, Held, Released, Cancelled}
+use Rattle.gw_base.specs.declared.key_state.KeyState.TheVariants.{Fresh, Filed, Sealed, Held, Released}
 use Rattle.gateway_book.specs.Fit.{is_fresh}
 use Rattle.gw_base.specs.ListLaws.{by_last}
 use Rattle.node_core.specs.declared.copy.Order.TheVariants as order
@@ -24,11 +24,8 @@ use Rattle.once_core.proofs.EpochLemmas.{epoch_stays, present_epoch}
 -- no request changes a state that ends
 abbrev pub is_final : KeyState → Bool
 is_final Fresh = false
-is_final Filed = true
-is_final Sealed = true
 is_final Held = false
-is_final Released = true
-is_final Cancelled = true
+is_final _ = true
 
 module _ (letters : List Letter) (gateway : ℕ) where
   -- a key whose state ends isn't named by an entry that keeps to the table
@@ -54,10 +51,7 @@ module _ (letters : List Letter) (gateway : ℕ) where
       not_named key h n rests.number Held refl rests.held ends
       (is_here letters gateway key h n (rests.number == key.number)
       (ap (λ (b : Bool). (epoch_of key.node.0 h == key.epoch) && ((n.0 == key.node.0) && b)) (sym same) ∙ e))
-  never_named key h act.Start rests ends e = absurd (false≢true (and_parts (epoch_of key.node.0 h == key.epoch) false e).1)
-  never_named key h (act.Path n port counter) rests ends e = absurd (false≢true (and_parts (epoch_of key.node.0 h == key.epoch) false e).1)
-  never_named key h act.Tick rests ends e = absurd (false≢true (and_parts (epoch_of key.node.0 h == key.epoch) false e).1)
-  never_named key h act.Close rests ends e = absurd (false≢true (and_parts (epoch_of key.node.0 h == key.epoch) false e).1)
+  never_named key h _ rests ends e = absurd (false≢true (and_parts (epoch_of key.node.0 h == key.epoch) false e).1)
 
   end_stays : (key : PacketKey) (h : List HistoryEntry) (e : HistoryEntry) → RestsBy letters gateway h e.act → is_final (state_of key h) ≡ true
       → state_of key (h ++ e ∷ []) ≡ state_of key h
@@ -81,26 +75,21 @@ module _ (letters : List Letter) (gateway : ℕ) where
   pub tells_on : (h g : List HistoryEntry) (letter : Letter) (request : Request) (cause : ℕ) → Rests letters gateway (h ++ g)
       → Tells h letter request cause → Tells (h ++ g) letter request cause
   tells_on h g letter (Sends true packet) cause rests told = λ filing. state_stays h g letter.node letter.start letter.number Filed refl rests (told filing)
-  tells_on h g letter (Sends false packet) cause rests told = tt
   tells_on h g letter Tests cause rests told = (
     λ is. state_stays h g letter.node letter.start letter.number Filed refl rests (told.0 is),
     λ is. state_stays h g letter.node letter.start letter.number Sealed refl rests (told.1 is),
   )
   tells_on h g letter (Orders order.Release named) cause rests told = λ is. state_stays h g letter.node letter.start named Released refl rests (told is)
-  tells_on h g letter (Orders order.Cancel named) cause rests told = tt
+  tells_on h g letter _ cause rests told = tt
 
 -- ---- a number that is fresh no more stays so
 
 gives_none : (node number : ℕ) (a : HistoryAct) → names node number a ≡ true → is_fresh (given_state a) ≡ false
-gives_none node number (act.File n x packet) named = refl
-gives_none node number (act.Hold n x packet) named = refl
-gives_none node number (act.Seal n x) named = refl
-gives_none node number (act.Release n xs) named = refl
-gives_none node number (act.Cancel n xs) named = refl
 gives_none node number act.Start named = absurd (false≢true named)
 gives_none node number (act.Path n port counter) named = absurd (false≢true named)
 gives_none node number act.Tick named = absurd (false≢true named)
 gives_none node number act.Close named = absurd (false≢true named)
+gives_none node number _ named = refl
 
 known_more : (key : PacketKey) (h : List HistoryEntry) (e : HistoryEntry) → is_fresh (state_of key h) ≡ false → is_fresh (state_of key (h ++ e ∷ [])) ≡ false
 known_more key h e known =

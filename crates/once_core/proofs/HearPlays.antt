@@ -2,7 +2,7 @@
 use Rattle.std.proofs.Common.{◌≡◌, ℕ, ◌%◌, ◌≤◌, ◌==◌, ◌&&◌, ◌||◌, inl, inr, not, Bool, true, false, if◌then◌else◌, List, [], ◌∷◌, ◌++◌, map, Option, Some, None, Contains, refl, sym, ap, subst, ◌∙◌, arith, append-nil}
 use Rattle.std.specs.Option.{option_map_or}
 use Rattle.std.proofs.lemmas.Bool.{eqb-true, not-false, or_parts}
-use Rattle.gtpp_message.specs.Message.{MessageValue, EchoRequest, EchoResponse, VersionNotSupported, NodeAliveRequest, NodeAliveResponse, RedirectionRequest, RedirectionResponse, TransferRequest, TransferResponse}
+use Rattle.gtpp_message.specs.Message.{MessageValue, EchoRequest, EchoResponse, NodeAliveResponse, RedirectionRequest, RedirectionResponse, TransferRequest, TransferResponse}
 use Rattle.gtpp_message.specs.Packet.{PacketForm}
 use Rattle.gtpp_message.specs.Reading.{Message, ReadingValue}
 use Rattle.gtpp_message.specs.Role.{for_role}
@@ -179,9 +179,8 @@ module _ (gateways : ℕ) (m : world.Message) (log : List LogEntry) (rightly : N
           (reply_fine said.path (EchoResponse value.paths.counter) (record { is = refl; sendable = tt; short = omega arith }) counter refl)
       message_plays (EchoResponse told) w fits near = quiet_plays (Path (EchoTold said.path told)) None refl none_fine
       message_plays NodeAliveResponse w fits near = quiet_plays (Path (AliveTold said.path)) None refl none_fine
-      message_plays (NodeAliveRequest address) w fits near = nothing_plays
-      message_plays VersionNotSupported w fits near = nothing_plays
       message_plays (TransferRequest body) w fits near = absurd fits
+      message_plays _ w fits near = nothing_plays
 
     pub hear_plays : NodePlays (node_ip m.node) values scene (delivered_to_node gateways m.node m log)
     hear_plays = by (runs log) refl (is_expired_at_node log value m) refl
@@ -201,8 +200,6 @@ module _ (gateways : ℕ) (m : world.Message) (log : List LogEntry) (rightly : N
               log = logged (if running then heard_entries value m.port (gateway_address m.gateway) m.octets else []) log;
               sends = answers_of m (heeds value m.port (gateway_address m.gateway) m.octets);
             })
-        by false e late isnt = nothing_plays
-        by true e true isnt = nothing_plays
         by true e false isnt =
             let both = or_parts (not (m.start == starts_in log)) (is_response m && is_taken_for_another value m) isnt in
             let start = eqb-true m.start (starts_in log) (not-false (m.start == starts_in log) both.0) in
@@ -211,3 +208,4 @@ module _ (gateways : ℕ) (m : world.Message) (log : List LogEntry) (rightly : N
             (not-false (nearest (Some (last_number value.gateways m.gateway)) (m.number % 65536) == m.number)
             (sym (ap (λ (b : Bool). b && is_taken_for_another value m) response) ∙ both.1)))
             (place_of value.gateways (gateway_address m.gateway).ip) refl
+        by _ e _ isnt = nothing_plays

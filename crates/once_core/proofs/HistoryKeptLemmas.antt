@@ -27,7 +27,7 @@ use Rattle.gw_base.specs.declared.key_state.KeyState.{KeyState}
 use Rattle.gw_base.specs.declared.key_state.KeyState.TheVariants.{Fresh}
 use Rattle.path_mgmt.specs.GatewayPath.{opened_by}
 use Rattle.path_mgmt.specs.declared.event.PathEvent.{PathEvent}
-use Rattle.path_mgmt.specs.declared.event.PathEvent.TheVariants.{EchoAsked, EchoTold, AliveAsked, AliveTold}
+use Rattle.path_mgmt.specs.declared.event.PathEvent.TheVariants.{EchoTold, AliveTold}
 use Rattle.transfer_cmd.specs.Lists.{verdict_cause, verdict_of}
 use Rattle.transfer_cmd.specs.Table.{answer_cause, state_given}
 use Rattle.transfer_cmd.specs.declared.decision.Ask.{Ask}
@@ -37,7 +37,7 @@ use Rattle.transfer_cmd.specs.declared.verdict.Verdict.TheVariants.{Wrong, Befor
 use Rattle.gateway_book.specs.Answer.{Decided, Given, Drops, answer_within, asked_by, changes, decided, held_ones, listed, may_record, node_of, opening_epoch, path_given, recorded_as, recording, replying, responding, tabled}
 use Rattle.gateway_book.specs.Limits.{has_place, is_in_range, may_hold, numbers_end, least_number, within_limits}
 use Rattle.gateway_book.specs.Plain.{IsBounded, answer_view}
-use Rattle.gateway_book.specs.Preparing.{PreparedValue, Drop, OtherVersion, Refused, Path, Request}
+use Rattle.gateway_book.specs.Preparing.{PreparedValue, Path, Request}
 use Rattle.once_core.specs.Addresses.{first_node_ip}
 use Rattle.once_core.specs.HistoryKept.{AllKept, is_kept_act, is_kept_answer, is_of_world}
 
@@ -72,15 +72,11 @@ below_none true top is = refl
 below_none false top is = is
 
 below_after : (node : ℕ) (top : Option ℕ) (a : HistoryAct) → below top ≡ true → is_kept_act a ≡ true → below (top_after node top a) ≡ true
-below_after node top act.Start is kept = is
 below_after node top (act.Path n port counter) is kept = below_none (n.0 == node) top is
 below_after node top (act.File n x packet) is kept = below_by (n.0 == node) top x is (and_parts (is_of_world n) (nat_lt x numbers_end) kept).1
 below_after node top (act.Hold n x packet) is kept = below_by (n.0 == node) top x is (and_parts (is_of_world n) (nat_lt x numbers_end) kept).1
 below_after node top (act.Seal n x) is kept = below_by (n.0 == node) top x is (and_parts (is_of_world n) (nat_lt x numbers_end) kept).1
-below_after node top (act.Release n xs) is kept = is
-below_after node top (act.Cancel n xs) is kept = is
-below_after node top act.Tick is kept = is
-below_after node top act.Close is kept = is
+below_after node top _ is kept = is
 
 below_on : (node : ℕ) (before h : List HistoryEntry) → below (top_of node before) ≡ true → AllKept h → below (top_of node (before ++ h)) ≡ true
 below_on node before [] is kept = subst (λ (xs : List HistoryEntry). below (top_of node xs) ≡ true) (sym (append-nil before)) is
@@ -107,8 +103,7 @@ module _ (o : Observed) (room : HistoryAct → Bool) (number : ℕ) where
       by_test : (within has : Bool) → within_limits o a ≡ within →
           keeps (if within && has then responding number cause (Some a) else responding number NO_RESOURCES None) ≡ true
       by_test true true e = kept e
-      by_test true false e = refl
-      by_test false has e = refl
+      by_test _ _ e = refl
 
   numbered : (n : NodeId) (x : ℕ) (rest : Bool) → is_of_world n ≡ true → (rest ≡ (has_place o && is_in_range x)) → rest ≡ true → (is_of_world n && nat_lt x numbers_end) ≡ true
   numbered n x rest near is e =
@@ -140,10 +135,9 @@ module _ (o : Observed) (room : HistoryAct → Bool) (number : ℕ) where
       by_verdict node release (held_ones o (map (nearest o.top) numbers)) (verdict_of release (map o.state (map (nearest o.top) numbers)))
 
   by_request : (node : NodeId) (body : TransferValue) → is_of_world node ≡ true → keeps (asked_by o (may_record o room) node number body) ≡ true
-  by_request node (Send packet) near = by_table node (nearest o.top number) _ _ (o.state (nearest o.top number)) near
-  by_request node (Possible packet) near = by_table node (nearest o.top number) _ _ (o.state (nearest o.top number)) near
   by_request node (Cancel numbers) near = by_list node false numbers
   by_request node (Release numbers) near = by_list node true numbers
+  by_request node _ near = by_table node (nearest o.top number) _ _ (o.state (nearest o.top number)) near
 
 module _ (o : Observed) (room : HistoryAct → Bool) (from : Addr) (near : is_of_world (node_of from) ≡ true) where
   by_opening : (number : ℕ) (changed : Option ℕ) → keeps (opening_epoch (may_record o room) from (Some (AliveTold number)) changed) ≡ true
@@ -155,19 +149,15 @@ module _ (o : Observed) (room : HistoryAct → Bool) (from : Addr) (near : is_of
       by_test false = refl
 
   by_path : (event : PathEvent) → keeps (path_given o (may_record o room) from event) ≡ true
-  by_path (EchoAsked number) = refl
   by_path (EchoTold number counter) = by_opening number (opened_by (option_map (λ path. path.counter) o.opening) counter)
-  by_path (AliveAsked number) = refl
-  by_path (AliveTold number) = refl
+  by_path _ = refl
 
 -- an answer to a node of the world records what is kept
 pub answers_keep : (o : Observed) (from : Addr) (datagram : PreparedValue) (room : HistoryAct → Bool) → is_of_world (node_of from) ≡ true
     → is_kept_answer (decided (answer_within o from datagram room)) ≡ true
-answers_keep o from (Drop why) room near = refl
-answers_keep o from (OtherVersion number) room near = refl
-answers_keep o from (Refused cause number) room near = refl
 answers_keep o from (Path event) room near = by_path o room from near event
 answers_keep o from (Request number body) room near = by_request o room number (node_of from) body near
+answers_keep o from _ room near = refl
 
 -- ---- the nodes of the paths
 
@@ -180,15 +170,8 @@ near_same n node port counter true o same is near = ap (λ (ip : ℕ). nat_lt (i
 near_same n node port counter false o same is near = is
 
 near_after : (node : ℕ) (o : Option Opening) (a : HistoryAct) → near_if node o ≡ true → is_kept_act a ≡ true → near_if node (opening_after node o a) ≡ true
-near_after node o act.Start is kept = is
 near_after node o (act.Path n port counter) is kept = near_same n node port counter (n.0 == node) o (λ e. eqb-true n.0 node e) is kept
-near_after node o (act.File n x packet) is kept = is
-near_after node o (act.Hold n x packet) is kept = is
-near_after node o (act.Seal n x) is kept = is
-near_after node o (act.Release n xs) is kept = is
-near_after node o (act.Cancel n xs) is kept = is
-near_after node o act.Tick is kept = is
-near_after node o act.Close is kept = is
+near_after node o _ is kept = is
 
 near_on : (node : ℕ) (before h : List HistoryEntry) → near_if node (opening_of node before) ≡ true → AllKept h → near_if node (opening_of node (before ++ h)) ≡ true
 near_on node before [] is kept = subst (λ (xs : List HistoryEntry). near_if node (opening_of node xs) ≡ true) (sym (append-nil before)) is

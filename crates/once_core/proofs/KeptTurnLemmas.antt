@@ -23,14 +23,12 @@ use Rattle.once_core.specs.declared.message.Message.{Message}
 -- ---- lists
 
 set_map : {A B : Type 0} (f : A → B) (xs : List A) (k : ℕ) (x : A) → map f (slice_set xs k x) ≡ slice_set (map f xs) k (f x)
-set_map f [] k x = refl
-set_map f (y ∷ xs) zero x = refl
 set_map f (y ∷ xs) (suc k) x = ap (λ zs. f y ∷ zs) (set_map f xs k x)
+set_map f _ _ x = refl
 
 set_length : {A : Type 0} (xs : List A) (k : ℕ) (x : A) → length (slice_set xs k x) ≡ length xs
-set_length [] k x = refl
-set_length (y ∷ xs) zero x = refl
 set_length (y ∷ xs) (suc k) x = ap suc (set_length xs k x)
+set_length _ _ x = refl
 
 get_nodes : (count first place : ℕ) (logs : List (List LogEntry)) → slice_get (nodes_kept count first logs) place ≡ option_map (node_kept count (first + place)) (slice_get logs place)
 get_nodes count first place [] = refl
@@ -165,13 +163,12 @@ module _ (w : World) where
   pub refusals_same : (e : Event) → kept.refusal_kept (world_kept w) e ≡ refusal_of w e
   refusals_same (event.Submit node packet) = node_same node
   refusals_same (event.Tick node) = node_same node
-  refusals_same (event.Deliver message) = refl
   refusals_same (event.Commit gateway) = running_same gateway
   refusals_same (event.Cut gateway keep) = running_same gateway
   refusals_same (event.Open gateway) = λ i. option_or (gateway_by gateway (gateways_same i)) (refusing (not (down_same w (gateway - 1) i)) Running)
   refusals_same (event.Halt node) = node_same node
   refusals_same (event.Start node) = λ i. start_by node (nodes_same i) (runs_same w (node - 1) i) (starts_same w (node - 1) i)
   refusals_same (event.Redirect gateway cause to) = redirect_same gateway to
-  refusals_same (event.Moment now) = refl
   refusals_same (event.Mark gateway) = running_same gateway
   refusals_same (event.Close gateway) = running_same gateway
+  refusals_same _ = refl

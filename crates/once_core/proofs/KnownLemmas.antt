@@ -21,7 +21,7 @@ use Rattle.node_core.specs.declared.copy.Verdict.TheVariants as verdict
 use Rattle.node_core.specs.declared.port.Port.{Port}
 use Rattle.node_core.specs.declared.port.Port.TheVariants.{First, Second}
 use Rattle.once_core.specs.Following.{AnyHasCopyAt, Follows, IsCommandSent, MaySend, entries_by, entries_of, heard_in}
-use Rattle.once_core.specs.Happenings.{Answers, Asks, Deed, Else, Heard, Letter, Meaning, Orders, Request, Scene, Sends, Sent, Tests, about}
+use Rattle.once_core.specs.Happenings.{Answers, Asks, Deed, Heard, Letter, Meaning, Orders, Request, Scene, Sends, Sent, Tests, about}
 use Rattle.once_core.specs.Resting.{IsKnown, IsState, SceneHolds, Tells}
 use Rattle.once_core.specs.Scenes.{is_telling}
 use Rattle.once_core.proofs.RoleLemmas.{IsCopyOf, command_use, not_both, own_use, same_user}
@@ -44,8 +44,6 @@ named_one y x e = by (y == x) refl e
 by_letter : (deeds : List Deed) (start : ℕ) (letter : Letter) (port : Port) (gateway cause number : ℕ) (numbers : List ℕ) → Contains deeds (Heard letter) → letter.start ≡ start
     → names numbers number ≡ true → (says : Meaning) → letter.says ≡ says
     → Contains (entries_by letter says) (log.Heard port gateway (Responds cause numbers)) → WasHeard deeds start port gateway cause number
-by_letter deeds start letter port gateway cause number numbers kept of_start named (Asks request) says is = absurd (in_none (log.Heard port gateway (Responds cause numbers)) is)
-by_letter deeds start letter port gateway cause number numbers kept of_start named Else says is = absurd (in_none (log.Heard port gateway (Responds cause numbers)) is)
 by_letter deeds start letter port gateway cause number numbers kept of_start named (Answers said) says is = ⊎_elim
     (λ same.
     let port_is : letter.port ≡ port = cc in
@@ -61,6 +59,7 @@ by_letter deeds start letter port gateway cause number numbers kept of_start nam
     })
     (λ none. absurd (in_none (log.Heard port gateway (Responds cause numbers)) none))
     (in_cons (log.Heard letter.port letter.gateway (Responds said (letter.number ∷ []))) (log.Heard port gateway (Responds cause numbers)) [] is)
+by_letter deeds start letter port gateway cause number numbers kept of_start named _ says is = absurd (in_none (log.Heard port gateway (Responds cause numbers)) is)
 
 heard_one : (deeds : List Deed) (start : ℕ) (letter : Letter) (port : Port) (gateway cause number : ℕ) (numbers : List ℕ) → Contains deeds (Heard letter)
     → names numbers number ≡ true → Contains (entries_of start (Heard letter)) (log.Heard port gateway (Responds cause numbers)) → WasHeard deeds start port gateway cause number
@@ -112,14 +111,12 @@ filed_by Second cause e = by (cause == ALREADY_FULFILLED) (cause == ACCEPTED) re
     by false false is e = absurd (cc)
 
 or_three_first : (a b c : Bool) → (a || b) ≡ true → (a || b || c) ≡ true
-or_three_first true b c e = refl
-or_three_first false true c e = refl
 or_three_first false false c e = absurd (false≢true e)
+or_three_first _ _ c e = refl
 
 or_three_ends : (a b c : Bool) → (a || c) ≡ true → (a || b || c) ≡ true
-or_three_ends true b c e = refl
-or_three_ends false true c e = refl
 or_three_ends false false c e = e
+or_three_ends _ _ c e = refl
 
 pub filing_tells : (cause : ℕ) → is_filing cause ≡ true → is_telling cause ≡ true
 filing_tells cause e = or_three_first (cause == ACCEPTED) (cause == ALREADY_FULFILLED) (cause == DUPLICATE_ALREADY_FULFILLED) e
@@ -267,10 +264,9 @@ module _ (scene : Scene) (holds : SceneHolds scene) (node start : ℕ) (values :
 
       by : (request : Request) → MaySend packets values (letter_of copy.gateway port command.number (Asks request)) (Asks request)
           → Tells (firm copy.gateway) (letter_of copy.gateway port command.number (Answers cause)) request cause → IsState (firm copy.gateway) node start copy.number state.Released
-      by (Sends true octets) may tells = absurd (mixed may.1.at)
-      by (Sends false octets) may tells = absurd (mixed may.1.at)
       by Tests may tells = absurd (mixed may.1)
       by (Orders which named) may tells = by_order which named may.1 may.2 tells
+      by _ may tells = absurd (mixed may.1.at)
 
   pub is_released_there : (packet : PacketState) (copy : PacketCopy) → IsCopyOf packets packet copy → is_released copy ≡ true → IsState (firm copy.gateway) node start copy.number state.Released
   is_released_there packet copy is released = by copy.command refl released (rests_of packet copy is).command

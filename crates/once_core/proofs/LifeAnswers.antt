@@ -15,7 +15,7 @@ use Rattle.gw_base.specs.declared.history.HistoryAct.{HistoryAct}
 use Rattle.gw_base.specs.declared.history.HistoryAct.TheVariants as act
 use Rattle.gw_base.specs.declared.history.HistoryEntry.{HistoryEntry}
 use Rattle.gw_base.specs.declared.key_state.KeyState.{KeyState}
-use Rattle.gtpp_message.specs.Message.{MessageValue, TransferValue, EchoRequest, EchoResponse, VersionNotSupported, NodeAliveRequest, NodeAliveResponse, RedirectionRequest, RedirectionResponse, TransferRequest, TransferResponse, Send, Possible, Cancel, Release}
+use Rattle.gtpp_message.specs.Message.{MessageValue, TransferValue, EchoRequest, EchoResponse, VersionNotSupported, NodeAliveResponse, TransferRequest, TransferResponse, Send, Possible, Cancel, Release}
 use Rattle.gtpp_message.specs.Packet.{packet_octets}
 use Rattle.gtpp_message.specs.Reading.{Message}
 use Rattle.gtpp_message.specs.Role.{for_role}
@@ -31,7 +31,7 @@ use Rattle.transfer_cmd.specs.Table.{answer_cause, state_given}
 use Rattle.transfer_cmd.specs.declared.decision.Ask.{Ask}
 use Rattle.transfer_cmd.specs.declared.decision.Ask.TheVariants as ask
 use Rattle.transfer_cmd.specs.declared.verdict.Verdict.{Verdict}
-use Rattle.transfer_cmd.specs.declared.verdict.Verdict.TheVariants.{Wrong, Before, Change}
+use Rattle.transfer_cmd.specs.declared.verdict.Verdict.TheVariants.{Change}
 use Rattle.gateway_book.specs.Answer.{Given, Drops, Replies, act_of, answer_by, asked_by, changes, changing, decided, failure_answer, held_ones, judged, opening_epoch, path_given, recorded_as, responding, sending, sending_again, tabled}
 use Rattle.gateway_book.specs.Answer as says
 use Rattle.gateway_book.specs.Answered.{entry_by, no_caller}
@@ -73,25 +73,18 @@ sent_no_path asked n number packet (Some state) a e = subst IsNoPath (same_Some 
     by ask.Empty = tt
 
 changes_no_path : (verdict : Verdict) (release : Bool) (n : NodeId) (numbers : List ℕ) (a : HistoryAct) → changes verdict release n numbers ≡ Some a → IsNoPath a
-changes_no_path Wrong release n numbers a e = no_act a e
-changes_no_path Before release n numbers a e = no_act a e
 changes_no_path Change release n numbers a e = subst IsNoPath (same_Some (changing release n numbers) a e) (by release)
   where
     by : (b : Bool) → IsNoPath (changing b n numbers)
     by true = tt
     by false = tt
+changes_no_path _ release n numbers a e = no_act a e
 
 -- ---- the counter that a node tells
 
 abbrev counter_in : ℕ → PreparedValue → ℕ
-counter_in other (of.Drop why) = other
-counter_in other (of.OtherVersion number) = other
-counter_in other (of.Refused cause number) = other
-counter_in other (of.Path (EchoAsked number)) = other
 counter_in other (of.Path (EchoTold number counter)) = counter
-counter_in other (of.Path (AliveAsked number)) = other
-counter_in other (of.Path (AliveTold number)) = other
-counter_in other (of.Request number body) = other
+counter_in other _ = other
 
 -- it is its start
 told_counter : ReadsBack → RolesRead → (m : world.Message) → NodeSaid m → counter_in m.start (prepared_of m.octets) ≡ m.start
@@ -105,12 +98,7 @@ told_counter back roles m said = ap (λ (p : PreparedValue). counter_in m.start 
     by (EchoResponse counter) fits = fits
     by (TransferRequest body) fits = by_values body (sends_values body)
     by (TransferResponse cause responded) fits = absurd fits
-    by EchoRequest fits = refl
-    by VersionNotSupported fits = refl
-    by (NodeAliveRequest address) fits = refl
-    by NodeAliveResponse fits = refl
-    by (RedirectionRequest cause to) fits = refl
-    by (RedirectionResponse cause) fits = refl
+    by _ fits = refl
 
 -- ---- what is answered
 

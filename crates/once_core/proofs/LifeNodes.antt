@@ -2,7 +2,7 @@
 use Rattle.std.proofs.Common.{◌≡◌, ⊎_elim, ℕ, ◌≤◌, ◌==◌, ◌&&◌, ◌||◌, inl, inr, not, Bool, true, false, if◌then◌else◌, List, [], ◌∷◌, ◌++◌, map, Option, Some, None, Contains, refl, sym, ap, subst, ◌∙◌, arith}
 use Rattle.std.specs.Option.{option_map_or}
 use Rattle.std.proofs.lemmas.Bool.{eqb-true, false≢true, not-false, or_parts}
-use Rattle.gtpp_message.specs.Message.{MessageValue, EchoRequest, EchoResponse, VersionNotSupported, NodeAliveRequest, NodeAliveResponse, RedirectionRequest, RedirectionResponse, TransferRequest, TransferResponse}
+use Rattle.gtpp_message.specs.Message.{MessageValue, EchoRequest, EchoResponse, NodeAliveResponse, RedirectionRequest, RedirectionResponse, TransferRequest, TransferResponse}
 use Rattle.gtpp_message.specs.Packet.{PacketForm}
 use Rattle.gtpp_message.specs.Reading.{Message, ReadingValue}
 use Rattle.gtpp_message.specs.Role.{for_role}
@@ -182,9 +182,8 @@ module _ (known : ℕ → ℕ) (gateways : ℕ) (m : world.Message) (log : List 
       where
         tells : m.start ≤ known m.gateway
         tells = told (ap (λ (o : Option ℕ). option_map_or (λ k. k == NODE_ALIVE_RESPONSE) o false) (type_of m.octets said.path NodeAliveResponse w.is))
-    message_life (NodeAliveRequest address) w fits = nothing_life
-    message_life VersionNotSupported w fits = nothing_life
     message_life (TransferRequest body) w fits = absurd fits
+    message_life _ w fits = nothing_life
 
   pub hear_life : LifeCalled known m.node log (delivered_to_node gateways m.node m log)
   hear_life = by (runs log) refl (is_expired_at_node log value m) refl
@@ -203,8 +202,7 @@ module _ (known : ℕ → ℕ) (gateways : ℕ) (m : world.Message) (log : List 
             log = logged (if running then heard_entries value m.port (gateway_address m.gateway) m.octets else []) log;
             sends = answers_of m (heeds value m.port (gateway_address m.gateway) m.octets);
           })
-      by false e late isnt = nothing_life
-      by true e true isnt = nothing_life
       by true e false isnt =
           let both = or_parts (not (m.start == starts_in log)) (is_response m && is_taken_for_another value m) isnt in
           heard (eqb-true m.start (starts_in log) (not-false (m.start == starts_in log) both.0)) (place_of value.gateways (gateway_address m.gateway).ip) refl
+      by _ e _ isnt = nothing_life

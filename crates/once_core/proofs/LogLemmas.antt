@@ -10,8 +10,8 @@ use Rattle.std.proofs.lemmas.Option.{slice_get-get_or, slice_get-map}
 use Rattle.gw_base.specs.declared.address.Addr.{Addr}
 use Rattle.path_mgmt.specs.NodePath.{PathsOfNode, node_after}
 use Rattle.path_mgmt.specs.declared.event.PathEvent.{PathEvent}
-use Rattle.path_mgmt.specs.declared.event.PathEvent.TheVariants.{EchoAsked, EchoTold, AliveAsked, AliveTold}
-use Rattle.node_core.specs.Log.{LogEntry, Began, Halted, Submitted, Appointed, Ticked, Heard, Saying, Path, Redirects, Responds, Other, counter_of, has_entries, paths_hearing, paths_of, peers_of, restarted}
+use Rattle.path_mgmt.specs.declared.event.PathEvent.TheVariants.{EchoAsked}
+use Rattle.node_core.specs.Log.{LogEntry, Began, Halted, Submitted, Appointed, Ticked, Heard, Saying, Path, counter_of, has_entries, paths_hearing, paths_of, peers_of, restarted}
 use Rattle.node_core.specs.Peers.{address_at, all_drawn, at_place, drawn, end_of_numbers, has_ip, number_drawn, peer_anew, place_of}
 use Rattle.node_core.specs.Value.{logged}
 use Rattle.node_core.specs.declared.peer.Peer.{Peer}
@@ -76,24 +76,18 @@ starts_again log = let more = starts_more Began log true refl in omega (arith, m
 
 event_keeps : (gateway : ℕ) (event : PathEvent) (paths : PathsOfNode) → (node_after paths gateway event).counter ≡ paths.counter
 event_keeps gateway (EchoAsked number) paths = refl
-event_keeps gateway (EchoTold number told) paths = refl
-event_keeps gateway (AliveAsked number) paths = refl
-event_keeps gateway (AliveTold number) paths = refl
+event_keeps gateway _ paths = refl
 
 hearing_keeps : (gateway : ℕ) (saying : Saying) (paths : PathsOfNode) → (paths_hearing gateway saying paths).counter ≡ paths.counter
 hearing_keeps gateway (Path event) paths = event_keeps gateway event paths
-hearing_keeps gateway (Redirects to) paths = refl
-hearing_keeps gateway (Responds cause numbers) paths = refl
-hearing_keeps gateway Other paths = refl
+hearing_keeps gateway _ paths = refl
 
 pub counter_is : (first : ℕ) (log : List LogEntry) → (paths_of first log).counter ≡ counter_of first log
-counter_is first [] = refl
-counter_is first (Began ∷ log) = refl
-counter_is first (Halted ∷ log) = refl
 counter_is first (Submitted form ∷ log) = counter_is first log
 counter_is first (Appointed gateway ∷ log) = counter_is first log
 counter_is first (Ticked sendings ∷ log) = counter_is first log
 counter_is first (Heard port gateway saying ∷ log) = hearing_keeps gateway saying (paths_of first log) ∙ counter_is first log
+counter_is first _ = refl
 
 -- ---- gateways
 
@@ -131,13 +125,11 @@ anew [] = refl
 anew (a ∷ gateways) = ap (λ (rest : List Addr). a ∷ rest) (anew gateways)
 
 pub addresses_stay : (gateways : List Addr) (log : List LogEntry) → addresses (peers_of gateways log) ≡ gateways
-addresses_stay gateways [] = anew gateways
-addresses_stay gateways (Began ∷ log) = anew gateways
-addresses_stay gateways (Halted ∷ log) = anew gateways
 addresses_stay gateways (Submitted form ∷ log) = addresses_stay gateways log
 addresses_stay gateways (Appointed gateway ∷ log) = addresses_stay gateways log
 addresses_stay gateways (Ticked sendings ∷ log) = all_keep sendings (peers_of gateways log) ∙ addresses_stay gateways log
 addresses_stay gateways (Heard port gateway saying ∷ log) = addresses_stay gateways log
+addresses_stay gateways _ = anew gateways
 
 at_some : (from count place : ℕ) → place < count → slice_get (addresses_from from count) place ≡ Some (gateway_address (from + place))
 at_some from zero place lt = absurd (omega (arith, lt))

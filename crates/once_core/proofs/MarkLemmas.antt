@@ -3,7 +3,7 @@ use Rattle.std.proofs.Common.{◌≡◌, Bool, false, refl}
 use Rattle.gateway_book.specs.Answer.{Given, answer_by, node_of}
 use Rattle.gateway_book.specs.EachAnswer.{HoldsOfEach, of_path, of_request}
 use Rattle.gateway_book.specs.Marks.{is_mark}
-use Rattle.gateway_book.specs.Preparing.{PreparedValue, Drop, OtherVersion, Refused, Path, Request}
+use Rattle.gateway_book.specs.Preparing.{PreparedValue, Path, Request}
 use Rattle.gateway_book.specs.Recording.{IfRecords}
 use Rattle.gw_base.specs.Observed.{Observed}
 use Rattle.gw_base.specs.declared.address.Addr.{Addr}
@@ -23,8 +23,6 @@ none_marks from = record {
 }
 
 pub answers_no_mark : (o : Observed) (from : Addr) (datagram : PreparedValue) (may : HistoryAct → Bool) → NoMark (answer_by o from datagram may)
-answers_no_mark o from (Drop why) may = tt
-answers_no_mark o from (OtherVersion number) may = tt
-answers_no_mark o from (Refused cause number) may = tt
 answers_no_mark o from (Path event) may = of_path NoMark from (none_marks from) o may event
 answers_no_mark o from (Request number body) may = of_request NoMark from (none_marks from) o may (node_of from) number body
+answers_no_mark o from _ may = tt

@@ -1,7 +1,7 @@
 -- What the messages of a world say, and what they mean.
 use Rattle.std.proofs.Common.{◌≡◌, ℕ, ◌%◌, ◌≤◌, true, false, List, [], ◌∷◌, ◌++◌, length, Some, slice_get, refl, sym, ap, subst, ◌∙◌, arith, append-nil}
 use Rattle.gw_base.specs.declared.cause.TheConstants.{SYSTEM_FAILURE}
-use Rattle.gtpp_message.specs.Message.{MessageValue, TransferValue, EchoRequest, EchoResponse, VersionNotSupported, NodeAliveRequest, NodeAliveResponse, RedirectionRequest, RedirectionResponse, TransferRequest, TransferResponse, Send, Possible, Cancel, Release}
+use Rattle.gtpp_message.specs.Message.{MessageValue, TransferValue, EchoResponse, TransferRequest, TransferResponse, Cancel, Release}
 use Rattle.gtpp_message.specs.Reading.{Message, reading}
 use Rattle.gtpp_message.specs.Role.{for_role, role_reading}
 use Rattle.gtpp_message.specs.Writing.{IsSendableMessage, body_octets, message_type, written}
@@ -44,34 +44,22 @@ meaning_is back m number message w = ap (meaning_by (about m)) (read_of back m.o
 
 -- the request is about the copy that its sender meant
 abbrev pub IsAbout : sent.Message → TransferValue → Type 0
-IsAbout m (Send packet) = about m ≡ m.number
-IsAbout m (Possible packet) = about m ≡ m.number
 IsAbout m (Release numbers) = numbers ≡ about m % 65536 ∷ []
 IsAbout m (Cancel numbers) = numbers ≡ about m % 65536 ∷ []
+IsAbout m _ = about m ≡ m.number
 
 -- what a node says: its counter is the number of its starts, and a request bears the number that was meant
 abbrev pub FromNode : sent.Message → ℕ → MessageValue → Type 0
 FromNode m number (EchoResponse counter) = counter ≡ m.start
 FromNode m number (TransferRequest body) = (number ≡ m.number % 65536) × (sends_values body ≡ true) × IsAbout m body
 FromNode m number (TransferResponse cause responded) = ⊥
-FromNode m number EchoRequest = Unit {0}
-FromNode m number VersionNotSupported = Unit {0}
-FromNode m number (NodeAliveRequest address) = Unit {0}
-FromNode m number NodeAliveResponse = Unit {0}
-FromNode m number (RedirectionRequest cause to) = Unit {0}
-FromNode m number (RedirectionResponse cause) = Unit {0}
+FromNode m number _ = Unit {0}
 
 -- what a gateway says: a response is to the request with the number that was meant
 abbrev pub FromGateway : sent.Message → ℕ → MessageValue → Type 0
 FromGateway m number (TransferResponse cause responded) = (number ≡ m.number % 65536) × (responded ≡ m.number % 65536 ∷ [])
 FromGateway m number (TransferRequest body) = ⊥
-FromGateway m number EchoRequest = Unit {0}
-FromGateway m number (EchoResponse counter) = Unit {0}
-FromGateway m number VersionNotSupported = Unit {0}
-FromGateway m number (NodeAliveRequest address) = Unit {0}
-FromGateway m number NodeAliveResponse = Unit {0}
-FromGateway m number (RedirectionRequest cause to) = Unit {0}
-FromGateway m number (RedirectionResponse cause) = Unit {0}
+FromGateway m number _ = Unit {0}
 
 -- a message of a node, and one of a gateway
 pub record NodeSaid (m : sent.Message) : Type 0 where

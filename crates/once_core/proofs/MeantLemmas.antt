@@ -15,7 +15,7 @@ use Rattle.once_core.specs.Expired.{starts_in}
 use Rattle.once_core.specs.Followed.{packets_in}
 use Rattle.once_core.specs.Following.{AnyHasCopyAt, Follows, Knows, MaySend}
 use Rattle.once_core.specs.Growing.{IsBetween}
-use Rattle.once_core.specs.Happenings.{Answers, Asks, Deed, Else, Happening, Letter, Meaning, Orders, Sends, Tests}
+use Rattle.once_core.specs.Happenings.{Asks, Deed, Happening, Letter, Meaning, Orders, Sends, Tests}
 use Rattle.once_core.specs.Scenes.{scene_after}
 use Rattle.once_core.proofs.MoveLemmas.{holds_always}
 use Rattle.once_core.proofs.NearestLemmas.{AreNear, NearestIsTheOne, read_as_meant}
@@ -56,8 +56,7 @@ module _ (log : List LogEntry) (running : runs log ≡ true) where
       (may.0, record { at = copy_present letter.gateway letter.number may.1.at; plain = may.1.plain; packet = may.1.packet })
   may_present values letter (Asks Tests) may = (may.0, copy_present letter.gateway letter.number may.1)
   may_present values letter (Asks (Orders order named)) may = (may.0, may.1, record { at = copy_present letter.gateway named may.2.at; sent = may.2.sent })
-  may_present values letter (Answers cause) may = tt
-  may_present values letter Else may = tt
+  may_present values letter _ may = tt
 
 module _ (laws : Numbers) (setup : NodeSetup) (calls : List NodeCall) (some : 1 ≤ length setup.gateways) (running : runs (log_of setup calls) ≡ true) where
   follows_now : (node : ℕ) (values : ℕ → List ℕ) → Follows (deeds_of node values (log_of setup calls)) (starts_in (log_of setup calls)) values (reached setup calls).packets

@@ -12,7 +12,7 @@ use Rattle.gw_base.specs.declared.history.HistoryEntry.{HistoryEntry}
 use Rattle.gateway_book.specs.Answer.{Given}
 use Rattle.gateway_book.specs.Answered.{act_given, entry_by, with_act}
 use Rattle.node_core.specs.declared.copy.Order.TheVariants as order
-use Rattle.once_core.specs.Happenings.{Adds, Answers, Asks, Closes, Comes, Else, Firms, Happening, Hears, Keeps, Letter, Meaning, Note, Notes, Opens, Orders, Post, Request, Scene, Sends, Starts, Tests, Ticks, WaitingLetter, about, act_noted, cause_of, given, history, is_timely, reply}
+use Rattle.once_core.specs.Happenings.{Adds, Asks, Comes, Firms, Happening, Hears, Keeps, Letter, Meaning, Note, Notes, Opens, Orders, Post, Request, Scene, Sends, Starts, WaitingLetter, about, act_noted, cause_of, given, history, is_timely, reply}
 use Rattle.once_core.specs.Resting.{IsBorneOut, IsKnown, IsSent, PostHolds, Rests, RestsBy, SceneHolds, Tells, Waits}
 use Rattle.once_core.specs.Scenes.{Settled, after_coming, after_hearing, answering, at, coming, firming, happened, happened_all, is_answer, is_idle, is_request, keeping, nothing_yet, noting, noting_if, opening, scene_after, waiting_for, with_one}
 use Rattle.once_core.specs.Happenings as happens
@@ -36,8 +36,7 @@ record Moves (scene : Scene) (gateway : ℕ) (letters sends : List Letter) (post
 
 not_a_request : (deeds : ℕ → List happens.Deed) (l : Letter) (says : Meaning) → is_answer says ≡ true → IsSent deeds l says
 not_a_request deeds l (Asks request) e = absurd (false≢true e)
-not_a_request deeds l (Answers cause) e = tt
-not_a_request deeds l Else e = tt
+not_a_request deeds l _ e = tt
 
 moved : (scene : Scene) (gateway : ℕ) (letters sends : List Letter) (post : Post) → SceneHolds scene → Moves scene gateway letters sends post
     → SceneHolds (record scene { posts = at gateway post scene.posts; letters = letters })
@@ -152,11 +151,9 @@ none_left (x ∷ xs) le = absurd (omega (arith, le))
 
 -- the answer to where a message came from speaks of the same number
 tells_reply : (h : List HistoryEntry) (letter : Letter) (answer : Given) (request : Request) (cause : ℕ) → Tells h letter request cause → Tells h (reply letter answer) request cause
-tells_reply h letter answer (Sends true packet) cause told = told
 tells_reply h letter answer (Sends false packet) cause told = tt
-tells_reply h letter answer Tests cause told = told
-tells_reply h letter answer (Orders order.Release named) cause told = told
 tells_reply h letter answer (Orders order.Cancel named) cause told = tt
+tells_reply h letter answer _ cause told = told
 
 -- an answer waits or is sent
 waited : (scene : Scene) (l : Letter) (post : Post) → SceneHolds scene → PostHolds scene.letters l.gateway post → (more : List HistoryEntry)
@@ -278,8 +275,7 @@ came scene letter request may now who holds kept says = by (is_timely (history p
 
 note_rests : (letters : List Letter) (gateway : ℕ) (h : List HistoryEntry) (note : Note) → RestsBy letters gateway h (act_noted note)
 note_rests letters gateway h Starts = tt
-note_rests letters gateway h Ticks = tt
-note_rests letters gateway h Closes = tt
+note_rests letters gateway h _ = tt
 
 opened : (scene : Scene) (gateway : ℕ) (node : NodeId) (port counter now : ℕ) (who : Caller) (b : Bool)
     → nat_lt (start_of node.0 (history (scene.posts gateway))) counter ≡ b → SceneHolds scene
@@ -295,8 +291,7 @@ opened scene gateway node port counter now who true e holds =
 coming_on : (scene : Scene) (letter : Letter) (says : Meaning) (may : HistoryAct → Bool) (now : ℕ) (who : Caller) → letter.says ≡ says → Contains scene.letters letter
     → SceneHolds scene → SceneHolds (after_coming may now who letter says scene)
 coming_on scene letter (Asks request) may now who says kept holds = came scene letter request may now who holds kept says
-coming_on scene letter (Answers cause) may now who says kept holds = holds
-coming_on scene letter Else may now who says kept holds = holds
+coming_on scene letter _ may now who says kept holds = holds
 
 one_on : (scene : Scene) (there : Option Letter) (f : Letter → Scene → Scene) → ((letter : Letter) → there ≡ Some letter → SceneHolds (f letter scene)) → SceneHolds scene
     → SceneHolds (with_one there f scene)

@@ -5,7 +5,7 @@ use Rattle.std.proofs.lemmas.List.Elements.{All-contains}
 use Rattle.std.specs.Option.{option_map_or}
 use Rattle.gw_base.specs.declared.address.Addr.{Addr}
 use Rattle.node_core.specs.Choosing.{ReleasesChoice}
-use Rattle.node_core.specs.Log.{LogEntry, Began, Halted, Submitted, Appointed, Ticked, Heard, NodeSetup, packets_of, peers_of}
+use Rattle.node_core.specs.Log.{LogEntry, Submitted, Appointed, Ticked, Heard, NodeSetup, packets_of, peers_of}
 use Rattle.node_core.specs.Packets.{PacketState}
 use Rattle.node_core.specs.Peers.{all_drawn, at_place, drawn, end_of_numbers, next_number, number_drawn, peer_anew}
 use Rattle.node_core.specs.Reached.{NodeCall, log_of, reached}
@@ -50,13 +50,11 @@ as_many_anew [] = refl
 as_many_anew (gateway ∷ gateways) = let rest = as_many_anew gateways in omega (arith, rest)
 
 as_many : (gateways : List Addr) (log : List LogEntry) → length (peers_of gateways log) ≡ length gateways
-as_many gateways [] = as_many_anew gateways
-as_many gateways (Began ∷ log) = as_many_anew gateways
-as_many gateways (Halted ∷ log) = as_many_anew gateways
 as_many gateways (Submitted form ∷ log) = as_many gateways log
 as_many gateways (Appointed gateway ∷ log) = as_many gateways log
 as_many gateways (Ticked sendings ∷ log) = all_drawn_keeps sendings (peers_of gateways log) ∙ as_many gateways log
 as_many gateways (Heard port gateway saying ∷ log) = as_many gateways log
+as_many gateways _ = as_many_anew gateways
 
 -- ---- no number of another gateway is used
 

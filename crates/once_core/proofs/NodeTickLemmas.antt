@@ -1,5 +1,5 @@
 -- The messages of a tick go to the gateways of the world.
-use Rattle.std.proofs.Common.{◌≡◌, ℕ, zero, suc, ◌+◌, ◌<◌, ◌≤◌, ◌%◌, true, List, [], ◌∷◌, map, Option, Some, None, refl, ap, sym, ◌∙◌, subst, arith}
+use Rattle.std.proofs.Common.{◌≡◌, ℕ, zero, suc, ◌+◌, ◌<◌, ◌≤◌, true, List, [], ◌∷◌, map, Option, Some, None, refl, ap, sym, ◌∙◌, subst, arith}
 use Rattle.std.proofs.lemmas.Option.{slice_get-map}
 use Rattle.std.specs.Option.{option_map, option_map_or}
 use Rattle.std.specs.Prelude.{slice_get}
@@ -14,6 +14,7 @@ use Rattle.node_core.specs.declared.sending.Sending.{Sending}
 use Rattle.node_core.specs.declared.sending.Sending.TheVariants as send
 use Rattle.once_core.proofs.LogLemmas.{addresses, addresses_stay}
 use Rattle.once_core.proofs.NodeCallLemmas.{CallsKept, NodeLaw, kept_called, plain_tick}
+use Rattle.once_core.proofs.RedirectLemmas.{same_byte}
 use Rattle.once_core.specs.Addresses.{addresses_from, gateway_at}
 use Rattle.once_core.specs.Expired.{starts_in}
 use Rattle.once_core.specs.NodeMoves.{due_messages, message_kept, with_entries}
@@ -50,14 +51,11 @@ near gateways k log few =
     ∙ ap (λ (all : List Addr). or_nowhere (slice_get all k)) (addresses_stay (addresses_from 0 gateways) log) in
     subst (λ (a : Addr). gateway_at a < 256) (sym is) (near_from 0 gateways k (omega (arith, few)))
 
-small_mod : (n : ℕ) → n < 256 → n % 256 ≡ n
-small_mod n small = omega (arith, small)
-
 module _ (law : NodeLaw) (gateways place : ℕ) (few : gateways ≤ 256) where
   same_message : (log : List LogEntry) (s : Sending) → message_kept place (starts_in log) (outgoing (node_value gateways place log) s) ≡ message_of place log (outgoing (node_value gateways place log) s)
   same_message log s =
       ap (λ (g : ℕ). record (message_of place log (outgoing (node_value gateways place log) s)) { gateway = g })
-      (small_mod (gateway_at (outgoing (node_value gateways place log) s).to) (near gateways (gateway_of s) log few))
+      (same_byte (gateway_at (outgoing (node_value gateways place log) s).to) (near gateways (gateway_of s) log few))
 
   same_messages : (log : List LogEntry) (ss : List Sending) → map (message_kept place (starts_in log)) (map (outgoing (node_value gateways place log)) ss)
       ≡ map (λ s. message_of place log (outgoing (node_value gateways place log) s)) ss

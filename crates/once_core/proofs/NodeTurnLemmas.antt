@@ -67,13 +67,10 @@ abbrev form_with : ℕ → ℕ → List (List ℕ) → PacketForm
 form_with format version records = record { format = format; version = version; records = records }
 
 none_of_empty : (octets : List ℕ) → is_empty_packet octets ≡ true → packet_of octets ≡ None
-none_of_empty [] is = refl
-none_of_empty (a ∷ []) is = refl
-none_of_empty (a ∷ b ∷ []) is = refl
-none_of_empty (a ∷ b ∷ c ∷ []) is = refl
 none_of_empty (a ∷ b ∷ c ∷ d ∷ []) is =
     ap (λ (t : Bool). if t then None else option_map (form_with b (two_octets c d)) (records_at a [])) is
 none_of_empty (a ∷ b ∷ c ∷ d ∷ e ∷ octets) is = absurd (true≢false (sym is))
+none_of_empty _ is = refl
 
 pub draft_reading : (octets : List ℕ) → option_and_then draft_of_packet (packet_reading octets) ≡ draft_of octets
 draft_reading octets = by_test (is_empty_packet octets) refl

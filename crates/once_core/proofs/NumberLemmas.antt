@@ -5,7 +5,7 @@ use Rattle.std.proofs.lemmas.Bool.{eqb-true}
 use Rattle.std.proofs.lemmas.List.Elements.{Contains-append_cases}
 use Rattle.gtpp_message.specs.Packet.{PacketForm}
 use Rattle.node_core.specs.Drafts.{value_octets}
-use Rattle.node_core.specs.Log.{LogEntry, Began, Halted, Submitted, Appointed, Ticked, Heard, Saying, Path, Redirects, Responds, Other, forms_of, packets_hearing, packets_of, runs, submitted}
+use Rattle.node_core.specs.Log.{LogEntry, Began, Halted, Submitted, Appointed, Ticked, Heard, Saying, Responds, forms_of, packets_hearing, packets_of, runs, submitted}
 use Rattle.node_core.specs.Packets.{PacketState, copies_after, is_done, is_of, packet_after, packet_after_all, packet_hearing, while_open}
 use Rattle.node_core.specs.Value.{logged}
 use Rattle.node_core.specs.declared.port.Port.{Port}
@@ -120,16 +120,12 @@ began log is =
     omega (arith, count, size)
 
 heard : (port : Port) (gateway : ℕ) (saying : Saying) (log : List LogEntry) (n : ℕ) → Numbered n (packets_of log) (forms_of log) → Numbered n (packets_hearing port gateway saying (packets_of log)) (forms_of log)
-heard port gateway (Path event) log n is = is
-heard port gateway (Redirects to) log n is = is
 heard port gateway (Responds cause numbers) log n is =
     numbered_map (while_open (packet_hearing port gateway cause numbers)) (open_keeps (packet_hearing port gateway cause numbers) (λ p. refl)) n (packets_of log) (forms_of log) is
-heard port gateway Other log n is = is
+heard port gateway _ log n is = is
 
 pub ever : (log : List LogEntry) → Ever log
 ever [] = record { before = []; is = refl; numbered = tt; count = refl }
-ever (Began ∷ log) = record { before = forms_ever log; is = sym (append-nil (forms_ever log)); numbered = tt; count = began log (ever log) }
-ever (Halted ∷ log) = record { before = forms_ever log; is = sym (append-nil (forms_ever log)); numbered = tt; count = began log (ever log) }
 ever (Submitted form ∷ log) =
     let rest = ever log in
     let count = rest.count in
@@ -151,6 +147,7 @@ ever (Ticked sendings ∷ log) =
 ever (Heard port gateway saying ∷ log) =
     let rest = ever log in
     record { before = rest.before; is = rest.is; numbered = heard port gateway saying log (length rest.before) rest.numbered; count = rest.count }
+ever (_ ∷ log) = record { before = forms_ever log; is = sym (append-nil (forms_ever log)); numbered = tt; count = began log (ever log) }
 
 -- what a packet sends stands among all that was ever submitted
 module _ (log : List LogEntry) where
@@ -236,12 +233,8 @@ present_packet log packet running is =
 -- ---- what was submitted stays
 
 forms_more : (entry : LogEntry) (log : List LogEntry) → GrowsTo (forms_ever log) (forms_ever (entry ∷ log))
-forms_more Began log = on (forms_ever log)
-forms_more Halted log = on (forms_ever log)
 forms_more (Submitted form) log = on_with (forms_ever log) (form ∷ [])
-forms_more (Appointed gateway) log = on (forms_ever log)
-forms_more (Ticked sendings) log = on (forms_ever log)
-forms_more (Heard port gateway saying) log = on (forms_ever log)
+forms_more _ log = on (forms_ever log)
 
 pub forms_grow : (entries log : List LogEntry) → GrowsTo (forms_ever log) (forms_ever (logged entries log))
 forms_grow [] log = on (forms_ever log)

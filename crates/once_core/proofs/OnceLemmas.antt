@@ -124,10 +124,7 @@ module _ (scene : Scene) (holds : SceneHolds scene) (node start : ℕ) (values :
 
       by_state : (epoch : ℕ) → epoch_with node start (firm_of copy.gateway) ≡ Some epoch → (s : KeyState) → key_state epoch ≡ s
           → Counted scene.letters copy.gateway (key_in node copy.number epoch) index (firm_of copy.gateway) s → Stands packet copy index
-      by_state epoch begun state.Fresh e so_far = inl (placed_at epoch begun ∙ so_far)
-      by_state epoch begun state.Sealed e so_far = inl (placed_at epoch begun ∙ so_far)
       by_state epoch begun state.Held e so_far = inl (placed_at epoch begun ∙ so_far.1)
-      by_state epoch begun state.Cancelled e so_far = inl (placed_at epoch begun ∙ so_far)
       by_state epoch begun state.Filed e so_far =
           let copy_is = sent_copy packet copy true so_far.0 is (asked_here copy.gateway copy.number epoch (Sends true so_far.0) copy.number begun so_far.2) in
           inr (inl (record {
@@ -142,6 +139,7 @@ module _ (scene : Scene) (holds : SceneHolds scene) (node start : ℕ) (values :
             state_is = record { epoch = epoch; begun = begun; state_is = e };
             count = placed_at epoch begun ∙ so_far.1 ∙ ap (within index) (sym copy_is.1);
           }))
+      by_state epoch begun _ e so_far = inl (placed_at epoch begun ∙ so_far)
 
       by : (there : Option ℕ) → epoch_with node start (firm_of copy.gateway) ≡ there → Stands packet copy index
       by None none = inl (ap (λ (o : Option ℕ). option_map_or (λ e. times_filed (key_in node copy.number e) index (filed (firm_of copy.gateway))) o 0) none)
@@ -268,10 +266,8 @@ module _ (scene : Scene) (holds : SceneHolds scene) (node start : ℕ) (values :
       omega (arith, has, most, one)
 
   filed_verdict : (v : Verdict) → is_filed v ≡ true → v ≡ verdict.Filed
-  filed_verdict verdict.Unknown e = absurd (false≢true e)
   filed_verdict verdict.Filed e = refl
-  filed_verdict verdict.Sealed e = absurd (false≢true e)
-  filed_verdict verdict.Held e = absurd (false≢true e)
+  filed_verdict _ e = absurd (false≢true e)
 
   any_released : (copies : List PacketCopy) → list_any is_released copies ≡ true → (copy : PacketCopy) × Contains copies copy × (is_released copy ≡ true)
   any_released [] e = absurd (false≢true e)

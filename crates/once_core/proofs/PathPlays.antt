@@ -10,7 +10,7 @@ use Rattle.gw_base.specs.declared.history.HistoryAct.{HistoryAct}
 use Rattle.gw_base.specs.declared.history.HistoryAct.TheVariants as act
 use Rattle.gw_base.specs.declared.history.HistoryEntry.{HistoryEntry}
 use Rattle.gw_base.specs.declared.history.Opening.{Opening}
-use Rattle.gtpp_message.specs.Message.{MessageValue, EchoRequest, EchoResponse, VersionNotSupported, NodeAliveRequest, NodeAliveResponse, RedirectionRequest, RedirectionResponse, TransferRequest, TransferResponse}
+use Rattle.gtpp_message.specs.Message.{MessageValue, EchoRequest, EchoResponse, NodeAliveRequest, NodeAliveResponse, TransferRequest, TransferResponse}
 use Rattle.gtpp_message.specs.PathMessages.{path_message, path_number}
 use Rattle.gtpp_message.specs.Reading.{Message}
 use Rattle.gtpp_message.specs.Role.{for_role}
@@ -45,9 +45,7 @@ use Rattle.once_core.proofs.StopLemmas.{history_is}
 
 path_short : (event : PathEvent) → length (body_octets (path_message event None)) ≤ 65535
 path_short (EchoAsked number) = omega arith
-path_short (EchoTold number counter) = omega arith
-path_short (AliveAsked number) = omega arith
-path_short (AliveTold number) = omega arith
+path_short _ = omega arith
 
 path_written : (number : ℕ) (event : PathEvent) → IsWritten (written number (path_message event None)) number (path_message event None)
 path_written number (EchoAsked n) = record { is = refl; sendable = tt; short = path_short (EchoAsked n) }
@@ -57,9 +55,7 @@ path_written number (AliveTold n) = record { is = refl; sendable = tt; short = p
 
 path_fits : (m : world.Message) (number : ℕ) (event : PathEvent) → FromGateway m number (path_message event None)
 path_fits m number (EchoAsked n) = tt
-path_fits m number (EchoTold n counter) = tt
-path_fits m number (AliveAsked n) = tt
-path_fits m number (AliveTold n) = tt
+path_fits m number _ = tt
 
 path_said : (m : world.Message) (number : ℕ) (event : PathEvent) → GatewaySaid (answering m (written number (path_message event None)))
 path_said m number event = record {
@@ -106,13 +102,7 @@ rises (Some o) counter path some low e = by (o.counter == counter) refl e
 abbrev pub Other : MessageValue → Type 0
 Other (TransferRequest body) = ⊥
 Other (TransferResponse cause responded) = ⊥
-Other EchoRequest = Unit {0}
-Other (EchoResponse counter) = Unit {0}
-Other VersionNotSupported = Unit {0}
-Other (NodeAliveRequest address) = Unit {0}
-Other NodeAliveResponse = Unit {0}
-Other (RedirectionRequest cause to) = Unit {0}
-Other (RedirectionResponse cause) = Unit {0}
+Other _ = Unit {0}
 
 module _ (back : ReadsBack) (roles : RolesRead) (rules : Rules) (now : ℕ) (m : world.Message) (g : Gateway) (scene : Scene) (stands : Stands m.gateway scene g)
     (sound : g.book.is_broken ≡ false) (to : m.to_gateway ≡ true) where
@@ -174,13 +164,10 @@ module _ (back : ReadsBack) (roles : RolesRead) (rules : Rules) (now : ℕ) (m :
     message_plays path EchoRequest fits other = event_plays (EchoAsked path) (λ number counter e. absurd (cc))
     message_plays path (EchoResponse counter) fits other = event_plays (EchoTold path counter)
         (λ number told e. ap (λ (v : PathEvent). elim v [ EchoAsked n ↦ 0 | EchoTold n c ↦ c | AliveAsked n ↦ 0 | AliveTold n ↦ 0 ]) (sym e) ∙ fits)
-    message_plays path VersionNotSupported fits other = still_plays m.gateway scene g stands
     message_plays path (NodeAliveRequest address) fits other = event_plays (AliveAsked path) (λ number counter e. absurd (cc))
-    message_plays path NodeAliveResponse fits other = still_plays m.gateway scene g stands
-    message_plays path (RedirectionRequest cause to) fits other = still_plays m.gateway scene g stands
-    message_plays path (RedirectionResponse cause) fits other = still_plays m.gateway scene g stands
     message_plays path (TransferRequest body) fits other = absurd other
     message_plays path (TransferResponse cause responded) fits other = absurd other
+    message_plays path _ fits other = still_plays m.gateway scene g stands
 
     pub other_plays : (path : ℕ) (message : MessageValue) → IsWritten m.octets path message → FromNode m path message → Other message → Plays m.gateway scene (answered rules now m g)
     other_plays path message w fits other =

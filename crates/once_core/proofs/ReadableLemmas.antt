@@ -57,8 +57,6 @@ below_drop (suc n) (x ∷ xs) small = below_drop n xs small.1
 
 first_short : (octets : List ℕ) (parts : List ℕ × List ℕ) → AreBelow 256 octets → packets.record_at octets ≡ Some parts
     → IsShort parts.0 × AreBelow 256 parts.1
-first_short [] parts small e = absurd (cc)
-first_short (x ∷ []) parts small e = absurd (cc)
 first_short (high ∷ low ∷ rest) parts small e = by (nat_lt (length rest) (two_octets high low)) e
   where
     by : (b : Bool) → (if b then None else Some (take (two_octets high low) rest, drop (two_octets high low) rest)) ≡ Some parts
@@ -70,6 +68,7 @@ first_short (high ∷ low ∷ rest) parts small e = by (nat_lt (length rest) (tw
         let low_is : low < 256 = small.1.0 in
         subst (λ (p : List ℕ × List ℕ). IsShort p.0 × AreBelow 256 p.1) same
         (omega (arith, length-take (two_octets high low) rest), below_drop (two_octets high low) rest small.1.1)
+first_short _ parts small e = absurd (cc)
 
 records_short : (count : ℕ) (octets : List ℕ) (records : List (List ℕ)) → AreBelow 256 octets
     → records_at count octets ≡ Some records → All IsShort records
@@ -99,10 +98,6 @@ records_short (suc count) octets records small e =
 
 form_short : (packet : List ℕ) (form : PacketForm) → AreBelow 256 packet → packet_of packet ≡ Some form
     → All IsShort form.records
-form_short [] form small e = absurd (cc)
-form_short (a ∷ []) form small e = absurd (cc)
-form_short (a ∷ b ∷ []) form small e = absurd (cc)
-form_short (a ∷ b ∷ c ∷ []) form small e = absurd (cc)
 form_short (count ∷ format ∷ high ∷ low ∷ octets) form small e = by_count (count == 0) e
   where
     by_records : (o : Option (List (List ℕ))) → records_at count octets ≡ o
@@ -118,13 +113,13 @@ form_short (count ∷ format ∷ high ∷ low ∷ octets) form small e = by_coun
         → All IsShort form.records
     by_count true e = absurd (cc)
     by_count false e = by_records (records_at count octets) refl e
+form_short _ form small e = absurd (cc)
 
 -- ---- what is filed
 
 abbrev IsTimely : Item → Type 0
 IsTimely (item.Part kind tag octets moment) = moment ≤ 4102444799
-IsTimely (item.Tick moment) = Unit {0}
-IsTimely (item.Close moment) = Unit {0}
+IsTimely _ = Unit {0}
 
 abbrev IsSound : Item → Type 0
 IsSound i = IsFit i × IsTimely i
@@ -178,15 +173,8 @@ last_holds {A} P o (y ∷ xs) first all x e =
     last_holds P (Some y) xs (λ z same. let is : y ≡ z = cc in subst P is (All-head P y xs all)) (All-tail P y xs all) x e
 
 hold_small : (a : HistoryAct) (packet : List ℕ) → IsAct a → packet_of_hold a ≡ Some packet → AreBelow 256 packet
-hold_small act.Start packet is e = absurd (cc)
-hold_small (act.Path n port counter) packet is e = absurd (cc)
-hold_small (act.File n x held) packet is e = absurd (cc)
 hold_small (act.Hold n x held) packet is e = let same : held ≡ packet = cc in subst (AreBelow 256) same is.2
-hold_small (act.Seal n x) packet is e = absurd (cc)
-hold_small (act.Release n xs) packet is e = absurd (cc)
-hold_small (act.Cancel n xs) packet is e = absurd (cc)
-hold_small act.Tick packet is e = absurd (cc)
-hold_small act.Close packet is e = absurd (cc)
+hold_small _ packet is e = absurd (cc)
 
 held_small : (node number : ℕ) (h : List HistoryEntry) (packet : List ℕ) → All HasSpelling h
     → held_packet node number h ≡ Some packet → AreBelow 256 packet
@@ -223,15 +211,11 @@ released_sound before moment n (x ∷ numbers) timely all =
 
 act_sound : (before : List HistoryEntry) (moment : ℕ) (a : HistoryAct) → moment ≤ 4102444799 → IsAct a
     → All HasSpelling before → All IsSound (items_by_act before moment a)
-act_sound before moment act.Start timely is all = All-nil IsSound
-act_sound before moment (act.Path n port counter) timely is all = All-nil IsSound
 act_sound before moment (act.File n x packet) timely is all = under_sound (present_key before n x) moment packet timely is.2
-act_sound before moment (act.Hold n x packet) timely is all = All-nil IsSound
-act_sound before moment (act.Seal n x) timely is all = All-nil IsSound
 act_sound before moment (act.Release n xs) timely is all = released_sound before moment n (once (λ x y. x == y) xs) timely all
-act_sound before moment (act.Cancel n xs) timely is all = All-nil IsSound
 act_sound before moment act.Tick timely is all = All-cons IsSound (item.Tick moment) [] (tt, tt) (All-nil IsSound)
 act_sound before moment act.Close timely is all = All-cons IsSound (item.Close moment) [] (tt, tt) (All-nil IsSound)
+act_sound before moment _ timely is all = All-nil IsSound
 
 items_sound : (before h : List HistoryEntry) → All HasSpelling before → All HasSpelling h → All IsSound (along items_by before h)
 items_sound before [] front all = All-nil IsSound
@@ -298,8 +282,7 @@ few_of_item profile rules s (item.Part kind tag octets moment) = by (stream_of r
     by : (b : Bool) → length (record_if b (stream_record profile kind octets moment)) ≤ 1
     by true = omega arith
     by false = omega arith
-few_of_item profile rules s (item.Tick moment) = omega arith
-few_of_item profile rules s (item.Close moment) = omega arith
+few_of_item profile rules s _ = omega arith
 
 few_of_stream : (profile : ℕ) (rules : List Rule) (s : ℕ) (items : List Item)
     → length (stream_items profile rules s items) ≤ length items
@@ -325,8 +308,7 @@ ReadsThere = (settings : Settings) (items : List Item) (place : FilePlace) (file
 
 stamped : StampsFit → (file : FileSettings) → IsWithin 959 file.offset → (i : Item) → IsSound i → IsStamped file i
 stamped fits file within (item.Part kind tag octets moment) is = fits moment file.offset is.1 within
-stamped fits file within (item.Tick moment) is = tt
-stamped fits file within (item.Close moment) is = tt
+stamped fits file within _ is = tt
 
 pub read_there : StampsFit → ReadsThere → (settings : Settings) (h : List HistoryEntry) (place : FilePlace)
     (filed : Filed (List ℕ)) → All HasSpelling h → (size : ℕ) → length (items_of h) ≤ capacity_of size

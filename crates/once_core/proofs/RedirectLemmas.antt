@@ -20,7 +20,7 @@ use Rattle.once_core.specs.HistoryKept.{AllKept}
 use Rattle.once_core.specs.Redirecting.{redirecting_one, redirection}
 use Rattle.once_core.specs.declared.message.Message.{Message}
 
-same_byte : (n : ℕ) → n < 256 → n % 256 ≡ n
+pub same_byte : (n : ℕ) → n < 256 → n % 256 ≡ n
 same_byte n small = omega (arith, small)
 
 same_word : (n : ℕ) → n < 65536 → n % 65536 ≡ n

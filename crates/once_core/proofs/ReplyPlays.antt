@@ -5,7 +5,7 @@ use Rattle.std.proofs.lemmas.List.Elements.{Contains-append_right, Contains-push
 use Rattle.gw_base.specs.declared.history.HistoryAct.{HistoryAct}
 use Rattle.gw_base.specs.declared.history.HistoryEntry.{HistoryEntry}
 use Rattle.gateway_book.specs.Answered.{entry_by, no_caller}
-use Rattle.gateway_book.specs.Value.{history_of, recorded}
+use Rattle.gateway_book.specs.Value.{recorded}
 use Rattle.once_core.specs.Answers as world
 use Rattle.once_core.specs.Answers.{replying}
 use Rattle.once_core.specs.Gateway.{Gateway, is_reached, still}

@@ -79,9 +79,7 @@ tabled_responds may number cause (Some a) = by (may a)
 
 asked_responds : (o : Observed) (may : HistoryAct → Bool) (node : NodeId) (number : ℕ) (body : TransferValue) → IsResponse number (asked_by o may node number body)
 asked_responds o may node number (Send packet) = tabled_responds may number _ _
-asked_responds o may node number (Possible packet) = tabled_responds may number _ _
-asked_responds o may node number (Release numbers) = tabled_responds may number _ _
-asked_responds o may node number (Cancel numbers) = tabled_responds may number _ _
+asked_responds o may node number _ = tabled_responds may number _ _
 
 -- ---- a request that isn't expired is timely
 

@@ -28,13 +28,11 @@ answer_on : (letters more : List Letter) → Grows letters more → (h : List Hi
 answer_on letters more grows h letter cause is = record { request = is.request; asked = grows (record letter { says = Asks is.request }) is.asked; tells = is.tells; known = is.known }
 
 pub told_on : (letters more : List Letter) → Grows letters more → (h : List HistoryEntry) (letter : Letter) (says : Meaning) → IsBorneOut letters h letter says → IsBorneOut more h letter says
-told_on letters more grows h letter (Asks request) told = tt
 told_on letters more grows h letter (Answers cause) told = λ telling. answer_on letters more grows h letter cause (told telling)
-told_on letters more grows h letter Else told = tt
+told_on letters more grows h letter _ told = tt
 
 pub told_later : (letters : List Letter) (gateway : ℕ) (h g : List HistoryEntry) (letter : Letter) (says : Meaning) → Rests letters gateway (h ++ g)
     → IsBorneOut letters h letter says → IsBorneOut letters (h ++ g) letter says
-told_later letters gateway h g letter (Asks request) rests told = tt
 told_later letters gateway h g letter (Answers cause) rests told = λ telling.
     let is = told telling in
     record {
@@ -43,7 +41,7 @@ told_later letters gateway h g letter (Answers cause) rests told = λ telling.
       tells = tells_on letters gateway h g letter is.request cause rests is.tells;
       known = known_on h g letter.node letter.start (about is.request letter.number) is.known;
     }
-told_later letters gateway h g letter Else rests told = tt
+told_later letters gateway h g letter _ rests told = tt
 
 pub waits_on : (letters more : List Letter) → Grows letters more → (gateway : ℕ) (h : List HistoryEntry) (letter : Letter) → Waits letters gateway h letter → Waits more gateway h letter
 waits_on letters more grows gateway h letter is =
@@ -89,8 +87,7 @@ deeds_back deeds node deed other any is = by (other == node) refl is
 
 sent_on : (deeds : ℕ → List Deed) (node : ℕ) (deed : Deed) (letter : Letter) (says : Meaning) → IsSent deeds letter says → IsSent (at node (deeds node ++ deed ∷ []) deeds) letter says
 sent_on deeds node deed letter (Asks request) is = deeds_on deeds node deed letter.node (Sent letter) is
-sent_on deeds node deed letter (Answers cause) is = tt
-sent_on deeds node deed letter Else is = tt
+sent_on deeds node deed letter _ is = tt
 
 pub sending : (scene : Scene) (letter : Letter) (is : Bool) → is_request letter.says ≡ is → SceneHolds scene → SceneHolds (after_sending is letter scene)
 sending scene letter false isnt holds = holds
@@ -115,8 +112,7 @@ sending scene letter true is holds = record {
     sent_new : (says : Meaning) → IsSent (at letter.node (scene.deeds letter.node ++ Sent letter ∷ []) scene.deeds) letter says
     sent_new (Asks request) =
         subst (λ ds. Contains ds (Sent letter)) (sym (at_same letter.node (scene.deeds letter.node ++ Sent letter ∷ []) scene.deeds)) (Contains-push (scene.deeds letter.node) (Sent letter))
-    sent_new (Answers cause) = tt
-    sent_new Else = tt
+    sent_new _ = tt
 
     apart : (l : Letter) → Sent letter ≡ Heard l → ⊥
     apart l e = absurd (cc)
@@ -137,8 +133,7 @@ adding scene letter true is holds = record {
 
     not_asked : (says : Meaning) → is_idle says ≡ true → IsSent scene.deeds letter says
     not_asked (Asks request) e = absurd (false≢true e)
-    not_asked (Answers cause) e = tt
-    not_asked Else e = tt
+    not_asked _ e = tt
 
 pub hearing : (scene : Scene) (letter : Letter) (is : Bool) → Contains scene.letters letter → SceneHolds scene → SceneHolds (after_hearing is letter scene)
 hearing scene letter false kept holds = holds

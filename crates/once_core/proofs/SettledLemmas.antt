@@ -1,5 +1,5 @@
 -- The numbers of all copies of a packet that is done are known to their gateways.
-use Rattle.std.proofs.Common.{◌≡◌, ◌⊎◌, ⊎_elim, ℕ, ◌==◌, ◌||◌, Bool, true, false, if◌then◌else◌, List, [], ◌∷◌, Option, Some, None, IfSome, Contains, refl, sym, ap, subst, ◌∙◌}
+use Rattle.std.proofs.Common.{◌≡◌, ⊎_elim, ℕ, ◌==◌, ◌||◌, Bool, true, false, if◌then◌else◌, List, [], ◌∷◌, Option, Some, None, IfSome, Contains, refl, sym, ap, subst, ◌∙◌}
 use Rattle.std.specs.List.{list_all, list_any}
 use Rattle.std.specs.Option.{option_map_or}
 use Rattle.std.proofs.lemmas.Bool.{and_parts, false≢true, or_cases}
@@ -70,15 +70,11 @@ told_telling Second false cause e = by (cause == DUPLICATE_ALREADY_FULFILLED) (c
 
 sealed_is_known : (v : Verdict) → is_sealed v ≡ true → is_unknown v ≡ false
 sealed_is_known verdict.Unknown e = absurd (false≢true e)
-sealed_is_known verdict.Filed e = refl
-sealed_is_known verdict.Sealed e = refl
-sealed_is_known verdict.Held e = refl
+sealed_is_known _ e = refl
 
 filed_is_known : (v : Verdict) → is_filed v ≡ true → is_unknown v ≡ false
 filed_is_known verdict.Unknown e = absurd (false≢true e)
-filed_is_known verdict.Filed e = refl
-filed_is_known verdict.Sealed e = refl
-filed_is_known verdict.Held e = refl
+filed_is_known _ e = refl
 
 module _ (scene : Scene) (holds : SceneHolds scene) (node start : ℕ) (values : ℕ → List ℕ) (packets : List PacketState) (follows : Follows (scene.deeds node) start values packets) where
   abbrev Known : PacketCopy → Type 0

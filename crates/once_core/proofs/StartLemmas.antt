@@ -43,25 +43,11 @@ start_rises ip h g all =
 -- an act that begins no epoch
 abbrev pub IsNoPath : HistoryAct → Type 0
 IsNoPath (act.Path n port counter) = ⊥
-IsNoPath act.Start = Unit {0}
-IsNoPath (act.File n x packet) = Unit {0}
-IsNoPath (act.Hold n x packet) = Unit {0}
-IsNoPath (act.Seal n x) = Unit {0}
-IsNoPath (act.Release n xs) = Unit {0}
-IsNoPath (act.Cancel n xs) = Unit {0}
-IsNoPath act.Tick = Unit {0}
-IsNoPath act.Close = Unit {0}
+IsNoPath _ = Unit {0}
 
 pub no_path_rises : (h : List HistoryEntry) (a : HistoryAct) → IsNoPath a → RisesBy h a
 no_path_rises h (act.Path n port counter) isnt = absurd isnt
-no_path_rises h act.Start isnt = tt
-no_path_rises h (act.File n x packet) isnt = tt
-no_path_rises h (act.Hold n x packet) isnt = tt
-no_path_rises h (act.Seal n x) isnt = tt
-no_path_rises h (act.Release n xs) isnt = tt
-no_path_rises h (act.Cancel n xs) isnt = tt
-no_path_rises h act.Tick isnt = tt
-no_path_rises h act.Close isnt = tt
+no_path_rises h _ isnt = tt
 
 pub no_path_same : (ip : ℕ) (h : List HistoryEntry) (e : HistoryEntry) → IsNoPath e.act → start_of ip (h ++ e ∷ []) ≡ start_of ip h
 no_path_same ip h e isnt = ap start_by (opening_of-append ip h e) ∙ by e.act isnt

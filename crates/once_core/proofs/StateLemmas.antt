@@ -9,49 +9,29 @@ use Rattle.once_core.specs.Admitted.{moves_on}
 
 pub stays : (s : KeyState) → moves_on s s ≡ true
 stays Fresh = refl
-stays Filed = refl
-stays Sealed = refl
-stays Held = refl
-stays Released = refl
-stays Cancelled = refl
+stays _ = refl
 
 pub fresh_moves : (s t : KeyState) → is_fresh s ≡ true → moves_on s t ≡ true
 fresh_moves Fresh Fresh e = refl
-fresh_moves Fresh Filed e = refl
-fresh_moves Fresh Sealed e = refl
-fresh_moves Fresh Held e = refl
-fresh_moves Fresh Released e = refl
-fresh_moves Fresh Cancelled e = refl
 fresh_moves Filed t e = absurd (false≢true e)
 fresh_moves Sealed t e = absurd (false≢true e)
 fresh_moves Held t e = absurd (false≢true e)
 fresh_moves Released t e = absurd (false≢true e)
 fresh_moves Cancelled t e = absurd (false≢true e)
+fresh_moves Fresh _ e = refl
 
 pub held_is_released : (s : KeyState) → is_held s ≡ true → moves_on s Released ≡ true
-held_is_released Fresh e = absurd (false≢true e)
-held_is_released Filed e = absurd (false≢true e)
-held_is_released Sealed e = absurd (false≢true e)
 held_is_released Held e = refl
-held_is_released Released e = absurd (false≢true e)
-held_is_released Cancelled e = absurd (false≢true e)
+held_is_released _ e = absurd (false≢true e)
 
 pub held_is_cancelled : (s : KeyState) → is_held s ≡ true → moves_on s Cancelled ≡ true
-held_is_cancelled Fresh e = absurd (false≢true e)
-held_is_cancelled Filed e = absurd (false≢true e)
-held_is_cancelled Sealed e = absurd (false≢true e)
 held_is_cancelled Held e = refl
-held_is_cancelled Released e = absurd (false≢true e)
-held_is_cancelled Cancelled e = absurd (false≢true e)
+held_is_cancelled _ e = absurd (false≢true e)
 
 -- what a fresh state becomes, any does
 pub moves_to_any : (t : KeyState) → moves_on Fresh t ≡ true
 moves_to_any Fresh = refl
-moves_to_any Filed = refl
-moves_to_any Sealed = refl
-moves_to_any Held = refl
-moves_to_any Released = refl
-moves_to_any Cancelled = refl
+moves_to_any _ = refl
 
 pub moves_further : (s t u : KeyState) → moves_on s t ≡ true → moves_on t u ≡ true → moves_on s u ≡ true
 moves_further Fresh t u a b = moves_to_any u

@@ -3,7 +3,7 @@ use Rattle.std.proofs.Common.{◌≡◌, ℕ, zero, suc, ◌-◌, ◌&&◌, ◌|
 use Rattle.std.specs.Prelude.{⊤, option_map, slice_get, slice_set}
 use Rattle.std.specs.Option.{option_map_or}
 use Rattle.std.proofs.lemmas.Bool.{and_parts, false≢true}
-use Rattle.gateway_book.specs.Answer.{Decided, Given, Drops, Replies, Silent, Says, answer_by, decided, failure_answer}
+use Rattle.gateway_book.specs.Answer.{Decided, Given, Replies, Silent, Says, answer_by, decided, failure_answer}
 use Rattle.gateway_book.specs.Answered.{entry_by, no_caller}
 use Rattle.gateway_book.specs.Fit.{is_act_fit, is_act_lawful}
 use Rattle.gateway_book.specs.FitLaws.{records_also, records_tabled}
@@ -141,9 +141,8 @@ module _ (P : List HistoryEntry → HistoryAct → Type 0) (plain : IsPlain P) w
 
   acting_keeps : (now : ℕ) (m : Message) (g : Gateway) (given : Given) → IfRecords (λ number message a. P (history_of g.book) a) given → NoMark given
       → g.book.is_broken ≡ false → Keeps g.book → Keeps (acting now g m (decided given)).gateway.book
-  acting_keeps now m g (Drops why) fits isnt sound keeps = keeps
-  acting_keeps now m g (Replies number message None) fits isnt sound keeps = keeps
   acting_keeps now m g (Replies number message (Some a)) fits isnt sound keeps = recorded_keeps g.book now a sound fits (no_mark a isnt) keeps
+  acting_keeps now m g _ fits isnt sound keeps = keeps
 
   failed_keeps : (m : Message) → KeepsOn (failed m)
   failed_keeps m g keeps = by_decision (decided (failure_answer (prepared_of m.octets)))

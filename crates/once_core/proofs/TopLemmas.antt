@@ -85,9 +85,6 @@ module _ (letters : List Letter) (gateway node number : ℕ) where
 
   covered_by : (h : List HistoryEntry) (a : HistoryAct) → RestsBy letters gateway h a → (is_fresh (present_state node number h) ≡ false → IsCovered (top_of node h) number)
       → is_fresh (present_after node number (present_state node number h) a) ≡ false → IsCovered (top_after node (top_of node h) a) number
-  covered_by h act.Start rests covered known = covered known
-  covered_by h act.Tick rests covered known = covered known
-  covered_by h act.Close rests covered known = covered known
   covered_by h (act.Path n port counter) rests covered known = by (n.0 == node) known
     where
       by : (b : Bool) → is_fresh (if b then Fresh else present_state node number h) ≡ false → IsCovered (if b then None else top_of node h) number
@@ -123,6 +120,7 @@ module _ (letters : List Letter) (gateway node number : ℕ) where
           → IsCovered (top_of node h) number
       by true named known = held_named h n xs rests.number rests.alone rests.held covered named
       by false named known = covered known
+  covered_by h _ rests covered known = covered known
 
   pub covers : (h : List HistoryEntry) → Rests letters gateway h → is_fresh (present_state node number h) ≡ false → IsCovered (top_of node h) number
   covers =
@@ -151,11 +149,6 @@ module _ (letters : List Letter) (gateway node : ℕ) where
 
   asked_by : (h : List HistoryEntry) (a : HistoryAct) → RestsBy letters gateway h a → Asked (top_of node h) (start_of node h)
       → Asked (top_after node (top_of node h) a) (start_by (opening_after node (opening_of node h) a))
-  asked_by h act.Start rests asked = asked
-  asked_by h act.Tick rests asked = asked
-  asked_by h act.Close rests asked = asked
-  asked_by h (act.Release n xs) rests asked = asked
-  asked_by h (act.Cancel n xs) rests asked = asked
   asked_by h (act.Path n port counter) rests asked = by (n.0 == node)
     where
       by : (b : Bool) → Asked (if b then None else top_of node h) (start_by (if b then Some (record { port = port; counter = counter }) else opening_of node h))
@@ -164,6 +157,7 @@ module _ (letters : List Letter) (gateway node : ℕ) where
   asked_by h (act.File n x packet) rests asked = asked_more (n.0 == node) (top_of node h) (start_of node h) x asked (of_node h n x (Sends true packet) rests.1 refl)
   asked_by h (act.Hold n x packet) rests asked = asked_more (n.0 == node) (top_of node h) (start_of node h) x asked (of_node h n x (Sends false packet) rests.1 refl)
   asked_by h (act.Seal n x) rests asked = asked_more (n.0 == node) (top_of node h) (start_of node h) x asked (of_node h n x Tests rests.1 refl)
+  asked_by h _ rests asked = asked
 
   pub top_asked : (h : List HistoryEntry) → Rests letters gateway h → (t : ℕ) → top_of node h ≡ Some t → IsAskedAbout letters node (start_of node h) gateway t
   top_asked =

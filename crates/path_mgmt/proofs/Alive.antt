@@ -1,5 +1,5 @@
 -- Which gateways are alive: those that told so, among the messages that were heard.
-use Rattle.std.proofs.Common.{◌≡◌, ℕ, zero, suc, ◌<◌, Bool, true, false, ◌==◌, ◌||◌, inl, inr, List, [], ◌∷◌, ◌++◌, length, get_or, set, refl, ap, sym, ◌∙◌, arith}
+use Rattle.std.proofs.Common.{◌≡◌, ℕ, suc, ◌<◌, Bool, true, false, ◌==◌, ◌||◌, inl, inr, List, [], ◌∷◌, ◌++◌, length, get_or, set, refl, ap, sym, ◌∙◌, arith}
 use Rattle.std.proofs.lemmas.Bool.{false≢true, eq-eqb}
 use Rattle.std.proofs.lemmas.Bool.Decides.{eqb_tells}
 use Rattle.std.proofs.lemmas.Grind.{get_or-set_at}
@@ -9,13 +9,12 @@ use Rattle.std.specs.Prelude.{replicate}
 use Rattle.std.specs.List.{list_any}
 use Rattle.path_mgmt.specs.NodePath.{PathsOfNode, is_alive, node_after, node_after_all, node_anew, tells_alive}
 use Rattle.path_mgmt.specs.declared.event.PathEvent.{PathEvent}
-use Rattle.path_mgmt.specs.declared.event.PathEvent.TheVariants.{EchoAsked, EchoTold, AliveAsked, AliveTold}
+use Rattle.path_mgmt.specs.declared.event.PathEvent.TheVariants.{AliveTold}
 
 -- where each of some flags is false, the one at any place is
 pub none_set : (count place : ℕ) → get_or (replicate count false) place false ≡ false
-none_set zero place = refl
-none_set (suc count) zero = refl
 none_set (suc count) (suc place) = none_set count place
+none_set _ _ = refl
 
 -- after a write of true at a place, a flag is true where it stands there or was true before
 after_set : (flags : List Bool) (place other : ℕ) → other < length flags →
@@ -39,9 +38,8 @@ second_first false false c = refl
 
 -- one test that passes is enough
 one_passes : (a b c : Bool) → b ≡ true → (a || (b || c)) ≡ true
-one_passes true b c passes = refl
-one_passes false true c passes = refl
 one_passes false false c passes = absurd (false≢true passes)
+one_passes _ _ c passes = refl
 
 -- a test with none beside it
 alone : (a : Bool) → a ≡ (a || false)
@@ -52,13 +50,11 @@ alone false = refl
 alive_after : (node : PathsOfNode) (gateway : ℕ) (heard : List (ℕ × PathEvent)) → gateway < length node.alive →
     is_alive (node_after_all node heard) gateway ≡ (is_alive node gateway || list_any (tells_alive gateway) heard)
 alive_after node gateway [] below = alone (is_alive node gateway)
-alive_after node gateway ((from, EchoAsked number) ∷ heard) below = alive_after node gateway heard below
-alive_after node gateway ((from, EchoTold number counter) ∷ heard) below = alive_after node gateway heard below
-alive_after node gateway ((from, AliveAsked number) ∷ heard) below = alive_after node gateway heard below
 alive_after node gateway ((from, AliveTold number) ∷ heard) below =
     alive_after (node_after node from (AliveTold number)) gateway heard (omega (arith, length-set node.alive from true, below))
     ∙ ap (λ b. b || list_any (tells_alive gateway) heard) (after_set node.alive from gateway below)
     ∙ second_first (is_alive node gateway) (gateway == from) (list_any (tells_alive gateway) heard)
+alive_after node gateway (_ ∷ heard) below = alive_after node gateway heard below
 
 -- to a node that began with none, a gateway is alive exactly where it told so
 pub alive_exactly : (counter gateway : ℕ) (heard : List (ℕ × PathEvent)) → gateway < 256 →

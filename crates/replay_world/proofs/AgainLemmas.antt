@@ -61,10 +61,8 @@ quiet_is : (e : Ending) → Some ending.Quiet ≡ Some e → ending.Quiet ≡ e
 quiet_is e is = cc
 
 none_by : (down broken late : Bool) → met_as down broken late ≡ None → (down ≡ false) × (broken ≡ false) × (late ≡ false)
-none_by true broken late is = absurd (cc)
-none_by false true late is = absurd (cc)
-none_by false false true is = absurd (cc)
 none_by false false false is = (refl, refl, refl)
+none_by _ _ _ is = absurd (cc)
 
 some_by : (late : Bool) (e : Ending) → met_as false false late ≡ Some e → (late ≡ true) × (e ≡ ending.Expired)
 some_by true e is = let same : ending.Expired ≡ e = cc in (refl, sym same)

@@ -6,9 +6,9 @@ use Rattle.area_disk.specs.Armed.Armed.{Nothing}
 use Rattle.gateway_book.specs.Answer.{Decided, Silent, Says, decided, failure_answer}
 use Rattle.gateway_book.specs.Answered.{answer_to, no_caller}
 use Rattle.gateway_book.specs.Calls.{Left, cause_in, left_by, outcome_at}
-use Rattle.gateway_book.specs.Comes.{Asked, AsksCommit, AsksNothing, AsksReopening, asked_to_ready}
+use Rattle.gateway_book.specs.Comes.{Asked, AsksNothing, asked_to_ready}
 use Rattle.gateway_book.specs.Items.{items_of}
-use Rattle.gateway_book.specs.Preparing.{PreparedValue, Drop, OtherVersion, Path, Refused, Request, prepared_of}
+use Rattle.gateway_book.specs.Preparing.{PreparedValue, Drop, Refused, Request, prepared_of}
 use Rattle.gateway_book.specs.Up.{IsUp, Sequel, GoesOn, Breaks, Stops, fortune_by}
 use Rattle.gateway_book.specs.Value.{BookValue, Fortune, committed, faulted, history_of, is_batch_full, readied, recorded_if, reopened, tried}
 use Rattle.gateway_book.specs.declared.outcome.Outcome.{Outcome}
@@ -77,11 +77,9 @@ silent book (Says octets act) why is = absurd (cc)
 -- a failure records nothing
 failure_act : (d : PreparedValue) (octets : List ℕ) (act : Option HistoryAct) →
     decided (failure_answer d) ≡ Says octets act → act ≡ None
-failure_act (Drop why) octets act is = absurd (cc)
-failure_act (OtherVersion number) octets act is = absurd (cc)
 failure_act (Refused cause number) octets act is = sym (cc)
-failure_act (Path event) octets act is = absurd (cc)
 failure_act (Request number body) octets act is = sym (cc)
+failure_act _ octets act is = absurd (cc)
 
 -- What is recorded changes neither the firm part nor whether the book is broken.
 
@@ -120,8 +118,7 @@ module _ (setup : Setup) (place : ℕ) where
       HasMoved setup place moved (machine_after asked m) sends r
   machine_stays AsksNothing m moved sends r whole has =
       record { stands = rearmed setup place moved.gateway m r (whole refl) has.stands; sends = has.sends }
-  machine_stays AsksCommit m moved sends r whole has = has
-  machine_stays AsksReopening m moved sends r whole has = has
+  machine_stays _ m moved sends r whole has = has
 
 -- By what came of the call.
 module _ (setup : Setup) (place : ℕ) (g : Gateway) (m : Machine) (now : ℕ) (message : Message) (ready : BookValue) where
@@ -252,8 +249,7 @@ module _ (setup : Setup) (place : ℕ) (g : Gateway) (m : Machine) (now : ℕ) (
     whole_then (GoesOn armed) is tells moves =
         ap (λ (moved : Moved). moved.gateway.book.is_broken)
         (moves refl ∙ on_is (sym (recorded_broken ready now act) ∙ tells)) ∙ tells
-    whole_then (Breaks last) is tells moves = absurd (cc)
-    whole_then (Stops stands) is tells moves = absurd (cc)
+    whole_then _ is tells moves = absurd (cc)
 
 -- A gateway that took a message and answered it went as its area is armed.
 pub answered_goes : (setup : Setup) (place : ℕ) (g : Gateway) (m : Machine) (now : ℕ) (message : Message) →
@@ -293,9 +289,8 @@ answered_goes setup place g m now message none runs octets act reply called mid 
 -- What is told of the message.
 
 abbrev pub told_of : Sequel → ℕ → Decided → List Notice
-told_of (GoesOn armed) number d = silence_notices number d
-told_of (Breaks last) number d = silence_notices number d
 told_of (Stops stands) number d = []
+told_of _ number d = silence_notices number d
 
 history_by : (v : BookValue) (full fails : Bool) → v.is_broken ≡ false → fails ≡ false →
     history_of (if full then (if fails then faulted v else committed v) else v) ≡ history_of v
@@ -343,20 +338,17 @@ module _ (setup : Setup) (place : ℕ) (g : Gateway) (m : Machine) (now number :
 pub dropped_told : (s : Sequel) (number : ℕ) (why : Why) →
     ending_notices number (dropped_as (came_of s) why) ≡ told_of s number (Silent why)
 dropped_told (GoesOn armed) number why = refl
-dropped_told (Breaks last) number why = refl
-dropped_told (Stops stands) number why = refl
+dropped_told _ number why = refl
 
 pub answered_told : (s : Sequel) (number : ℕ) (octets : List ℕ) (act : Option HistoryAct) →
     ending_notices number ending.Quiet ≡ told_of s number (Says octets act)
 answered_told (GoesOn armed) number octets act = refl
-answered_told (Breaks last) number octets act = refl
-answered_told (Stops stands) number octets act = refl
+answered_told _ number octets act = refl
 
 tells_ready : (s : Sequel) (ready : BookValue) (now : ℕ) (act : Option HistoryAct) →
     Tells s (recorded_if ready now no_caller act) → Tells s ready
-tells_ready (GoesOn armed) ready now act tells = sym (recorded_broken ready now act) ∙ tells
-tells_ready (Breaks last) ready now act tells = sym (recorded_broken ready now act) ∙ tells
 tells_ready (Stops stands) ready now act tells = tt
+tells_ready _ ready now act tells = sym (recorded_broken ready now act) ∙ tells
 
 -- A gateway that isn't broken took a message.
 module _ (setup : Setup) (place : ℕ) (g : Gateway) (m : Machine) (now : ℕ) (message : Message)

@@ -56,38 +56,32 @@ module _ (setup : Setup) (now : ℕ) (g : Gateway) (m : Machine) where
 module _ (v : ReplayValue) (number : ℕ) where
   pub asked_place : (asks : GatewayCall) → place_asked v.world (event_asked asks number) ≡ Some (number - 1)
   asked_place call.Commit = refl
-  asked_place call.Mark = refl
-  asked_place call.Close = refl
+  asked_place _ = refl
 
   pub asked_allowed : (asks : GatewayCall) → no_running_gateway v.world number ≡ None →
       refusal_of v.world (event_asked asks number) ≡ None
   asked_allowed call.Commit none = none
-  asked_allowed call.Mark none = none
-  asked_allowed call.Close none = none
+  asked_allowed _ none = none
 
   pub asked_turn : (asks : GatewayCall) (f : Fortune) →
       turn_by (rules_in v.setup) v.world
       (record { event = event_asked asks number; fortune = f; is_lost = false; held = None }) (event_asked asks number)
       ≡ at_gateway v.world (number - 1) (asked_move v.setup v.world.now asks f)
   asked_turn call.Commit f = refl
-  asked_turn call.Mark f = refl
-  asked_turn call.Close f = refl
+  asked_turn _ f = refl
 
   pub asked_machines : (asks : GatewayCall) → machines_in v (event_asked asks number)
       ≡ option_map_or (machines_at v (event_asked asks number)) (site_of v (event_asked asks number)) v.machines
   asked_machines call.Commit = refl
-  asked_machines call.Mark = refl
-  asked_machines call.Close = refl
+  asked_machines _ = refl
 
   pub asked_tells : (asks : GatewayCall) → notices_last v (event_asked asks number) ≡ []
   asked_tells call.Commit = refl
-  asked_tells call.Mark = refl
-  asked_tells call.Close = refl
+  asked_tells _ = refl
 
   pub asked_waiting : (asks : GatewayCall) → waiting_in v.waiting (event_asked asks number) ≡ v.waiting
   asked_waiting call.Commit = refl
-  asked_waiting call.Mark = refl
-  asked_waiting call.Close = refl
+  asked_waiting _ = refl
 
   -- the world asks the same, at the same moment
   pub asked_there : (asks : GatewayCall) (place : ℕ) (g : Gateway) (m : Machine) (t : ℕ) → t ≡ v.world.now →

@@ -6,9 +6,9 @@ use Rattle.gateway_book.specs.Answer.{Decided}
 use Rattle.gateway_book.specs.Answered.{act_decided}
 use Rattle.gateway_book.specs.Calls.{Left, left_by, marked_at, marked_if_ready}
 use Rattle.gateway_book.specs.Comes.{AsksCommit, AsksNothing, AsksReopening}
-use Rattle.gateway_book.specs.Marks.{Mark, NotDue, NoRoom, Makes}
-use Rattle.gateway_book.specs.Up.{Sequel, GoesOn, Breaks, Stops, fortune_by, ready_sequel_of, sequel_of}
-use Rattle.gateway_book.specs.Value.{BookValue, Fortune, Gone, Refused, Reopening, Whole, after_commit, committed, faulted, is_batch_full, readied, recorded_if, reopened, tried, tried_with}
+use Rattle.gateway_book.specs.Marks.{Mark, NotDue}
+use Rattle.gateway_book.specs.Up.{Sequel, Stops, fortune_by, ready_sequel_of, sequel_of}
+use Rattle.gateway_book.specs.Value.{BookValue, Fortune, Refused, Reopening, Whole, after_commit, committed, faulted, is_batch_full, readied, recorded_if, reopened, tried, tried_with}
 use Rattle.gateway_book.specs.declared.outcome.Marked.{Marked}
 use Rattle.gateway_book.specs.declared.outcome.Marked.TheVariants as made
 use Rattle.gw_base.specs.declared.history.Caller.{Caller}
@@ -32,8 +32,7 @@ no_more v = ([], sym (append-nil v.firm))
 
 reopened_grows : (v : BookValue) (r : Reopening) → Grows v (reopened v r)
 reopened_grows v Whole = (v.rest, refl)
-reopened_grows v Gone = ([], sym (append-nil v.firm))
-reopened_grows v Refused = ([], sym (append-nil v.firm))
+reopened_grows v _ = ([], sym (append-nil v.firm))
 
 tried_by : (v : BookValue) (fails : Bool) → Grows v (if fails then faulted v else committed v)
 tried_by v true = ([], sym (append-nil v.firm))
@@ -66,9 +65,8 @@ abbrev refused : Fortune
 refused = record { fails = true; reopening = Refused }
 
 stop_refuses : (at_last : Bool) (s : Sequel) → is_stop s ≡ true → fortune_by at_last s ≡ refused
-stop_refuses at_last (GoesOn armed) is = absurd (cc)
-stop_refuses at_last (Breaks last) is = absurd (cc)
 stop_refuses at_last (Stops stands) is = refl
+stop_refuses at_last _ is = absurd (cc)
 
 tried_keeps : (v : BookValue) (rest : List HistoryEntry) → Keeps v (tried_with refused v rest)
 tried_keeps v [] = (refl, refl)
@@ -90,9 +88,8 @@ BreaksAs v w = (w.is_broken ≡ true) × Keeps v w
 ready_broken : (v : BookValue) (b full : Bool) (armed : Armed) (at_last : Bool) →
     is_stop (sequel_of (if b then AsksReopening else (if full then AsksCommit else AsksNothing)) armed at_last) ≡ true →
     BreaksAs v (if b then reopened v Refused else (if full then tried refused v else v))
-ready_broken v true full armed at_last is = (refl, (refl, refl))
-ready_broken v false true armed at_last is = (refl, (refl, refl))
 ready_broken v false false armed at_last is = absurd (cc)
+ready_broken v _ _ armed at_last is = (refl, (refl, refl))
 
 pub stop_breaks : (armed : Armed) (at_last : Bool) (v : BookValue) → is_stop (ready_sequel_of armed at_last v) ≡ true →
     BreaksAs v (readied (fortune_by at_last (ready_sequel_of armed at_last v)) v)
@@ -104,8 +101,7 @@ stop_breaks armed at_last v is =
 
 mark_firm : (ready : BookValue) (now : ℕ) (who : Caller) (mark : Mark) → (marked_at ready now who mark).value.firm ≡ ready.firm
 mark_firm ready now who NotDue = refl
-mark_firm ready now who NoRoom = refl
-mark_firm ready now who (Makes act) = refl
+mark_firm ready now who _ = refl
 
 abbrev broken_mark : BookValue → Left Marked
 broken_mark ready = record { value = ready; answer = made.Device }

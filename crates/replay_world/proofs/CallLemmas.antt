@@ -1,5 +1,5 @@
 -- What a gateway stands for once its area was called and its answers were sent or given up.
-use Rattle.std.proofs.Common.{◌≡◌, ◌∙◌, refl, sym, ap, subst, ℕ, ◌-◌, nat_le, Bool, true, false, not, if◌then◌else◌, List, [], ◌++◌, All, length, map, filter, take, Option, Some, None, arith, length-append}
+use Rattle.std.proofs.Common.{◌≡◌, ◌∙◌, refl, sym, ap, subst, ℕ, ◌-◌, nat_le, Bool, true, false, not, if◌then◌else◌, List, [], ◌++◌, All, length, map, filter, take, Option, Some, arith, length-append}
 use Rattle.std.proofs.lemmas.Bool.{not-true}
 use Rattle.std.proofs.lemmas.List.{append-nil, take_all}
 use Rattle.std.proofs.lemmas.List.Elements.{filter_passes}
@@ -50,22 +50,20 @@ module _ (setup : Setup) (place : ℕ) (g : Gateway) (m : Machine) (value : Book
       SiteIsCalled setup place value (GoesOn armed) s →
       SiteStands setup place (record g { book = value; waiting = waiting })
       (record m { armed = armed; at_last = false }) s × (firm_in s ≡ length value.firm)
-  site_goes_on armed waiting None runs called = absurd called
   site_goes_on armed waiting (Some (Up book)) runs called = (
     record { runs = runs; up = called.stands.1; size = called.size; open_time = called.open_time },
     ap (λ (v : BookValue). length v.firm) called.stands.1.value,
   )
-  site_goes_on armed waiting (Some (Down fallen)) runs called = absurd called
+  site_goes_on armed waiting _ runs called = absurd called
 
   -- one that breaks
   site_breaks : (last : Bool) (waiting : List Waiting) (s : Option Site) → g.is_down ≡ false →
       SiteIsCalled setup place value (Breaks last) s →
       SiteStands setup place (record g { book = value; waiting = waiting })
       (record m { armed = Nothing; at_last = last }) s
-  site_breaks last waiting None runs called = absurd called
   site_breaks last waiting (Some (Up book)) runs called =
       record { runs = runs; up = called.stands.1; size = called.size; open_time = called.open_time }
-  site_breaks last waiting (Some (Down fallen)) runs called = absurd called
+  site_breaks last waiting _ runs called = absurd called
 
   -- What waited is sent where its front is firm now.
   pub went : (armed : Armed) (old new : real.Machine) (due : List Message) →
@@ -145,14 +143,11 @@ module _ (setup : Setup) (place : ℕ) (g : Gateway) (m : Machine) (value : Book
 
   site_cut : (stands : Bool) (s : Option Site) → SiteIsCalled setup place value (Stops stands) s →
       SiteIsCut setup place (if stands then value.firm ++ value.rest else value.firm) s
-  site_cut stands None called = absurd called
   site_cut stands (Some (Up book)) called = record { cut = called.stands; size = called.size }
-  site_cut stands (Some (Down fallen)) called = absurd called
+  site_cut stands _ called = absurd called
 
   site_down : (h : List HistoryEntry) (after : Gateway) (s : Option Site) → after.is_down ≡ true → after.waiting ≡ [] →
       history_of after.book ≡ h → SiteIsDown setup place h s → SiteStands setup place after (disarmed m) s
-  site_down h after None down none is stands = absurd stands
-  site_down h after (Some (Up book)) down none is stands = absurd stands
   site_down h after (Some (Down fallen)) down none is stands = record {
     stopped = down;
     down = subst (λ (q : List HistoryEntry). HoldsHistory area_tells (header_at setup place) q fallen.area) (sym is) stands.down;
@@ -161,6 +156,7 @@ module _ (setup : Setup) (place : ℕ) (g : Gateway) (m : Machine) (value : Book
     silent = none;
     size = stands.size;
   }
+  site_down h after _ down none is stands = absurd stands
 
   pub stopped_in : (stands : Bool) (old new : real.Machine) (told : List Message) →
       IsCalled setup place g m value (Stops stands) old →
@@ -198,17 +194,15 @@ module _ (setup : Setup) (place : ℕ) (g : Gateway) (m : Machine) (value : Book
       new ≡ record old { waiting = new.waiting } → AfterCall setup place g m value s sent new
   after_went (GoesOn armed) old new sent called came is due later rest =
       record { moved = went armed old new sent.messages.items called due later rest; came = is }
-  after_went (Breaks last) old new sent called came is due later rest = absurd (cc)
-  after_went (Stops stands) old new sent called came is due later rest = absurd (cc)
+  after_went _ old new sent called came is due later rest = absurd (cc)
 
   pub after_broke : (s : Sequel) (old new : real.Machine) (sent : Sent) → IsCalled setup place g m value s old →
       came_of s ≡ Failed → sent.came ≡ Failed →
       sent.messages.items ≡ map (λ w. failing w.message) (filter (λ w. is_response w.message) old.waiting.items) →
       new.waiting.items ≡ [] → new ≡ record old { waiting = new.waiting } → AfterCall setup place g m value s sent new
-  after_broke (GoesOn armed) old new sent called came is told none rest = absurd (cc)
   after_broke (Breaks last) old new sent called came is told none rest =
       record { moved = broke last old new sent.messages.items called told none rest; came = is }
-  after_broke (Stops stands) old new sent called came is told none rest = absurd (cc)
+  after_broke _ old new sent called came is told none rest = absurd (cc)
 
   pub after_stopped : (s : Sequel) (old new : real.Machine) (sent : Sent) → IsCalled setup place g m value s old →
       came_of s ≡ Stopped → sent.came ≡ Stopped → sent.messages.items ≡ [] →
@@ -219,10 +213,9 @@ module _ (setup : Setup) (place : ℕ) (g : Gateway) (m : Machine) (value : Book
       FilesStand (files_in setup place) (ended m.filing) items new.files) →
       new ≡ record old { site = new.site; waiting = new.waiting; files = new.files } →
       AfterCall setup place g m value s sent new
-  after_stopped (GoesOn armed) old new sent called came is none cuts ends rest = absurd (cc)
-  after_stopped (Breaks last) old new sent called came is none cuts ends rest = absurd (cc)
   after_stopped (Stops stands) old new sent called came is none cuts ends rest =
       record { moved = stopped_in stands old new sent.messages.items called cuts ends rest none; came = is }
+  after_stopped _ old new sent called came is none cuts ends rest = absurd (cc)
 
   -- The book was called.
 

@@ -93,8 +93,7 @@ running_there w number g some few has runs =
 
 pub nothing_on : (asked : Asked) (at_last : Bool) → sequel_of asked Nothing at_last ≡ GoesOn Nothing
 nothing_on AsksNothing at_last = refl
-nothing_on AsksCommit at_last = refl
-nothing_on AsksReopening at_last = refl
+nothing_on _ at_last = refl
 
 pub goes_on_then : (m : Machine) (asked : Asked) → m.armed ≡ Nothing → sequel_on m asked ≡ GoesOn Nothing
 goes_on_then m asked is = ap (λ (a : Armed). sequel_of asked a m.at_last) is ∙ nothing_on asked m.at_last

@@ -20,15 +20,9 @@ count_parts (r ∷ records) =
 
 count_act : (before : List HistoryEntry) (moment : ℕ) (a : HistoryAct) →
     count_by is_part (items_by_act before moment a) ≡ length (filed_by_act before moment a)
-count_act before moment act.Start = refl
-count_act before moment (act.Path n port counter) = refl
 count_act before moment (act.File n x packet) = count_parts (filed_by_act before moment (act.File n x packet))
-count_act before moment (act.Hold n x packet) = refl
-count_act before moment (act.Seal n x) = refl
 count_act before moment (act.Release n xs) = count_parts (filed_by_act before moment (act.Release n xs))
-count_act before moment (act.Cancel n xs) = refl
-count_act before moment act.Tick = refl
-count_act before moment act.Close = refl
+count_act before moment _ = refl
 
 count_along : (before h : List HistoryEntry) →
     count_by is_part (along items_by before h) ≡ length (along filed_by before h)

@@ -40,8 +40,7 @@ one_if false filed = omega arith
 one_item : (profile : ℕ) (rules : List Rule) (s : ℕ) (i : Item) → length (stream_item profile rules s i) ≤ 1
 one_item profile rules s (item.Part kind tag octets moment) =
     one_if (stream_of rules tag kind.format == s) (stream_record profile kind octets moment)
-one_item profile rules s (item.Tick moment) = omega arith
-one_item profile rules s (item.Close moment) = omega arith
+one_item profile rules s _ = omega arith
 
 as_few : (profile : ℕ) (rules : List Rule) (s : ℕ) (items : List Item) →
     length (stream_items profile rules s items) ≤ length items

@@ -4,7 +4,7 @@ use Rattle.gtpp_message.specs.Packet.{PacketForm}
 use Rattle.gtpp_message.specs.PacketWriting.{with_record}
 use Rattle.node_core.specs.Drafts.{addition_fault, addition_fault_of}
 use Rattle.node_core.specs.declared.fault.DraftFault.{DraftFault}
-use Rattle.node_core.specs.declared.fault.DraftFault.TheVariants.{Count, TooBig, Ber, NoMemory}
+use Rattle.node_core.specs.declared.fault.DraftFault.TheVariants.{NoMemory}
 use Rattle.replay_world.specs.Packets.{unless_fault, with_records}
 
 left_is : (rs : List (List ℕ)) (k : ℕ) (r : List ℕ) → k < length rs → r ≡ get_or rs k r →
@@ -21,10 +21,8 @@ more_taken form rs k r less is none =
     ∙ ap (λ (n : ℕ). with_records (with_record form r) (drop n rs)) next
 
 pub fault_is : (fault : DraftFault) → fault ≢ NoMemory → addition_fault_of fault ≡ Some fault
-fault_is Count not = refl
-fault_is TooBig not = refl
-fault_is (Ber fault) not = refl
 fault_is NoMemory not = absurd (not refl)
+fault_is _ not = refl
 
 pub fault_taken : (form : PacketForm) (rs : List (List ℕ)) (k : ℕ) (r : List ℕ) (fault : DraftFault) → k < length rs →
     r ≡ get_or rs k r → addition_fault_of fault ≡ addition_fault form r → fault ≢ NoMemory →

@@ -64,10 +64,9 @@ first_files settings s n items = files_from settings.file s 1 (take n (stream_di
 
 files_take : (file : FileSettings) (s first n : ℕ) (closed : List (ClosedRun (List ℕ))) →
     take n (files_from file s first closed) ≡ files_from file s first (take n closed)
-files_take file s first zero closed = refl
-files_take file s first (suc n) [] = refl
 files_take file s first (suc n) (run ∷ closed) =
     ap (λ (fs : List SealedFile). sealed_file file s first run ∷ fs) (files_take file s (first + 1) n closed)
+files_take file s first _ _ = refl
 
 pub first_are : (settings : Settings) (s n : ℕ) (items : List Item) →
     take n (stream_files settings s items) ≡ first_files settings s n items

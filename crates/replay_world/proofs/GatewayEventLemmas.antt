@@ -42,9 +42,8 @@ none_of count number is = by_tests (nat_lt 0 number) (nat_le number count) refl 
     by_tests false false some few e = absurd (true≢false e)
 
 running_by : (b c : Bool) → option_or (refusing b NoGateway) (refusing c Stopped) ≡ None → (b ≡ false) × (c ≡ false)
-running_by true c is = absurd (cc)
-running_by false true is = absurd (cc)
 running_by false false is = (refl, refl)
+running_by _ _ is = absurd (cc)
 
 pub is_there : (w : World) (number : ℕ) → no_running_gateway w number ≡ None →
     (1 ≤ number) × (number ≤ length w.gateways)

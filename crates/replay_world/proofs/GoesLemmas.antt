@@ -6,8 +6,8 @@ use Rattle.std.specs.List.{AllByRecursion}
 use Rattle.area_disk.specs.Armed.{Armed}
 use Rattle.gateway_book.specs.Answered.{no_caller, room_for}
 use Rattle.gateway_book.specs.Calls.{marked_at, marked_if_ready}
-use Rattle.gateway_book.specs.Comes.{Asked, AsksCommit, AsksNothing, AsksReopening, asked_to_commit, asked_with}
-use Rattle.gateway_book.specs.Marks.{Mark, NotDue, NoRoom, Makes, close_mark, made_if, tick_mark}
+use Rattle.gateway_book.specs.Comes.{Asked, AsksNothing, AsksReopening, asked_to_commit, asked_with}
+use Rattle.gateway_book.specs.Marks.{Mark, NotDue, Makes, close_mark, made_if, tick_mark}
 use Rattle.gateway_book.specs.Up.{Sequel, GoesOn, Breaks, Stops, fortune_by, sequel_of}
 use Rattle.gateway_book.specs.Value.{BookValue, Fortune, after_commit, history_of, is_batch_full, readied, reopened, tried, tried_with}
 use Rattle.gw_base.specs.History.{is_close_due}
@@ -74,9 +74,8 @@ by_flags : (f : Fortune) (g : Gateway) → All (λ w. is_reached g.book w ≡ fa
     g.book.is_broken ≡ b →
     (if b || full then with_book (if b then reopened g.book f.reopening else tried f g.book) g else still g)
     ≡ with_book (if b then reopened g.book f.reopening else (if full then tried f g.book else g.book)) g
-by_flags f g none true full is = refl
-by_flags f g none false true is = refl
 by_flags f g none false false is = sym (unbroken g.book g is ∙ stays g none)
+by_flags f g none _ _ is = refl
 
 pub readying_is : (setup : Setup) (f : Fortune) (g : Gateway) → All (λ w. is_reached g.book w ≡ false) g.waiting →
     readying (rules_in setup) f g ≡ with_book (readied f g.book) g
@@ -117,8 +116,7 @@ tick_by : (g : Gateway) (now : ℕ) (due room : Bool) →
     recorded_where (due && room) now Tick g
     ≡ still (record g { book = mark_made now (if due then made_if room Tick else NotDue) g.book })
 tick_by g now true true = refl
-tick_by g now true false = refl
-tick_by g now false room = refl
+tick_by g now _ _ = refl
 
 close_by : (g : Gateway) (now : ℕ) (due : Bool) →
     recorded_where due now Close g ≡ still (record g { book = mark_made now (if due then Makes Close else NotDue) g.book })
@@ -130,16 +128,13 @@ mark_ready : (ready : BookValue) (g : Gateway) (now : ℕ) (mark : Mark) → rea
     after (settling (record g { book = ready }))
     (still (record (settling (record g { book = ready })).gateway { book = mark_made now mark ready }))
     ≡ with_book (mark_made now mark ready) g
-mark_ready ready g now NotDue is =
-    ap (λ (sends : List Message). moved (settling (record g { book = ready })).gateway sends)
-    (append-nil (settling (record g { book = ready })).sends) ∙ sym (unbroken ready g is)
-mark_ready ready g now NoRoom is =
-    ap (λ (sends : List Message). moved (settling (record g { book = ready })).gateway sends)
-    (append-nil (settling (record g { book = ready })).sends) ∙ sym (unbroken ready g is)
 mark_ready ready g now (Makes act) is =
     let w : BookValue = mark_made now (Makes act) ready in
     ap (λ (sends : List Message). moved (settling (record g { book = w })).gateway sends)
     (append-nil (settling (record g { book = w })).sends) ∙ sym (unbroken w g is)
+mark_ready ready g now _ is =
+    ap (λ (sends : List Message). moved (settling (record g { book = ready })).gateway sends)
+    (append-nil (settling (record g { book = ready })).sends) ∙ sym (unbroken ready g is)
 
 module _ (move : Gateway → Moved) (mark : List HistoryEntry → Mark) (now : ℕ)
     (makes : (h : Gateway) → move h ≡ still (record h { book = mark_made now (mark (history_of h.book)) h.book })) where
@@ -196,10 +191,9 @@ Tells (Stops stands) v = Unit {0}
 pub site_tells : (setup : Setup) (place : ℕ) (v : BookValue) (s : Sequel) (site : Option Site) →
     SiteIsCalled setup place v s site → Tells s v
 site_tells setup place v s None called = absurd called
-site_tells setup place v (GoesOn armed) (Some (Up book)) called = called.stands.0
-site_tells setup place v (Breaks last) (Some (Up book)) called = called.stands.0
 site_tells setup place v (Stops stands) (Some (Up book)) called = tt
 site_tells setup place v s (Some (Down fallen)) called = absurd called
+site_tells setup place v _ (Some (Up book)) called = called.stands.0
 
 -- what it did then, but for a stop
 moved_with : (s : Sequel) (v : BookValue) (g : Gateway) → Tells s v → is_stop s ≡ false → moved_after s v g ≡ with_book v g
@@ -258,8 +252,7 @@ module _ (setup : Setup) (place : ℕ) where
       HasMoved setup place (moved_after (sequel_on m asked) v g) (machine_after asked m) sends r
   machine_is AsksNothing m v g sends r tells moved =
       record { stands = rearmed (settling (record g { book = v })).gateway m r tells moved.stands; sends = moved.sends }
-  machine_is AsksCommit m v g sends r tells moved = moved
-  machine_is AsksReopening m v g sends r tells moved = moved
+  machine_is _ m v g sends r tells moved = moved
 
   pub goes_as_armed : (g : Gateway) (m : Machine) (asked : Asked) (move : Fortune → Gateway → Moved) (v : BookValue)
       (old : real.Machine) (sent : Sent) (new : real.Machine) →

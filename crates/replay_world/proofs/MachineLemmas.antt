@@ -14,7 +14,7 @@ use Rattle.replay_world.specs.Lines.{after_steps, line_after, steps_of}
 use Rattle.replay_world.specs.Report.{lines_after}
 use Rattle.replay_world.specs.Settled.{HaveMachines}
 use Rattle.replay_world.specs.Setup.{Setup, rules_in}
-use Rattle.replay_world.specs.Steps.{Site, Step, Arms, ArmsShelf, Disarms, Loses, Plays, Tells, Writes, after_step, ends_line, machines_after, machines_at, machines_in, site_of, turn_of, with_machine, world_after}
+use Rattle.replay_world.specs.Steps.{Site, Step, Arms, ArmsShelf, Disarms, Plays, Writes, after_step, ends_line, machines_after, machines_at, machines_in, site_of, turn_of, with_machine, world_after}
 use Rattle.replay_world.specs.Value.{Machine, ReplayValue, begun}
 use Rattle.world_script.specs.declared.line.Line.{Line}
 use Rattle.replay_world.proofs.BeginningLemmas.{times_length}
@@ -85,12 +85,7 @@ world_same v (Plays e) =
     let after : World = turn_by (rules_in v.setup) v.world t t.event in
     unless_same (refusal_of v.world t.event) v.world (lost_if t.is_lost v.world after)
     (lost_same t.is_lost v.world after ∙ turn_same (rules_in v.setup) v.world t t.event)
-world_same v (Loses message) = refl
-world_same v (Arms place armed) = refl
-world_same v (ArmsShelf place armed) = refl
-world_same v (Disarms place) = refl
-world_same v (Writes place) = refl
-world_same v (Tells notice) = refl
+world_same v _ = refl
 
 -- Nor is a machine made, or taken away.
 
@@ -116,12 +111,11 @@ event_same v (event.Close gateway) = site_same v (event.Close gateway) (site_of 
 
 machines_same : (v : ReplayValue) (step : Step) → length (machines_after v step) ≡ length v.machines
 machines_same v (Plays e) = event_same v e
-machines_same v (Loses message) = refl
 machines_same v (Arms place armed) = changed_length v place _
 machines_same v (ArmsShelf place armed) = changed_length v place _
 machines_same v (Disarms place) = changed_length v place _
 machines_same v (Writes place) = changed_length v place _
-machines_same v (Tells notice) = refl
+machines_same v _ = refl
 
 -- So each gateway has one after all lines.
 

@@ -65,17 +65,14 @@ plain_heard node port from octets = by_place (place_of node.gateways from.ip)
 -- Which nodes are called.
 
 pub none_both : (a b : Bool) → option_or (refusing a kind.NoNode) (refusing (not b) kind.Halted) ≡ None → b ≡ true
-none_both true b is = absurd cc
 none_both false true is = refl
-none_both false false is = absurd cc
+none_both _ _ is = absurd cc
 
 none_three : (a b c : Bool) →
     option_or (refusing a kind.NoNode) (option_or (refusing b kind.Running) (refusing c kind.Restarts)) ≡ None →
     (b ≡ false) × (c ≡ false)
-none_three true b c is = absurd cc
-none_three false true c is = absurd cc
-none_three false false true is = absurd cc
 none_three false false false is = (refl, refl)
+none_three _ _ _ is = absurd cc
 
 -- the log of the node in a place
 pub log_there : (w : World) (place : ℕ) (log : List LogEntry) → slice_get w.nodes place ≡ Some log → log_at w place ≡ log

@@ -4,7 +4,7 @@ use Rattle.std.specs.List.{enumerate_from, list_all}
 use Rattle.std.specs.Option.{option_map_or}
 use Rattle.std.proofs.lemmas.List.Elements.{All-append, All-set}
 use Rattle.std.proofs.lemmas.List.Sums.{sum_by-cons}
-use Rattle.node_core.specs.Log.{LogEntry, Began, Halted, Submitted, Appointed, Ticked, Heard, Saying, Path, Redirects, Responds, Other, counter_of, paths_hearing, paths_of}
+use Rattle.node_core.specs.Log.{LogEntry, Began, Halted, Submitted, Appointed, Ticked, Heard, Saying, Path, counter_of, paths_hearing, paths_of}
 use Rattle.node_core.specs.Value.{CanFollowAll, NodeValue, logged}
 use Rattle.once_core.specs.Expired.{begins, starts_in}
 use Rattle.once_core.specs.Turn.{at_node, calm, node_called, refusal_of, turn, turn_by, unless_refused}
@@ -14,7 +14,7 @@ use Rattle.once_core.specs.declared.event.WorldKind.{WorldKind}
 use Rattle.once_core.specs.declared.message.Message.{Message}
 use Rattle.path_mgmt.specs.NodePath.{PathsOfNode, node_after}
 use Rattle.path_mgmt.specs.declared.event.PathEvent.{PathEvent}
-use Rattle.path_mgmt.specs.declared.event.PathEvent.TheVariants.{EchoAsked, EchoTold, AliveAsked, AliveTold}
+use Rattle.path_mgmt.specs.declared.event.PathEvent.TheVariants.{EchoAsked}
 use Rattle.replay_world.specs.Device.{is_stop}
 use Rattle.replay_world.specs.Does.{Does}
 use Rattle.replay_world.specs.Notices.{Notice, notice_lines}
@@ -33,24 +33,18 @@ use Rattle.replay_world.proofs.StepLemmas.{reached_after}
 
 after_counter : (gateway : ℕ) (event : PathEvent) (paths : PathsOfNode) → (node_after paths gateway event).counter ≡ paths.counter
 after_counter gateway (EchoAsked number) paths = refl
-after_counter gateway (EchoTold number told) paths = refl
-after_counter gateway (AliveAsked number) paths = refl
-after_counter gateway (AliveTold number) paths = refl
+after_counter gateway _ paths = refl
 
 heard_counter : (gateway : ℕ) (saying : Saying) (paths : PathsOfNode) → (paths_hearing gateway saying paths).counter ≡ paths.counter
 heard_counter gateway (Path event) paths = after_counter gateway event paths
-heard_counter gateway (Redirects to) paths = refl
-heard_counter gateway (Responds cause numbers) paths = refl
-heard_counter gateway Other paths = refl
+heard_counter gateway _ paths = refl
 
 pub paths_counter : (log : List LogEntry) → (paths_of 1 log).counter ≡ counter_of 1 log
-paths_counter [] = refl
-paths_counter (Began ∷ log) = refl
-paths_counter (Halted ∷ log) = refl
 paths_counter (Submitted form ∷ log) = paths_counter log
 paths_counter (Appointed gateway ∷ log) = paths_counter log
 paths_counter (Ticked sendings ∷ log) = paths_counter log
 paths_counter (Heard port gateway saying ∷ log) = heard_counter gateway saying (paths_of 1 log) ∙ paths_counter log
+paths_counter _ = refl
 
 -- what a node that stands for a log counts
 pub counter_is : (gateways place : ℕ) (log : List LogEntry) → CountsStarts log →

@@ -6,7 +6,7 @@ use Rattle.gateway_book.specs.Answered.{act_decided, answer_to, no_caller}
 use Rattle.gateway_book.specs.Calls.{given_at, taken}
 use Rattle.gateway_book.specs.Filed.{along}
 use Rattle.gateway_book.specs.Items.{items_by, items_of}
-use Rattle.gateway_book.specs.Preparing.{PreparedValue, Drop, OtherVersion, Path, Refused, Request, prepared_of}
+use Rattle.gateway_book.specs.Preparing.{PreparedValue, Drop, prepared_of}
 use Rattle.gateway_book.specs.Up.{Sequel, fortune_by, ready_sequel_of}
 use Rattle.gateway_book.specs.Value.{BookValue, Fortune, history_of, readied, recorded_if}
 use Rattle.gateway_book.specs.declared.outcome.Outcome.{Outcome}
@@ -29,10 +29,7 @@ use Rattle.replay_world.proofs.CallLemmas.{WrittenStays, is_called}
 -- a failure records nothing
 failure_acts : (d : PreparedValue) → act_decided (decided (failure_answer d)) ≡ None
 failure_acts (Drop why) = refl
-failure_acts (OtherVersion number) = refl
-failure_acts (Refused cause number) = refl
-failure_acts (Path event) = refl
-failure_acts (Request number body) = refl
+failure_acts _ = refl
 
 -- a stop leaves all entries
 answer_keeps : (armed : Armed) (at_last : Bool) (v : BookValue) (from : Addr) (datagram : PreparedValue) (size now : ℕ) →

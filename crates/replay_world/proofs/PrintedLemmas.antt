@@ -2,7 +2,7 @@
 use Rattle.std.proofs.Common.{◌≡◌, ◌∙◌, refl, sym, ap, ℕ, ◌-◌, false, not, List, [], ◌++◌, Option, append_assoc}
 use Rattle.std.specs.Option.{option_map_or}
 use Rattle.std.proofs.lemmas.List.Concat.{flat_map-append}
-use Rattle.gateway_book.specs.Up.{Sequel, GoesOn, Breaks, Stops}
+use Rattle.gateway_book.specs.Up.{Sequel, GoesOn}
 use Rattle.gateway_book.specs.Value.{Fortune}
 use Rattle.once_core.specs.Gateway.{Gateway, Moved}
 use Rattle.once_core.specs.declared.event.Event.{Event}
@@ -19,13 +19,11 @@ use Rattle.replay_world.proofs.StepLemmas.{IsAt, site_is}
 
 came_told : (place : ℕ) (s : Sequel) → came_notices place (came_of s) ≡ device_notices place s
 came_told place (GoesOn armed) = refl
-came_told place (Breaks last) = refl
-came_told place (Stops stands) = refl
+came_told place _ = refl
 
 came_goes : (s : Sequel) → goes_on_after (came_of s) ≡ not (is_stop s)
 came_goes (GoesOn armed) = refl
-came_goes (Breaks last) = refl
-came_goes (Stops stands) = refl
+came_goes _ = refl
 
 pub lines_join : (first later : List Notice) → notice_lines (first ++ later) ≡ notice_lines first ++ notice_lines later
 lines_join first later = flat_map-append notice_line first later

@@ -3,7 +3,7 @@
 use Rattle.std.proofs.Common.{◌≡◌, ◌∙◌, refl, sym, ap, subst, ℕ, ◌-◌, ◌≤◌, Bool, true, false, not, List, [], ◌∷◌, ◌++◌, length, set, Option, Some, None, option_map, slice_get, arith, append-nil}
 use Rattle.std.specs.Option.{option_map_or, option_or}
 use Rattle.area_disk.specs.Armed.{Armed, Came}
-use Rattle.area_disk.specs.Armed.Came.{Ran, FailedAt, StoppedAt}
+use Rattle.area_disk.specs.Armed.Came.{Ran}
 use Rattle.gateway_book.specs.Items.{items_of}
 use Rattle.gw_base.specs.declared.item.Item.{Item}
 use Rattle.once_core.specs.Answers.{redirected}
@@ -96,8 +96,7 @@ module _ (v : ReplayValue) (k : ℕ) (g : Gateway) (m : Machine) (has_gateway : 
 
   behind_is : (number : ℕ) (c : Came) → steps_behind number (wrote_by c) ≡ came_steps number c
   behind_is number (Ran a) = refl
-  behind_is number (FailedAt call) = refl
-  behind_is number (StoppedAt call outcome) = refl
+  behind_is number _ = refl
 
   pub written_behind : (number : ℕ) (w : Wrote) → number - 1 ≡ k →
       w ≡ wrote_by (shelf_came (files_in v.setup k) (items_of g.book.firm) m.filing) →
@@ -153,9 +152,8 @@ does_quietly v step k g m r old new sets told stands stood rest gateways =
 -- A gateway that is opened again is there, and down.
 
 opening_by : (b c : Bool) → option_or (refusing b NoGateway) (refusing (not c) Running) ≡ None → (b ≡ false) × (c ≡ true)
-opening_by true c is = absurd (cc)
 opening_by false true is = (refl, refl)
-opening_by false false is = absurd (cc)
+opening_by _ _ is = absurd (cc)
 
 pub is_there_down : (w : World) (number : ℕ) → refusal_of w (event.Open number) ≡ None →
     (1 ≤ number) × (number ≤ length w.gateways) × (is_down_in w number ≡ true)
@@ -179,8 +177,7 @@ no_machine_down v number place old stands is none beyond =
 
 redirecting_by : (a b c : Option WorldKind) → option_or a (option_or b c) ≡ None → c ≡ None
 redirecting_by None None c is = is
-redirecting_by None (Some kind) c is = absurd (cc)
-redirecting_by (Some kind) b c is = absurd (cc)
+redirecting_by _ _ c is = absurd (cc)
 
 pub runs_to_redirect : (w : World) (number cause : ℕ) (to : Option ℕ) →
     refusal_of w (event.Redirect number cause to) ≡ None → no_running_gateway w number ≡ None

@@ -103,13 +103,7 @@ offset_within (sign ∷ a ∷ b ∷ colon ∷ c ∷ d ∷ []) z h =
     let minutes = then_some (two_digits 59 c d) (λ minutes. signed sign (hours.0 * 60 + minutes)) z hours.2 in
     signed_within sign (hours.0 * 60 + minutes.0) z
     (omega (arith, digits_within 15 a b hours.0 hours.1, digits_within 59 c d minutes.0 minutes.1)) minutes.2
-offset_within [] z h = let no : ⊥ = cc in absurd no
-offset_within (x1 ∷ []) z h = let no : ⊥ = cc in absurd no
-offset_within (x1 ∷ x2 ∷ []) z h = let no : ⊥ = cc in absurd no
-offset_within (x1 ∷ x2 ∷ x3 ∷ []) z h = let no : ⊥ = cc in absurd no
-offset_within (x1 ∷ x2 ∷ x3 ∷ x4 ∷ []) z h = let no : ⊥ = cc in absurd no
-offset_within (x1 ∷ x2 ∷ x3 ∷ x4 ∷ x5 ∷ []) z h = let no : ⊥ = cc in absurd no
-offset_within (x1 ∷ x2 ∷ x3 ∷ x4 ∷ x5 ∷ x6 ∷ x7 ∷ xs) z h = let no : ⊥ = cc in absurd no
+offset_within _ z h = let no : ⊥ = cc in absurd no
 
 -- ---- what a line says
 
@@ -167,24 +161,21 @@ word_fine rules said l (word ∷ words) fine h = no_line kind.Arity l h
 at_fine : (rules : ℕ) (words : List (List ℕ)) (l : Line) → at_said words ≡ Ok l → IsFine rules l
 at_fine rules (seconds ∷ []) l h =
     read_fine rules kind.Number line.At (number_up_to last_moment seconds) l (λ n. plain rules (line.At n) refl refl tt) h
-at_fine rules [] l h = no_line kind.Arity l h
-at_fine rules (a ∷ b ∷ words) l h = no_line kind.Arity l h
+at_fine rules _ l h = no_line kind.Arity l h
 
 in_fine : (rules : ℕ) (words : List (List ℕ)) (l : Line) → in_said words ≡ Ok l → IsFine rules l
 in_fine rules (from ∷ word ∷ words) l h =
     then_fine rules kind.Number (address_of from) (λ sender. read_or kind.Hex (line.Datagram sender) (octets_of (word ∷ words))) l
     (λ sender k. read_fine rules kind.Hex (line.Datagram sender) (octets_of (word ∷ words)) l (λ octets. plain rules (line.Datagram sender octets) refl refl tt) k) h
-in_fine rules [] l h = no_line kind.Arity l h
-in_fine rules (a ∷ []) l h = no_line kind.Arity l h
+in_fine rules _ l h = no_line kind.Arity l h
 
 between_ok : (least most n : ℕ) (words : List (List ℕ)) → one_between least most words ≡ Ok n → (least ≤ n) × (n ≤ most)
-between_ok least most n [] h = let no : ⊥ = cc in absurd no
-between_ok least most n (a ∷ b ∷ words) h = let no : ⊥ = cc in absurd no
 between_ok least most n (word ∷ []) h = by (number_between least most word) refl h
   where
     by : (o : Option ℕ) → number_between least most word ≡ o → ok_or o kind.Number ≡ Ok n → (least ≤ n) × (n ≤ most)
     by None e k = let no : ⊥ = cc in absurd no
     by (Some m) e k = let same : m ≡ n = cc in subst (λ x. (least ≤ x) × (x ≤ most)) same (number_from least most word m e)
+between_ok least most n _ h = let no : ⊥ = cc in absurd no
 
 reserve_fine : (rules : ℕ) (words : List (List ℕ)) (l : Line) → said_as line.Reserve (one_between 100 268435456 words) ≡ Ok l → IsFine rules l
 reserve_fine rules words l h =
@@ -226,17 +217,14 @@ limit_fine rules what number l h = by (bytes_eq what (codes "records")) (bytes_e
 
 limits_fine : (rules : ℕ) (words : List (List ℕ)) (l : Line) → limit_said words ≡ Ok l → IsFine rules l
 limits_fine rules (what ∷ number ∷ []) l h = limit_fine rules what number l h
-limits_fine rules [] l h = no_line kind.Arity l h
-limits_fine rules (a ∷ []) l h = no_line kind.Arity l h
-limits_fine rules (a ∷ b ∷ c ∷ words) l h = no_line kind.Arity l h
+limits_fine rules _ l h = no_line kind.Arity l h
 
 offset_fine : (rules : ℕ) (words : List (List ℕ)) (l : Line) → offset_said words ≡ Ok l → IsFine rules l
 offset_fine rules (word ∷ []) l h =
     let found = read_value kind.Number line.Offset (offset_of word) l h in
     subst (IsFine rules) found.2
     (plain rules (line.Offset found.0) refl refl (offset_within word found.0 found.1))
-offset_fine rules [] l h = no_line kind.Arity l h
-offset_fine rules (a ∷ b ∷ words) l h = no_line kind.Arity l h
+offset_fine rules _ l h = no_line kind.Arity l h
 
 -- printable octets are text
 is_text : (content : List ℕ) → is_printable content ≡ true → IsUtf8 content
@@ -269,10 +257,7 @@ ruled_fine rules content l shown h =
 rule_fine : (rules : ℕ) (content : List ℕ) (words : List (List ℕ)) (l : Line) → is_printable content ≡ true
     → rule_said rules content words ≡ Ok l → IsFine rules l
 rule_fine rules content (tag ∷ format ∷ stream ∷ []) l shown h = ruled_fine rules content l shown h
-rule_fine rules content [] l shown h = no_line kind.Arity l h
-rule_fine rules content (a ∷ []) l shown h = no_line kind.Arity l h
-rule_fine rules content (a ∷ b ∷ []) l shown h = no_line kind.Arity l h
-rule_fine rules content (a ∷ b ∷ c ∷ d ∷ words) l shown h = no_line kind.Arity l h
+rule_fine rules content _ l shown h = no_line kind.Arity l h
 
 -- ---- the forms of replays, which no feed has: none is a rule
 
@@ -284,10 +269,7 @@ submit_fine rules (node ∷ format ∷ version ∷ word ∷ words) l h =
     then_fine rules kind.Number (number_up_to 255 format) (λ f. read_then kind.Hex (version_of version) (λ v. read_or kind.Hex (line.Submit n f v) records)) l (λ f h2.
     then_fine rules kind.Hex (version_of version) (λ v. read_or kind.Hex (line.Submit n f v) records) l (λ v h3.
     read_fine rules kind.Hex (line.Submit n f v) records l (λ rs. plain rules (line.Submit n f v rs) refl refl tt) h3) h2) h1) h
-submit_fine rules [] l h = no_line kind.Arity l h
-submit_fine rules (a ∷ []) l h = no_line kind.Arity l h
-submit_fine rules (a ∷ b ∷ []) l h = no_line kind.Arity l h
-submit_fine rules (a ∷ b ∷ c ∷ []) l h = no_line kind.Arity l h
+submit_fine rules _ l h = no_line kind.Arity l h
 
 redirect_fine : (rules : ℕ) (words : List (List ℕ)) (l : Line) → redirect_said words ≡ Ok l → IsFine rules l
 redirect_fine rules (gateway ∷ cause ∷ []) l h =
@@ -298,9 +280,7 @@ redirect_fine rules (gateway ∷ cause ∷ to ∷ []) l h =
     read_or kind.Number (λ t. line.Redirect g c (Some t)) (number_of to))) l (λ g h1.
     then_fine rules kind.Number (number_between 59 63 cause) (λ c. read_or kind.Number (λ t. line.Redirect g c (Some t)) (number_of to)) l (λ c h2.
     read_fine rules kind.Number (λ t. line.Redirect g c (Some t)) (number_of to) l (λ t. plain rules (line.Redirect g c (Some t)) refl refl tt) h2) h1) h
-redirect_fine rules [] l h = no_line kind.Arity l h
-redirect_fine rules (a ∷ []) l h = no_line kind.Arity l h
-redirect_fine rules (a ∷ b ∷ c ∷ d ∷ words) l h = no_line kind.Arity l h
+redirect_fine rules _ l h = no_line kind.Arity l h
 
 arm_fine : (arms : ℕ → ℕ → Mode → Line) (rules : ℕ) (words : List (List ℕ)) (l : Line) →
     ((g c : ℕ) (m : Mode) → IsFine rules (arms g c m)) → arm_said arms words ≡ Ok l → IsFine rules l
@@ -308,19 +288,14 @@ arm_fine arms rules (gateway ∷ call ∷ mode ∷ []) l fine h =
     then_fine rules kind.Number (number_of gateway) (λ g. read_then kind.Number (call_of call) (λ c. read_or kind.Number (arms g c) (mode_of mode))) l (λ g h1.
     then_fine rules kind.Number (call_of call) (λ c. read_or kind.Number (arms g c) (mode_of mode)) l (λ c h2.
     read_fine rules kind.Number (arms g c) (mode_of mode) l (λ m. fine g c m) h2) h1) h
-arm_fine arms rules [] l fine h = no_line kind.Arity l h
-arm_fine arms rules (a ∷ []) l fine h = no_line kind.Arity l h
-arm_fine arms rules (a ∷ b ∷ []) l fine h = no_line kind.Arity l h
-arm_fine arms rules (a ∷ b ∷ c ∷ d ∷ words) l fine h = no_line kind.Arity l h
+arm_fine arms rules _ l fine h = no_line kind.Arity l h
 
 fail_fine : (fails : ℕ → ℕ → Line) (rules : ℕ) (words : List (List ℕ)) (l : Line) →
     ((g c : ℕ) → IsFine rules (fails g c)) → fail_said fails words ≡ Ok l → IsFine rules l
 fail_fine fails rules (gateway ∷ call ∷ []) l fine h =
     then_fine rules kind.Number (number_of gateway) (λ g. read_or kind.Number (fails g) (call_of call)) l (λ g h1.
     read_fine rules kind.Number (fails g) (call_of call) l (λ c. fine g c) h1) h
-fail_fine fails rules [] l fine h = no_line kind.Arity l h
-fail_fine fails rules (a ∷ []) l fine h = no_line kind.Arity l h
-fail_fine fails rules (a ∷ b ∷ c ∷ words) l fine h = no_line kind.Arity l h
+fail_fine fails rules _ l fine h = no_line kind.Arity l h
 
 said_fine : (of : ScriptKind) (form : Keyword) (rules : ℕ) (content : List ℕ) (words : List (List ℕ)) (l : Line) → is_printable content ≡ true
     → said_by of form rules content words ≡ Ok l → IsFine rules l

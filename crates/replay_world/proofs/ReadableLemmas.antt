@@ -53,9 +53,6 @@ abbrev rule_with : Option Tag → Option ℕ → ℕ → Rule
 rule_with tag format stream = record { tag = tag; format = format; stream = stream }
 
 low_by : (words : List (List ℕ)) (rule : Rule) → rule_by words ≡ Some rule → IsLow rule
-low_by [] rule h = absurd (cc)
-low_by (a ∷ []) rule h = absurd (cc)
-low_by (a ∷ b ∷ []) rule h = absurd (cc)
 low_by (a ∷ b ∷ c ∷ []) rule h =
     let tag = then_some {B = Rule} (any_or tag_in a)
     (λ (tag : Option Tag). option_and_then (λ (format : Option ℕ). option_and_then (λ (stream : ℕ). Some (rule_with tag format stream))
@@ -71,7 +68,7 @@ low_by (a ∷ b ∷ c ∷ []) rule h =
         → Some (rule_with tag format stream) ≡ Some rule → IsLow rule
     is_low tag format stream rule small e =
         let same : rule_with tag format stream ≡ rule = cc in subst IsLow same small
-low_by (a ∷ b ∷ c ∷ d ∷ words) rule h = absurd (cc)
+low_by _ rule h = absurd (cc)
 
 low_of : (text : List ℕ) (rule : Rule) → rule_of text ≡ Some rule → IsLow rule
 low_of text rule h = by (words_of text) h

@@ -11,7 +11,7 @@ use Rattle.gateway_book.specs.Items.{items_of}
 use Rattle.gateway_book.specs.Value.{BookValue, history_of, opened, recorded, standing_for}
 use Rattle.gw_base.specs.History.{begins_epoch, copies_of, fate_of, names, with_entry, with_fate}
 use Rattle.gw_base.specs.declared.history.HistoryAct.{HistoryAct}
-use Rattle.gw_base.specs.declared.history.HistoryAct.TheVariants.{Start, Path, File, Hold, Seal, Release, Cancel, Tick, Close}
+use Rattle.gw_base.specs.declared.history.HistoryAct.TheVariants.{Start, Hold}
 use Rattle.gw_base.specs.declared.history.HistoryEntry.{HistoryEntry}
 use Rattle.gw_base.specs.declared.scan.Copies.{Copies}
 use Rattle.gw_base.specs.declared.scan.HoldFate.{HoldFate}
@@ -43,14 +43,7 @@ entry_same : (a : HistoryAct) (h : List HistoryEntry) (e : HistoryEntry) (x y : 
 entry_same (Hold n number packet) h e x y is same =
     ap (λ (f : HoldFate). with_fate f x) (fate_start n.0 number h e is)
     ∙ ap (λ (c : Copies). with_fate (fate_of n.0 number h) c) same
-entry_same Start h e x y is same = same
-entry_same (Path n port counter) h e x y is same = same
-entry_same (File n number packet) h e x y is same = same
-entry_same (Seal n number) h e x y is same = same
-entry_same (Release n numbers) h e x y is same = same
-entry_same (Cancel n numbers) h e x y is same = same
-entry_same Tick h e x y is same = same
-entry_same Close h e x y is same = same
+entry_same _ h e x y is same = same
 
 -- a Start counts no copies
 pub copies_start : (h : List HistoryEntry) (e : HistoryEntry) → e.act ≡ Start → copies_of (h ++ e ∷ []) ≡ copies_of h
@@ -122,9 +115,8 @@ module _ (setup : Setup) (place : ℕ) (g : Gateway) (m : Machine) where
 
   pub site_opened : (s : Option Site) → SiteIsOpened setup place g s →
       SiteStands setup place (reopened (rules_in setup) g) first_machine s
-  site_opened None is = absurd is
   site_opened (Some (Up book)) is = is
-  site_opened (Some (Down fallen)) is = absurd is
+  site_opened _ is = absurd is
 
   pub opened_still : (before mid new : real.Machine) → IsOpenedForCounts setup place g before mid →
       SiteStands setup place (reopened (rules_in setup) g) first_machine new.site →

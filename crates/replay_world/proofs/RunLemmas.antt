@@ -128,9 +128,8 @@ start_place v r number stands none =
 
 recommended_by : (o : Option WorldKind) (b : Bool) (p : Option WorldKind) →
     option_or o (option_or (refusing b kind.NoGateway) p) ≡ None → b ≡ false
-recommended_by (Some k) b p is = absurd (cc)
-recommended_by None true p is = absurd (cc)
 recommended_by None false p is = refl
+recommended_by _ _ p is = absurd (cc)
 
 pub other_placed : (v : ReplayValue) (r : Replay) (number cause : ℕ) (to : Option ℕ) → Stands v r →
     refusal_of v.world (event.Redirect number cause to) ≡ None →

@@ -51,17 +51,13 @@ module _ (goes : DivisionGoesOn) (stay : ItemsStay) (settings : Settings) (s : �
   -- after one more entry
   by_act : (h : List HistoryEntry) (due : Bool) (run : List (Filed (List ℕ))) (moment : ℕ) (a : HistoryAct) →
       due_after due a ≡ false → (due ≡ false → run ≡ []) → open_from run (items_by_act h moment a ++ []) ≡ []
-  by_act h due run moment act.Start is shut = shut is
-  by_act h due run moment (act.Path node port counter) is shut = shut is
   by_act h due run moment (act.File node number packet) is shut = absurd (true≢false is)
-  by_act h due run moment (act.Hold node number packet) is shut = shut is
-  by_act h due run moment (act.Seal node number) is shut = shut is
   by_act h due run moment (act.Release node numbers) is shut = absurd (true≢false is)
-  by_act h due run moment (act.Cancel node numbers) is shut = shut is
   by_act h due run moment act.Tick is shut =
       ap (λ (r : List (Filed (List ℕ))). (divided_from settings.limits r (Tick moment ∷ [])).left_open) (shut is)
       ∙ after_tick settings.limits moment
   by_act h due run moment act.Close is shut = after_close settings.limits run moment
+  by_act h due run moment _ is shut = shut is
 
   pub shut_where_none_due : (h : List HistoryEntry) → is_close_due h ≡ false →
       (stream_division settings s (items_of h)).left_open ≡ []

@@ -13,18 +13,13 @@ use Rattle.once_core.specs.declared.event.WorldKind.{WorldKind}
 use Rattle.replay_world.specs.Device.{asked_of, entries_kept, is_stop, place_asked, sequel_on, turn_with}
 use Rattle.replay_world.specs.Moves.{moved_by}
 use Rattle.replay_world.specs.Setup.{rules_in}
-use Rattle.replay_world.specs.Steps.{Site, Step, Arms, ArmsShelf, Disarms, Loses, Plays, Tells, Writes, site_in, site_of, site_with, turn_at, turn_of, world_after}
+use Rattle.replay_world.specs.Steps.{Site, Step, Plays, site_in, site_of, site_with, turn_at, turn_of, world_after}
 use Rattle.replay_world.specs.Value.{Machine, ReplayValue}
 
 -- a step of a world that is reached reaches one
 pub reached_after : (v : ReplayValue) (step : Step) → IsReached v.world → IsReached (world_after v step)
 reached_after v (Plays e) reached = reached_then (rules_in v.setup) v.world (turn_of v e) reached
-reached_after v (Loses message) reached = reached
-reached_after v (Arms gateway armed) reached = reached
-reached_after v (ArmsShelf gateway armed) reached = reached
-reached_after v (Disarms gateway) reached = reached
-reached_after v (Writes gateway) reached = reached
-reached_after v (Tells notice) reached = reached
+reached_after v _ reached = reached
 
 -- a move at a gateway that is there
 pub moved_there : (w : World) (k : ℕ) (g : Gateway) (move : Gateway → Moved) → slice_get w.gateways k ≡ Some g →

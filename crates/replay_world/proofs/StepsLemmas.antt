@@ -16,7 +16,7 @@ use Rattle.replay_world.specs.Lines.{after_steps, notices_of}
 use Rattle.replay_world.specs.Notices.{Notice, notice_lines}
 use Rattle.replay_world.specs.Setup.{rules_in}
 use Rattle.replay_world.specs.Stands.{Stands}
-use Rattle.replay_world.specs.Steps.{Step, Arms, ArmsShelf, Disarms, Loses, Plays, Tells, Writes, after_step, ends_line, turn_of, world_after}
+use Rattle.replay_world.specs.Steps.{Step, Plays, after_step, ends_line, turn_of, world_after}
 use Rattle.replay_world.specs.Telling.{step_notices}
 use Rattle.replay_world.specs.Value.{ReplayValue}
 use Rattle.replay_world.specs.declared.replay.Replay.{Replay}
@@ -289,12 +289,7 @@ step_more v (Plays e) =
     let after : World = turn_by (rules_in v.setup) v.world t t.event in
     unless_more (refusal_of v.world t.event) v.world (lost_if t.is_lost v.world after)
     (lost_more t.is_lost v.world after (turn_by_more (rules_in v.setup) v.world t t.event))
-step_more v (Loses message) = omega arith
-step_more v (Arms place armed) = omega arith
-step_more v (ArmsShelf place armed) = omega arith
-step_more v (Disarms place) = omega arith
-step_more v (Writes place) = omega arith
-step_more v (Tells notice) = omega arith
+step_more v _ = omega arith
 
 more_by : (b : Bool) (n : ℕ) (u w : ReplayValue) → n ≤ count u.world → n ≤ count w.world →
     n ≤ count (if b then u else w).world

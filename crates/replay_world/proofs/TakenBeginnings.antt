@@ -74,28 +74,7 @@ idle_line s t v (line.Profile profile) gateways nodes idle = record { allowed = 
 idle_line s t v (line.Rule text) gateways nodes idle = record { allowed = refl; turns = refl; after = refl; moment = refl; stopped = refl; gateways = gateways; nodes = nodes }
 idle_line s t v (line.Gateways count) gateways nodes idle = record { allowed = refl; turns = refl; after = refl; moment = refl; stopped = refl; gateways = refl; nodes = nodes }
 idle_line s t v (line.Nodes count) gateways nodes idle = record { allowed = refl; turns = refl; after = refl; moment = refl; stopped = refl; gateways = gateways; nodes = refl }
-idle_line s t v (line.Datagram from octets) gateways nodes idle = absurd (cc)
-idle_line s t v (line.Halt node) gateways nodes idle = absurd (cc)
-idle_line s t v (line.Start node) gateways nodes idle = absurd (cc)
-idle_line s t v (line.Deliver message) gateways nodes idle = absurd (cc)
-idle_line s t v (line.Redirect gateway cause to) gateways nodes idle = absurd (cc)
-idle_line s t v (line.Arm gateway call mode) gateways nodes idle = absurd (cc)
-idle_line s t v (line.Fail gateway call) gateways nodes idle = absurd (cc)
-idle_line s t v (line.ArmShelf gateway call mode) gateways nodes idle = absurd (cc)
-idle_line s t v (line.FailShelf gateway call) gateways nodes idle = absurd (cc)
-idle_line s t v line.End gateways nodes idle = absurd (cc)
-idle_line s t v line.Settle gateways nodes idle = absurd (cc)
-idle_line s t v line.Flow gateways nodes idle = absurd (cc)
-idle_line s t v (line.At moment) gateways nodes idle = absurd (cc)
-idle_line s t v (line.Mark gateway) gateways nodes idle = absurd (cc)
-idle_line s t v (line.Close gateway) gateways nodes idle = absurd (cc)
-idle_line s t v (line.Submit node format version records) gateways nodes idle = absurd (cc)
-idle_line s t v (line.Tick node) gateways nodes idle = absurd (cc)
-idle_line s t v (line.Mix seed) gateways nodes idle = absurd (cc)
-idle_line s t v (line.Commit gateway) gateways nodes idle = absurd (cc)
-idle_line s t v (line.Write gateway) gateways nodes idle = absurd (cc)
-idle_line s t v (line.Stop gateway) gateways nodes idle = absurd (cc)
-idle_line s t v (line.Open gateway) gateways nodes idle = absurd (cc)
+idle_line s t v _ gateways nodes idle = absurd (cc)
 
 setting_stays : (t : Setup) (said : Line) → is_setting_line said ≡ false → after_setting t said ≡ t
 setting_stays t (line.Reserve length) h = absurd (cc)
@@ -107,29 +86,7 @@ setting_stays t (line.Profile profile) h = absurd (cc)
 setting_stays t (line.Rule text) h = absurd (cc)
 setting_stays t (line.Gateways count) h = absurd (cc)
 setting_stays t (line.Nodes count) h = absurd (cc)
-setting_stays t (line.Datagram from octets) h = refl
-setting_stays t (line.Halt node) h = refl
-setting_stays t (line.Start node) h = refl
-setting_stays t (line.Deliver message) h = refl
-setting_stays t (line.Redirect gateway cause to) h = refl
-setting_stays t (line.Arm gateway call mode) h = refl
-setting_stays t (line.Fail gateway call) h = refl
-setting_stays t (line.ArmShelf gateway call mode) h = refl
-setting_stays t (line.FailShelf gateway call) h = refl
-setting_stays t line.End h = refl
-setting_stays t line.Settle h = refl
-setting_stays t line.Flow h = refl
-setting_stays t (line.At moment) h = refl
-setting_stays t (line.Mark gateway) h = refl
-setting_stays t (line.Close gateway) h = refl
-setting_stays t (line.Submit node format version records) h = refl
-setting_stays t (line.Tick node) h = refl
-setting_stays t (line.Mix seed) h = refl
-setting_stays t (line.Commit gateway) h = refl
-setting_stays t (line.Write gateway) h = refl
-setting_stays t (line.Stop gateway) h = refl
-setting_stays t (line.Open gateway) h = refl
-setting_stays t line.Blank h = refl
+setting_stays t _ h = refl
 
 settings_stay : (t : Setup) (lines : List Line) → list_any is_setting_line lines ≡ false → after_settings t lines ≡ t
 settings_stay t [] h = refl

@@ -19,7 +19,7 @@ use Rattle.replay_world.specs.Device.{asked_of, machine_after}
 use Rattle.replay_world.specs.Lines.{after_steps, turns_by}
 use Rattle.replay_world.specs.Filing.{filing_after, filing_then, shelf_calls, shelf_came}
 use Rattle.replay_world.specs.Setup.{files_in, rules_in}
-use Rattle.replay_world.specs.Steps.{Plays, Loses, Arms, ArmsShelf, Disarms, Writes, Tells, files_written, Site, Step, after_step, ends_line, items_firm, machines_at, machines_after, machines_in, site_of, step_turns, turn_of, waiting_after, waiting_left, world_after}
+use Rattle.replay_world.specs.Steps.{Plays, Loses, Disarms, Writes, files_written, Site, Step, after_step, ends_line, items_firm, machines_at, machines_after, machines_in, site_of, step_turns, turn_of, waiting_after, waiting_left, world_after}
 use Rattle.replay_world.specs.Taken.{Allows, arms_stop}
 use Rattle.replay_world.specs.Value.{Filing, ReplayValue, unarmed as unarmed_one}
 use Rattle.replay_world.proofs.TakenSteps.{Unarmed, after_unarmed, all_append, all_filter, all_weaker, calls_calm, event_is, is_calm, numbered, still_there, stops_none, with_unarmed}
@@ -64,24 +64,9 @@ same_holds f w after h same = record {
 }
 
 left_sent : (P : ℕ → Type 0) (waiting : List ℕ) (step : Step) → AllByRecursion P waiting → AllByRecursion P (waiting_left waiting step)
-left_sent P waiting (Plays (event.Submit node packet)) h = h
-left_sent P waiting (Plays (event.Tick node)) h = h
 left_sent P waiting (Plays (event.Deliver message)) h = all_filter P (λ n. not (n == message)) waiting h
-left_sent P waiting (Plays (event.Commit gateway)) h = h
-left_sent P waiting (Plays (event.Cut gateway keep)) h = h
-left_sent P waiting (Plays (event.Open gateway)) h = h
-left_sent P waiting (Plays (event.Halt node)) h = h
-left_sent P waiting (Plays (event.Start node)) h = h
-left_sent P waiting (Plays (event.Redirect gateway cause to)) h = h
-left_sent P waiting (Plays (event.Moment now)) h = h
-left_sent P waiting (Plays (event.Mark gateway)) h = h
-left_sent P waiting (Plays (event.Close gateway)) h = h
 left_sent P waiting (Loses message) h = all_filter P (λ n. not (n == message)) waiting h
-left_sent P waiting (Arms gateway armed) h = h
-left_sent P waiting (ArmsShelf gateway armed) h = h
-left_sent P waiting (Disarms gateway) h = h
-left_sent P waiting (Writes gateway) h = h
-left_sent P waiting (Tells notice) h = h
+left_sent P waiting _ h = h
 
 abbrev Sent : ℕ → List ℕ → Type 0
 Sent count waiting = AllByRecursion (λ message. is_none_of count message ≡ false) waiting
@@ -132,18 +117,13 @@ passes_step v step later P goes_on allowed rest = record {
 -- ---- events
 
 quiet_machines : (v : ReplayValue) (e : Event) → is_quiet e ≡ true → machines_in v e ≡ option_map_or (machines_at v e) (site_of v e) v.machines
-quiet_machines v (event.Submit node packet) q = refl
-quiet_machines v (event.Tick node) q = refl
-quiet_machines v (event.Deliver message) q = refl
-quiet_machines v (event.Commit gateway) q = refl
-quiet_machines v (event.Mark gateway) q = refl
-quiet_machines v (event.Close gateway) q = refl
 quiet_machines v (event.Cut gateway keep) q = absurd (cc)
 quiet_machines v (event.Open gateway) q = absurd (cc)
 quiet_machines v (event.Halt node) q = absurd (cc)
 quiet_machines v (event.Start node) q = absurd (cc)
 quiet_machines v (event.Redirect gateway cause to) q = absurd (cc)
 quiet_machines v (event.Moment now) q = absurd (cc)
+quiet_machines v _ q = refl
 
 quiet_unarmed : (v : ReplayValue) (e : Event) → is_quiet e ≡ true → AllByRecursion Unarmed v.machines → AllByRecursion Unarmed (machines_in v e)
 quiet_unarmed v e q h = subst (AllByRecursion Unarmed) (sym (quiet_machines v e q)) (by (site_of v e))

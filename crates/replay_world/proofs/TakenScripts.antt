@@ -219,24 +219,7 @@ module _ (s : Scene) (v : ReplayValue) (is : IsAsSaid s v) where
   line_taken (line.Open gateway) action there = by_open gateway there
   line_taken line.Settle action there = record { allowed = refl; passes = settles }
   line_taken line.End action there = record { allowed = refl; passes = settles }
-  line_taken (line.Reserve length) action there = absurd (cc)
-  line_taken (line.LimitRecords count) action there = absurd (cc)
-  line_taken (line.LimitSize size) action there = absurd (cc)
-  line_taken (line.LimitOpen seconds) action there = absurd (cc)
-  line_taken (line.Offset minutes) action there = absurd (cc)
-  line_taken (line.Profile profile) action there = absurd (cc)
-  line_taken (line.Rule text) action there = absurd (cc)
-  line_taken (line.Gateways count) action there = absurd (cc)
-  line_taken (line.Nodes count) action there = absurd (cc)
-  line_taken (line.Datagram from octets) action there = absurd (cc)
-  line_taken (line.Halt node) action there = absurd (cc)
-  line_taken (line.Start node) action there = absurd (cc)
-  line_taken (line.Deliver message) action there = absurd (cc)
-  line_taken (line.Redirect gateway cause to) action there = absurd (cc)
-  line_taken (line.Arm gateway call mode) action there = absurd (cc)
-  line_taken (line.Fail gateway call) action there = absurd (cc)
-  line_taken (line.ArmShelf gateway call mode) action there = absurd (cc)
-  line_taken (line.FailShelf gateway call) action there = absurd (cc)
+  line_taken _ action there = absurd (cc)
 
 -- ---- lines one after the other
 

@@ -77,8 +77,7 @@ is_calm (StoppedAt call outcome) = false
 
 calm_later : (came : Came) → is_calm (one_later came) ≡ is_calm came
 calm_later (Ran armed) = refl
-calm_later (FailedAt call) = refl
-calm_later (StoppedAt call outcome) = refl
+calm_later _ = refl
 
 pub calls_calm : (armed : Armed) (n : ℕ) → arms_stop armed ≡ false → is_calm (calls_under armed n) ≡ true
 calls_calm Nothing zero h = refl
@@ -109,9 +108,8 @@ sequel_calm AsksCommit m h = commit_calm (calls_under m.armed 4) (calls_calm m.a
 sequel_calm AsksReopening m h = reopening_calm m.at_last (calls_under m.armed 1) (calls_calm m.armed 1 h.0)
 
 no_stop : (s : Sequel) → goes_calmly s ≡ true → is_stop s ≡ false
-no_stop (GoesOn armed) h = refl
-no_stop (Breaks last) h = refl
 no_stop (Stops stands) h = absurd (cc)
+no_stop _ h = refl
 
 machine_unarmed : (m : Machine) (s : Sequel) → goes_calmly s ≡ true → Unarmed m → Unarmed (machine_with m s)
 machine_unarmed m (GoesOn armed) h u = (not-true (arms_stop armed) h, u.1)

@@ -298,12 +298,7 @@ event_same rules w t (event.Mark gateway) q =
 event_same rules w t (event.Close gateway) q =
     gateway_same w (gateway - 1) (marked rules t.fortune (closing rules w.now))
     (marked_stays rules t.fortune (closing rules w.now) (closing_stays rules w.now))
-event_same rules w t (event.Cut gateway keep) q = absurd (cc)
-event_same rules w t (event.Open gateway) q = absurd (cc)
-event_same rules w t (event.Halt node) q = absurd (cc)
-event_same rules w t (event.Start node) q = absurd (cc)
-event_same rules w t (event.Redirect gateway cause to) q = absurd (cc)
-event_same rules w t (event.Moment now) q = absurd (cc)
+event_same rules w t _ q = absurd (cc)
 
 pub turn_same : (rules : Rules) (w : World) (t : Turn) → is_quiet t.event ≡ true → Same w (turn rules w t)
 turn_same rules w t q = by (refusal_of w t.event)

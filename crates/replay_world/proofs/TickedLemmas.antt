@@ -1,10 +1,10 @@
 -- The messages of a tick go to the gateways of the network, whose places an octet holds.
-use Rattle.std.proofs.Common.{◌≡◌, ℕ, zero, suc, ◌+◌, ◌<◌, ◌≤◌, ◌%◌, true, false, List, [], ◌∷◌, map, Option, Some, None, refl, ap, sym, ◌∙◌, subst, arith}
+use Rattle.std.proofs.Common.{◌≡◌, ℕ, zero, suc, ◌+◌, ◌<◌, ◌≤◌, ◌%◌, true, List, [], ◌∷◌, map, Option, Some, None, refl, ap, sym, ◌∙◌, subst, arith}
 use Rattle.std.proofs.lemmas.Option.{slice_get-map}
 use Rattle.std.specs.Option.{option_map, option_map_or}
 use Rattle.std.specs.Prelude.{slice_get, slice_set}
 use Rattle.gw_base.specs.declared.address.Addr.{Addr}
-use Rattle.node_core.specs.Log.{LogEntry, Began, Halted, Submitted, Appointed, Ticked, Heard, peers_of}
+use Rattle.node_core.specs.Log.{LogEntry, Submitted, Appointed, Ticked, Heard, peers_of}
 use Rattle.node_core.specs.Octets.{gateway_of, outgoing}
 use Rattle.node_core.specs.Peers.{address_at, all_drawn, at_place, drawn, peer_anew}
 use Rattle.node_core.specs.declared.peer.Peer.{Peer}
@@ -38,10 +38,8 @@ at_place_same f same k peers = by_found (slice_get peers k) refl
 drawn_same : (s : Sending) (peers : List Peer) → addresses (drawn s peers) ≡ addresses peers
 drawn_same (send.Probe gateway number) peers = at_place_same (λ p. record p { path = (number + 1) % 65536 }) (λ p. refl) gateway peers
 drawn_same (send.Data packet gateway number is_plain true) peers = at_place_same _ (λ p. refl) gateway peers
-drawn_same (send.Data packet gateway number is_plain false) peers = refl
-drawn_same (send.Test packet gateway number) peers = refl
 drawn_same (send.Command packet gateway named number order true) peers = at_place_same _ (λ p. refl) gateway peers
-drawn_same (send.Command packet gateway named number order false) peers = refl
+drawn_same _ peers = refl
 
 all_drawn_same : (ss : List Sending) (peers : List Peer) → addresses (all_drawn ss peers) ≡ addresses peers
 all_drawn_same [] peers = refl
@@ -52,13 +50,11 @@ anew_same [] = refl
 anew_same (a ∷ gateways) = ap (λ more. a ∷ more) (anew_same gateways)
 
 peers_same : (gateways : List Addr) (log : List LogEntry) → addresses (peers_of gateways log) ≡ gateways
-peers_same gateways [] = anew_same gateways
-peers_same gateways (Began ∷ log) = anew_same gateways
-peers_same gateways (Halted ∷ log) = anew_same gateways
 peers_same gateways (Submitted form ∷ log) = peers_same gateways log
 peers_same gateways (Appointed gateway ∷ log) = peers_same gateways log
 peers_same gateways (Ticked sendings ∷ log) = all_drawn_same sendings (peers_of gateways log) ∙ peers_same gateways log
 peers_same gateways (Heard port gateway saying ∷ log) = peers_same gateways log
+peers_same gateways _ = anew_same gateways
 
 -- They are near.
 

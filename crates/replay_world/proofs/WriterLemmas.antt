@@ -77,8 +77,7 @@ files_count settings s items = files_length settings.file s 1 (stream_division s
 -- of items that are written more may be taken
 writable_fit : (i : Item) → IsWritable i → IsFit i
 writable_fit (item.Part kind tag octets moment) is = is
-writable_fit (item.Tick moment) is = tt
-writable_fit (item.Close moment) is = tt
+writable_fit _ is = tt
 
 pub all_fit : (items : List Item) → All IsWritable items → All IsFit items
 all_fit items are = All-weaker IsWritable IsFit writable_fit items are
@@ -325,8 +324,7 @@ module _ (within : SealOfStreams) (items before later : List Item) (f : Filing)
             (all_gone_on k has);
       },
     )
-    ended_all r is taken few (FailedAt k) comes = absurd (cc (comes.fails))
-    ended_all r is taken few (StoppedAt k outcome) comes = absurd (cc (comes.fails))
+    ended_all r is taken few _ comes = absurd (cc (comes.fails))
 
     pub all_written : (r : Files) → r.writer ≡ new → r.taken ≡ Some (length items) → length items < 2 ^ 31 →
         HasWritten q items f wrote.All r

@@ -118,11 +118,10 @@ module _ {A : Type 0} (tells : Ghosts A) where
     on_gone : (jobs : List Job) (outcomes : List Outcome) (results : List Served) (taken after : Knowledge) (old new : LinkState)
         → GoOn tells may session jobs outcomes results taken after old new → OnFrom (tells_lists tells) taken after
     on_gone [] outcomes results taken after old new goes = on_same (tells_lists tells) taken after goes.2
-    on_gone (job ∷ jobs) [] results taken after old new goes = absurd goes
-    on_gone (job ∷ jobs) (o ∷ outcomes) [] taken after old new goes = absurd goes
     on_gone (job ∷ jobs) (o ∷ outcomes) (r ∷ results) taken after old new goes =
         on_then (tells_lists tells) taken goes.0 after (on_goes job old goes.1 r taken goes.0 o goes.2)
         (on_gone jobs outcomes results goes.0 after goes.1 new goes.3)
+    on_gone (job ∷ jobs) _ _ taken after old new goes = absurd goes
 
     -- behind jobs that were served together
     pub on_served : (jobs : List Job) (old new : LinkState) (results : List Served) (before after : Knowledge)
@@ -246,8 +245,7 @@ module _ (told : Bool) (session : ℕ) (job : Job) (done : List Job) (between : 
   sent_on (served.Dropped why) d = unsent (ap (λ (s : LinkState). s.sent) d.unsent)
   sent_on served.Lost l = lost_on l
   sent_on served.Link f = unsent (ap (λ (s : LinkState). s.sent) f.rest)
-  sent_on served.Over same = unsent (ap (λ (s : LinkState). s.sent) same)
-  sent_on served.NoMemory same = unsent (ap (λ (s : LinkState). s.sent) same)
+  sent_on _ same = unsent (ap (λ (s : LinkState). s.sent) same)
 
 -- a link by which a session sends hears nothing still, and failed where it had
 module _ (told : Bool) (session : ℕ) (job : Job) (between : List KeptTurn) (before after : Knowledge) (old new : LinkState) where
@@ -282,8 +280,7 @@ module _ (told : Bool) (session : ℕ) (job : Job) (between : List KeptTurn) (be
   same_path (served.Dropped why) d = path_of old d.unsent refl refl refl
   same_path served.Lost l = (lost_path (failure_reply (prepared_of job.octets)) l.sent).0
   same_path served.Link f = path_of (record old { faults = new.faults }) f.rest refl refl refl
-  same_path served.Over same = path_of old same refl refl refl
-  same_path served.NoMemory same = path_of old same refl refl refl
+  same_path _ same = path_of old same refl refl refl
 
   pub hears_on : (at : Addr) (result : Served) → TellsOf result → HearsNothing at old → HearsNothing at new
   hears_on at result tells h =
@@ -303,8 +300,7 @@ module _ (told : Bool) (session : ℕ) (job : Job) (between : List KeptTurn) (be
   fails_still (served.Dropped why) d rose = as_failed (ap (λ (s : LinkState). s.faults) d.unsent) rose
   fails_still served.Lost l rose = as_failed (lost_path (failure_reply (prepared_of job.octets)) l.sent).1 rose
   fails_still served.Link f rose = rose_since 0 old.faults new.faults (omega arith) f.rose
-  fails_still served.Over same rose = as_failed (ap (λ (s : LinkState). s.faults) same) rose
-  fails_still served.NoMemory same rose = as_failed (ap (λ (s : LinkState). s.faults) same) rose
+  fails_still _ same rose = as_failed (ap (λ (s : LinkState). s.faults) same) rose
 
   pub failed_on : TellsOf served.Link → Rose 0 new.faults
   failed_on f = rose_since 0 old.faults new.faults (omega arith) f.rose

@@ -113,13 +113,7 @@ module _ (told : Bool) (session : ℕ) where
       each_fails jobs results each.0 each.1 after each.2 new each.4
       (failed_on told session job each.3.between before each.1 old each.2 each.3.tells)
   each_failed (job ∷ jobs) (served.NoMemory ∷ results) before taken after old new each is = absurd (cc is)
-  each_failed (job ∷ jobs) (served.Replied cause front ∷ results) before taken after old new each is =
-      each_failed jobs results each.0 each.1 after each.2 new each.4 is
-  each_failed (job ∷ jobs) (served.Dropped why ∷ results) before taken after old new each is =
-      each_failed jobs results each.0 each.1 after each.2 new each.4 is
-  each_failed (job ∷ jobs) (served.Lost ∷ results) before taken after old new each is =
-      each_failed jobs results each.0 each.1 after each.2 new each.4 is
-  each_failed (job ∷ jobs) (served.Over ∷ results) before taken after old new each is =
+  each_failed (job ∷ jobs) (_ ∷ results) before taken after old new each is =
       each_failed jobs results each.0 each.1 after each.2 new each.4 is
 
 module _ {A L : Type 0} (device : area.Ghosts A) (tells : Ghosts L) (may : ℕ → ℕ → Go → Type 0) (session : ℕ) (jobs : List Job)

@@ -94,10 +94,9 @@ module _ {F L : Type 0} (files : shelves.Ghosts F) (tells : paths.Ghosts L) (tol
           by (Some stop.NoMemory) is = tt
 
       by_reception : (s : Option Stop) → r.stop ≡ s → Caused s
-      by_reception None is = tt
       by_reception (Some stop.Link) is = inl (s.dispatched.cause is)
       by_reception (Some stop.Clock) is = by_clock is
-      by_reception (Some stop.NoMemory) is = tt
+      by_reception _ is = tt
 
       or_other : (a b : Option Stop) → Caused a → Caused b → Caused (option_or a b)
       or_other None b ca cb = cb
@@ -239,11 +238,7 @@ module _ {V : Type 0} (cell : TurnCell V) {L : Type 0} where
       (All-cons Own passes.2 (passes.3 ∷ last ∷ []) (subst (IsOf cell) are.2 desks.1.0.worker)
       (All-cons Own passes.3 (last ∷ []) (subst (IsOf cell) are.3 desks.1.1.worker)
       (All-cons Own last [] (subst (IsOf cell) is own) (All-nil Own)))))
-  passes_of_cell [] first second passes has last desks are own is = absurd desks
-  passes_of_cell (a ∷ []) first second passes has last desks are own is = absurd desks
-  passes_of_cell (a ∷ b ∷ []) first second passes has last desks are own is = absurd desks
-  passes_of_cell (a ∷ b ∷ c ∷ []) first second passes has last desks are own is = absurd desks
-  passes_of_cell (a ∷ b ∷ c ∷ d ∷ e ∷ list) first second passes has last desks are own is = absurd desks
+  passes_of_cell _ first second passes has last desks are own is = absurd desks
 
 module _ {F L : Type 0} (files : shelves.Ghosts F) (team : Team F L files) where
   pub known_is : (passes : Pass × Pass × Pass × Pass) (last : Pass) → ArePassesFor passes team.first team.second → writing.pass_of team.actor ≡ Some last

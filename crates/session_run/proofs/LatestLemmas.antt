@@ -1,5 +1,5 @@
 -- The latest moment of jobs, by that of some and that of the others.
-use Rattle.std.proofs.Common.{◌≡◌, ℕ, max, List, [], ◌∷◌, ◌++◌, Option, None, Some, refl, sym, ap, ◌∙◌, arith}
+use Rattle.std.proofs.Common.{◌≡◌, ℕ, List, [], ◌∷◌, ◌++◌, Option, None, Some, refl, sym, ap, ◌∙◌, arith}
 use Rattle.job_inbox.specs.declared.job.Job.{Job}
 use Rattle.session_run.specs.Latest.{later_of, latest}
 
@@ -9,10 +9,8 @@ later_none (Some a) = refl
 
 -- of three the first two may come first, or the last two
 pub later_assoc : (a b c : Option ℕ) → later_of (later_of a b) c ≡ later_of a (later_of b c)
-later_assoc None b c = refl
-later_assoc (Some a) None c = refl
-later_assoc (Some a) (Some b) None = refl
 later_assoc (Some a) (Some b) (Some c) = ap Some (omega arith)
+later_assoc _ _ _ = refl
 
 pub latest_of_both : (jobs more : List Job) → latest (jobs ++ more) ≡ later_of (latest jobs) (latest more)
 latest_of_both [] more = refl

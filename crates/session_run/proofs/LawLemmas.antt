@@ -55,8 +55,7 @@ heard_last : (earlier heard all : Option (List Datagram)) → GrowsBy earlier he
     → ((rest xs : List Datagram) → P xs → P (rest ++ xs)) → IfSome heard P → IfSome all P
 heard_last earlier heard None grows P more p = tt
 heard_last (Some rest) (Some xs) (Some list) grows P more p = subst P (same_Some (rest ++ xs) list grows) (more rest xs p)
-heard_last (Some rest) None (Some list) grows P more p = absurd (cc grows)
-heard_last None heard (Some list) grows P more p = absurd (cc grows)
+heard_last _ _ (Some list) grows P more p = absurd (cc grows)
 
 pub answers_heard : (size : ℕ) (jobs : Jobs) (entries : List Placed) (earlier heard all : Option (List Datagram))
     → GrowsBy earlier heard all → AnswerInTurn size heard jobs entries → AnswerInTurn size all jobs entries
@@ -120,10 +119,8 @@ module _ {L : Type 0} (tells : paths.Ghosts L) where
   joined_none (Some list) = ap Some (sym (append-nil list))
 
   joined_both : (one two three : Option (List Datagram)) → joined (joined one two) three ≡ joined one (joined two three)
-  joined_both None two three = refl
-  joined_both (Some a) None three = refl
-  joined_both (Some a) (Some b) None = refl
   joined_both (Some a) (Some b) (Some c) = ap Some (append_assoc a b c)
+  joined_both _ _ _ = refl
 
   pub sent_behind : (told : Option (List Datagram)) (links : List L) → sent_with tells told links ≡ joined told (sent_by tells links)
   sent_behind told [] = joined_none told

@@ -38,14 +38,11 @@ without_last ns n all xs x is are = shorter ns n xs x (sym (ap (λ (ps : List Pa
 
 -- the last of two, and of three
 pub last_of_two : (xs : List Pass) (a b : ℕ) (d : Pass) → numbers xs ≡ a ∷ b ∷ [] → number (slice_index_or xs (length xs - 1) d) ≡ b
-last_of_two [] a b d is = absurd (cc is)
 last_of_two (x ∷ []) a b d is = absurd (cc (ap (λ ns. rest_of ns) is))
 last_of_two (x ∷ y ∷ []) a b d is = ap (λ ns. head_of (rest_of ns)) is
-last_of_two (x ∷ y ∷ z ∷ xs) a b d is = absurd (cc is)
+last_of_two _ a b d is = absurd (cc is)
 
 pub last_of_three : (xs : List Pass) (a b c : ℕ) (d : Pass) → numbers xs ≡ a ∷ b ∷ c ∷ [] → number (slice_index_or xs (length xs - 1) d) ≡ c
-last_of_three [] a b c d is = absurd (cc is)
 last_of_three (x ∷ []) a b c d is = absurd (cc (ap (λ ns. rest_of ns) is))
-last_of_three (x ∷ y ∷ []) a b c d is = absurd (cc is)
 last_of_three (x ∷ y ∷ z ∷ []) a b c d is = ap (λ ns. head_of (rest_of (rest_of ns))) is
-last_of_three (x ∷ y ∷ z ∷ w ∷ xs) a b c d is = absurd (cc is)
+last_of_three _ a b c d is = absurd (cc is)

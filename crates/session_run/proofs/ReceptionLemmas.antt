@@ -77,9 +77,8 @@ same_count (i ∷ inboxes) [] own = absurd own
 same_count (i ∷ inboxes) (p ∷ passes) own = ap suc (same_count inboxes passes own.1)
 
 set_count : (hands : List Hand) (k : ℕ) (job : Job) → length (with_job k job hands) ≡ length hands
-set_count [] k job = refl
-set_count (hand ∷ hands) zero job = refl
 set_count (hand ∷ hands) (suc k) job = ap suc (set_count hands k job)
+set_count _ _ job = refl
 
 -- what the passes of a dispatcher pushed of what its link heard
 abbrev HasPushedOf : LinkState → List Hand → Type 0
@@ -126,82 +125,54 @@ module _ (inboxes : List Inbox) (old new : Dispatcher) (link_old link_new : Link
 
   -- neither the address nor what was sent changes
   pub path_on : (d : Dispatched) → Told d → (link_new.address ≡ link_old.address) × (link_new.sent ≡ link_old.sent)
-  path_on dispatched.Pushed t = (ap (λ (l : LinkState). l.address) t.made.is, ap (λ (l : LinkState). l.sent) t.made.is)
-  path_on dispatched.Full t = (ap (λ (l : LinkState). l.address) t.made.is, ap (λ (l : LinkState). l.sent) t.made.is)
   path_on dispatched.Quiet t = (ap (λ (l : LinkState). l.address) t.0, ap (λ (l : LinkState). l.sent) t.0)
   path_on dispatched.Link t = (ap (λ (l : LinkState). l.address) t.0.rest, ap (λ (l : LinkState). l.sent) t.0.rest)
   path_on dispatched.Clock t = (ap (λ (l : LinkState). l.address) t.0.1, ap (λ (l : LinkState). l.sent) t.0.1)
   path_on dispatched.NoMemory t = (ap (λ (l : LinkState). l.address) t.0.1, ap (λ (l : LinkState). l.sent) t.0.1)
+  path_on _ t = (ap (λ (l : LinkState). l.address) t.made.is, ap (λ (l : LinkState). l.sent) t.made.is)
 
   -- a turn was taken unless the link failed
   pub turn_on : (d : Dispatched) → Told d → (d ≡ dispatched.Link → ⊥) → link_new.turns ≡ next_count link_old.turns
-  turn_on dispatched.Pushed t other = ap (λ (l : LinkState). l.turns) t.made.is
-  turn_on dispatched.Full t other = ap (λ (l : LinkState). l.turns) t.made.is
   turn_on dispatched.Quiet t other = ap (λ (l : LinkState). l.turns) t.0
   turn_on dispatched.Link t other = absurd (other refl)
   turn_on dispatched.Clock t other = ap (λ (l : LinkState). l.turns) t.0.1
   turn_on dispatched.NoMemory t other = ap (λ (l : LinkState). l.turns) t.0.1
+  turn_on _ t other = ap (λ (l : LinkState). l.turns) t.made.is
 
   pub failed_on : (d : Dispatched) → Told d → d ≡ dispatched.Link → Rose 0 link_new.faults
   failed_on dispatched.Link t is = rose_since 0 link_old.faults link_new.faults (omega arith) t.0.rose
-  failed_on dispatched.Pushed t is = absurd (cc is)
-  failed_on dispatched.Full t is = absurd (cc is)
-  failed_on dispatched.Quiet t is = absurd (cc is)
-  failed_on dispatched.Clock t is = absurd (cc is)
-  failed_on dispatched.NoMemory t is = absurd (cc is)
+  failed_on _ t is = absurd (cc is)
 
   pub clock_on : (d : Dispatched) → Told d → d ≡ dispatched.Clock → Rose clock_old clock_new
   clock_on dispatched.Clock t is = t.1
-  clock_on dispatched.Link t is = absurd (cc is)
-  clock_on dispatched.Pushed t is = absurd (cc is)
-  clock_on dispatched.Full t is = absurd (cc is)
-  clock_on dispatched.Quiet t is = absurd (cc is)
-  clock_on dispatched.NoMemory t is = absurd (cc is)
+  clock_on _ t is = absurd (cc is)
 
 -- ---- a reception
 
 link_stopped : (d : Dispatched) → stop_behind d ≡ Some stop.Link → d ≡ dispatched.Link
 link_stopped dispatched.Link is = refl
-link_stopped dispatched.Clock is = absurd (cc is)
-link_stopped dispatched.NoMemory is = absurd (cc is)
-link_stopped dispatched.Pushed is = absurd (cc is)
-link_stopped dispatched.Full is = absurd (cc is)
-link_stopped dispatched.Quiet is = absurd (cc is)
+link_stopped _ is = absurd (cc is)
 
 clock_stopped : (d : Dispatched) → stop_behind d ≡ Some stop.Clock → d ≡ dispatched.Clock
 clock_stopped dispatched.Clock is = refl
-clock_stopped dispatched.Link is = absurd (cc is)
-clock_stopped dispatched.NoMemory is = absurd (cc is)
-clock_stopped dispatched.Pushed is = absurd (cc is)
-clock_stopped dispatched.Full is = absurd (cc is)
-clock_stopped dispatched.Quiet is = absurd (cc is)
+clock_stopped _ is = absurd (cc is)
 
 not_link : (d : Dispatched) → stop_behind d ≡ None → d ≡ dispatched.Link → ⊥
 not_link dispatched.Link is same = cc is
-not_link dispatched.Clock is same = cc same
-not_link dispatched.NoMemory is same = cc same
-not_link dispatched.Pushed is same = cc same
-not_link dispatched.Full is same = cc same
-not_link dispatched.Quiet is same = cc same
+not_link _ is same = cc same
 
 module _ (inboxes : List Inbox) (old new : Dispatcher) (link_old link_new : LinkState) (clock_old clock_new : ℕ) where
   quiet_on : (d : Dispatched) → TellsOf inboxes old new link_old link_new clock_old clock_new d → was_quiet d ≡ true
       → link_new ≡ record link_old { turns = next_count link_old.turns }
   quiet_on dispatched.Quiet t is = t.0
-  quiet_on dispatched.Pushed t is = absurd (true≢false (sym is))
-  quiet_on dispatched.Full t is = absurd (true≢false (sym is))
-  quiet_on dispatched.Link t is = absurd (true≢false (sym is))
-  quiet_on dispatched.Clock t is = absurd (true≢false (sym is))
-  quiet_on dispatched.NoMemory t is = absurd (true≢false (sym is))
+  quiet_on _ t is = absurd (true≢false (sym is))
 
   heard_on : (d : Dispatched) → TellsOf inboxes old new link_old link_new clock_old clock_new d → was_quiet d ≡ false
       → stop_behind d ≡ None → HasHeardOne link_old link_new
   heard_on dispatched.Pushed t is none = (datagram_of t.job, t.made.is)
   heard_on dispatched.Full t is none = (datagram_of t.job, t.made.is)
   heard_on dispatched.Quiet t is none = absurd (true≢false is)
-  heard_on dispatched.Link t is none = absurd (cc none)
-  heard_on dispatched.Clock t is none = absurd (cc none)
-  heard_on dispatched.NoMemory t is none = absurd (cc none)
+  heard_on _ t is none = absurd (cc none)
 
 module _ {L : Type 0} (tells : paths.Ghosts L) (inboxes : List Inbox) (old new : Reception L) (d : Dispatched) (clock clock' : ℕ)
     (told : TellsOf inboxes old.dispatcher new.dispatcher (link_of tells old) (link_of tells new) clock clock' d)

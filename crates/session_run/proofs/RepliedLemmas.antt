@@ -1,6 +1,6 @@
 -- What links of several sessions sent, all together: replies in turn.
 use Rattle.std.proofs.Common.{◌≡◌, ◌≢◌, ◌⊎◌, inl, inr, ℕ, suc, ◌%◌, ◌<◌, ◌≤◌, ◌==◌, nat_eq, Bool, true, false, List, [], ◌∷◌, ◌++◌, Option, None, Some, refl, sym, ap, subst, ◌∙◌, arith}
-use Rattle.std.specs.Prelude.{All, IfSome, filter}
+use Rattle.std.specs.Prelude.{All, IfSome}
 use Rattle.std.proofs.lemmas.Bool.Decides.{nat_tests}
 use Rattle.std.proofs.lemmas.List.{append-nil}
 use Rattle.std.proofs.lemmas.List.Elements.{All-append, All-nil, All-weaker, filter-append}
@@ -117,7 +117,6 @@ module _ {L : Type 0} (tells : paths.Ghosts L) (size : ℕ) (firm : List History
 
       by : (others sent : Option (List Datagram)) → IfSome others (InTurnFrom size firm before now asked 0)
           → IfSome sent (λ list. list ≡ []) → IfSome (joined others sent) Turn
-      by None sent rest is = tt
-      by (Some others) None rest is = tt
       by (Some others) (Some list) rest is =
           subst Turn (sym (ap (λ (l : List Datagram). others ++ l) is ∙ append-nil others)) (rest.each session)
+      by _ _ rest is = tt

@@ -94,17 +94,11 @@ module _ {F L : Type 0} (files : shelves.Ghosts F) (tells : paths.Ghosts L) (tol
   all_heard (a ∷ b ∷ c ∷ d ∷ []) all s (suc (suc (suc zero))) = taken_heard 3 d team.second.1 all.1.1.1.0 s.3 four.none_put
   all_heard (a ∷ b ∷ c ∷ d ∷ []) all s (suc (suc (suc (suc n)))) = none_heard (suc (suc (suc (suc n)))) heard
   all_heard [] all s n = absurd s
-  all_heard (a ∷ []) all s n = absurd s
-  all_heard (a ∷ b ∷ []) all s n = absurd s
-  all_heard (a ∷ b ∷ c ∷ []) all s n = absurd s
-  all_heard (a ∷ b ∷ c ∷ d ∷ e ∷ hands) all s n = absurd s
+  all_heard _ all s n = absurd s
 
   no_more_jobs : (session : ℕ) → session_count ≤ session → jobs session ≡ []
-  no_more_jobs zero many = absurd (omega (arith, many))
-  no_more_jobs (suc zero) many = absurd (omega (arith, many))
-  no_more_jobs (suc (suc zero)) many = absurd (omega (arith, many))
-  no_more_jobs (suc (suc (suc zero))) many = absurd (omega (arith, many))
   no_more_jobs (suc (suc (suc (suc n)))) many = refl
+  no_more_jobs _ many = absurd (omega (arith, many))
 
   -- what the passes after the first, the second, the third and the fourth knew
   abbrev known4 : List Knowledge

@@ -41,10 +41,7 @@ pub never_clock : (results : List Served) → first_stop results ≢ Some stop.C
 never_clock [] is = absurd (cc is)
 never_clock (served.Link ∷ results) is = absurd (cc is)
 never_clock (served.NoMemory ∷ results) is = absurd (cc is)
-never_clock (served.Replied cause front ∷ results) is = never_clock results is
-never_clock (served.Dropped why ∷ results) is = never_clock results is
-never_clock (served.Lost ∷ results) is = never_clock results is
-never_clock (served.Over ∷ results) is = never_clock results is
+never_clock (_ ∷ results) is = never_clock results is
 
 -- the first of two causes is one of them
 pub one_of : (one other : Option Stop) (s : Stop) → option_or one other ≡ Some s → (one ≡ Some s) ⊎ (other ≡ Some s)

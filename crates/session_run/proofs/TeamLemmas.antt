@@ -53,19 +53,11 @@ module _ {V : Type 0} (cell : TurnCell V) {L : Type 0} where
       → ArePairOf cell one two first × ArePairOf cell three four second
   by_twos (w ∷ x ∷ y ∷ z ∷ []) first second own one two three four a b c d p q r s =
       (same_pair w x one two first p q own.0, same_pair y z three four second r s own.1)
-  by_twos [] first second own one two three four a b c d p q r s = absurd own
-  by_twos (w ∷ []) first second own one two three four a b c d p q r s = absurd own
-  by_twos (w ∷ x ∷ []) first second own one two three four a b c d p q r s = absurd own
-  by_twos (w ∷ x ∷ y ∷ []) first second own one two three four a b c d p q r s = absurd own
-  by_twos (w ∷ x ∷ y ∷ z ∷ v ∷ more) first second own one two three four a b c d p q r s = absurd own
+  by_twos _ first second own one two three four a b c d p q r s = absurd own
 
   pub of_all : (list : List Inbox) (before also first second : Pair L) → AreDesksOf cell list before also → (one two three four a b c d : Inbox)
       → one ≡ slice_index_or list 0 a → two ≡ slice_index_or list 1 b → three ≡ slice_index_or list 2 c → four ≡ slice_index_or list 3 d
       → ArePairOf cell one two first × ArePairOf cell three four second → AreDesksOf cell list first second
   of_all (w ∷ x ∷ y ∷ z ∷ []) before also first second own one two three four a b c d p q r s pairs =
       (same_pair one two w x first (sym p) (sym q) pairs.0, same_pair three four y z second (sym r) (sym s) pairs.1)
-  of_all [] before also first second own one two three four a b c d p q r s pairs = absurd own
-  of_all (w ∷ []) before also first second own one two three four a b c d p q r s pairs = absurd own
-  of_all (w ∷ x ∷ []) before also first second own one two three four a b c d p q r s pairs = absurd own
-  of_all (w ∷ x ∷ y ∷ []) before also first second own one two three four a b c d p q r s pairs = absurd own
-  of_all (w ∷ x ∷ y ∷ z ∷ v ∷ more) before also first second own one two three four a b c d p q r s pairs = absurd own
+  of_all _ before also first second own one two three four a b c d p q r s pairs = absurd own

@@ -22,5 +22,4 @@ address_stays told session job before after old new (served.Dropped why) t = ap 
 address_stays told session job before after old new served.Lost t =
     address_of_reply told session job old new (failure_reply (prepared_of job.octets)) t.sent
 address_stays told session job before after old new served.Link t = ap (λ (l : LinkState). l.address) t.rest
-address_stays told session job before after old new served.Over t = ap (λ (l : LinkState). l.address) t
-address_stays told session job before after old new served.NoMemory t = ap (λ (l : LinkState). l.address) t
+address_stays told session job before after old new _ t = ap (λ (l : LinkState). l.address) t

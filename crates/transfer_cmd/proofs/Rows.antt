@@ -13,11 +13,7 @@ use Rattle.transfer_cmd.specs.Table.{state_given}
 -- each row is found by its key
 row_by_key : (ask : Ask) (state : KeyState) → find (has_key (place_of_state state)) (rows_for ask) ≡ Some (row_for ask state)
 row_by_key ask Fresh = refl
-row_by_key ask Filed = refl
-row_by_key ask Sealed = refl
-row_by_key ask Held = refl
-row_by_key ask Released = refl
-row_by_key ask Cancelled = refl
+row_by_key ask _ = refl
 
 -- what is found among the rows for an ask by a key that is equal to a state's place is the row for the state
 found_is : (ask : Ask) (state : KeyState) (key : ℕ) (table : List Row) (found : Option Row) →

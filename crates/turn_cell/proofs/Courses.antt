@@ -1,7 +1,7 @@
 -- How a step on a running cell keeps its rule, where it changes what one seat knows.
 use Rattle.std.proofs.Common.{◌≡◌, ◌≢◌, inl, inr, ⊎_elim, ℕ, ◌<◌, ◌≤◌, Bool, List, [], ◌∷◌, length, get_or, set, sym, ap, ◌∙◌, subst, arith, Option}
 use mathlib.Core.Logic.{dite}
-use mathlib.Core.Option.{none, some, some-injective, some-ne-none}
+use mathlib.Core.Option.{some}
 use mathlib.Core.Option as maybe
 use native.Mathlib.Decide.{ℕ_discrete}
 use lib.ListN.{get_elem?}
@@ -19,9 +19,8 @@ use Rattle.turn_cell.specs.declared.knowing.Stage.TheVariants.{Resting, Waiting,
 
 -- who has the value has the ticket whose turn it is
 pub holds_served : (c : Course) (j : ℕ) (stage : Stage) → IsAtStage c j stage → HasIt stage → c.holder c.served ≡ j
-holds_served c j Resting at it = absurd it
-holds_served c j (Waiting t) at it = absurd it
 holds_served c j (Holding t f) at it = ap c.holder (sym at.turn) ∙ at.ticket.own
+holds_served c j _ at it = absurd it
 
 -- a stage stays as it is where what it rests on does
 pub stage_on : (c c' : Course) (j : ℕ) → ((t : ℕ) → HasTicket c j t → HasTicket c' j t) → ((t : ℕ) (f : Facts) → HasValue c j t f → HasValue c' j t f)

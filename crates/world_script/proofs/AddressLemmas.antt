@@ -188,19 +188,13 @@ signed_case word n z false true six small h =
 signed_case word n z false false six small h = let no : ⊥ = cc in absurd no
 
 pub offset_printed : (word : List ℕ) (z : ℤ) → offset_of word ≡ Some z → IsOffset word z
-offset_printed [] z h = let no : ⊥ = cc in absurd no
-offset_printed (s ∷ []) z h = let no : ⊥ = cc in absurd no
-offset_printed (s ∷ a ∷ []) z h = let no : ⊥ = cc in absurd no
-offset_printed (s ∷ a ∷ b ∷ []) z h = let no : ⊥ = cc in absurd no
-offset_printed (s ∷ a ∷ b ∷ c ∷ []) z h = let no : ⊥ = cc in absurd no
-offset_printed (s ∷ a ∷ b ∷ c ∷ d ∷ []) z h = let no : ⊥ = cc in absurd no
 offset_printed (s ∷ a ∷ b ∷ colon ∷ c ∷ d ∷ []) z h =
     let p = where_some (colon == 58) _ z h in
     let hours = then_some (two_digits 15 a b) _ z p.1 in
     let minutes = then_some (two_digits 59 c d) _ z hours.2 in
     let small : hours.0 * 60 + minutes.0 ≤ 959 = omega (arith, digits_within 15 a b hours.0 hours.1, digits_within 59 c d minutes.0 minutes.1) in
     signed_case (s ∷ a ∷ b ∷ colon ∷ c ∷ d ∷ []) (hours.0 * 60 + minutes.0) z (s == 43) (s == 45) refl small minutes.2
-offset_printed (s ∷ a ∷ b ∷ c ∷ d ∷ e ∷ f ∷ word) z h = let no : ⊥ = cc in absurd no
+offset_printed _ z h = let no : ⊥ = cc in absurd no
 
 -- Modes.
 

@@ -23,14 +23,12 @@ use Rattle.world_script.proofs.WordLemmas.{AreWords, IsWord, joined_printable, w
 
 -- its text
 text_of : (text first later : List ℕ) → behind_in text ≡ Some (first, later) → text ≡ codes "in" ++ words_text (first ∷ later ∷ [])
-text_of [] first later h = absurd (cc)
-text_of (a ∷ []) first later h = absurd (cc)
-text_of (a ∷ b ∷ []) first later h = absurd (cc)
 text_of (a ∷ b ∷ c ∷ rest) first later h =
     let p = where_some (bytes_eq (a ∷ b ∷ c ∷ []) (codes "in ")) (cut_at 32 rest) (first, later) h in
     ap (λ (xs : List ℕ). xs ++ rest) ((bytes_eq-Decides (a ∷ b ∷ c ∷ []) (codes "in ")).0 p.0)
     ∙ ap (λ (xs : List ℕ). codes "in " ++ xs)
     (cut_joined 32 rest first later p.1 ∙ ap (λ (xs : List ℕ). first ++ 32 ∷ xs) (sym (append-nil later)))
+text_of _ first later h = absurd (cc)
 
 -- an address and octets that are one word are read
 contented_datagram : (before : Progress) (text from word octets : List ℕ) (sender : Addr) → before.kind ≡ Feed → before.has_end ≡ false →
@@ -64,7 +62,7 @@ said_whole before text said feed going h =
     (text_of text parts.0.0 parts.0.1 parts.1) whole.1 from.1 (ap octets_in whole.0 ∙ octets.1)
     ∙ ap Ok (same_Some (line.Datagram from.0 octets.0) said octets.2)
 
-not_long : (n : ℕ) → n ≤ most_text → nat_lt most_text n ≡ false
+pub not_long : (n : ℕ) → n ≤ most_text → nat_lt most_text n ≡ false
 not_long n h = grind (arith, h)
 
 pub is_read : (before : Progress) (raw : RawLine) (said : Line) → before.size + line_size raw ≤ most_text →

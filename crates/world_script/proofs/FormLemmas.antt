@@ -30,8 +30,6 @@ fail_spoken : (of : ScriptKind) (form : Keyword) (fails : ℕ → ℕ → Line) 
     (words : List (List ℕ)) (said : Line) → AreWords words → fail_said fails words ≡ Ok said →
     ((rules : ℕ) (content : List ℕ) → said_by of form rules content words ≡ Ok said) →
     IsSpoken of form words said
-fail_spoken of form fails text [] said are h again = let no : ⊥ = cc in absurd no
-fail_spoken of form fails text (a ∷ []) said are h again = let no : ⊥ = cc in absurd no
 fail_spoken of form fails text (gateway ∷ call ∷ []) said are h again =
     let p = then_read kind.Number (number_of gateway) _ said h in
     let q = or_read kind.Number (fails p.0) (call_of call) said p.2 in
@@ -40,7 +38,7 @@ fail_spoken of form fails text (gateway ∷ call ∷ []) said are h again =
     same of form (gateway ∷ call ∷ []) said are
     (ap (λ (l : Line). line_text of l) (sym q.2) ∙ text p.0 q.0
     ∙ (λ i. name form ++ words_text (sym e i ∷ sym f i ∷ []))) again
-fail_spoken of form fails text (a ∷ b ∷ c ∷ words) said are h again = let no : ⊥ = cc in absurd no
+fail_spoken of form fails text _ said are h again = let no : ⊥ = cc in absurd no
 
 -- a stop, of an area or of a shelf
 arm_spoken : (of : ScriptKind) (form : Keyword) (arms : ℕ → ℕ → Mode → Line) →
@@ -48,9 +46,6 @@ arm_spoken : (of : ScriptKind) (form : Keyword) (arms : ℕ → ℕ → Mode →
     (words : List (List ℕ)) (said : Line) → AreWords words → arm_said arms words ≡ Ok said →
     ((rules : ℕ) (content : List ℕ) → said_by of form rules content words ≡ Ok said) →
     IsSpoken of form words said
-arm_spoken of form arms text [] said are h again = let no : ⊥ = cc in absurd no
-arm_spoken of form arms text (a ∷ []) said are h again = let no : ⊥ = cc in absurd no
-arm_spoken of form arms text (a ∷ b ∷ []) said are h again = let no : ⊥ = cc in absurd no
 arm_spoken of form arms text (gateway ∷ call ∷ word ∷ []) said are h again =
     let p = then_read kind.Number (number_of gateway) _ said h in
     let q = then_read kind.Number (call_of call) _ said p.2 in
@@ -62,12 +57,10 @@ arm_spoken of form arms text (gateway ∷ call ∷ word ∷ []) said are h again
     (ap (λ (l : Line). line_text of l) (sym r.2) ∙ text p.0 q.0 r.0
     ∙ more_words (name form) (decimal p.0 ∷ decimal q.0 ∷ []) (mode_text r.0 ∷ [])
     ∙ (λ i. name form ++ words_text (sym e i ∷ sym f i ∷ sym g i ∷ []))) again
-arm_spoken of form arms text (a ∷ b ∷ c ∷ d ∷ words) said are h again = let no : ⊥ = cc in absurd no
+arm_spoken of form arms text _ said are h again = let no : ⊥ = cc in absurd no
 
 redirect_spoken : (of : ScriptKind) (words : List (List ℕ)) (said : Line) → AreWords words →
     redirect_said words ≡ Ok said → IsSpoken of keyword.Redirect words said
-redirect_spoken of [] said are h = let no : ⊥ = cc in absurd no
-redirect_spoken of (a ∷ []) said are h = let no : ⊥ = cc in absurd no
 redirect_spoken of (gateway ∷ cause ∷ []) said are h =
     let p = then_read kind.Number (number_of gateway) _ said h in
     let q = or_read kind.Number (λ cause. line.Redirect p.0 cause None) (number_between 59 63 cause) said p.2 in
@@ -85,14 +78,12 @@ redirect_spoken of (gateway ∷ cause ∷ to ∷ []) said are h =
     same of keyword.Redirect (gateway ∷ cause ∷ to ∷ []) said are
     (ap (λ (l : Line). line_text of l) (sym r.2) ∙ more_words (codes "redirect") (decimal p.0 ∷ decimal q.0 ∷ []) (decimal r.0 ∷ [])
     ∙ (λ i. codes "redirect" ++ words_text (sym e i ∷ sym f i ∷ sym g i ∷ []))) (λ rules content. h)
-redirect_spoken of (a ∷ b ∷ c ∷ d ∷ words) said are h = let no : ⊥ = cc in absurd no
+redirect_spoken of _ said are h = let no : ⊥ = cc in absurd no
 
 -- Datagrams and packets.
 
 in_spoken : (of : ScriptKind) (words : List (List ℕ)) (said : Line) → AreWords words → in_said words ≡ Ok said →
     IsSpoken of keyword.In words said
-in_spoken of [] said are h = let no : ⊥ = cc in absurd no
-in_spoken of (a ∷ []) said are h = let no : ⊥ = cc in absurd no
 in_spoken of (from ∷ word ∷ words) said are h =
     let p = then_read kind.Number (address_of from) _ said h in
     let q = or_read kind.Hex (line.Datagram p.0) (octets_of (word ∷ words)) said p.2 in
@@ -105,6 +96,7 @@ in_spoken of (from ∷ word ∷ words) said are h =
       again = λ rules content.
           (λ i. read_then kind.Number (p.1 i) (λ sender. read_or kind.Hex (line.Datagram sender) (o.again i))) ∙ ap Ok q.2;
     }
+in_spoken of _ said are h = let no : ⊥ = cc in absurd no
 
 -- the packet that words say: there is a record
 pub packet_again : (of : ScriptKind) (node format version : List ℕ) (records words : List (List ℕ)) (said : Line) →
@@ -116,10 +108,6 @@ packet_again of node format version records (word ∷ words) said some h rules c
 
 submit_spoken : (of : ScriptKind) (words : List (List ℕ)) (said : Line) → AreWords words →
     submit_said words ≡ Ok said → IsSpoken of keyword.Submit words said
-submit_spoken of [] said are h = let no : ⊥ = cc in absurd no
-submit_spoken of (a ∷ []) said are h = let no : ⊥ = cc in absurd no
-submit_spoken of (a ∷ b ∷ []) said are h = let no : ⊥ = cc in absurd no
-submit_spoken of (a ∷ b ∷ c ∷ []) said are h = let no : ⊥ = cc in absurd no
 submit_spoken of (node ∷ format ∷ version ∷ word ∷ words) said are h =
     let p = then_read kind.Number (number_of node) _ said h in
     let q = then_read kind.Number (number_up_to 255 format) _ said p.2 in
@@ -141,6 +129,7 @@ submit_spoken of (node ∷ format ∷ version ∷ word ∷ words) said are h =
       short = omega (arith, v.long, rs.long);
       again = packet_again of node format (version_text r.0) s.0 (map encode_upper s.0) said (omega (arith, rs.long)) all;
     }
+submit_spoken of _ said are h = let no : ⊥ = cc in absurd no
 
 -- Every line but a rule.
 

@@ -105,34 +105,7 @@ keyword_named of word form h = form_named of word form (built (is_later_in of wo
 -- No form's name is a comment.
 pub names_show : (form : Keyword) (rest : List ℕ) → is_blank (name form ++ rest) ≡ false
 names_show keyword.At rest = refl
-names_show keyword.In rest = refl
-names_show keyword.Mark rest = refl
-names_show keyword.Close rest = refl
-names_show keyword.End rest = refl
-names_show keyword.Reserve rest = refl
-names_show keyword.Limit rest = refl
-names_show keyword.Offset rest = refl
-names_show keyword.Profile rest = refl
-names_show keyword.Rule rest = refl
-names_show keyword.Gateways rest = refl
-names_show keyword.Nodes rest = refl
-names_show keyword.Submit rest = refl
-names_show keyword.Tick rest = refl
-names_show keyword.Halt rest = refl
-names_show keyword.Start rest = refl
-names_show keyword.Deliver rest = refl
-names_show keyword.Flow rest = refl
-names_show keyword.Mix rest = refl
-names_show keyword.Commit rest = refl
-names_show keyword.Write rest = refl
-names_show keyword.Redirect rest = refl
-names_show keyword.Stop rest = refl
-names_show keyword.Open rest = refl
-names_show keyword.Arm rest = refl
-names_show keyword.Fail rest = refl
-names_show keyword.ArmShelf rest = refl
-names_show keyword.FailShelf rest = refl
-names_show keyword.Settle rest = refl
+names_show _ rest = refl
 
 -- After these lines the line's text says it.
 pub record IsSayable (of : ScriptKind) (before : List Line) (said : Line) : Type 0 where
@@ -203,11 +176,8 @@ rule_same rules content false said h = let no : ⊥ = cc in absurd no
 
 words_rule : (rules : ℕ) (content : List ℕ) (words : List (List ℕ)) (said : Line) →
     rule_said rules content words ≡ Ok said → line.Rule content ≡ said
-words_rule rules content [] said h = let no : ⊥ = cc in absurd no
-words_rule rules content (a ∷ []) said h = let no : ⊥ = cc in absurd no
-words_rule rules content (a ∷ b ∷ []) said h = let no : ⊥ = cc in absurd no
 words_rule rules content (a ∷ b ∷ c ∷ []) said h = rule_same rules content _ said h
-words_rule rules content (a ∷ b ∷ c ∷ d ∷ words) said h = let no : ⊥ = cc in absurd no
+words_rule rules content _ said h = let no : ⊥ = cc in absurd no
 
 rule_is : (of : ScriptKind) (form : Keyword) (rules : ℕ) (content : List ℕ) (words : List (List ℕ)) (said : Line) →
     is_rule_form form ≡ true →

@@ -119,15 +119,13 @@ pub record IsVersion (word : List ℕ) (version : ℕ) : Type 0 where
 
 both_octets : (octets : List ℕ) (version : ℕ) → two_octets octets ≡ Some version → IsBytes octets →
     (version / 256 ∷ version % 256 ∷ [] ≡ octets) × (length octets ≡ 2)
-both_octets [] version h bytes = let no : ⊥ = cc in absurd no
-both_octets (a ∷ []) version h bytes = let no : ⊥ = cc in absurd no
 both_octets (high ∷ low ∷ []) version h bytes =
     let small : low < 256 = bytes 1 in
     let sum : 256 * high + low ≡ version = same_Some (256 * high + low) version h in
     let first : version / 256 ≡ high = omega (arith, sum, small) in
     let second : version % 256 ≡ low = omega (arith, sum, small) in
     (λ i. first i ∷ second i ∷ [], refl)
-both_octets (a ∷ b ∷ c ∷ rest) version h bytes = let no : ⊥ = cc in absurd no
+both_octets _ version h bytes = let no : ⊥ = cc in absurd no
 
 pub version_printed : (word : List ℕ) (version : ℕ) → version_of word ≡ Some version → IsVersion word version
 version_printed word version h =

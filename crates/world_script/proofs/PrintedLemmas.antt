@@ -12,6 +12,7 @@ use Rattle.world_script.specs.declared.kind.ScriptKind.{ScriptKind}
 use Rattle.world_script.specs.declared.line.Line.{Line}
 use Rattle.world_script.proofs.LineLemmas.{IsPrintedLine, IsSayable, line_printed}
 use Rattle.world_script.proofs.WordLemmas.{printable_parts}
+use Rattle.world_script.proofs.DatagramLemmas.{not_long}
 
 -- each line's text says it, after the lines before it
 abbrev pub AreSayable : ScriptKind → List Line → List Line → Type 0
@@ -85,9 +86,6 @@ plain_content of true said h = rw (no_return (line_text of said) (length (line_t
 plain_content of false said h = refl
 
 -- They are read.
-
-not_long : (n : ℕ) → n ≤ most_text → nat_lt most_text n ≡ false
-not_long n h = grind (arith, h)
 
 read_again : (of : ScriptKind) (ended : Bool) (size : ℕ) (before : List Line) (said : Line) → IsSayable of before said →
     size + line_size (raw_of of ended said) ≤ most_text →
@@ -199,9 +197,8 @@ ended_first [] h = λ e. let no : ⊥ = cc in absurd no
 ended_first (raw ∷ raws) h = (refl, h)
 
 onto_ended : (x : ℕ) (raws : List RawLine) → WellEnded raws → WellEnded (onto_line x raws)
-onto_ended x [] h = λ e. omega arith
-onto_ended x (raw ∷ []) h = λ e. omega arith
 onto_ended x (raw ∷ next ∷ raws) h = (h.0, h.1)
+onto_ended x _ h = λ e. omega arith
 
 ended_case : (x : ℕ) (raws : List RawLine) (b : Bool) → WellEnded raws →
     WellEnded (if b then record { octets = []; ended = true } ∷ raws else onto_line x raws)
@@ -322,11 +319,10 @@ reading_case : (of : ScriptKind) (size : ℕ) (before : List Line) (raw : RawLin
     onward (length before + 1) (if long then Err TooLong else reading)
     (λ said. script_after of (size + line_size raw) (before ++ said ∷ []) raws) ≡ Ok lines →
     AreRead of size before (raw ∷ raws) lines
-reading_case of size before raw raws lines true reading e f well later h = let no : ⊥ = cc in absurd no
-reading_case of size before raw raws lines false (Err kind) e f well later h = let no : ⊥ = cc in absurd no
 reading_case of size before raw raws lines false (Ok said) e f well later h =
     let fit : size + line_size raw ≤ most_text = ltb-false most_text (size + line_size raw) e in
     one_read of size before raw.octets raw.ended raws lines said fit well (line_printed of size before (line_content raw) said f) (later said fit h)
+reading_case of size before raw raws lines _ _ e f well later h = let no : ⊥ = cc in absurd no
 
 are_read : (of : ScriptKind) (size : ℕ) (before : List Line) (raws : List RawLine) (lines : List Line) →
     size ≤ most_text → WellEnded raws →

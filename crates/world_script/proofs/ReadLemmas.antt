@@ -46,55 +46,43 @@ word_acts said [] h = ap not h
 word_acts said (word ∷ words) h = refl
 
 at_acts : (words : List (List ℕ)) → acts (at_said words) ≡ true
-at_acts [] = refl
 at_acts (seconds ∷ []) = or_acts kind.Number line.At (number_up_to last_moment seconds) (λ x. refl)
-at_acts (a ∷ b ∷ words) = refl
+at_acts _ = refl
 
 in_acts : (words : List (List ℕ)) → acts (in_said words) ≡ true
-in_acts [] = refl
-in_acts (a ∷ []) = refl
 in_acts (from ∷ word ∷ words) =
     then_acts kind.Number (address_of from) (λ sender. read_or kind.Hex (line.Datagram sender) (octets_of (word ∷ words)))
     (λ sender. or_acts kind.Hex (line.Datagram sender) (octets_of (word ∷ words)) (λ x. refl))
+in_acts _ = refl
 
 submit_acts : (words : List (List ℕ)) → acts (submit_said words) ≡ true
-submit_acts [] = refl
-submit_acts (a ∷ []) = refl
-submit_acts (a ∷ b ∷ []) = refl
-submit_acts (a ∷ b ∷ c ∷ []) = refl
 submit_acts (node ∷ format ∷ version ∷ word ∷ words) =
     then_acts kind.Number (number_of node) _ (λ node. then_acts kind.Number (number_up_to 255 format) _ (λ format.
     then_acts kind.Hex (version_of version) _ (λ version. or_acts kind.Hex (line.Submit node format version) (records_of (word ∷ words)) (λ x. refl))))
+submit_acts _ = refl
 
 redirect_acts : (words : List (List ℕ)) → acts (redirect_said words) ≡ true
-redirect_acts [] = refl
-redirect_acts (a ∷ []) = refl
 redirect_acts (gateway ∷ cause ∷ []) =
     then_acts kind.Number (number_of gateway) _ (λ gateway.
     or_acts kind.Number (λ cause. line.Redirect gateway cause None) (number_between 59 63 cause) (λ x. refl))
 redirect_acts (gateway ∷ cause ∷ to ∷ []) =
     then_acts kind.Number (number_of gateway) _ (λ gateway. then_acts kind.Number (number_between 59 63 cause) _ (λ cause.
     or_acts kind.Number (λ to. line.Redirect gateway cause (Some to)) (number_of to) (λ x. refl)))
-redirect_acts (a ∷ b ∷ c ∷ d ∷ words) = refl
+redirect_acts _ = refl
 
 arm_acts : (arms : ℕ → ℕ → Mode → Line) → ((g c : ℕ) (m : Mode) → is_setting_line (arms g c m) ≡ false) →
     (words : List (List ℕ)) → acts (arm_said arms words) ≡ true
-arm_acts arms are [] = refl
-arm_acts arms are (a ∷ []) = refl
-arm_acts arms are (a ∷ b ∷ []) = refl
 arm_acts arms are (gateway ∷ call ∷ mode ∷ []) =
     then_acts kind.Number (number_of gateway) _ (λ gateway. then_acts kind.Number (call_of call) _ (λ call.
     or_acts kind.Number (arms gateway call) (mode_of mode) (are gateway call)))
-arm_acts arms are (a ∷ b ∷ c ∷ d ∷ words) = refl
+arm_acts arms are _ = refl
 
 fail_acts : (fails : ℕ → ℕ → Line) → ((g c : ℕ) → is_setting_line (fails g c) ≡ false) →
     (words : List (List ℕ)) → acts (fail_said fails words) ≡ true
-fail_acts fails are [] = refl
-fail_acts fails are (a ∷ []) = refl
 fail_acts fails are (gateway ∷ call ∷ []) =
     then_acts kind.Number (number_of gateway) _ (λ gateway.
     or_acts kind.Number (fails gateway) (call_of call) (are gateway))
-fail_acts fails are (a ∷ b ∷ c ∷ words) = refl
+fail_acts fails are _ = refl
 
 said_acts : (of : ScriptKind) (form : Keyword) (rules : ℕ) (content : List ℕ) (words : List (List ℕ)) → is_setting form ≡ false
     → acts (said_by of form rules content words) ≡ true
@@ -120,13 +108,7 @@ said_acts of keyword.Fail rules content words h = fail_acts line.Fail (λ g c. r
 said_acts of keyword.ArmShelf rules content words h = arm_acts line.ArmShelf (λ g c m. refl) words
 said_acts of keyword.FailShelf rules content words h = fail_acts line.FailShelf (λ g c. refl) words
 said_acts of keyword.Settle rules content words h = word_acts line.Settle words refl
-said_acts of keyword.Reserve rules content words h = absurd (cc)
-said_acts of keyword.Limit rules content words h = absurd (cc)
-said_acts of keyword.Offset rules content words h = absurd (cc)
-said_acts of keyword.Profile rules content words h = absurd (cc)
-said_acts of keyword.Rule rules content words h = absurd (cc)
-said_acts of keyword.Gateways rules content words h = absurd (cc)
-said_acts of keyword.Nodes rules content words h = absurd (cc)
+said_acts of _ rules content words h = absurd (cc)
 
 -- Lines behind one that is no setting.
 

@@ -108,10 +108,9 @@ number_case make word said (Some n) e h = (n, any_printed word n e, ok_same (mak
 
 number_of_line : (make : ℕ → Line) (words : List (List ℕ)) (said : Line) → said_as make (one_number words) ≡ Ok said →
     (n : ℕ) × (words ≡ decimal n ∷ []) × (make n ≡ said)
-number_of_line make [] said h = let no : ⊥ = cc in absurd no
 number_of_line make (word ∷ []) said h =
     let p = number_case make word said (number_of word) refl h in (p.0, ap (λ (w : List ℕ). w ∷ []) p.1, p.2)
-number_of_line make (a ∷ b ∷ words) said h = let no : ⊥ = cc in absurd no
+number_of_line make _ said h = let no : ⊥ = cc in absurd no
 
 range_case : (make : ℕ → Line) (least most : ℕ) (word : List ℕ) (said : Line) (o : Option ℕ) → most < 2 ^ 64 →
     number_between least most word ≡ o →
@@ -123,10 +122,9 @@ range_case make least most word said (Some n) small e h =
 range_of_line : (make : ℕ → Line) (least most : ℕ) (words : List (List ℕ)) (said : Line) → most < 2 ^ 64 →
     said_as make (one_between least most words) ≡ Ok said →
     (n : ℕ) × (words ≡ decimal n ∷ []) × (make n ≡ said)
-range_of_line make least most [] said small h = let no : ⊥ = cc in absurd no
 range_of_line make least most (word ∷ []) said small h =
     let p = range_case make least most word said (number_between least most word) small refl h in (p.0, ap (λ (w : List ℕ). w ∷ []) p.1, p.2)
-range_of_line make least most (a ∷ b ∷ words) said small h = let no : ⊥ = cc in absurd no
+range_of_line make least most _ said small h = let no : ⊥ = cc in absurd no
 
 numbered : (of : ScriptKind) (form : Keyword) (make : ℕ → Line) (words : List (List ℕ)) (said : Line) →
     ((m : ℕ) → line_text of (make m) ≡ name form ++ words_text (decimal m ∷ [])) →
@@ -154,12 +152,11 @@ ranged of form make least most small shape words said are h again =
 
 pub at_spoken : (of : ScriptKind) (words : List (List ℕ)) (said : Line) → AreWords words → at_said words ≡ Ok said →
     IsSpoken of keyword.At words said
-at_spoken of [] said are h = let no : ⊥ = cc in absurd no
 at_spoken of (word ∷ []) said are h =
     let p = or_read kind.Number line.At (number_up_to last_moment word) said h in
     numbered of keyword.At line.At (word ∷ []) said (λ m. refl) are
     (p.0, ap (λ (w : List ℕ). w ∷ []) (number_printed last_moment word p.0 (omega arith) p.1).1, p.2) (λ rules content. h)
-at_spoken of (a ∷ b ∷ words) said are h = let no : ⊥ = cc in absurd no
+at_spoken of _ said are h = let no : ⊥ = cc in absurd no
 
 pub mark_spoken : (of : ScriptKind) (words : List (List ℕ)) (said : Line) → AreWords words →
     said_as line.Mark (one_gateway of words) ≡ Ok said → IsSpoken of keyword.Mark words said
@@ -220,17 +217,14 @@ limit_case of what number said false false false are ea eb ec h again = let no :
 
 pub limit_spoken : (of : ScriptKind) (words : List (List ℕ)) (said : Line) → AreWords words → limit_said words ≡ Ok said →
     IsSpoken of keyword.Limit words said
-limit_spoken of [] said are h = let no : ⊥ = cc in absurd no
-limit_spoken of (a ∷ []) said are h = let no : ⊥ = cc in absurd no
 limit_spoken of (what ∷ number ∷ []) said are h =
     limit_case of what number said (bytes_eq what (codes "records")) (bytes_eq what (codes "size")) (bytes_eq what (codes "open")) are refl refl refl h (λ rules content. h)
-limit_spoken of (a ∷ b ∷ c ∷ words) said are h = let no : ⊥ = cc in absurd no
+limit_spoken of _ said are h = let no : ⊥ = cc in absurd no
 
 -- Offsets.
 
 pub offset_spoken : (of : ScriptKind) (words : List (List ℕ)) (said : Line) → AreWords words →
     offset_said words ≡ Ok said → IsSpoken of keyword.Offset words said
-offset_spoken of [] said are h = let no : ⊥ = cc in absurd no
 offset_spoken of (word ∷ []) said are h =
     let p = or_read kind.Number line.Offset (offset_of word) said h in
     let o = offset_printed word p.0 p.1 in
@@ -241,4 +235,4 @@ offset_spoken of (word ∷ []) said are h =
       short = omega (arith, o.long);
       again = λ rules content. ap (λ (z : Option ℤ). read_or kind.Number line.Offset z) o.again ∙ ap Ok p.2;
     }
-offset_spoken of (a ∷ b ∷ words) said are h = let no : ⊥ = cc in absurd no
+offset_spoken of _ said are h = let no : ⊥ = cc in absurd no

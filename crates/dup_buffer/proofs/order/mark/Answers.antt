@@ -1,9 +1,10 @@
 use Rattle.std.proofs.Common.{◌≡◌, ◌∙◌, ◌∷◌, Bool, if◌then◌else◌, List, Option, None, Some, ap, sym}
+use Rattle.std.proofs.lemmas.Bool.{not-false, not-true}
 use Rattle.std.specs.List.{count_by}
 use Rattle.std.specs.Prelude.{slice_index_or, slice_set}
 use Rattle.dup_buffer.specs.Stored.{IsFound, held_in, is_copy_of, rank}
 use Rattle.dup_buffer.specs.declared.copy.HeldCopy.{HeldCopy}
-use Rattle.dup_buffer.proofs.HeldLemmas.{from-set, held_found, if_not_false, if_not_true, mark_same, none_held}
+use Rattle.dup_buffer.proofs.HeldLemmas.{from-set, held_found, mark_same, none_held}
 use Rattle.dup_buffer.proofs.order.mark.Goals as goal
 
 pub returns-in_default-clause-none : goal.returns-in_default-clause-none
@@ -17,7 +18,7 @@ returns-then-not-copy-clause-none c _ =
     let here : one ≡ slice_index_or items c.in-Ok.at one = c.copy_at-copy.ensures one ∙ ap (λ (l : List HeldCopy). slice_index_or l c.in-Ok.at one) c.deref-2.ensures.value in
     held_found c.args.node.0 c.args.number items c.in-Ok.at one is
     ∙ ap (λ (k : HeldCopy). if k.held then Some k else None) (sym here)
-    ∙ ap {B = Option HeldCopy} (λ (b : Bool). if b then Some one else None) (if_not_true one.held c.if-not-copy.true)
+    ∙ ap {B = Option HeldCopy} (λ (b : Bool). if b then Some one else None) (not-true one.held c.if-not-copy.true)
 
 pub returns-clause-order : goal.returns-clause-order
 returns-clause-order c =
@@ -41,5 +42,5 @@ returns-clause-same c p =
     let is : IsFound items c.in-Ok.at c.args.node.0 c.args.number = rw c.deref.ensures.value at c.in-Ok.ensures.found in
     let one : HeldCopy = c.copy_at-copy.result in
     let here : one ≡ slice_index_or items c.in-Ok.at one = c.copy_at-copy.ensures one ∙ ap (λ (l : List HeldCopy). slice_index_or l c.in-Ok.at one) c.deref-2.ensures.value in
-    mark_same items c.in-Ok.at c.taken.result one is.inside (ap (λ (k : HeldCopy). k.held) (sym here) ∙ if_not_false one.held c.if-not-copy.false) c.taken.ensures.taken p
+    mark_same items c.in-Ok.at c.taken.result one is.inside (ap (λ (k : HeldCopy). k.held) (sym here) ∙ not-false one.held c.if-not-copy.false) c.taken.ensures.taken p
     ∙ ap (λ (k : HeldCopy). count_by p (k ∷ held_in (slice_set items c.in-Ok.at c.taken.result))) (sym here)

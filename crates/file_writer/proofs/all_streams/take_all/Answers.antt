@@ -1,12 +1,12 @@
 use Rattle.std.proofs.Common.{◌≡◌, ℕ, ◌+◌, ◌-◌, ◌^◌, List, [], ◌∷◌, ◌++◌, length, take, drop, sym, ap, ◌∙◌, subst, arith, append_assoc}
-use Rattle.std.proofs.lemmas.List.{take-append-drop}
+use Rattle.std.proofs.lemmas.List.{take-append-drop, take_all}
 use Rattle.gw_base.specs.declared.item.Item.{Item}
 use Rattle.file_writer.specs.AllStreams.{AllAt, GoesShut}
 use Rattle.file_writer.specs.Calls.{Call, calls_below, calls_of}
 use Rattle.file_writer.specs.Leaving.{AreAmong}
 use Rattle.file_writer.specs.Making.{Makes, Went, ending_at, ending_of}
 use Rattle.file_writer.specs.Streams.{stream_count}
-use Rattle.file_writer.proofs.AllLemmas.{calls-append, calls-one, take_next, take_whole}
+use Rattle.file_writer.proofs.AllLemmas.{calls-append, calls-one, take_next}
 use Rattle.file_writer.proofs.AmongLemmas.{among_fewer, among_next, in_front}
 use Rattle.file_writer.proofs.FollowingLemmas.{no_result}
 use Rattle.file_writer.proofs.MakingLemmas.{makes_then, stopped_at}
@@ -88,7 +88,7 @@ pub returns-clause-takes : goal.returns-clause-takes
 returns-clause-takes g c = λ settings closed sealed before same rules at.
     let items : List Item = c.args.items.now in
     let all = c.loop-item.invariant.takes settings closed sealed before same rules at in
-    let whole : take c.loop-item.item-index items ≡ items = take_whole items c.loop-item.item-index (omega arith) in
+    let whole : take c.loop-item.item-index items ≡ items = take_all c.loop-item.item-index items (omega arith) in
     record {
       makes = subst (λ (xs : List Item). Makes g.F.Shelf (calls_of settings closed sealed before xs) Went
           c.args.shelf.now c.loop-item.shelf) whole all.0;

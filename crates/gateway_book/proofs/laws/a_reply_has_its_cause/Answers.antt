@@ -1,19 +1,12 @@
 use Rattle.std.proofs.Common.{◌≡◌, ℕ, refl}
-use Rattle.gtpp_message.specs.Message.{MessageValue, EchoRequest, EchoResponse, VersionNotSupported, NodeAliveRequest, NodeAliveResponse, RedirectionRequest, RedirectionResponse, TransferRequest, TransferResponse}
+use Rattle.gtpp_message.specs.Message.{MessageValue, EchoRequest}
 use Rattle.gtpp_message.specs.Writing.{written}
 use Rattle.gateway_book.specs.Calls.{cause_in, cause_of}
 use Rattle.gateway_book.proofs.laws.a_reply_has_its_cause.Goals as goal
 
 by_message : (number : ℕ) (message : MessageValue) → cause_in (written number message) ≡ cause_of message
 by_message number EchoRequest = refl
-by_message number (EchoResponse counter) = refl
-by_message number VersionNotSupported = refl
-by_message number (NodeAliveRequest address) = refl
-by_message number NodeAliveResponse = refl
-by_message number (RedirectionRequest cause to) = refl
-by_message number (RedirectionResponse cause) = refl
-by_message number (TransferRequest body) = refl
-by_message number (TransferResponse cause responded) = refl
+by_message number _ = refl
 
 pub returns : goal.returns
 returns c = λ number message. by_message number message

@@ -11,30 +11,15 @@ pub collect-looped-requires-clause-seats : goal.collect-looped-requires-clause-s
 collect-looped-requires-clause-seats g c = all_ran_can g.L.Link.Link c.args.setup _ _
     c.make_all-seats.ensures.has.known _ c.run_seats-seats.ensures.count c.run_seats-seats.ensures.ran
 
-pub finish-requires-clause-firm : goal.finish-requires-clause-firm
-finish-requires-clause-firm g c =
-    let has = collected_of g.L.Link.Link c.args.setup _ _ _ _ c.run_seats-seats.result.items _
-    c.collect-looped.result c.make_all-seats.ensures
-    c.in_default.is c.requires.turns c.run_seats-seats.ensures.ran c.run_seats-seats.ensures.count
-    c.collect-looped.ensures.collected c.in-None.is in
-    has.firm
-
-pub finish-requires-clause-kept : goal.finish-requires-clause-kept
-finish-requires-clause-kept g c =
-    let has = collected_of g.L.Link.Link c.args.setup _ _ _ _ c.run_seats-seats.result.items _
-    c.collect-looped.result c.make_all-seats.ensures
-    c.in_default.is c.requires.turns c.run_seats-seats.ensures.ran c.run_seats-seats.ensures.count
-    c.collect-looped.ensures.collected c.in-None.is in
-    has.kept
-
-pub finish-requires-clause-few : goal.finish-requires-clause-few
-finish-requires-clause-few g c =
+pub finish-requires : goal.finish-requires
+finish-requires g c =
     let has = collected_of g.L.Link.Link c.args.setup _ _ _ _ c.run_seats-seats.result.items _
     c.collect-looped.result c.make_all-seats.ensures
     c.in_default.is c.requires.turns c.run_seats-seats.ensures.ran c.run_seats-seats.ensures.count
     c.collect-looped.ensures.collected c.in-None.is in
     let count = has.hands.node_count in
-    let most = c.requires.within.most_nodes in omega (arith, count, most)
+    let most = c.requires.within.most_nodes in
+    record { firm = has.firm; kept = has.kept; few = omega (arith, count, most) }
 
 pub returns-in-None-clause-ends : goal.returns-in-None-clause-ends
 returns-in-None-clause-ends g c =

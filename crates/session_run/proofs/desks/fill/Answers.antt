@@ -7,7 +7,6 @@ use Rattle.job_inbox.specs.declared.hand.Hand.{Hand}
 use Rattle.job_inbox.specs.declared.job.Job.{Job}
 use Rattle.node_session.specs.Batches.{jobs_of}
 use Rattle.session_run.specs.Desks.{with_all_taken}
-use Rattle.session_run.specs.Latest.{latest}
 use Rattle.session_run.proofs.LatestLemmas.{later_none, latest_push}
 use Rattle.session_run.proofs.TakingLemmas.{popped_none}
 use Rattle.session_run.proofs.desks.fill.Goals as goal

@@ -102,8 +102,8 @@ serve-served-requires-clause-writer g c κs within =
     made.ensures.passes.1 c.in-Ok.ensures.none_popped c.requires.links.new
     (ap (λ (d : Dispatcher). hands_of d) c.seat-seats.ensures.reception.0 ∙ c.in-Ok.ensures.none_pushed) c.seat-seats.ensures.reception.3 c.requires.writer
 
-pub returns-in-Ok-new-clause-history : goal.returns-in-Ok-new-clause-history
-returns-in-Ok-new-clause-history g c =
+pub returns-in-Ok-new : goal.returns-in-Ok-new
+returns-in-Ok-new g c =
     let w = c.args.gateway in
     let start = facts_of w.book in
     let made = c.in-Ok-new in
@@ -122,138 +122,27 @@ returns-in-Ok-new-clause-history g c =
     let ended : HasEnded (tells_lists g.A.Area) start now team =
     subst (λ (b : Book _ g.A.Area). HasEnded (tells_lists g.A.Area) (facts_of b) now team) made.ensures.cell.1 c.end.ensures.ended in
     let last = c.end.result.last in
-    subst (λ (l : List _). WhereTold (tells_lists g.A.Area) (GoesOnUntil (heard_by g.L.Link l) start now last)) (sym c.end.ensures.links)
-    (run_goes_on g.F.Shelf g.L.Link (tells_lists g.A.Area) w.address start now w.writer r team s ended c.end.ensures.settled
-    last c.end.ensures.last)
-
-pub returns-in-Ok-new-clause-replies : goal.returns-in-Ok-new-clause-replies
-returns-in-Ok-new-clause-replies g c =
-    let w = c.args.gateway in
-    let start = facts_of w.book in
-    let made = c.in-Ok-new in
-    let hall = c.in-Ok.hall in
-    let seats = c.seat-seats.result in
-    let begun : HaveServed g.F.Shelf g.L.Link (tells_lists g.A.Area) w.address start w.writer seats.reception seats.team =
-    all_begun g.F.Shelf g.L.Link (tells_lists g.A.Area) w.address start made.passes.items w.links.items (pops_in hall.pops) w.writer seats c.seat-seats.ensures.seated
-    made.ensures.passes.1 c.in-Ok.ensures.none_popped c.requires.links.new
-    (ap (λ (d : Dispatcher). hands_of d) c.seat-seats.ensures.reception.0 ∙ c.in-Ok.ensures.none_pushed) c.seat-seats.ensures.reception.3 c.requires.writer in
-    let now = facts_of c.end.result.gateway.book in
-    let r = c.serve-served.result.0 in
-    let team = c.serve-served.result.1 in
-    let s : HaveServed g.F.Shelf g.L.Link (tells_lists g.A.Area) w.address start w.writer r team =
-    have_served g.F.Shelf g.L.Link (tells_lists g.A.Area) w.address start w.writer seats.reception r seats.team team begun
-    c.serve-served.ensures.worked c.serve-served.ensures.dispatched in
-    let ended : HasEnded (tells_lists g.A.Area) start now team =
-    subst (λ (b : Book _ g.A.Area). HasEnded (tells_lists g.A.Area) (facts_of b) now team) made.ensures.cell.1 c.end.ensures.ended in
-    subst (λ (l : List _). WhereTold (tells_lists g.A.Area) (HaveReplied g.L.Link (heard_by g.L.Link l) start now l)) (sym c.end.ensures.links)
-    (run_replies g.F.Shelf g.L.Link (tells_lists g.A.Area) w.address start now w.writer r team s ended c.end.ensures.settled)
-
-pub returns-in-Ok-new-clause-book : goal.returns-in-Ok-new-clause-book
-returns-in-Ok-new-clause-book g c =
-    let w = c.args.gateway in
-    let start = facts_of w.book in
-    let made = c.in-Ok-new in
-    let hall = c.in-Ok.hall in
-    let seats = c.seat-seats.result in
-    let begun : HaveServed g.F.Shelf g.L.Link (tells_lists g.A.Area) w.address start w.writer seats.reception seats.team =
-    all_begun g.F.Shelf g.L.Link (tells_lists g.A.Area) w.address start made.passes.items w.links.items (pops_in hall.pops) w.writer seats c.seat-seats.ensures.seated
-    made.ensures.passes.1 c.in-Ok.ensures.none_popped c.requires.links.new
-    (ap (λ (d : Dispatcher). hands_of d) c.seat-seats.ensures.reception.0 ∙ c.in-Ok.ensures.none_pushed) c.seat-seats.ensures.reception.3 c.requires.writer in
-    let now = facts_of c.end.result.gateway.book in
-    let r = c.serve-served.result.0 in
-    let team = c.serve-served.result.1 in
-    let s : HaveServed g.F.Shelf g.L.Link (tells_lists g.A.Area) w.address start w.writer r team =
-    have_served g.F.Shelf g.L.Link (tells_lists g.A.Area) w.address start w.writer seats.reception r seats.team team begun
-    c.serve-served.ensures.worked c.serve-served.ensures.dispatched in
-    let ended : HasEnded (tells_lists g.A.Area) start now team =
-    subst (λ (b : Book _ g.A.Area). HasEnded (tells_lists g.A.Area) (facts_of b) now team) made.ensures.cell.1 c.end.ensures.ended in
-    run_stays g.F.Shelf g.L.Link (tells_lists g.A.Area) w.address start now w.writer r team s ended c.end.ensures.settled
-
-pub returns-in-Ok-new-clause-links : goal.returns-in-Ok-new-clause-links
-returns-in-Ok-new-clause-links g c =
-    let w = c.args.gateway in
-    let start = facts_of w.book in
-    let made = c.in-Ok-new in
-    let hall = c.in-Ok.hall in
-    let seats = c.seat-seats.result in
-    let begun : HaveServed g.F.Shelf g.L.Link (tells_lists g.A.Area) w.address start w.writer seats.reception seats.team =
-    all_begun g.F.Shelf g.L.Link (tells_lists g.A.Area) w.address start made.passes.items w.links.items (pops_in hall.pops) w.writer seats c.seat-seats.ensures.seated
-    made.ensures.passes.1 c.in-Ok.ensures.none_popped c.requires.links.new
-    (ap (λ (d : Dispatcher). hands_of d) c.seat-seats.ensures.reception.0 ∙ c.in-Ok.ensures.none_pushed) c.seat-seats.ensures.reception.3 c.requires.writer in
-    let now = facts_of c.end.result.gateway.book in
-    let r = c.serve-served.result.0 in
-    let team = c.serve-served.result.1 in
-    let s : HaveServed g.F.Shelf g.L.Link (tells_lists g.A.Area) w.address start w.writer r team =
-    have_served g.F.Shelf g.L.Link (tells_lists g.A.Area) w.address start w.writer seats.reception r seats.team team begun
-    c.serve-served.ensures.worked c.serve-served.ensures.dispatched in
-    subst (λ (l : List _). AreFiveOf g.L.Link w.address l) (sym c.end.ensures.links)
-    (are_five g.F.Shelf g.L.Link (tells_lists g.A.Area) w.address start w.writer r team s)
-
-pub returns-in-Ok-new-clause-turns : goal.returns-in-Ok-new-clause-turns
-returns-in-Ok-new-clause-turns g c =
-    let w = c.args.gateway in
-    let start = facts_of w.book in
-    let made = c.in-Ok-new in
-    let hall = c.in-Ok.hall in
-    let seats = c.seat-seats.result in
-    let begun : HaveServed g.F.Shelf g.L.Link (tells_lists g.A.Area) w.address start w.writer seats.reception seats.team =
-    all_begun g.F.Shelf g.L.Link (tells_lists g.A.Area) w.address start made.passes.items w.links.items (pops_in hall.pops) w.writer seats c.seat-seats.ensures.seated
-    made.ensures.passes.1 c.in-Ok.ensures.none_popped c.requires.links.new
-    (ap (λ (d : Dispatcher). hands_of d) c.seat-seats.ensures.reception.0 ∙ c.in-Ok.ensures.none_pushed) c.seat-seats.ensures.reception.3 c.requires.writer in
-    let now = facts_of c.end.result.gateway.book in
-    let r = c.serve-served.result.0 in
-    let team = c.serve-served.result.1 in
-    let s : HaveServed g.F.Shelf g.L.Link (tells_lists g.A.Area) w.address start w.writer r team =
-    have_served g.F.Shelf g.L.Link (tells_lists g.A.Area) w.address start w.writer seats.reception r seats.team team begun
-    c.serve-served.ensures.worked c.serve-served.ensures.dispatched in
-    subst (λ (l : List _). IfTurns c.args.until (λ n. c.end.result.stop ≡ None → turns_by g.L.Link l ≡ n)) (sym c.end.ensures.links)
-    (turns_taken g.F.Shelf g.L.Link (tells_lists g.A.Area) w.address start w.writer r team s c.args.until
-    (counted g.L.Link w.address seats.reception r c.args.until c.requires.few
-    (subst (λ (k : ℕ). IfTurns c.args.until (λ n. k ≡ n)) (sym c.seat-seats.ensures.reception.1) c.turns_in-turns.ensures)
-    c.seat-seats.ensures.reception.2 (receiver_new g.F.Shelf g.L.Link w.address made.passes.items w.links.items (pops_in hall.pops) w.writer seats
-    c.seat-seats.ensures.seated c.requires.links.new) c.serve-served.ensures.turns)
-    c.end.result.stop c.end.ensures.stop c.serve-served.ensures.over)
-
-pub returns-in-Ok-new-clause-writer : goal.returns-in-Ok-new-clause-writer
-returns-in-Ok-new-clause-writer g c =
-    let w = c.args.gateway in
-    let start = facts_of w.book in
-    let made = c.in-Ok-new in
-    let hall = c.in-Ok.hall in
-    let seats = c.seat-seats.result in
-    let begun : HaveServed g.F.Shelf g.L.Link (tells_lists g.A.Area) w.address start w.writer seats.reception seats.team =
-    all_begun g.F.Shelf g.L.Link (tells_lists g.A.Area) w.address start made.passes.items w.links.items (pops_in hall.pops) w.writer seats c.seat-seats.ensures.seated
-    made.ensures.passes.1 c.in-Ok.ensures.none_popped c.requires.links.new
-    (ap (λ (d : Dispatcher). hands_of d) c.seat-seats.ensures.reception.0 ∙ c.in-Ok.ensures.none_pushed) c.seat-seats.ensures.reception.3 c.requires.writer in
-    let now = facts_of c.end.result.gateway.book in
-    let r = c.serve-served.result.0 in
-    let team = c.serve-served.result.1 in
-    let s : HaveServed g.F.Shelf g.L.Link (tells_lists g.A.Area) w.address start w.writer r team =
-    have_served g.F.Shelf g.L.Link (tells_lists g.A.Area) w.address start w.writer seats.reception r seats.team team begun
-    c.serve-served.ensures.worked c.serve-served.ensures.dispatched in
-    let ended : HasEnded (tells_lists g.A.Area) start now team =
-    subst (λ (b : Book _ g.A.Area). HasEnded (tells_lists g.A.Area) (facts_of b) now team) made.ensures.cell.1 c.end.ensures.ended in
-    subst (λ (x : Writer _ g.F.Shelf). KeepsWriter g.F.Shelf (tells_lists g.A.Area) now.firm w.writer x) (sym c.end.ensures.writer.0)
-    (run_writer g.F.Shelf g.L.Link (tells_lists g.A.Area) w.address start now w.writer r team s ended c.end.ensures.settled c.filed_records_stay.ensures.items)
-
-pub returns-in-Ok-new-clause-cause : goal.returns-in-Ok-new-clause-cause
-returns-in-Ok-new-clause-cause g c =
-    let w = c.args.gateway in
-    let start = facts_of w.book in
-    let made = c.in-Ok-new in
-    let hall = c.in-Ok.hall in
-    let seats = c.seat-seats.result in
-    let begun : HaveServed g.F.Shelf g.L.Link (tells_lists g.A.Area) w.address start w.writer seats.reception seats.team =
-    all_begun g.F.Shelf g.L.Link (tells_lists g.A.Area) w.address start made.passes.items w.links.items (pops_in hall.pops) w.writer seats c.seat-seats.ensures.seated
-    made.ensures.passes.1 c.in-Ok.ensures.none_popped c.requires.links.new
-    (ap (λ (d : Dispatcher). hands_of d) c.seat-seats.ensures.reception.0 ∙ c.in-Ok.ensures.none_pushed) c.seat-seats.ensures.reception.3 c.requires.writer in
-    let now = facts_of c.end.result.gateway.book in
-    let r = c.serve-served.result.0 in
-    let team = c.serve-served.result.1 in
-    let s : HaveServed g.F.Shelf g.L.Link (tells_lists g.A.Area) w.address start w.writer r team =
-    have_served g.F.Shelf g.L.Link (tells_lists g.A.Area) w.address start w.writer seats.reception r seats.team team begun
-    c.serve-served.ensures.worked c.serve-served.ensures.dispatched in
-    subst (λ (l : List _). HasStopCause g.L.Link (g.C.Clock.faults c.args.clock.now) (g.C.Clock.faults c.serve-served.new.clock) l c.end.result.stop)
-    (sym c.end.ensures.links)
-    (has_cause g.F.Shelf g.L.Link (tells_lists g.A.Area) w.address start w.writer r team s (g.C.Clock.faults c.args.clock.now)
-    (g.C.Clock.faults c.serve-served.new.clock) c.serve-served.ensures.cause c.end.result.stop c.end.ensures.stop)
+    record {
+      history = subst (λ (l : List _). WhereTold (tells_lists g.A.Area) (GoesOnUntil (heard_by g.L.Link l) start now last)) (sym c.end.ensures.links)
+          (run_goes_on g.F.Shelf g.L.Link (tells_lists g.A.Area) w.address start now w.writer r team s ended c.end.ensures.settled
+          last c.end.ensures.last);
+      replies = subst (λ (l : List _). WhereTold (tells_lists g.A.Area) (HaveReplied g.L.Link (heard_by g.L.Link l) start now l)) (sym c.end.ensures.links)
+          (run_replies g.F.Shelf g.L.Link (tells_lists g.A.Area) w.address start now w.writer r team s ended c.end.ensures.settled);
+      book = run_stays g.F.Shelf g.L.Link (tells_lists g.A.Area) w.address start now w.writer r team s ended c.end.ensures.settled;
+      links = subst (λ (l : List _). AreFiveOf g.L.Link w.address l) (sym c.end.ensures.links)
+          (are_five g.F.Shelf g.L.Link (tells_lists g.A.Area) w.address start w.writer r team s);
+      turns = subst (λ (l : List _). IfTurns c.args.until (λ n. c.end.result.stop ≡ None → turns_by g.L.Link l ≡ n)) (sym c.end.ensures.links)
+          (turns_taken g.F.Shelf g.L.Link (tells_lists g.A.Area) w.address start w.writer r team s c.args.until
+          (counted g.L.Link w.address seats.reception r c.args.until c.requires.few
+          (subst (λ (k : ℕ). IfTurns c.args.until (λ n. k ≡ n)) (sym c.seat-seats.ensures.reception.1) c.turns_in-turns.ensures)
+          c.seat-seats.ensures.reception.2 (receiver_new g.F.Shelf g.L.Link w.address made.passes.items w.links.items (pops_in hall.pops) w.writer seats
+          c.seat-seats.ensures.seated c.requires.links.new) c.serve-served.ensures.turns)
+          c.end.result.stop c.end.ensures.stop c.serve-served.ensures.over);
+      writer = subst (λ (x : Writer _ g.F.Shelf). KeepsWriter g.F.Shelf (tells_lists g.A.Area) now.firm w.writer x) (sym c.end.ensures.writer.0)
+          (run_writer g.F.Shelf g.L.Link (tells_lists g.A.Area) w.address start now w.writer r team s ended c.end.ensures.settled c.filed_records_stay.ensures.items);
+      clock = c.serve-served.ensures.clock;
+      cause = subst (λ (l : List _). HasStopCause g.L.Link (g.C.Clock.faults c.args.clock.now) (g.C.Clock.faults c.serve-served.new.clock) l c.end.result.stop)
+          (sym c.end.ensures.links)
+          (has_cause g.F.Shelf g.L.Link (tells_lists g.A.Area) w.address start w.writer r team s (g.C.Clock.faults c.args.clock.now)
+          (g.C.Clock.faults c.serve-served.new.clock) c.serve-served.ensures.cause c.end.result.stop c.end.ensures.stop);
+    }
