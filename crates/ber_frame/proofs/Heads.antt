@@ -1,5 +1,5 @@
 -- Identifier and length in front of octets: either they are there, or one fault is; and the readers tell which.
-use Rattle.std.proofs.Common.{◌≡◌, ℕ, ◌+◌, ◌-◌, ◌*◌, ◌%◌, ◌^◌, ◌<◌, ◌≤◌, ◌⊎◌, Bool, true, false, ltb, eqb, List, [], ◌∷◌, ◌++◌, length, map, take, drop, Option, Some, None, Ok, Err, refl, sym, ap, subst, ◌∙◌, append_assoc, arith, inl, inr}
+use Rattle.std.proofs.Common.{◌≡◌, ℕ, min, ◌+◌, ◌-◌, ◌*◌, ◌%◌, ◌^◌, ◌<◌, ◌≤◌, ◌⊎◌, Bool, true, false, ltb, eqb, List, [], ◌∷◌, ◌++◌, length, map, take, drop, Option, Some, None, Ok, Err, refl, sym, ap, subst, ◌∙◌, append_assoc, arith, inl, inr}
 use Rattle.std.specs.Prelude.{fold}
 use Rattle.std.specs.List.{AllByRecursion}
 use Rattle.std.proofs.lemmas.Bool.{cases_lt, lt-ltb, le-ltb, ne_eqb}
@@ -9,7 +9,7 @@ use Rattle.ber_frame.specs.declared.fault.BerKind.{BerKind}
 use Rattle.ber_frame.specs.declared.fault.BerKind.TheVariants.{Cut, Indefinite, LengthTooBig, TagTooBig}
 use Rattle.ber_frame.specs.Head.{number_in, low_bits, AreGroups, IsTagNumber, tag_of, IsIdentifier, IsLengthForm, IsInReach}
 use Rattle.ber_frame.specs.Faults.{IsIdentifierCut, IdentifierFails, IsLengthCut, IsLengthTooBig, LengthFails, AfterIdentifier, HeadFails, IsAllowed, AfterHead}
-use Rattle.ber_frame.specs.Reading.{◌>>=◌, capped, next_digit, groups_at, identifier_at, octets_number, long_length, length_at, allowed_head, head_at}
+use Rattle.ber_frame.specs.Reading.{◌>>=◌, next_digit, groups_at, identifier_at, octets_number, long_length, length_at, allowed_head, head_at}
 
 -- ---- octets
 
@@ -25,6 +25,9 @@ IsOctets-front [] rest h = tt
 IsOctets-front (a ∷ front) rest h = (h.0, IsOctets-front front rest h.1)
 
 -- ---- numbers
+
+abbrev pub capped : ℕ → ℕ
+capped number = min number (2 ^ 32)
 
 abbrev pub spelled : ℕ → ℕ → List ℕ → ℕ
 spelled base high digits = fold (λ h d. h * base + d) high digits

@@ -1,12 +1,15 @@
--- Octets that are one identifier, and the first fault of those that aren't.
-use Rattle.std.proofs.Common.{◌≡◌, ◌≢◌, ◌↔◌, ℕ, ◌+◌, ◌-◌, List, [], ◌∷◌, length, Result, Ok, refl, sym, ap, subst, ◌∙◌, arith, inl, inr}
+-- Octets that are one identifier, the first fault of those that aren't, and the identifier in front of a value.
+use Rattle.std.proofs.Common.{◌≡◌, ◌≢◌, ◌↔◌, ℕ, ◌+◌, ◌-◌, zero, suc, List, [], ◌∷◌, ◌++◌, length, Option, Some, option_map, Result, Ok, refl, sym, ap, subst, ◌∙◌, append_assoc, arith, inl, inr}
+use Rattle.std.specs.Result.{result_ok}
 use Rattle.std.proofs.lemmas.List.{append-nil, length-append}
 use Rattle.gw_base.specs.declared.tag.Tag.{Tag}
 use Rattle.ber_frame.specs.declared.fault.BerFault.{BerFault}
+use Rattle.ber_frame.specs.declared.fault.BerKind.{BerKind}
 use Rattle.ber_frame.specs.declared.fault.BerKind.TheVariants.{Trailing}
 use Rattle.ber_frame.specs.Head.{IsIdentifier}
 use Rattle.ber_frame.specs.Faults.{fault_at, AfterIdentifier, IdentifierRefused}
-use Rattle.ber_frame.specs.Reading.{identifier_at, whole_tag, whole_identifier}
+use Rattle.ber_frame.specs.Reading.{front_tag, identifier_at, whole_tag, whole_identifier}
+use Rattle.ber_frame.specs.Value.{BerValue}
 use Rattle.ber_frame.proofs.Heads.{identifier_reads, identifier_fails, identifier_decide}
 use Rattle.ber_frame.proofs.Stops.{ok, err}
 
@@ -59,3 +62,18 @@ identifier_accepts octets result e tag = (λ r. ok_only octets tag (judge octets
 
 pub identifier_refuses : (octets : List ℕ) (result : Result Tag BerFault) → result ≡ whole_identifier octets → (fault : BerFault) → (result ≡ err fault) ↔ IdentifierRefused octets fault
 identifier_refuses octets result e fault = (λ r. err_only octets fault (judge octets) (sym e ∙ r), λ is. e ∙ wrong_reads octets fault is)
+
+-- ---- in front of a value
+
+abbrev first_tag : Result (Tag × List ℕ) BerKind → Option Tag
+first_tag read = option_map (λ front. front.0) (result_ok read)
+
+pub front_of_value : (levels : ℕ) (octets : List ℕ) (tag : Tag) → BerValue levels octets tag → front_tag octets ≡ Some tag
+unfolding BerValue
+front_of_value zero octets tag value = absurd value
+front_of_value (suc levels) octets tag value = ap first_tag (identifier_reads octets tag (value.is_head.lengths ++ value.contents) (record {
+  identifier = value.is_head.identifier;
+  joined = value.joined ∙ ap (λ (head : List ℕ). head ++ value.contents) value.is_head.joined
+      ∙ append_assoc value.is_head.identifier value.is_head.lengths value.contents;
+  is_identifier = value.is_head.is_identifier;
+}))

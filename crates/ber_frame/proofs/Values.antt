@@ -35,7 +35,9 @@ value_long (suc levels) octets tag h = omega (arith, ap length h.joined, length-
 end_in_front : (octets rest : List ℕ) → 2 ≤ length octets → begins_with_end (octets ++ rest) ≡ begins_with_end octets
 end_in_front [] rest h = absurd (omega arith)
 end_in_front (a ∷ []) rest h = absurd (omega arith)
-end_in_front _ rest h = refl
+end_in_front (zero ∷ zero ∷ octets) rest h = refl
+end_in_front (zero ∷ suc b ∷ octets) rest h = refl
+end_in_front (suc a ∷ b ∷ octets) rest h = refl
 
 pub over_in_front : (endless : Bool) (octets rest : List ℕ) → 2 ≤ length octets → are_over endless (octets ++ rest) ≡ are_over endless octets
 over_in_front false [] rest h = absurd (omega arith)
@@ -47,8 +49,11 @@ nothing_left [] h = refl
 nothing_left (a ∷ octets) h = absurd cc
 
 pub end_left : (octets : List ℕ) → are_over true octets ≡ true → octets ≡ 0 ∷ 0 ∷ drop 2 octets
+end_left [] h = absurd cc
+end_left (a ∷ []) h = absurd cc
 end_left (zero ∷ zero ∷ octets) h = refl
-end_left _ h = absurd cc
+end_left (zero ∷ suc b ∷ octets) h = absurd cc
+end_left (suc a ∷ b ∷ octets) h = absurd cc
 
 -- ---- inner values
 

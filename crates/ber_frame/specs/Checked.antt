@@ -1,6 +1,5 @@
 -- Reading a value from left to right: its tag and what follows it, or its first fault.
 use Rattle.std.specs.Prelude.{ℕ, zero, suc, ◌+◌, ◌-◌, Bool, true, false, List, [], ◌∷◌, length, take, drop, Option, Some, None, Result, Ok, Err, nat_lt, is_ok, if◌then◌else◌}
-use Rattle.std.specs.Result.{result_ok}
 use Rattle.gw_base.specs.declared.tag.Tag.{Tag}
 use Rattle.ber_frame.specs.declared.fault.BerFault.{BerFault}
 use Rattle.ber_frame.specs.declared.fault.BerKind.{BerKind}
@@ -60,7 +59,3 @@ checked octets = value_at 32 0 octets >>= λ first. last first.0 (length octets 
 -- the octets are exactly one value
 abbrev pub is_one_value : List ℕ → Bool
 is_one_value octets = is_ok (checked octets)
-
--- the tag of octets that are exactly one value, that of the value itself
-abbrev pub outer_tag : List ℕ → Option Tag
-outer_tag octets = result_ok (checked octets)

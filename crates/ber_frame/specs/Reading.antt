@@ -1,6 +1,8 @@
 -- Reading identifier and length from left to right: what stands in front, and the octets after it.
--- A step of proofs: of it public contracts see no more than the head that `checked` reads, and `whole_identifier`.
-use Rattle.std.specs.Prelude.{◌≡◌, ℕ, zero, suc, ◌+◌, ◌*◌, ◌-◌, ◌%◌, ◌^◌, Bool, true, false, List, [], ◌∷◌, length, take, drop, fold, min, Option, Some, None, Result, Ok, Err, nat_lt, ◌==◌, if◌then◌else◌}
+-- A step of proofs: of it public contracts see no more than the head that `checked` reads, `front_tag` and
+-- `whole_identifier`.
+use Rattle.std.specs.Prelude.{◌≡◌, ℕ, zero, suc, ◌+◌, ◌*◌, ◌-◌, ◌%◌, ◌^◌, Bool, true, false, List, [], ◌∷◌, length, take, drop, fold, min, Option, Some, None, option_map, Result, Ok, Err, nat_lt, ◌==◌, if◌then◌else◌}
+use Rattle.std.specs.Result.{result_ok}
 use Rattle.gw_base.specs.declared.tag.Tag.{Tag}
 use Rattle.ber_frame.specs.declared.fault.BerKind.{BerKind}
 use Rattle.ber_frame.specs.declared.fault.BerKind.TheVariants.{Cut, Trailing, Indefinite, LengthTooBig, TagTooBig}
@@ -13,12 +15,9 @@ abbrev pub ◌>>=◌ : {A B : Type 0} → Result A BerKind → (A → Result B B
 (Ok x) >>= f = f x
 (Err e) >>= f = Err e
 
--- a number, as far as numbers from 2 ^ 32 on are told apart
-abbrev pub capped : ℕ → ℕ
-capped number = min number (2 ^ 32)
-
+-- the number after one more digit, where numbers from 2 ^ 32 on aren't told apart
 abbrev pub next_digit : ℕ → ℕ → ℕ → ℕ
-next_digit base high digit = capped (high * base + digit)
+next_digit base high digit = min (high * base + digit) (2 ^ 32)
 
 -- the tag number in base 128 after a front that spells `high`
 unfoldable pub groups_at : ℕ → List ℕ → Option (ℕ × List ℕ)
@@ -35,6 +34,10 @@ unfoldable pub identifier_at : List ℕ → Result (Tag × List ℕ) BerKind
 identifier_at [] = Err Cut
 identifier_at (leading ∷ octets) =
     if nat_lt (leading % 32) 31 then Ok (tag_of leading (leading % 32), octets) else long_tag leading (groups_at 0 octets)
+
+-- the tag that the identifier in front spells, whatever follows it
+abbrev pub front_tag : List ℕ → Option Tag
+front_tag octets = option_map (λ front. front.0) (result_ok (identifier_at octets))
 
 -- the number in these octets, the highest first
 unfoldable pub octets_number : List ℕ → ℕ

@@ -5,7 +5,7 @@ ghost use Rattle.ber_frame.specs.declared.fault.BerFault.{BerFault};
 ghost use Rattle.ber_frame.specs.Head.{IsIdentifier};
 ghost use Rattle.ber_frame.specs.Value.{BerValue};
 ghost use Rattle.ber_frame.specs.Faults.{IdentifierRefused, BerFails};
-ghost use Rattle.ber_frame.specs.Reading.{behind_primitive, are_primitive, flat, whole_identifier};
+ghost use Rattle.ber_frame.specs.Reading.{behind_primitive, are_primitive, flat, front_tag, whole_identifier};
 ghost use Rattle.ber_frame.specs.Checked.{checked};
 ghost use Rattle.ber_frame.specs.Walk.{Walks};
 
@@ -94,6 +94,17 @@ fn walk_through(octets: &[u8]) -> Result<Tag, BerFault>
         at: walk.at(),
         kind: BerKind::Trailing,
     })
+}
+
+/// The tag that the identifier in front spells (ITU-T X.690, clause 8.1.2), whatever follows it: that of a value, where
+/// the octets are one. None where the identifier is cut, or its number is 2^32 or above. It takes no memory.
+pub fn front_tag(octets: &[u8]) -> Option<Tag>
+    ensures { result ≡ front_tag octets.now }
+{
+    match identifier_at(octets) {
+        Ok((tag, _)) => Some(tag),
+        Err(_) => None,
+    }
 }
 
 /// The tag of octets that are exactly one identifier (ITU-T X.690, clause 8.1.2). It takes no

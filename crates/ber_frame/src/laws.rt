@@ -2,8 +2,9 @@
 
 ghost use Rattle.std.specs.Prelude.{◌≡◌, ◌↔◌, ◌<◌, ℕ, List, All, Ok, Err, Some, true};
 ghost use Rattle.gw_base.specs.declared.tag.Tag.{Tag};
-ghost use Rattle.ber_frame.specs.Checked.{checked, is_one_value, outer_tag};
+ghost use Rattle.ber_frame.specs.Checked.{checked, is_one_value};
 ghost use Rattle.ber_frame.specs.Faults.{BerFails};
+ghost use Rattle.ber_frame.specs.Reading.{front_tag};
 ghost use Rattle.ber_frame.specs.Value.{BerValue, IsOneValue};
 ghost use Rattle.ber_frame.specs.declared.fault.BerFault.{BerFault};
 
@@ -25,8 +26,7 @@ pub fn one_value_is_told()
         (is_one_value octets ≡ true) ↔ IsOneValue 32 octets }
 {}
 
-/// The outer tag is told exactly where octets are one value with this tag.
-pub fn outer_tag_is_of_the_value()
-    ensures { (octets : List ℕ) (tag : Tag) → All (λ octet. octet < 256) octets →
-        (outer_tag octets ≡ Some tag) ↔ BerValue 32 octets tag }
+/// The tag in front of one value is the value's.
+pub fn front_tag_is_of_the_value()
+    ensures { (octets : List ℕ) (tag : Tag) → BerValue 32 octets tag → front_tag octets ≡ Some tag }
 {}

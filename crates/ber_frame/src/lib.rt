@@ -15,5 +15,5 @@ pub mod laws;
 mod walk;
 
 pub use fault::{BerFault, BerKind};
-pub use frame::{check, identifier};
+pub use frame::{check, front_tag, identifier};
 pub use gw_base::Tag;
