@@ -8,7 +8,7 @@ use Rattle.std.proofs.lemmas.List.{get_or-replicate, get_or-set_other, get_or-se
 use Rattle.std.specs.List.{All}
 use Rattle.std.specs.Option.{option_map_or}
 use Rattle.gw_base.specs.declared.tag.Tag.{Tag}
-use Rattle.route_filter.specs.Rules.{AreRules, last_stream, matches, matches_format, matches_tag, most_rules, same_bool, same_tag, stream_of}
+use Rattle.route_filter.specs.Rules.{AreRules, last_stream, matches, matches_format, matches_tag, most_rules, same_tag, stream_of}
 use Rattle.route_filter.specs.Starts.{AreStarts, group_count, group_of, may_match, start_after, start_of}
 use Rattle.route_filter.specs.declared.rule.Rule.{Rule}
 
@@ -21,7 +21,7 @@ find_from p (suc s) [] h = refl
 find_from p (suc s) (rule ∷ rules) h =
     rw (h 0 rule (omega arith) (omega arith)) (find_from p s rules (λ k d low here. h (suc k) d (omega arith) (omega arith)))
 
-same_bits : (a b : Bool) → same_bool a b ≡ true → a ≡ b
+same_bits : (a b : Bool) → (if a then b else not b) ≡ true → a ≡ b
 same_bits true true h = refl
 same_bits true false h = absurd (cc)
 same_bits false true h = absurd (cc)
@@ -40,7 +40,7 @@ both_last false false false h = absurd (cc)
 -- the same tags are of one group
 one_group : (a b : Tag) → same_tag a b ≡ true → group_of a ≡ group_of b
 one_group a b h =
-    let same = both_last (a.class == b.class) (same_bool a.constructed b.constructed) (a.number == b.number) h in
+    let same = both_last (a.class == b.class) (if a.constructed then b.constructed else not b.constructed) (a.number == b.number) h in
     ap (λ (c : Bool). (if c then 32 else 0) + a.number % 32) (same_bits a.constructed b.constructed same.0)
     ∙ ap (λ (n : ℕ). (if b.constructed then 32 else 0) + n % 32) (eqb-true a.number b.number same.1)
 

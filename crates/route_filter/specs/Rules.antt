@@ -1,5 +1,5 @@
 -- Rules that say which stream a record's CDR file belongs to. Their form is this project's own.
-use Rattle.std.specs.Prelude.{◌≡◌, ℕ, ◌<◌, ◌≤◌, ◌==◌, ◌&&◌, Bool, true, false, min, if◌then◌else◌, List, [], ◌∷◌, ◌++◌, length, find, Option, Some, None, option_map, option_and_then, Result, Ok, Err, codes}
+use Rattle.std.specs.Prelude.{◌≡◌, ℕ, ◌<◌, ◌≤◌, ◌==◌, ◌&&◌, Bool, true, false, not, min, if◌then◌else◌, List, [], ◌∷◌, ◌++◌, length, find, Option, Some, None, option_map, option_and_then, Result, Ok, Err, codes}
 use Rattle.std.specs.List.{All}
 use Rattle.std.specs.Option.{option_map_or}
 use Rattle.std.specs.Str.{bytes_eq}
@@ -72,13 +72,9 @@ pub record AddsRule (line : List ℕ) (old new : List Rule) : Type 0 where
 -- Which records a rule matches.
 
 -- the tags are the same by class, constructed bit and number
-abbrev pub same_bool : Bool → Bool → Bool
-same_bool true b = b
-same_bool false true = false
-same_bool false false = true
-
 abbrev pub same_tag : Tag → Tag → Bool
-same_tag a b = (a.class == b.class) && same_bool a.constructed b.constructed && (a.number == b.number)
+same_tag a b =
+    (a.class == b.class) && (if a.constructed then b.constructed else not b.constructed) && (a.number == b.number)
 
 -- Records of format 1 alone have a tag, since they alone are ASN.1 BER: others match any tag and no other.
 abbrev pub matches_tag : Option Tag → Option Tag → ℕ → Bool
