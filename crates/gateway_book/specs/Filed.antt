@@ -2,7 +2,7 @@
 use Rattle.std.specs.Prelude.{ℕ, ◌==◌, if◌then◌else◌, List, [], ◌∷◌, ◌++◌, map, Option, Some, None, option_and_then}
 use Rattle.std.specs.List.{enumerate_from, flat_map}
 use Rattle.std.specs.Option.{option_map_or}
-use Rattle.ber_frame.specs.Checked.{outer_tag}
+use Rattle.ber_frame.specs.Reading.{front_tag}
 use Rattle.gtpp_message.specs.Packet.{PacketForm, packet_of}
 use Rattle.gw_base.specs.CdrKind.{kind_of}
 use Rattle.gw_base.specs.History.{epoch_of, last_naming, present_entries}
@@ -16,9 +16,9 @@ use Rattle.gw_base.specs.declared.tag.Tag.{Tag}
 use Rattle.gateway_book.specs.Preparing.{ber_format}
 use Rattle.gateway_book.specs.declared.filing.FiledRecord.{FiledRecord}
 
--- the identifier of a record of a packet with this data record format; records of other formats have none
+-- the tag in front of a record of a packet with this data record format; records of other formats have none
 abbrev pub record_tag : ℕ → List ℕ → Option Tag
-record_tag format octets = if format == ber_format then outer_tag octets else None
+record_tag format octets = if format == ber_format then front_tag octets else None
 
 -- a record of a packet, with its index, filed under a key at a moment
 abbrev pub filed_record : PacketKey → ℕ → ℕ → ℕ → ℕ × List ℕ → FiledRecord

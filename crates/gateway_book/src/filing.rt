@@ -22,7 +22,7 @@ pub struct FiledRecord {
     pub index: usize,
     /// What the header of its CDR says.
     pub kind: CdrKind,
-    /// The identifier of the record, where it is a BER value.
+    /// The tag of the record, where its data record format is BER.
     pub tag: Option<Tag>,
     pub octets: Octets,
     /// The moment of the entry that filed it.
@@ -241,12 +241,12 @@ fn filed_record(
     })
 }
 
-/// The identifier of a record of a packet with this data record format, where it is a BER value.
+/// The tag in front of a record of a packet with this data record format, where that is BER.
 pub(crate) fn record_tag(format: u8, octets: &[u8]) -> Option<Tag>
     ensures { result ≡ record_tag format octets.now }
 {
     if format == BER_FORMAT {
-        ber_frame::check(octets).ok()
+        ber_frame::front_tag(octets)
     } else {
         None
     }
