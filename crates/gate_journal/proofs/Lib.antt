@@ -6,7 +6,6 @@ mod Calm
 mod Contents
 mod Counts
 mod Finding
-mod Framing
 mod Seen
 mod Kept
 mod Laying

@@ -1,5 +1,5 @@
 -- What is true of a journal, and how an append keeps it.
-use Rattle.std.proofs.Common.{◌≡◌, ◌⊎◌, inl, inr, ⊎_elim, ℕ, ◌+◌, ◌-◌, ◌<◌, ◌≤◌, min, Bool, true, false, List, [], ◌∷◌, ◌++◌, length, get_or, take, drop, refl, sym, ◌∙◌, ap, subst, arith}
+use Rattle.std.proofs.Common.{◌≡◌, ◌⊎◌, inl, inr, ⊎_elim, ℕ, ◌+◌, ◌-◌, ◌<◌, ◌≤◌, Bool, true, false, List, [], ◌∷◌, ◌++◌, length, get_or, take, drop, refl, sym, ◌∙◌, ap, subst, arith}
 use Rattle.std.specs.Prelude.{All, IsTrue, ◌&&◌, ◌==◌, if◌then◌else◌}
 use Rattle.std.proofs.lemmas.List.{length-take-le, length-drop}
 use Rattle.std.proofs.lemmas.List.Elements.{All-push}
@@ -8,7 +8,7 @@ use Rattle.area_disk.specs.Disk.{Only, Within, Torn, overwritten}
 use Rattle.area_disk.specs.declared.area.Area.{Ghosts}
 use Rattle.area_disk.specs.declared.plan.Outcome3.TheVariants.{New}
 use Rattle.gate_journal.specs.Adding.{added, IsAdding}
-use Rattle.gate_journal.specs.Format.{IsSmall, end_of, frame, gate_at, header, longest_batch, longest_frame, open_gate}
+use Rattle.gate_journal.specs.Format.{IsSmall, end_of, frame, gate_at, header, longest_batch, open_gate}
 use Rattle.gate_journal.specs.Moments.{Told, Leaves}
 use Rattle.gate_journal.specs.State.{batches_below, Content, IsReady, IsSound, Keeps, gate_after, front_after}
 use Rattle.gate_journal.specs.Journal.{closed_by, is_closed, batches, torn, front_of, header_of, KeepsOr, IsSettled, Rests, torn_stands, stop_stands}
@@ -60,7 +60,7 @@ place_after true false gate n size low high fits octet is =
     let there : P false = (low, high) in
     subst P (sym is) there
 
-pub length-torn : (buffer : List ℕ) (torn_length : ℕ) → torn_length + 5 ≤ length buffer → length (take torn_length (drop 4 buffer)) ≡ torn_length
+pub length-torn : (buffer : List ℕ) (torn_length : ℕ) → torn_length ≤ length buffer - 4 → length (take torn_length (drop 4 buffer)) ≡ torn_length
 length-torn buffer torn_length held = length-take-le torn_length (drop 4 buffer) (omega (arith, length-drop 4 buffer))
 
 -- the gate of a journal that is opened again moves where it is open behind a batch that may stand
@@ -82,7 +82,7 @@ module _ {A : Type 0} (g : Ghosts A) (laws : AreaLaws g) where
     content_of told = subst (λ t. Content (header (g.size old) address generation) front t (batches_below gate (g.octets old)) (take torn_length (drop 4 buffer)) gate (g.octets old)) ready.whole (sound.content told (g.octets old) (laws.holds old))
 
     module _ (new : A) (later : List ℕ) (batch framed : List ℕ) (short : length batch ≤ longest_batch) (is : framed ≡ frame batch) (held : take (length batch) (drop 4 later) ≡ batch)
-        (same_buffer : length later ≡ length buffer) (fits : length batch + 5 ≤ g.size old - 1 - gate) (size : g.size new ≡ g.size old) where
+        (long : length later ≡ length batch + 5) (fits : length batch + 5 ≤ g.size old - 1 - gate) (size : g.size new ≡ g.size old) where
       -- what a crash leaves of it while the batch is being added
       pub still_adding : Told g → (c : List ℕ) → IsAdding gate framed (g.octets old) c
           → Content (header (g.size old) address generation) front true (batches_below gate (g.octets old)) batch gate c
@@ -129,9 +129,8 @@ module _ {A : Type 0} (g : Ghosts A) (laws : AreaLaws g) where
               short = omega (arith, sound.short);
               low = omega (arith, sound.low);
               high = omega (arith, sound.high);
-              buffer_size = same_buffer ∙ sound.buffer_size ∙ ap (λ n. min longest_frame n) (sym size);
               torn_size = short;
-              torn_held = omega (arith, same_buffer, sound.buffer_size, sound.high);
+              torn_held = omega (arith, long);
               torn_fits = λ e. absurd (other_bool (sym e ∙ ready.whole));
               founding_whole = λ e. ready.whole;
               small = λ told. subst (λ (bs : List (List ℕ)). All IsSmall bs) (sym (batches_grow told)) (small_with told);
@@ -155,9 +154,8 @@ module _ {A : Type 0} (g : Ghosts A) (laws : AreaLaws g) where
               short = omega (arith, sound.short);
               low = sound.low;
               high = omega (arith, sound.high);
-              buffer_size = same_buffer ∙ sound.buffer_size ∙ ap (λ n. min longest_frame n) (sym size);
               torn_size = short;
-              torn_held = omega (arith, same_buffer, sound.buffer_size, sound.high);
+              torn_held = omega (arith, long);
               torn_fits = λ e. omega (arith, sound.high);
               founding_whole = λ e. absurd (ready.founded e);
               small = λ told. subst (λ (bs : List (List ℕ)). All IsSmall bs) (sym (batches_stay told)) (sound.small told);
@@ -179,7 +177,6 @@ module _ {A : Type 0} (g : Ghosts A) (laws : AreaLaws g) where
       short = omega (arith, sound.short);
       low = sound.low;
       high = omega (arith, sound.high);
-      buffer_size = sound.buffer_size ∙ ap (λ n. min longest_frame n) (sym size);
       torn_size = sound.torn_size;
       torn_held = sound.torn_held;
       torn_fits = λ e. omega (arith, sound.torn_fits e);
@@ -238,7 +235,6 @@ module _ {A : Type 0} (g : Ghosts A) (laws : AreaLaws g) where
           short = omega (arith, sound.short);
           low = gates.0;
           high = omega (arith, gates.1);
-          buffer_size = sound.buffer_size ∙ ap (λ n. min longest_frame n) (sym size);
           torn_size = sound.torn_size;
           torn_held = sound.torn_held;
           torn_fits = λ e. absurd (other_bool (sym e));
@@ -276,7 +272,6 @@ module _ {A : Type 0} (g : Ghosts A) (laws : AreaLaws g) where
         short = omega (arith, sound.short);
         low = sound.low;
         high = omega (arith, sound.high);
-        buffer_size = sound.buffer_size ∙ ap (λ n. min longest_frame n) (sym size);
         torn_size = sound.torn_size;
         torn_held = sound.torn_held;
         torn_fits = λ e. omega (arith, sound.torn_fits e);
@@ -303,7 +298,6 @@ module _ {A : Type 0} (g : Ghosts A) (laws : AreaLaws g) where
               short = omega (arith, sound.short);
               low = sound.low;
               high = omega (arith, sound.high);
-              buffer_size = sound.buffer_size ∙ ap (λ n. min longest_frame n) (sym size);
               torn_size = sound.torn_size;
               torn_held = sound.torn_held;
               torn_fits = λ e. omega (arith, sound.torn_fits e);

@@ -1,9 +1,9 @@
 -- What is true of a journal and of what a crash leaves of it.
-use Rattle.std.specs.Prelude.{◌≡◌, ◌≢◌, ◌⊎◌, ℕ, zero, suc, ◌+◌, ◌≤◌, min, Bool, true, false, ◌==◌, if◌then◌else◌, List, [], ◌∷◌, ◌++◌, length, take, drop, slice_index, All}
+use Rattle.std.specs.Prelude.{◌≡◌, ◌≢◌, ◌⊎◌, ℕ, zero, suc, ◌+◌, ◌-◌, ◌≤◌, Bool, true, false, ◌==◌, if◌then◌else◌, List, [], ◌∷◌, ◌++◌, length, take, drop, slice_index, All}
 use Rattle.area_disk.specs.Disk.{Only}
 use Rattle.area_disk.specs.declared.area.Area.{Ghosts}
 use Rattle.byteorder.specs.Endian.{big_number}
-use Rattle.gate_journal.specs.Format.{IsSmall, Stands, Starts, fewest_octets, frame, gate_at, header, longest_batch, longest_frame, most_octets, open_gate, spelled}
+use Rattle.gate_journal.specs.Format.{IsSmall, Stands, Starts, fewest_octets, frame, gate_at, header, longest_batch, most_octets, open_gate, spelled}
 use Rattle.gate_journal.specs.Moments.{Told}
 use Rattle.gate_journal.specs.declared.journal.Front.{Front}
 use Rattle.gate_journal.specs.declared.journal.Front.TheVariants.{Founded, Draft, Founding}
@@ -68,9 +68,8 @@ pub record IsSound {A : Type 0} (tells : Ghosts A) (area : A)
   pub short : tells.size area ≤ most_octets
   pub low : 32 ≤ gate
   pub high : gate + 1 ≤ tells.size area
-  pub buffer_size : length buffer ≡ min longest_frame (tells.size area)
   pub torn_size : torn_length ≤ longest_batch
-  pub torn_held : torn_length + 5 ≤ length buffer
+  pub torn_held : torn_length ≤ length buffer - 4
   pub torn_fits : is_torn ≡ true → gate + torn_length + 6 ≤ tells.size area
   pub founding_whole : front ≡ Founding → is_torn ≡ false
   pub small : Told tells → All IsSmall (batches_below gate (tells.octets area))

@@ -1,5 +1,5 @@
 // The journal's format.
-ghost use Rattle.std.specs.Prelude.{◌≡◌, ◌+◌, ◌≤◌, length, take, drop};
+ghost use Rattle.std.specs.Prelude.{vec_capacity, ◌≡◌, ◌+◌, ◌≤◌, ◌++◌, length, take, drop};
 ghost use Rattle.gate_journal.specs.Format.{header, frame, longest_batch};
 
 use byteorder::{BigEndian, ByteOrder};
@@ -29,26 +29,33 @@ pub fn header_of(length: u64, address: u32, generation: u32) -> [u8; 32]
     header
 }
 
-/// Writes the frame of a batch: its length, its content, and a closed gate behind it.
-fn spell(buffer: &mut [u8], batch: &[u8])
-    requires room { length batch.now + 5 ≤ length buffer.old }
-    requires short { length batch.now ≤ longest_batch }
-    ensures framed { take (length batch.now + 5) buffer.new ≡ frame batch.now }
-    ensures held { take (length batch.now) (drop 4 buffer.new) ≡ batch.now }
+// Adds octets for which there is memory.
+fn extend(buffer: &mut Vec<u8>, octets: &[u8])
+    requires { length buffer.old.items + length octets.now ≤ vec_capacity buffer.old }
+    ensures items { buffer.new.items ≡ buffer.old.items ++ octets.now }
+    ensures capacity { vec_capacity buffer.old ≤ vec_capacity buffer.new }
 {
-    let end = 4 + batch.len();
-    BigEndian::write_u32(buffer, batch.len() as u32);
-    buffer[4..end].copy_from_slice(batch);
-    buffer[end] = CLOSED;
+    match buffer.extend_from_slice(octets) {
+        Ok(()) => {}
+        Err(_) => unreachable!(),
+    }
 }
 
-/// Puts a batch and its frame together in a buffer.
+/// Puts a batch and its frame together in a buffer that has memory for them: its length, its content, and a closed
+/// gate behind it.
+#[tactic(auto, unfolding(crate::specs::Format::frame))]
 pub fn fill(buffer: &mut Vec<u8>, batch: &[u8])
-    requires room { length batch.now + 5 ≤ length buffer.old.items }
+    requires room { length batch.now + 5 ≤ vec_capacity buffer.old }
     requires short { length batch.now ≤ longest_batch }
-    ensures size { length buffer.new.items ≡ length buffer.old.items }
-    ensures framed { take (length batch.now + 5) buffer.new.items ≡ frame batch.now }
+    ensures framed { buffer.new.items ≡ frame batch.now }
     ensures held { take (length batch.now) (drop 4 buffer.new.items) ≡ batch.now }
+    ensures size { length buffer.new.items ≡ length batch.now + 5 }
+    ensures capacity { vec_capacity buffer.old ≤ vec_capacity buffer.new }
 {
-    spell(buffer.as_mut_slice(), batch);
+    let mut field = [0; 4];
+    BigEndian::write_u32(&mut field, batch.len() as u32);
+    buffer.clear();
+    extend(buffer, &field);
+    extend(buffer, batch);
+    extend(buffer, &[CLOSED]);
 }

@@ -1,5 +1,5 @@
 // A journal of batches on an area.
-ghost use Rattle.std.specs.Prelude.{vec_len, min, ◌≡◌, ◌↔◌, ◌≢◌, ℕ, ◌+◌, ◌<◌, ◌≤◌, IsTrue, IsNone, IfSome, false, true, length, is_err, OnOk, OnErr, IfOk};
+ghost use Rattle.std.specs.Prelude.{vec_capacity, min, ◌≡◌, ◌↔◌, ◌≢◌, ℕ, ◌+◌, ◌<◌, ◌≤◌, IsTrue, IsNone, IfSome, false, true, length, is_err, OnOk, OnErr, IfOk};
 ghost use Rattle.area_disk.specs.Disk.{HasCause, Only};
 ghost use Rattle.area_disk.specs.Plan.{ReadAsPlanned};
 ghost use Rattle.gate_journal.specs.Format.{end_of, fewest_octets, header, longest_batch, longest_frame, most_octets};
@@ -33,7 +33,8 @@ pub enum Front {
 #[derive(Drop)]
 pub struct Journal<A: Area> {
     pub(crate) area: A,
-    /// Where a batch and its frame are put together. After a failed append it keeps the batch.
+    /// Where a batch and its frame are put together, with memory for the longest. After a failed append it keeps the
+    /// batch.
     buffer: Vec<u8>,
     /// The place of the first closed gate.
     gate: u64,
@@ -45,6 +46,7 @@ pub struct Journal<A: Area> {
     address: u32,
     generation: u32,
     ghost sound: { IsSound A.Area area buffer.items gate torn_length is_torn front address generation },
+    ghost room: { min longest_frame (A.size area) ≤ vec_capacity buffer },
 }
 
 impl<A: Area> Journal<A> {
@@ -70,7 +72,7 @@ impl<A: Area> Journal<A> {
         requires short { A.size area ≤ most_octets }
         requires low { 32 ≤ gate }
         requires high { gate < A.size area }
-        requires buffer { vec_len buffer ≡ min longest_frame (A.size area) }
+        requires room { min longest_frame (A.size area) ≤ vec_capacity buffer }
         requires front { front ≢ Founding }
         requires listed { Told A.Area → IsListed (header (A.size area) address generation) front gate (A.octets area) }
         requires durable { Told A.Area → Only (A.octets area) (A.may_leave area) }
@@ -125,7 +127,7 @@ impl<A: Area> Journal<A> {
         }
         fill(&mut self.buffer, batch);
         self.torn_length = length;
-        match add(&mut self.area, self.gate, &self.buffer[..batch.len() + 5]) {
+        match add(&mut self.area, self.gate, self.buffer.as_slice()) {
             Ok(()) => {
                 self.gate = self.gate + 5 + length;
                 Ok(())

@@ -1,5 +1,5 @@
 // How a journal is opened, drafted and made anew.
-ghost use Rattle.std.specs.Prelude.{vec_len, ◌≡◌, ◌⊎◌, ◌+◌, ◌≤◌, ℕ, IsTrue, min, false, [], ◌∷◌, ◌++◌, length, take, drop, slice_index, is_err, OnOk, IfOk, IfErr, IsErrAnd};
+ghost use Rattle.std.specs.Prelude.{vec_capacity, ◌≡◌, ◌⊎◌, ◌+◌, ◌≤◌, ℕ, IsTrue, min, false, [], ◌∷◌, ◌++◌, length, take, drop, slice_index, is_err, OnOk, IfOk, IfErr, IsErrAnd};
 ghost use Rattle.area_disk.specs.Disk.{HasCause, Only, counted};
 ghost use Rattle.gate_journal.specs.Format.{IsBroken, IsForeign, Starts, fewest_octets, header, longest_frame, most_octets};
 ghost use Rattle.gate_journal.specs.Journal.{area_of};
@@ -54,12 +54,13 @@ fn lay_front<A: Area>(area: &mut A, header: &[u8; 32], blank: bool) -> Result<()
     }
 }
 
+// An empty buffer with memory for the longest batch and its frame in an area of this length.
 fn buffer_for(alloc: Global, length: u64) -> Result<Vec<u8>, AllocError>
     requires { length ≤ most_octets }
-    ensures { IfOk result (λ buffer. vec_len buffer ≡ min longest_frame length) }
+    ensures { IfOk result (λ buffer. min longest_frame length ≤ vec_capacity buffer) }
 {
     let most = length.min(LONGEST_BATCH as u64 + 5);
-    vec![in alloc; 0; most as usize]
+    Vec::with_capacity(alloc, most as usize)
 }
 
 // Makes an area that starts, without its octet 0, and a draft on it.

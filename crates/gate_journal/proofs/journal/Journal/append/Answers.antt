@@ -1,5 +1,4 @@
-use Rattle.std.proofs.Common.{◌≡◌, inl, ℕ, List, take, refl, sym, ◌∙◌, ap, arith}
-use Rattle.gate_journal.specs.Format.{frame}
+use Rattle.std.proofs.Common.{inl, refl, sym, ◌∙◌, arith}
 use Rattle.gate_journal.specs.Journal.{batches, torn, stop_stands}
 use Rattle.gate_journal.proofs.Turns.{other_bool}
 use Rattle.gate_journal.proofs.Kept.{as_before}
@@ -18,40 +17,37 @@ returns-then-free-length-clause-unchanged g c = λ free is. record { area = refl
 pub returns-then-free-length-clause-planned : goal.returns-then-free-length-clause-planned
 returns-then-free-length-clause-planned g c = λ fate told fits. absurd (omega (arith, c.length.ensures))
 
-framed : {octets buffer : List ℕ} (n : ℕ) (batch : List ℕ) → octets ≡ buffer → take n buffer ≡ frame batch → take n octets ≡ frame batch
-framed n batch same is = ap (λ (l : List ℕ). take n l) same ∙ is
-
 pub invariant_of-self-in-Ok : goal.invariant_of-self-in-Ok
-invariant_of-self-in-Ok g c = record { sound = grown_sound g.A.Area c.area_laws.ensures c.args.self.now c.requires.ready c.args.batch.now _ c.fill.new.buffer.items c.add.new.area c.requires.short (framed _ c.args.batch.now c.deref.ensures.value c.fill.ensures.framed) c.fill.ensures.held c.fill.ensures.size (omega (arith, c.length.ensures)) c.add.ensures.size c.in-Ok.ensures.added c.in-Ok.ensures.durable }
+invariant_of-self-in-Ok g c = record { sound = grown_sound g.A.Area c.area_laws.ensures c.args.self.now c.requires.ready c.args.batch.now _ c.fill.new.buffer.items c.add.new.area c.requires.short (c.as_slice.ensures.value ∙ c.fill.ensures.framed) c.fill.ensures.held c.fill.ensures.size (omega (arith, c.length.ensures)) c.add.ensures.size c.in-Ok.ensures.added c.in-Ok.ensures.durable; room = omega (arith, c.args.self.now.room, c.add.ensures.size, c.fill.ensures.capacity) }
 
 pub invariant_of-self-in-Err : goal.invariant_of-self-in-Err
-invariant_of-self-in-Err g c = record { sound = torn_sound g.A.Area c.area_laws.ensures c.args.self.now c.requires.ready c.args.batch.now _ c.fill.new.buffer.items c.add.new.area c.requires.short (framed _ c.args.batch.now c.deref.ensures.value c.fill.ensures.framed) c.fill.ensures.held c.fill.ensures.size (omega (arith, c.length.ensures)) c.add.ensures.size c.add.ensures.any_moment }
+invariant_of-self-in-Err g c = record { sound = torn_sound g.A.Area c.area_laws.ensures c.args.self.now c.requires.ready c.args.batch.now _ c.fill.new.buffer.items c.add.new.area c.requires.short (c.as_slice.ensures.value ∙ c.fill.ensures.framed) c.fill.ensures.held c.fill.ensures.size (omega (arith, c.length.ensures)) c.add.ensures.size c.add.ensures.any_moment; room = omega (arith, c.args.self.now.room, c.add.ensures.size, c.fill.ensures.capacity) }
 
 pub returns-in-Ok-clause-ok : goal.returns-in-Ok-clause-ok
 unfolding batches
 returns-in-Ok-clause-ok g c = record {
   ready = c.requires.ready;
   settled = settled g.A.Area c.area_laws.ensures _ c.requires.ready;
-  batches = grown g.A.Area c.area_laws.ensures c.args.self.now c.requires.ready c.args.batch.now _ c.fill.new.buffer.items c.add.new.area c.requires.short (framed _ c.args.batch.now c.deref.ensures.value c.fill.ensures.framed) c.fill.ensures.held c.fill.ensures.size (omega (arith, c.length.ensures)) c.add.ensures.size c.in-Ok.ensures.added;
+  batches = grown g.A.Area c.area_laws.ensures c.args.self.now c.requires.ready c.args.batch.now _ c.fill.new.buffer.items c.add.new.area c.requires.short (c.as_slice.ensures.value ∙ c.fill.ensures.framed) c.fill.ensures.held c.fill.ensures.size (omega (arith, c.length.ensures)) c.add.ensures.size c.in-Ok.ensures.added;
   end = refl;
 }
 
 pub returns-in-Ok-clause-any_moment : goal.returns-in-Ok-clause-any_moment
 unfolding batches
-returns-in-Ok-clause-any_moment g c = left_or g.A.Area c.area_laws.ensures c.args.self.now c.requires.ready c.args.batch.now _ c.fill.new.buffer.items c.add.new.area c.requires.short (framed _ c.args.batch.now c.deref.ensures.value c.fill.ensures.framed) c.fill.ensures.held c.fill.ensures.size (omega (arith, c.length.ensures)) c.add.ensures.size c.add.ensures.any_moment
+returns-in-Ok-clause-any_moment g c = left_or g.A.Area c.area_laws.ensures c.args.self.now c.requires.ready c.args.batch.now _ c.fill.new.buffer.items c.add.new.area c.requires.short (c.as_slice.ensures.value ∙ c.fill.ensures.framed) c.fill.ensures.held c.fill.ensures.size (omega (arith, c.length.ensures)) c.add.ensures.size c.add.ensures.any_moment
 
 pub returns-in-Err-clause-torn : goal.returns-in-Err-clause-torn
 unfolding batches torn
 returns-in-Err-clause-torn g c = λ is. record {
   closed = closed_when_torn c.args.self.now.front;
-  batches = torn_stay g.A.Area c.area_laws.ensures c.args.self.now c.requires.ready c.args.batch.now _ c.fill.new.buffer.items c.add.new.area c.requires.short (framed _ c.args.batch.now c.deref.ensures.value c.fill.ensures.framed) c.fill.ensures.held c.fill.ensures.size (omega (arith, c.length.ensures)) c.add.ensures.size c.add.ensures.any_moment;
+  batches = torn_stay g.A.Area c.area_laws.ensures c.args.self.now c.requires.ready c.args.batch.now _ c.fill.new.buffer.items c.add.new.area c.requires.short (c.as_slice.ensures.value ∙ c.fill.ensures.framed) c.fill.ensures.held c.fill.ensures.size (omega (arith, c.length.ensures)) c.add.ensures.size c.add.ensures.any_moment;
   end = refl;
   torn = c.fill.ensures.held;
 }
 
 pub returns-in-Err-clause-any_moment : goal.returns-in-Err-clause-any_moment
 unfolding batches
-returns-in-Err-clause-any_moment g c = left_or g.A.Area c.area_laws.ensures c.args.self.now c.requires.ready c.args.batch.now _ c.fill.new.buffer.items c.add.new.area c.requires.short (framed _ c.args.batch.now c.deref.ensures.value c.fill.ensures.framed) c.fill.ensures.held c.fill.ensures.size (omega (arith, c.length.ensures)) c.add.ensures.size c.add.ensures.any_moment
+returns-in-Err-clause-any_moment g c = left_or g.A.Area c.area_laws.ensures c.args.self.now c.requires.ready c.args.batch.now _ c.fill.new.buffer.items c.add.new.area c.requires.short (c.as_slice.ensures.value ∙ c.fill.ensures.framed) c.fill.ensures.held c.fill.ensures.size (omega (arith, c.length.ensures)) c.add.ensures.size c.add.ensures.any_moment
 
 pub returns-in-Ok-clause-planned : goal.returns-in-Ok-clause-planned
 unfolding stop_stands

@@ -1,4 +1,4 @@
-use Rattle.std.proofs.Common.{refl, ap}
+use Rattle.std.proofs.Common.{refl, ap, arith}
 use Rattle.std.specs.Prelude.{◌&&◌, ◌==◌}
 use Rattle.gate_journal.specs.Format.{open_gate, gate_at, header}
 use Rattle.gate_journal.specs.Journal.{batches, torn, torn_stands}
@@ -10,13 +10,13 @@ pub invariant_of-self : goal.invariant_of-self
 invariant_of-self g c =
     let j = c.args.self.now in
     let ready = ready_of j.front j.is_torn c.requires.ready in
-    record { sound = founded_sound g.A.Area c.area_laws.ensures j.area c.put.new.area j.buffer.items j.gate j.torn_length j.is_torn j.front j.address j.generation j.sound ready c.put.ensures.size (λ told. (c.put.ensures.any_moment (j.sound.durable told ready)).now) (λ told. c.in-Ok.ensures.written told) (λ told. c.in-Ok.ensures.durable told) }
+    record { sound = founded_sound g.A.Area c.area_laws.ensures j.area c.put.new.area j.buffer.items j.gate j.torn_length j.is_torn j.front j.address j.generation j.sound ready c.put.ensures.size (λ told. (c.put.ensures.any_moment (j.sound.durable told ready)).now) (λ told. c.in-Ok.ensures.written told) (λ told. c.in-Ok.ensures.durable told); room = omega (arith, j.room, c.put.ensures.size) }
 
 pub invariant_of-self-in-Err : goal.invariant_of-self-in-Err
 invariant_of-self-in-Err g c =
     let j = c.args.self.now in
     let ready = ready_of j.front j.is_torn c.requires.ready in
-    record { sound = founding_sound g.A.Area c.area_laws.ensures j.area c.put.new.area j.buffer.items j.gate j.torn_length j.is_torn j.front j.address j.generation j.sound ready c.put.ensures.size (λ told. (c.put.ensures.any_moment (j.sound.durable told ready)).now) }
+    record { sound = founding_sound g.A.Area c.area_laws.ensures j.area c.put.new.area j.buffer.items j.gate j.torn_length j.is_torn j.front j.address j.generation j.sound ready c.put.ensures.size (λ told. (c.put.ensures.any_moment (j.sound.durable told ready)).now); room = omega (arith, j.room, c.put.ensures.size) }
 
 pub returns-in-Ok-clause-any_moment : goal.returns-in-Ok-clause-any_moment
 unfolding batches

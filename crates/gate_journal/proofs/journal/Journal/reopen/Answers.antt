@@ -1,4 +1,4 @@
-use Rattle.std.proofs.Common.{◌≡◌, ◌⊎◌, ◌+◌, ℕ, false, List, [], ◌∷◌, ◌++◌, length, take, drop, refl, sym, ◌∙◌, ap, subst}
+use Rattle.std.proofs.Common.{◌≡◌, ◌⊎◌, ◌+◌, ℕ, false, List, [], ◌∷◌, ◌++◌, length, take, drop, refl, sym, ◌∙◌, ap, subst, arith}
 use Rattle.std.specs.Prelude.{◌&&◌, ◌==◌, if◌then◌else◌}
 use Rattle.gate_journal.specs.Format.{open_gate, gate_at, header}
 use Rattle.gate_journal.specs.State.{IsSound, batches_below, front_after, gate_after}
@@ -15,12 +15,13 @@ invariant_of-self g c =
       sound =
           subst (λ n. IsSound g.A.Area c.see.new.area j.buffer.items n j.torn_length false c.next_front-self.result j.address j.generation) (sym c.next_gate-self.ensures)
           (subst (λ f. IsSound g.A.Area c.see.new.area j.buffer.items (gate_after j.is_torn j.gate j.torn_length c.in-Ok.ends.gate) j.torn_length false f j.address j.generation) (sym c.next_front-self.ensures) (reopened_sound g.A.Area c.area_laws.ensures j.area c.see.new.area j.buffer.items j.gate j.torn_length j.is_torn j.front j.address j.generation j.sound c.see.ensures.size (λ told. c.in-Ok.ensures.octets told) (λ told. c.in-Ok.ensures.durable told) c.in-Ok.ends.first c.in-Ok.ends.gate (λ told. (c.in-Ok.ensures.seen told).0) (λ told. (c.in-Ok.ensures.seen told).1)));
+      room = omega (arith, j.room, c.see.ensures.size);
     }
 
 pub invariant_of-self-in-Err : goal.invariant_of-self-in-Err
 invariant_of-self-in-Err g c =
     let j = c.args.self.now in
-    record { sound = kept_sound g.A.Area c.area_laws.ensures j.area c.see.new.area j.buffer.items j.gate j.torn_length j.is_torn j.front j.address j.generation j.sound c.see.ensures.size c.see.ensures.any_moment.now }
+    record { sound = kept_sound g.A.Area c.area_laws.ensures j.area c.see.new.area j.buffer.items j.gate j.torn_length j.is_torn j.front j.address j.generation j.sound c.see.ensures.size c.see.ensures.any_moment.now; room = omega (arith, j.room, c.see.ensures.size) }
 
 pub returns-in-Ok-clause-ok : goal.returns-in-Ok-clause-ok
 unfolding batches torn torn_stands
