@@ -1,7 +1,7 @@
 -- What each call makes of the nodes that an index keeps.
 use Rattle.std.proofs.Common.{◌≡◌, ℕ, zero, suc, ◌+◌, ◌<◌, ◌≤◌, ◌==◌, ◌&&◌, nat_lt, ◌⊎◌, inl, inr, Bool, true, false, if◌then◌else◌, List, [], ◌∷◌, ◌++◌, Some, length, length-append, map, take, refl, sym, ap, subst, ◌∙◌, arith}
 use Rattle.std.specs.Prelude.{IfSome}
-use Rattle.std.proofs.lemmas.Bool.{and_parts, eq-eqb, eqb-true, eqb-false, ltb-true, ne_eqb}
+use Rattle.std.proofs.lemmas.Bool.{and_parts, eq-eqb, eqb-true, eqb-false, le-ltb, lt-ltb, ltb-true, ne_eqb}
 use Rattle.std.proofs.lemmas.List.{length-map, length-take, take-append-le}
 use Rattle.gw_base.specs.declared.address.NodeId.{NodeId}
 use Rattle.gw_base.specs.declared.history.Opening.{Opening}
@@ -17,7 +17,7 @@ use Rattle.gateway_book.specs.declared.nodes.NodeTable.{NodeTable}
 use Rattle.gateway_book.specs.declared.nodes.Slot.{Slot}
 use Rattle.gateway_book.specs.declared.window_pair.WindowPair.{WindowPair}
 use Rattle.gateway_book.proofs.PairLemmas.{kept_all}
-use Rattle.gateway_book.proofs.PlaceLemmas.{apart, known_inside, place_cut, place_map, place_more, place_new, place_settled, unknown_behind}
+use Rattle.gateway_book.proofs.PlaceLemmas.{apart, known_by_place, known_inside, place_cut, place_map, place_more, place_new, place_settled, unknown_behind}
 use Rattle.gateway_book.proofs.SlotLemmas.{known_more, known_reopened, known_reopened_firm, known_same, firm_reopened, live_reopened, openings_more, reopened_node, settled, settled_known, settled_length, settled_openings, slots_more}
 
 -- sides of nodes are the same that tell the same
@@ -96,6 +96,16 @@ module _ (node : NodeId) (place : ℕ) (old new : List Slot) (learnt : IsLearnt 
       by_slots : (new ≡ old) ⊎ ((new ≡ old ++ fresh_slot node ∷ []) × (is_known (nodes_of old) node ≡ false)) → AreSame firm new
       by_slots (inl is) = subst (λ (slots : List Slot). AreSame firm slots) (sym is) same
       by_slots (inr more) = absurd (omega (arith, before, learnt.here, ap (λ (slots : List Slot). place_in slots node.0) more.0, place_new node old (fresh_slot node) refl more.1))
+
+  -- both sides are the same still where they were and the node was known before
+  pub learnt_same : (is_same : Bool) (count : ℕ) (still : Bool) → count ≡ length old → still ≡ (is_same && nat_lt place count) → still ≡ (is_same && is_known (nodes_of old) node)
+  learnt_same is_same count still all is = is ∙ ap (λ (n : ℕ). is_same && nat_lt place n) all ∙ ap (λ (b : Bool). is_same && b) (by_slots learnt.slots)
+    where
+      by_slots : (new ≡ old) ⊎ ((new ≡ old ++ fresh_slot node ∷ []) × (is_known (nodes_of old) node ≡ false)) → nat_lt place (length old) ≡ is_known (nodes_of old) node
+      by_slots (inl same) =
+          let before : place < length old = omega (arith, learnt.inside, ap (λ (slots : List Slot). length slots) same) in
+          lt-ltb place (length old) before ∙ sym (known_by_place node old (omega (arith, before, learnt.here, ap (λ (slots : List Slot). place_in slots node.0) same)))
+      by_slots (inr more) = le-ltb place (length old) (omega (arith, learnt.here, ap (λ (slots : List Slot). place_in slots node.0) more.0, place_new node old (fresh_slot node) refl more.1)) ∙ sym more.1
 
 -- both sides are the same still, where a node was known
 pub both_still : (is_same : Bool) (place count : ℕ) (still : Bool) → still ≡ (is_same && nat_lt place count) → still ≡ true → (is_same ≡ true) × (place < count)

@@ -268,7 +268,8 @@ impl NodeTable {
         requires place { MayBeKnown node (nodes_in false self.old) }
         requires not_below { IfSome ((nodes_in false self.old).window node.0).top (λ top. top ≤ number + half) }
         requires high { number < 2 ^ 63 }
-        ensures { IsNodesStep (numbered_nodes node number state) self.old self.new }
+        ensures step { IsNodesStep (numbered_nodes node number state) self.old self.new }
+        ensures same { self.new.is_same ≡ (self.old.is_same && is_known (nodes_of self.old.slots.items) node) }
     {
         let count = self.slots.len();
         let place = learn(&mut self.slots, node);
@@ -278,7 +279,8 @@ impl NodeTable {
 
     /// Gives a state to those of these numbers that the node's window holds.
     pub(crate) fn set_within(&mut self, node: NodeId, numbers: &[Absolute], state: KeyState)
-        ensures { IsNodesStep (listed_nodes node numbers.now state) self.old self.new }
+        ensures step { IsNodesStep (listed_nodes node numbers.now state) self.old self.new }
+        ensures same { self.new.is_same ≡ self.old.is_same }
     {
         let place = place_of(&self.slots, node);
         if place >= self.slots.len() {
@@ -300,7 +302,8 @@ impl NodeTable {
 
     /// Makes both sides what one of them is.
     pub(crate) fn keep(&mut self, firm: bool)
-        ensures { (side : Bool) → nodes_in side self.new ≡ nodes_in firm self.old }
+        ensures sides { (side : Bool) → nodes_in side self.new ≡ nodes_in firm self.old }
+        ensures same { self.new.is_same ≡ true }
     {
         self.windows.keep(firm);
         if self.is_same {

@@ -1,5 +1,5 @@
 // The windows of all places.
-ghost use Rattle.std.specs.Prelude.{◌≡◌, ℕ, ◌≤◌, ◌+◌, ◌<◌, ◌^◌, true, false, length, IfOk, IfSome};
+ghost use Rattle.std.specs.Prelude.{◌≡◌, ℕ, ◌≤◌, ◌+◌, ◌-◌, ◌<◌, ◌^◌, min, max, true, false, length, IfOk, IfSome};
 ghost use Rattle.seq_window.specs.Seen.{nothing_seen, with_state, with_states};
 ghost use Rattle.gateway_book.specs.Limits.{half};
 ghost use Rattle.gateway_book.specs.WindowPairs.{AreBlank, AreKeptIn, AreKeptTo, IsStepAt, seen_at};
@@ -54,7 +54,9 @@ impl WindowTable {
         requires inside { place < length self.old.pairs.items }
         requires not_below { IfSome (seen_at false self.old.pairs.items place).top (λ top. top ≤ number + half) }
         requires high { number < 2 ^ 63 }
-        ensures { IsStepAt place (with_state half number state) self.old.pairs.items self.new.pairs.items }
+        ensures step { IsStepAt place (with_state half number state) self.old.pairs.items self.new.pairs.items }
+        ensures from { self.new.from ≡ min self.old.from place }
+        ensures end { self.new.end ≡ max self.old.end (place + 1) }
     {
         set_at(&mut self.pairs, place, number, state);
         self.from = self.from.min(place);
@@ -64,7 +66,9 @@ impl WindowTable {
     /// Gives a state to those of these numbers that the window at a place holds, on the live side.
     pub(crate) fn set_within(&mut self, place: usize, numbers: &[Absolute], state: KeyState)
         requires { place < length self.old.pairs.items }
-        ensures { IsStepAt place (with_states half numbers.now state) self.old.pairs.items self.new.pairs.items }
+        ensures step { IsStepAt place (with_states half numbers.now state) self.old.pairs.items self.new.pairs.items }
+        ensures from { self.new.from ≡ min self.old.from place }
+        ensures end { self.new.end ≡ max self.old.end (place + 1) }
     {
         set_within_at(&mut self.pairs, place, numbers, state);
         self.from = self.from.min(place);
@@ -74,7 +78,9 @@ impl WindowTable {
     /// Forgets all numbers at a place, on the live side.
     pub(crate) fn clear(&mut self, place: usize)
         requires { place < length self.old.pairs.items }
-        ensures { IsStepAt place (λ seen. nothing_seen) self.old.pairs.items self.new.pairs.items }
+        ensures step { IsStepAt place (λ seen. nothing_seen) self.old.pairs.items self.new.pairs.items }
+        ensures from { self.new.from ≡ min self.old.from place }
+        ensures end { self.new.end ≡ max self.old.end (place + 1) }
     {
         clear_at(&mut self.pairs, place);
         self.from = self.from.min(place);
@@ -83,7 +89,9 @@ impl WindowTable {
 
     /// Makes both sides what one of them is.
     pub(crate) fn keep(&mut self, firm: bool)
-        ensures { AreKeptTo (length self.old.pairs.items) firm self.old.pairs.items self.new.pairs.items }
+        ensures kept { AreKeptTo (length self.old.pairs.items) firm self.old.pairs.items self.new.pairs.items }
+        ensures from { self.new.from ≡ 2 ^ 64 - 1 }
+        ensures end { self.new.end ≡ 0 }
     {
         let end = self.end.min(self.pairs.len());
         let from = self.from.min(end);

@@ -22,7 +22,7 @@ pub hold-requires-clause-few : goal.hold-requires-clause-few
 hold-requires-clause-few c = few_held c.args.self.now c.args.node c.requires.few
 
 pub invariant_of-self : goal.invariant_of-self
-invariant_of-self c = record { told = copied_told c.args.node c.args.number _ _ _ _ c.set.ensures c.hold.ensures c.args.self.now.told }
+invariant_of-self c = record { told = copied_told c.args.node c.args.number _ _ _ _ c.set.ensures.step c.hold.ensures c.args.self.now.told }
 
 pub returns : goal.returns
-returns c = both_stepped (numbered_nodes c.args.node c.args.number Held) (with_copy c.args.node.0 c.args.number no_place) c.args.self.now _ c.set.ensures c.hold.ensures refl refl
+returns c = both_stepped (numbered_nodes c.args.node c.args.number Held) (with_copy c.args.node.0 c.args.number no_place) c.args.self.now _ c.set.ensures.step c.hold.ensures refl refl

@@ -5,7 +5,7 @@ use Rattle.gateway_book.proofs.IndexLemmas.{both_stepped}
 use Rattle.gateway_book.proofs.index.Index.list.Goals as goal
 
 pub invariant_of-self : goal.invariant_of-self
-invariant_of-self c = record { told = listed_told c.args.node c.args.numbers.now c.args.state _ _ _ _ c.requires c.set_within.ensures c.take.ensures c.args.self.now.told }
+invariant_of-self c = record { told = listed_told c.args.node c.args.numbers.now c.args.state _ _ _ _ c.requires c.set_within.ensures.step c.take.ensures c.args.self.now.told }
 
 pub returns : goal.returns
-returns c = both_stepped (listed_nodes c.args.node c.args.numbers.now c.args.state) (without_copies c.args.node.0 c.args.numbers.now) c.args.self.now _ c.set_within.ensures c.take.ensures refl refl
+returns c = both_stepped (listed_nodes c.args.node c.args.numbers.now c.args.state) (without_copies c.args.node.0 c.args.numbers.now) c.args.self.now _ c.set_within.ensures.step c.take.ensures refl refl

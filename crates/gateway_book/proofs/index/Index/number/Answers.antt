@@ -14,7 +14,7 @@ pub set-requires-clause-high : goal.set-requires-clause-high
 set-requires-clause-high c = (new_facts c.args.self.now c.args.node c.args.number c.requires.new).high
 
 pub invariant_of-self : goal.invariant_of-self
-invariant_of-self c = record { told = numbered_told c.args.node c.args.number c.args.state _ _ c.args.self.now.held c.requires.other c.set.ensures c.args.self.now.told }
+invariant_of-self c = record { told = numbered_told c.args.node c.args.number c.args.state _ _ c.args.self.now.held c.requires.other c.set.ensures.step c.args.self.now.told }
 
 pub returns : goal.returns
-returns c = nodes_stepped (numbered_nodes c.args.node c.args.number c.args.state) c.args.self.now _ c.set.ensures refl refl refl
+returns c = nodes_stepped (numbered_nodes c.args.node c.args.number c.args.state) c.args.self.now _ c.set.ensures.step refl refl refl

@@ -19,7 +19,7 @@ invariant_of-self-2 c =
         openings = all_same c.args.firm (kept_slots c.args.firm old.firm old.slots.items);
       });
       beside = subst (λ (xs : List Slot). AreBeside c.cut-self.result (length xs) c.keep.new.self.pairs.items) (sym slots)
-          (settled_beside c.args.firm old.firm old.slots.items old.windows.pairs.items c.keep.new.self.pairs.items old.are_slots old.beside c.keep.ensures c.cut-self.result count);
+          (settled_beside c.args.firm old.firm old.slots.items old.windows.pairs.items c.keep.new.self.pairs.items old.are_slots old.beside c.keep.ensures.kept c.cut-self.result count);
     }
 
 pub invariant_of-self : goal.invariant_of-self
@@ -31,18 +31,18 @@ invariant_of-self c =
       are_slots = old.are_slots;
       same = old.same;
       beside = subst (λ (xs : List Slot). AreBeside old.firm (length xs) c.keep.new.self.pairs.items) (sym (settled_still c.args.firm old.firm old.slots.items same))
-          (settled_beside c.args.firm old.firm old.slots.items old.windows.pairs.items c.keep.new.self.pairs.items old.are_slots old.beside c.keep.ensures old.firm (count_still c.args.firm old.firm old.slots.items same));
+          (settled_beside c.args.firm old.firm old.slots.items old.windows.pairs.items c.keep.new.self.pairs.items old.are_slots old.beside c.keep.ensures.kept old.firm (count_still c.args.firm old.firm old.slots.items same));
     }
 
-pub returns-then-self : goal.returns-then-self
-returns-then-self c =
+pub returns-then-self-clause-sides : goal.returns-then-self-clause-sides
+returns-then-self-clause-sides c =
     let old = c.args.self.now in
     let same : AreSame old.firm old.slots.items = old.same c.if-self.true in
-    settled_nodes c.args.firm old _ (count_still c.args.firm old.firm old.slots.items same) (settled_still c.args.firm old.firm old.slots.items same) c.keep.ensures
+    settled_nodes c.args.firm old _ (count_still c.args.firm old.firm old.slots.items same) (settled_still c.args.firm old.firm old.slots.items same) c.keep.ensures.kept
 
-pub returns : goal.returns
-returns c =
+pub returns-clause-sides : goal.returns-clause-sides
+returns-clause-sides c =
     let old = c.args.self.now in
     let count : c.cut-self.result ≡ length (kept_slots c.args.firm old.firm old.slots.items) = c.cut-self.ensures.left ∙ ap (λ (slots : List Slot). length slots) c.cut-self.ensures.items in
     let slots : c.settle_all.new.slots.items ≡ settled c.args.firm old.firm old.slots.items = c.settle_all.ensures.items ∙ ap (λ (xs : List Slot). map (λ (slot : Slot). settled_slot c.args.firm slot) xs) c.cut-self.ensures.items in
-    settled_nodes c.args.firm old _ count slots c.keep.ensures
+    settled_nodes c.args.firm old _ count slots c.keep.ensures.kept

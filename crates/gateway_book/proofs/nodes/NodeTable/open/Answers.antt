@@ -24,8 +24,8 @@ invariant_of-self c =
           (slots_reopened firm c.args.node.0 (Some c.args.opening) known (learnt_are_slots c.args.node c.learn-place.result c.args.self.now known c.learn-place.ensures.learnt c.requires));
       same = λ e. absurd (true≢false (sym e));
       beside = subst (λ (n : ℕ). AreBeside firm n c.clear.new.self.pairs.items) (omega (arith, ap (λ (slots : List Slot). length slots) c.reopen_all.ensures.items, length-map known (λ (slot : Slot). reopened c.args.node.0 (Some c.args.opening) slot)))
-          (learnt_beside c.args.node c.learn-place.result c.args.self.now known c.learn-place.ensures.learnt c.requires (λ seen. nothing_seen) c.clear.new.self.pairs.items c.clear.ensures);
+          (learnt_beside c.args.node c.learn-place.result c.args.self.now known c.learn-place.ensures.learnt c.requires (λ seen. nothing_seen) c.clear.new.self.pairs.items c.clear.ensures.step);
     }
 
 pub returns : goal.returns
-returns c = opened_step c.args.node c.args.opening c.learn-place.result c.args.self.now _ c.learn-place.new.slots.items refl c.learn-place.ensures.learnt c.reopen_all.ensures.items c.clear.ensures
+returns c = opened_step c.args.node c.args.opening c.learn-place.result c.args.self.now _ c.learn-place.new.slots.items refl c.learn-place.ensures.learnt c.reopen_all.ensures.items c.clear.ensures.step

@@ -12,14 +12,14 @@ set_within-requires c = omega (arith, c.if-place-len.false, c.len.ensures, c.arg
 pub invariant_of-self-clause-beside : goal.invariant_of-self-clause-beside
 invariant_of-self-clause-beside c =
     let old = c.args.self.now in
-    beside_step old.firm _ _ c.place_of-place.result (with_states half c.args.numbers.now c.args.state) old.windows.pairs.items c.set_within.new.self.pairs.items old.beside c.set_within.ensures (omega (arith, c.if-place-len.false, c.len.ensures)) (omega arith)
+    beside_step old.firm _ _ c.place_of-place.result (with_states half c.args.numbers.now c.args.state) old.windows.pairs.items c.set_within.new.self.pairs.items old.beside c.set_within.ensures.step (omega (arith, c.if-place-len.false, c.len.ensures)) (omega arith)
 
-pub returns-then-place-len : goal.returns-then-place-len
-returns-then-place-len c =
+pub returns-then-place-len-clause-step : goal.returns-then-place-len-clause-step
+returns-then-place-len-clause-step c =
     let here : c.place_of-place.result ≡ place_in c.args.self.now.slots.items c.args.node.0 = c.place_of-place.ensures ∙ ap (λ (slots : List Slot). place_in slots c.args.node.0) c.deref.ensures.value in
     listed_none c.args.node c.args.numbers.now c.args.state c.args.self.now (omega (arith, here, c.if-place-len.true, c.len.ensures))
 
-pub returns : goal.returns
-returns c =
+pub returns-clause-step : goal.returns-clause-step
+returns-clause-step c =
     let here : c.place_of-place.result ≡ place_in c.args.self.now.slots.items c.args.node.0 = c.place_of-place.ensures ∙ ap (λ (slots : List Slot). place_in slots c.args.node.0) c.deref.ensures.value in
-    listed_step c.args.node c.args.numbers.now c.args.state c.place_of-place.result c.args.self.now _ refl refl here (omega (arith, c.if-place-len.false, c.len.ensures)) c.set_within.ensures
+    listed_step c.args.node c.args.numbers.now c.args.state c.place_of-place.result c.args.self.now _ refl refl here (omega (arith, c.if-place-len.false, c.len.ensures)) c.set_within.ensures.step

@@ -14,8 +14,8 @@ invariant_of-self c =
       behind = λ k past. kept_same c.args.firm old.pairs.items c.keep_from.new.pairs.items kept k;
     }
 
-pub returns : goal.returns
-returns c =
+pub returns-clause-kept : goal.returns-clause-kept
+returns-clause-kept c =
     let old = c.args.self.now in
     kept_around c.args.firm c.min-from.result c.min-end.result old.pairs.items c.keep_from.new.pairs.items (λ k low. old.before k (omega (arith, low, c.min-from.ensures)))
     (same_behind old.end c.min-end.result old.pairs.items (omega (arith, c.min-end.ensures, c.len.ensures)) old.behind) c.keep_from.ensures
