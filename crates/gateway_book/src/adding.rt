@@ -43,7 +43,7 @@ pub(crate) fn record<A: Area>(trail: &mut Trail<A>, index: &mut Index, entry: &E
 }
 
 /// What is done with a datagram.
-#[derive(Debug, Drop)]
+#[derive(Drop)]
 pub(crate) enum Done {
     /// It isn't answered.
     Silent(Why),

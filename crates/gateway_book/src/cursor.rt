@@ -19,7 +19,7 @@ use gw_base::{Act, Item, NoMemory};
 use std::alloc::Global;
 
 /// A place between the entries of a history.
-#[derive(Debug, Drop)]
+#[derive(Drop)]
 pub(crate) struct Cursor {
     /// How many entries stand before it.
     entry: u64,

@@ -2,7 +2,7 @@ use gtpp_message::Why;
 use gw_base::{Act, Short};
 
 /// What is done with a datagram.
-#[derive(Debug, Drop)]
+#[derive(Drop)]
 pub(crate) enum Decision<'a> {
     /// It isn't answered.
     Drop(Why),

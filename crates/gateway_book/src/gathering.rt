@@ -12,7 +12,7 @@ use std::alloc::Global;
 use std::marker::Model;
 
 /// Items that are gathered: those from a number on, and at most so many.
-#[derive(Debug, Drop)]
+#[derive(Drop)]
 pub(crate) struct Gathering {
     /// How many of the items that come are still left out.
     skip: u64,

@@ -8,7 +8,7 @@ use std::alloc::Global;
 use std::collections::BTreeMap;
 
 /// What a copy is found by: its node's address and its number.
-#[derive(Clone, Copy, Debug, PartialEq, Eq, PartialOrd, Ord)]
+#[derive(Clone, Copy, PartialEq, Eq, PartialOrd, Ord)]
 struct CopyKey {
     node: u32,
     number: Absolute,
@@ -83,7 +83,7 @@ fn if_after(path: Option<u64>, hold: Option<u64>) -> Option<u64>
 }
 
 /// Where the copies lie that a history holds, by the numbers of its entries. It is kept entry by entry.
-#[derive(Debug, Drop)]
+#[derive(Drop)]
 pub(crate) struct HeldCopies {
     /// The entries that hold a node's number, where no later one names the number.
     holds: BTreeMap<CopyKey, u64>,

@@ -16,7 +16,7 @@ use scan::HeldKey;
 use std::alloc::Global;
 
 /// The entries of a gateway whose journal lies on so many octets.
-#[derive(Debug, Drop)]
+#[derive(Drop)]
 pub(crate) struct Listed<'a> {
     history: &'a [HistoryEntry],
     size: u64,

@@ -15,7 +15,7 @@ use std::alloc::Global;
 pub(crate) const MOST_NODES: usize = 64;
 
 /// A node, and the Path that opened its present epoch, on the firm side and on the live side.
-#[derive(Clone, Copy, Debug)]
+#[derive(Clone, Copy)]
 pub(crate) struct Slot {
     pub(crate) node: NodeId,
     pub(crate) firm: Option<Opening>,

@@ -13,7 +13,7 @@ use gw_base::{Entry, NoMemory};
 use std::alloc::Global;
 
 /// The octets of an entry that was read, and the numbers that it lists.
-#[derive(Debug, Drop)]
+#[derive(Drop)]
 pub(crate) struct EntryBuffers {
     octets: Vec<u8>,
     numbers: Vec<u64>,

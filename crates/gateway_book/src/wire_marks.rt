@@ -9,7 +9,7 @@ use std::marker::Model;
 const WIRE_NUMBERS: usize = 65_536;
 
 /// A mark on each sequence number, set or not.
-#[derive(Debug, Drop)]
+#[derive(Drop)]
 pub(crate) struct WireMarks {
     marks: Vec<bool>,
 }
