@@ -20,7 +20,7 @@ use Rattle.gateway_book.specs.declared.outcome.Broken.{Broken}
 use Rattle.gateway_book.specs.declared.outcome.Marked.{Marked}
 use Rattle.gateway_book.specs.declared.outcome.Marked.TheVariants as marked
 use Rattle.node_session.proofs.CommittedLemmas.{commit_rests}
-use Rattle.node_session.specs.Settling.{Grows, HasClosed, HasFirmed}
+use Rattle.node_session.specs.Settling.{Grows, HasClosed, HasFirmed, IsSettled, closed_behind}
 
 -- a value that isn't broken: its history, and no entry is torn
 history_open : (v : BookValue) → v.is_broken ≡ false → history_of v ≡ v.firm ++ v.rest
@@ -116,6 +116,23 @@ pub grows_then : {A : Type 0} {tells : Ghosts A} (a b c : Book A tells) → Grow
 grows_then a b c first second told =
     let f = first told in let s = second told in
     (f.0 ++ s.0, s.1 ∙ ap (λ (h : List HistoryEntry). h ++ s.0) f.1 ∙ append_assoc (value_of a).firm f.0 s.0)
+
+-- what was made firm, closed and made firm again is settled
+pub settled : {A : Type 0} {tells : Ghosts A} (a b c d : Book A tells) (now : ℕ) (who : Caller)
+    → HasFirmed a b → HasClosed b c now who → HasFirmed c d → IsSettled a d now who
+settled a b c d now who first close last = record {
+  drops = first.drops;
+  whole = first.whole;
+  firm = λ told.
+      let at : history_of (value_of b) ≡ base first.drops (facts_of a) =
+      history_open (value_of b) first.goes_on
+      ∙ ap (λ (h : List HistoryEntry). (value_of b).firm ++ h) (first.none_waits told) ∙ append-nil (value_of b).firm ∙ first.firm told in
+      last.firm told ∙ ap (λ drops. base drops (facts_of c)) (last.whole close.goes_on)
+      ∙ joined_open (value_of c) close.goes_on ∙ close.history told
+      ∙ ap (λ (h : List HistoryEntry). closed_behind h now who) at;
+  none_waits = last.none_waits;
+  goes_on = last.goes_on;
+}
 
 pub not_device : (r : Marked) (b : Bool) → (r ≡ marked.Device) ↔ (b ≡ true) → r ≢ marked.Device → b ≡ false
 not_device r true device not = absurd (not (device.1 refl))
