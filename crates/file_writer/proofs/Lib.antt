@@ -19,3 +19,4 @@ pub mod PuttingLemmas
 pub mod AheadLemmas
 pub mod ShuttingLemmas
 pub mod AmongLemmas
+pub mod PartsLemmas

@@ -8,6 +8,7 @@ pub mod Files
 pub mod Holding
 pub mod Leaving
 pub mod Making
+pub mod Parts
 pub mod Places
 pub mod Reading
 pub mod Streams

@@ -1,15 +1,21 @@
 //! Laws of the files that items are divided into. Each holds for all items, and stands on a function that does nothing.
-ghost use Rattle.std.specs.Prelude.{◌≡◌, ◌-◌, ◌+◌, ◌<◌, ◌≤◌, ◌++◌, ℕ, List, [], Option, drop, max, take};
+ghost use Rattle.std.specs.Prelude.{◌≡◌, ◌-◌, ◌+◌, ◌<◌, ◌≤◌, ◌++◌, ℕ, List, [], Option, Ok, Err, drop, length, max, take};
 ghost use Rattle.gw_base.specs.declared.item.Item.{Item};
 ghost use Rattle.file_rotate.specs.Division.{divided_from};
 ghost use Rattle.file_rotate.specs.Items.{Filed};
 ghost use Rattle.file_rotate.specs.Items as stream;
 ghost use Rattle.cdr_shelf.specs.Files.{SealedFile, UnsealedFile, greatest_in, in_stream};
+ghost use Rattle.file_writer.specs.Advancing.{Advances};
 ghost use Rattle.file_writer.specs.Calls.{calls_from, calls_of, seals};
 ghost use Rattle.file_writer.specs.Files.{AreOfStreams, files_from, later_division, later_files, stream_files};
 ghost use Rattle.file_writer.specs.Leaving.{AreOpenFiles, AreShut, LeavesUnsealed, begun_after};
+ghost use Rattle.file_writer.specs.Parts.{HasAdvanced, part_of};
 ghost use Rattle.file_writer.specs.Streams.{Settings, closed_of, stream_count};
+ghost use Rattle.file_writer.specs.Writer.{IsAt, settings_in};
+ghost use Rattle.file_writer.specs.declared.fault.ShelfFault.{ShelfFault};
+ghost use Rattle.file_writer.specs.declared.writer.Writer.{Writer};
 
+use cdr_shelf::Shelf;
 use file_rotate::division_goes_on;
 use gw_base::Octets;
 
@@ -112,3 +118,21 @@ pub fn shut_streams_come_to_open_files()
         → AreShut (begun_after settings closed items) files old
         → LeavesUnsealed settings closed sealed [] items old new → AreOpenFiles settings closed items new }
 {}
+
+/// A writer that is told all items in parts, each at most so many from where the one before ended, takes them as in one
+/// call: when it began it has taken none, and behind each part it has taken that too. A part that has a fault has it as
+/// a call for all items has.
+pub fn parts_go_as_one<F: Shelf>()
+    ensures none { (closed : ℕ → ℕ) (writer : Writer F F.Shelf) → IsAt writer closed []
+        → HasAdvanced F.Shelf closed [] writer writer }
+    ensures more { (closed : ℕ → ℕ) (all : List Item) (from most n : ℕ) (first now later : Writer F F.Shelf)
+        → settings_in now ≡ settings_in first → HasAdvanced F.Shelf closed (take from all) first now
+        → Advances F.Shelf closed (take from all) (part_of from most all) now later (Ok n)
+        → HasAdvanced F.Shelf closed (take (from + length (part_of from most all)) all) first later }
+    ensures broken { (closed : ℕ → ℕ) (all : List Item) (from most : ℕ) (first now later : Writer F F.Shelf)
+        (fault : ShelfFault) → settings_in now ≡ settings_in first → HasAdvanced F.Shelf closed (take from all) first now
+        → Advances F.Shelf closed (take from all) (part_of from most all) now later (Err fault)
+        → Advances F.Shelf closed [] all first later (Err fault) }
+{
+    division_goes_on::<Octets>();
+}
