@@ -12,6 +12,7 @@ pub mod Lines
 pub mod Report
 pub mod Taken
 pub mod Written
+pub mod Parts
 pub mod Stands
 pub mod Does
 pub mod Failing

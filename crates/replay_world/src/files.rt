@@ -8,6 +8,8 @@ ghost use Rattle.file_writer.specs.declared.fault.ShelfFault.{ShelfFault};
 ghost use Rattle.gw_base.specs.declared.item.Item.{Item as ItemValue};
 
 use crate::machine::calm;
+use crate::site::Site;
+use crate::writing::tell_all;
 use area_disk::Plan;
 use area_disk::laws::{arms_fail, arms_nothing, arms_stop};
 use cdr_shelf::MemoryShelf;
@@ -41,8 +43,12 @@ pub(crate) struct Files {
 
 impl Files {
     ghost use Rattle.area_disk.specs.Armed.{Armed};
+    ghost use Rattle.gateway_book.specs.Items.{items_of};
+    ghost use Rattle.once_core.specs.Gateway.{Gateway};
     ghost use Rattle.replay_world.specs.Opening.{ArmsAs};
-    ghost use Rattle.replay_world.specs.Value.{Filing, resting};
+    ghost use Rattle.replay_world.specs.Setup.{Setup};
+    ghost use Rattle.replay_world.specs.Stands.{SiteStands};
+    ghost use Rattle.replay_world.specs.Value.{Filing, Machine, resting};
     ghost use Rattle.replay_world.specs.Written.{BreaksOff, FilesStand, HasWritten, ShelfHolds, shelf_tells};
 
     /// Those of a writer that hasn't recovered yet.
@@ -102,13 +108,14 @@ impl Files {
         }
     }
 
-    /// It begins the items anew, and takes all of them.
-    pub fn begin(&mut self, alloc: Global, items: &[Item]) -> Result<Wrote, NoMemory>
+    /// It begins the items of a gateway anew, and takes all that its site tells.
+    pub fn begin(&mut self, alloc: Global, site: &mut Site) -> Result<Wrote, NoMemory>
         requires taken { self.old.taken ≡ None }
-        requires few { length items.now < 2 ^ 31 }
-        requires fit { All IsFit items.now }
-        ensures { (settings : Settings) (f : Filing) → FilesStand settings f items.now self.old →
-            IfOk result (λ wrote. HasWritten settings items.now f wrote self.new) }
+        ensures { (setup : Setup) (place : ℕ) (g : Gateway) (m : Machine) (settings : Settings) (f : Filing) →
+            g.is_down ≡ false → SiteStands setup place g m (Some site.old) →
+            FilesStand settings f (items_of g.book.firm) self.old → IfOk result (λ wrote.
+            HasWritten settings (items_of g.book.firm) f wrote self.new
+            × SiteStands setup place g m (Some site.new)) }
     {
         first_files_are_counted();
         calls_seal_files_of_streams();
@@ -119,9 +126,9 @@ impl Files {
             // No read is planned to fail.
             Err(fault) => return self.broken(alloc, fault),
         }
-        match self.writer.advance(items) {
-            Ok(_taken) => {
-                self.taken = Some(items.len() as u64);
+        match tell_all(alloc, site, &mut self.writer)? {
+            Ok(taken) => {
+                self.taken = Some(taken);
                 Ok(Wrote::All)
             }
             Err(fault) => self.broken(alloc, fault),

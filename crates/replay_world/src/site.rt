@@ -1,5 +1,5 @@
 // Where a gateway is: it is up, with its book open on its area, or down, with its area alone.
-ghost use Rattle.std.specs.Prelude.{◌≡◌, ◌≢◌, ◌+◌, ◌<◌, ◌≤◌, ◌^◌, ℕ, All, IfOk, MatchOption, OnOk, Some, drop, false, length};
+ghost use Rattle.std.specs.Prelude.{◌≡◌, ◌≢◌, ◌+◌, ◌<◌, ◌≤◌, ◌^◌, ℕ, All, IfOk, MatchOption, OnOk, Some, false, length};
 ghost use Rattle.area_disk.specs.Armed.{Armed};
 ghost use Rattle.file_writer.specs.AllStreams.{IsFit};
 ghost use Rattle.gateway_book.specs.Answered.{no_caller};
@@ -16,6 +16,7 @@ ghost use Rattle.replay_world.specs.Called.{SiteIsCalled};
 ghost use Rattle.replay_world.specs.Device.{sequel_on};
 ghost use Rattle.replay_world.specs.Opening.{ArmsAs, SiteIsOpened, begun_gateway};
 ghost use Rattle.replay_world.specs.Played.{IsAreaOf};
+ghost use Rattle.replay_world.specs.Parts.{IsPart};
 ghost use Rattle.replay_world.specs.Setup.{Setup as SetupValue, rules_in};
 ghost use Rattle.replay_world.specs.Stands.{SiteStands, StandsDown, StandsUp, area_tells};
 ghost use Rattle.replay_world.specs.Value.{Machine as MachineValue, first_machine};
@@ -85,17 +86,18 @@ impl Site {
         }
     }
 
-    /// The items of its firm entries from this one on.
-    pub fn items(&mut self, alloc: Global, from: u64) -> Result<Vec<Item>, NoMemory>
+    /// At most so many items of its firm entries, from this one on.
+    pub fn items(&mut self, alloc: Global, from: u64, most: u32) -> Result<Vec<Item>, NoMemory>
         requires { from < 2 ^ 31 }
         ensures items { (setup : SetupValue) (place : ℕ) (g : Gateway) (m : MachineValue) → g.is_down ≡ false →
             SiteStands setup place g m (Some self.old) → IfOk result (λ items.
-            (items.items ≡ drop from (items_of g.book.firm)) × SiteStands setup place g m (Some self.new)) }
+            IsPart from most (items_of g.book.firm) items.items × SiteStands setup place g m (Some self.new)) }
+        ensures short { IfOk result (λ items. length items.items ≤ most) }
         ensures few { IfOk result (λ items. from + length items.items < 2 ^ 31) }
         ensures fit { IfOk result (λ items. All IsFit items.items) }
     {
         match self {
-            Site::Up(book) => items_from(alloc, book, from),
+            Site::Up(book) => items_from(alloc, book, from, most),
             Site::Down(_) => Ok(Vec::new(alloc)),
         }
     }

@@ -1,10 +1,12 @@
 // What a gateway gives the writer of its files.
-ghost use Rattle.std.specs.Prelude.{◌≡◌, ◌+◌, ◌++◌, ◌<◌, ◌^◌, ℕ, All, IfOk, List, None, Some, drop, false, length};
+ghost use Rattle.std.specs.Prelude.{◌≡◌, ◌+◌, ◌++◌, ◌<◌, ◌≤◌, ◌^◌, ℕ, [], All, IfOk, List, None, Some, drop, false, length};
 ghost use Rattle.file_writer.specs.AllStreams.{IsFit};
 ghost use Rattle.file_writer.specs.Streams.{Settings};
+ghost use Rattle.file_writer.specs.Writer.{IsAt, is_broken, settings_in, taken_of};
 ghost use Rattle.gateway_book.specs.Items.{items_of};
 ghost use Rattle.gw_base.specs.declared.item.Item.{Item as ItemValue};
 ghost use Rattle.once_core.specs.Gateway.{Gateway};
+ghost use Rattle.replay_world.specs.Parts.{IsPart, IsTold};
 ghost use Rattle.replay_world.specs.Setup.{Setup};
 ghost use Rattle.replay_world.specs.Stands.{MachineStands, SiteStands, StandsUp};
 ghost use Rattle.replay_world.specs.Value.{Filing, Machine as MachineValue};
@@ -14,8 +16,11 @@ ghost use Rattle.replay_world.specs.declared.files.Files.{Files as FilesValue};
 
 use crate::files::Wrote;
 use crate::machine::Machine;
+use crate::site::Site;
 use area_disk::MemoryArea;
-use file_writer::laws::{begun_files_only_grow, files_only_grow};
+use cdr_shelf::MemoryShelf;
+use file_writer::laws::{begun_files_only_grow, files_only_grow, parts_go_as_one};
+use file_writer::{ShelfFault, Writer};
 use gateway_book::laws::{a_book_is_within_the_limits, a_gateway_stays_up_as_it_is_read};
 use gateway_book::{Book, ItemsFault};
 use gw_base::{Item, NoMemory};
@@ -62,8 +67,10 @@ impl Machine {
             MachineStands setup place g m self.old → g.is_down ≡ false →
             IfOk result (λ wrote. WritesFiles setup place g m wrote self.new) }
     {
-        let items = self.firm_items(alloc, 0)?;
-        self.files.begin(alloc, &items)
+        match &mut self.site {
+            Some(site) => self.files.begin(alloc, site),
+            None => Ok(Wrote::All),
+        }
     }
 
     // The items of the firm entries from this one on.
@@ -77,30 +84,66 @@ impl Machine {
         ensures fit { IfOk result (λ items. All IsFit items.items) }
     {
         match &mut self.site {
-            Some(site) => site.items(alloc, from),
+            Some(site) => site.items(alloc, from, u32::MAX),
             None => Ok(Vec::new(alloc)),
         }
     }
 }
 
-/// The items of the firm entries of a book from this one on; it is read for them.
+/// At most so many items of the firm entries of a book, from this one on; it is read for them.
 pub(crate) fn items_from(
     alloc: Global,
     book: &mut Book<MemoryArea>,
     from: u64,
+    most: u32,
 ) -> Result<Vec<Item>, NoMemory>
     requires { from < 2 ^ 31 }
     ensures items { (setup : Setup) (place : ℕ) (g : Gateway) (m : MachineValue) → StandsUp setup place g m book.old →
-        IfOk result (λ items. (items.items ≡ drop from (items_of g.book.firm)) × StandsUp setup place g m book.new) }
+        IfOk result (λ items.
+        IsPart from most (items_of g.book.firm) items.items × StandsUp setup place g m book.new) }
+    ensures short { IfOk result (λ items. length items.items ≤ most) }
     ensures few { IfOk result (λ items. from + length items.items < 2 ^ 31) }
     ensures fit { IfOk result (λ items. All IsFit items.items) }
 {
     a_gateway_stays_up_as_it_is_read::<MemoryArea>();
     a_book_is_within_the_limits::<MemoryArea>();
-    match book.items(alloc, from, u32::MAX) {
+    match book.items(alloc, from, most) {
         Ok(items) => Ok(items),
         Err(ItemsFault::NoMemory) => Err(NoMemory),
         // No read is planned to fail.
         Err(ItemsFault::Device) => Ok(Vec::new(alloc)),
     }
+}
+
+/// How many items a writer is told at once. They stay near the processor until it has taken them.
+const PART: u32 = 64;
+
+/// A writer that recovered is told all items of a site's gateway, and answers how many it has taken.
+pub(crate) fn tell_all(
+    alloc: Global,
+    site: &mut Site,
+    writer: &mut Writer<MemoryShelf>,
+) -> Result<Result<u64, ShelfFault>, NoMemory>
+    requires ready { is_broken writer.old ≡ false }
+    requires none { taken_of writer.old ≡ 0 }
+    ensures told { (setup : Setup) (place : ℕ) (g : Gateway) (m : MachineValue) → g.is_down ≡ false →
+        SiteStands setup place g m (Some site.old) → IsAt writer.old (λ s. 0) [] → IfOk result (λ told.
+        IsTold (items_of g.book.firm) writer.old writer.new told × SiteStands setup place g m (Some site.new)) }
+    ensures settings { settings_in writer.new ≡ settings_in writer.old }
+    ensures count { IfOk result (λ told. IfOk told (λ n. (taken_of writer.new ≡ n) × (n < 2 ^ 31))) }
+    ensures ready { IfOk result (λ told. IfOk told (λ n. is_broken writer.new ≡ false)) }
+{
+    parts_go_as_one::<MemoryShelf>();
+    let mut taken = 0;
+    let mut count = PART;
+    while count == PART {
+        let items = site.items(alloc, taken, PART)?;
+        match writer.advance(&items) {
+            Ok(_) => {}
+            Err(fault) => return Ok(Err(fault)),
+        }
+        count = items.len() as u32;
+        taken += u64::from(count);
+    }
+    Ok(Ok(taken))
 }
