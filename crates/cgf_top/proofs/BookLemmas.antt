@@ -1,9 +1,7 @@
 -- The book of a gateway whose device never fails: before each call and after it all entries are firm.
-use Rattle.std.proofs.Common.{◌≡◌, ℕ, ◌<◌, ◌^◌, min, Bool, true, false, if◌then◌else◌, List, [], ◌∷◌, ◌++◌, length, get_or, take, Option, Some, None, refl, ap, sym, ◌∙◌, arith, append-nil, zero, suc, inl, inr}
+use Rattle.std.proofs.Common.{◌≡◌, ℕ, Bool, true, false, if◌then◌else◌, List, [], ◌∷◌, ◌++◌, get_or, take, Option, Some, None, refl, ap, sym, ◌∙◌, arith, append-nil, zero, suc, inl, inr}
 use Rattle.std.specs.Prelude.{All, slice_index}
 use Rattle.std.proofs.lemmas.Bool.{false≢true}
-use Rattle.std.proofs.lemmas.List.{length-take, take_min}
-use Rattle.std.proofs.Math.Seq.{take-length}
 use Rattle.area_disk.specs.Disk.{zeros}
 use Rattle.area_disk.specs.declared.area.Area.{Ghosts}
 use Rattle.file_writer.specs.AllStreams.{IsFit}
@@ -12,7 +10,7 @@ use Rattle.gateway_book.specs.Answer.{Decided, Says, Silent, decided}
 use Rattle.gateway_book.specs.Answered.{act_decided, answer_to, entry_by, no_caller, room_for, with_act}
 use Rattle.gateway_book.specs.Book.{Stays, open_time_of, size_of, value_of}
 use Rattle.gateway_book.specs.Calls.{outcome_at, taken}
-use Rattle.gateway_book.specs.Items.{IsWritable, items_between, items_of}
+use Rattle.gateway_book.specs.Items.{IsWritable}
 use Rattle.gateway_book.specs.Opened.{IsNotOurs}
 use Rattle.gateway_book.specs.Preparing.{PreparedValue}
 use Rattle.gateway_book.specs.Value.{BookValue, Fortune, after_commit, committed, history_of, opened, recorded, recorded_if, standing_for}
@@ -186,21 +184,3 @@ is_fit _ h = h
 
 pub all_fit : (items : List Item) → All IsWritable items → All IsFit items
 all_fit items h = λ k d within. is_fit (get_or items k d) (h k d within)
-
--- what is asked for is few where all are
-pub few_items : (max : ℕ) (h : List HistoryEntry) (items : List Item) → items ≡ items_between 0 max h → length (items_of h) < 2 ^ 31 → length items < 2 ^ 31
-few_items max h items is few =
-    let long : length items ≡ min max (length (items_of h)) = ap length is ∙ length-take max (items_of h) in omega (arith, long, few)
-
--- fewer items than were asked for are all
-pub all_items : (max : ℕ) (h : List HistoryEntry) (items : List Item) → items ≡ items_between 0 max h → length items < max → items ≡ items_of h
-all_items max h items is few = is ∙ whole
-  where
-    long : length items ≡ min max (length (items_of h))
-    long = ap length is ∙ length-take max (items_of h)
-
-    least : min max (length (items_of h)) ≡ length (items_of h)
-    least = omega (arith, long, few)
-
-    whole : take max (items_of h) ≡ items_of h
-    whole = sym (take_min max (items_of h)) ∙ ap (λ k. take k (items_of h)) least ∙ take-length (items_of h)

@@ -1,6 +1,7 @@
 -- The files that a writer leaves on a shelf that was empty.
-use Rattle.std.proofs.Common.{◌≡◌, ℕ, suc, ◌+◌, ◌-◌, ◌<◌, ◌≤◌, max, IsTrue, List, [], ◌∷◌, ◌++◌, length, take, Ok, refl, ap, sym, ◌∙◌, arith, append-nil}
-use Rattle.std.proofs.lemmas.List.{take_all}
+use Rattle.std.proofs.Common.{◌≡◌, ℕ, suc, ◌+◌, ◌-◌, ◌<◌, ◌≤◌, max, IsTrue, cond, List, [], ◌∷◌, ◌++◌, count_by, drop, length, length-take, take, take-add, Ok, refl, ap, sym, ◌∙◌, arith, append-nil}
+use Rattle.std.proofs.lemmas.List.{take_all, take_min}
+use Rattle.std.proofs.lemmas.List.Sums.{sum_by-append}
 use Rattle.area_disk.specs.Disk.{Rose}
 use Rattle.cdr_file.specs.CdrFile.{FileSettings}
 use Rattle.cdr_shelf.specs.Files.{greatest_in, in_stream}
@@ -9,10 +10,12 @@ use Rattle.file_rotate.specs.Division.{ClosedRun}
 use Rattle.file_writer.specs.Advancing.{Advances, HasRecovered}
 use Rattle.file_writer.specs.Files.{files_from, stream_files}
 use Rattle.file_writer.specs.Holding.{files_after}
+use Rattle.file_writer.specs.Parts.{part_of}
 use Rattle.file_writer.specs.Streams.{Settings, closed_of, stream_count, stream_division}
 use Rattle.file_writer.specs.Writer.{Holds, sealed_in, settings_in, shelf_of}
 use Rattle.file_writer.specs.declared.writer.Writer.{Writer}
 use Rattle.gw_base.specs.declared.item.Item.{Item}
+use Rattle.replay_world.specs.Tally.{is_part}
 
 -- a count that is 0 didn't rise
 pub never_rose : Rose 0 0 → ⊥
@@ -29,6 +32,16 @@ none_held writer all empty none s h =
     let none_closed : closed_of (settings_in writer) s [] ≡ 0 = refl in
     let none_stand : max (sealed_in writer s) (0 + closed_of (settings_in writer) s []) - 0 ≡ 0 = omega (arith, none s h, none_closed) in
     ap (in_stream s) empty ∙ sym (ap (λ n. take n (files_after (settings_in writer) (λ t. 0) s all)) none_stand)
+
+-- the records of a part more are counted
+pub counted_on : (from most : ℕ) (all : List Item) → count_by is_part (take (from + length (part_of from most all)) all)
+    ≡ count_by is_part (take from all) + count_by is_part (part_of from most all)
+counted_on from most all =
+    ap (λ (items : List Item). count_by is_part items)
+    (take-add from (length (part_of from most all)) all
+    ∙ ap (λ (k : ℕ). take from all ++ take k (drop from all)) (length-take most (drop from all))
+    ∙ ap (λ (items : List Item). take from all ++ items) (take_min most (drop from all)))
+    ∙ sum_by-append (λ (item : Item). cond (is_part item) 1 0) (take from all) (part_of from most all)
 
 -- all files of the items stand on a shelf that was empty
 pub files_written : {A : Type 0} {tells : Ghosts A} (start old new : Writer A tells) (items : List Item) (settings : Settings) (n : ℕ)

@@ -1,8 +1,12 @@
 //! What `feed` prints for a script: a gateway in memory that is fed with the script's datagrams.
-ghost use Rattle.std.specs.Prelude.{◌≡◌, ◌++◌, ◌+◌, ◌<◌, ◌≤◌, ◌^◌, [], All, IfOk, OnOk, None, Some, length};
-ghost use Rattle.file_writer.specs.AllStreams.{IsFit};
+ghost use Rattle.std.specs.Prelude.{◌≡◌, ◌++◌, ◌+◌, ◌<◌, ◌≤◌, ◌^◌, ℕ, List, [], IfOk, OnOk, None, Some, length};
+ghost use Rattle.cdr_shelf.specs.Files.{in_stream};
+ghost use Rattle.file_writer.specs.Files.{stream_files};
+ghost use Rattle.file_writer.specs.Streams.{stream_count};
+ghost use Rattle.gw_base.specs.declared.item.Item.{Item as ItemValue};
 ghost use Rattle.replay_world.specs.Report.{file_lines};
 ghost use Rattle.replay_world.specs.Settings.{AreSound};
+ghost use Rattle.replay_world.specs.Setup.{Setup, files_in};
 ghost use Rattle.world_script.specs.Script.{most_text};
 ghost use Rattle.cgf_top.specs.FeedReport.{after_line, end_lines, fed_of, is_earlier, printed_for, reply_line};
 ghost use Rattle.cgf_top.specs.Gateway.{after_close, after_datagram, answered, new_gateway};
@@ -13,8 +17,9 @@ use crate::gateway::Gateway;
 use crate::input_kind::InputKind;
 use crate::printing::{make_room, print_counts, print_outcome, print_stream};
 use crate::report::{Refusal, Report};
-use gw_base::{Addr, Item, Moment, NoMemory};
-use replay_world::{Settings, record_count, rules_of};
+use cdr_shelf::{QuietShelf, Shelf};
+use gw_base::{Addr, Moment, NoMemory};
+use replay_world::{Settings, rules_of};
 use route_filter::Rules;
 use std::alloc::Global;
 use world_script::{Line, Script};
@@ -134,7 +139,7 @@ impl Feed {
         }
     }
 
-    /// Closes the open files, and gives all that is printed. The gateway is let go before the files are made.
+    /// Closes the open files, and gives all that is printed. The gateway is let go before its files are printed.
     fn end(self, alloc: Global, settings: Settings, rules: Rules) -> Result<Report, NoMemory>
         requires { AreSound settings }
         ensures printed { IfOk result (λ report. report.printed.items ≡ self.printed.items
@@ -148,11 +153,10 @@ impl Feed {
             mut printed,
         } = self;
         gateway.close(moment);
-        let items = gateway.items(alloc)?;
+        let (shelf, records) = write_files(alloc, settings, rules, &mut gateway)?;
         let counts = gateway.counts();
         drop(gateway);
-        let records = record_count(&items);
-        print_files(alloc, &mut printed, settings, rules, items)?;
+        print_files(&mut printed, &shelf)?;
         print_counts(alloc, &mut printed, counts, records)?;
         Ok(Report {
             printed,
@@ -162,25 +166,15 @@ impl Feed {
     }
 }
 
-/// Appends the lines of the closed files of these items, stream after stream. The items are let go before that.
-fn print_files(
-    alloc: Global,
-    printed: &mut Vec<u8>,
-    settings: Settings,
-    rules: Rules,
-    items: Vec<Item>,
-) -> Result<(), NoMemory>
-    requires sound { AreSound settings }
-    requires few { length items.items < 2 ^ 31 }
-    requires fit { All IsFit items.items }
-    ensures { OnOk result (printed.new.items ≡
-        printed.old.items ++ file_lines (setup_seen settings rules) 0 items.items) }
+/// Appends the lines of the sealed files of a shelf, stream after stream.
+fn print_files(printed: &mut Vec<u8>, shelf: &QuietShelf) -> Result<(), NoMemory>
+    ensures { (setup : Setup) (items : List ItemValue) → ((s : ℕ) → s < stream_count →
+        in_stream s (⟦<QuietShelf as Shelf>⟧.files shelf.now) ≡ stream_files (files_in setup 0) s items) →
+        OnOk result (printed.new.items ≡ printed.old.items ++ file_lines setup 0 items) }
 {
-    let shelf = write_files(alloc, settings, rules, &items)?;
-    drop(items);
-    make_room(printed, &shelf)?;
+    make_room(printed, shelf)?;
     for stream in 0..STREAMS {
-        print_stream(printed, &shelf, stream)?;
+        print_stream(printed, shelf, stream)?;
     }
     Ok(())
 }

@@ -1,6 +1,7 @@
 //! A gateway in memory, whose device never fails: each entry is firm before the next call.
 ghost use Rattle.std.specs.Prelude.{◌≡◌, ◌≤◌, ◌<◌, ◌^◌, All, IfOk, length, false};
 ghost use Rattle.file_writer.specs.AllStreams.{IsFit};
+ghost use Rattle.file_writer.specs.Parts.{part_of};
 ghost use Rattle.gate_journal.specs.Format.{fewest_octets, most_octets};
 ghost use Rattle.gateway_book.specs.Book.{Stays, value_of};
 ghost use Rattle.gateway_book.specs.Calls.{counts_of};
@@ -92,16 +93,16 @@ impl Gateway {
         commit(book);
     }
 
-    /// What the writer of files is told of its history.
-    pub fn items(&mut self, alloc: Global) -> Result<Vec<Item>, NoMemory>
-        ensures items { IfOk result (λ items. items.items ≡ items_of self.old.history) }
-        ensures few { IfOk result (λ items. length items.items < 2 ^ 31) }
+    /// At most so many of the items that its history tells the writer of files, from this one on.
+    pub fn items(&mut self, alloc: Global, from: u64, most: u32) -> Result<Vec<Item>, NoMemory>
+        ensures items { IfOk result (λ items. items.items ≡ part_of from most (items_of self.old.history)) }
+        ensures few { IfOk result (λ items. length (items_of self.old.history) < 2 ^ 31) }
         ensures fit { IfOk result (λ items. All IsFit items.items) }
         ensures same { self.new ≡ self.old }
     {
         a_book_is_within_the_limits::<QuietArea>();
         let book = &mut self.book;
-        let items = match book.items(alloc, 0, u32::MAX) {
+        let items = match book.items(alloc, from, most) {
             Ok(items) => items,
             Err(ItemsFault::NoMemory) => return Err(NoMemory),
             Err(ItemsFault::Device) => unreachable!(),
