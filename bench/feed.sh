@@ -10,7 +10,7 @@
 #             run; feed takes so many times that
 #   cat       seconds for taking in the octets of the file
 #   half      how many times as long as a script of half the octets and half the keys
-#   memory    the most that the program had, and its bound: five times the script and the reserved length together
+#   memory    the most that the program had, and its bound: four times the script and the reserved length together
 #
 # It ends with status 1 where a feed isn't done or has more memory than its bound.
 cd "$(dirname "$0")/.." || exit 1
@@ -54,7 +54,7 @@ measure() {
     python3 -B bench/feed/scripts.py "$kind" $((MOST / 2)) >"$script" || exit 1
     timed "$program" feed "$script"
     printf '  half     %7.3f s, and the whole takes %s times that\n' "$used" "$(times "$fed" "$used")"
-    bound=$((5 * (octets + ${reserved:-$RESERVED})))
+    bound=$((4 * (octets + ${reserved:-$RESERVED})))
     printf '  memory   %7.1f MiB, and may have %.1f MiB\n' "$(times "$memory" 1048576)" "$(times "$bound" 1048576)"
     if [ "$memory" -ge "$bound" ]; then
         echo "  too much memory"
