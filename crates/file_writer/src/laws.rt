@@ -130,7 +130,8 @@ pub fn parts_go_as_one<F: Shelf>()
         → Advances F.Shelf closed (take from all) (part_of from most all) now later (Ok n)
         → HasAdvanced F.Shelf closed (take (from + length (part_of from most all)) all) first later }
     ensures broken { (closed : ℕ → ℕ) (all : List Item) (from most : ℕ) (first now later : Writer F F.Shelf)
-        (fault : ShelfFault) → settings_in now ≡ settings_in first → HasAdvanced F.Shelf closed (take from all) first now
+        (fault : ShelfFault) → settings_in now ≡ settings_in first
+        → HasAdvanced F.Shelf closed (take from all) first now
         → Advances F.Shelf closed (take from all) (part_of from most all) now later (Err fault)
         → Advances F.Shelf closed [] all first later (Err fault) }
 {
