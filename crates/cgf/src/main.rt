@@ -17,9 +17,6 @@ ghost use Rattle.cgf_top.specs.Serving.{serving_of};
 ghost use Rattle.cgf_top.specs.StreamEnds.{is_over_files};
 ghost use Rattle.cgf_top.specs.Streaming.{streaming_of};
 
-#[cfg(test)]
-mod tests;
-
 use area_disk::{Area, QuietArea};
 use cdr_shelf::{QuietShelf, Shelf};
 use cgf_edge::{

@@ -1,7 +1,7 @@
 //! Tests of the upper crates by their public calls: the book of a gateway, CDR files and their writer, and of the job of
 //! `feed` and `show` what `story_runs` can't show. A crate with tests is proved twice in the gate, so tests stand here,
-//! above the crates, and are proved over their contracts alone; those of the lower crates stand in `ground_trials`, those
-//! of nodes and worlds in `world_trials`.
+//! above the crates, and are proved over their contracts alone. What the lower crates answer is lines of `layer_runs` and
+//! `journal_runs`, and tests of nodes and worlds stand in `world_trials`.
 #![tactic(auto)]
 
 #[cfg(test)]
@@ -28,3 +28,5 @@ mod meeting;
 mod serve;
 #[cfg(test)]
 mod writer;
+#[cfg(test)]
+mod writer_sink;

@@ -1,3 +1,5 @@
+//! The top call with a sink over a writer, as the program has it.
+
 use area_disk::QuietArea;
 use cdr_shelf::QuietShelf;
 use cgf_edge::{SystemClock, WriterSink};
