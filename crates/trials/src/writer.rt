@@ -20,10 +20,8 @@ const ADDRESS: u32 = 0x0A00_0001;
 /// The profile of its files.
 const PROFILE: u8 = 1;
 
-/// The format versions of two kinds of records, of release 3 and of release 4.
+/// The format version of the records, of release 3.
 const RELEASE_3: u16 = 0x0600;
-
-const RELEASE_4: u16 = 0x0700;
 
 fn moment(seconds: u64) -> Result<Moment, Fail> {
     Ok(Moment::of(seconds).ok_or("a moment past the last")?)
@@ -147,96 +145,7 @@ fn takes_all(
 
 const FIRST: [u8; 5] = [0xA0, 3, 0x80, 1, 5];
 
-const SECOND: [u8; 5] = [0xA0, 3, 0x80, 1, 6];
-
 const THIRD: [u8; 5] = [0xA0, 3, 0x80, 1, 7];
-
-const TWO_RECORDS_BY_SIZE: &str =
-    "000000460000003460602ED1D0DE2ED1D0DE00000002000000010100000000000000000000\
-FFFF0A00000100000000000000000000056020A00380010500056020A003800106";
-
-const TWO_RECORDS_BY_COUNT: &str =
-    "000000460000003460602ED1D0DE2ED1D0DE00000002000000010300000000000000000000\
-FFFF0A00000100000000000000000000056020A00380010500056020A003800106";
-
-const BEFORE_ANOTHER_KIND: &str =
-    "0000003D0000003460602ED1D0DE2ED1D0DE00000001000000010500000000000000000000\
-FFFF0A00000100000000000000000000056020A003800105";
-
-const AT_A_CLOSE: &str =
-    "0000003D0000003480802ED1D0DE2ED1D0DE00000001000000020400000000000000000000\
-FFFF0A00000100000000000000000000058020A003800106";
-
-const AT_A_TICK: &str = "0000003D0000003460602E8008002E80080000000001000000010200000000000000000000\
-FFFF0A00000100000000000000000000056020A003800105";
-
-fn two_of_a_kind(alloc: Global) -> Result<Vec<Item>, Fail>
-    ensures fit { IfOk result (λ items. All IsFit items.items) }
-    ensures few { IfOk result (λ items. length items.items < 2 ^ 31) }
-{
-    let first = part(alloc, None, RELEASE_3, &FIRST, 1_709_251_140)?;
-    let second = part(alloc, None, RELEASE_3, &SECOND, 1_709_251_140)?;
-    Ok(vec![in alloc; first, second]?)
-}
-
-fn two_kinds_and_a_close(alloc: Global) -> Result<Vec<Item>, Fail>
-    ensures fit { IfOk result (λ items. All IsFit items.items) }
-    ensures few { IfOk result (λ items. length items.items < 2 ^ 31) }
-{
-    let first = part(alloc, None, RELEASE_3, &FIRST, 1_709_251_140)?;
-    let second = part(alloc, None, RELEASE_4, &SECOND, 1_709_251_140)?;
-    let moment = moment(1_709_251_140)?;
-    Ok(vec![in alloc; first, second, Item::Close { moment }]?)
-}
-
-fn one_and_a_tick(alloc: Global) -> Result<Vec<Item>, Fail>
-    ensures fit { IfOk result (λ items. All IsFit items.items) }
-    ensures few { IfOk result (λ items. length items.items < 2 ^ 31) }
-{
-    let first = part(alloc, None, RELEASE_3, &FIRST, 1_709_164_800)?;
-    let moment = moment(1_709_164_860)?;
-    Ok(vec![in alloc; first, Item::Tick { moment }]?)
-}
-
-#[test]
-fn files_are_closed_at_a_size_and_a_count(rt: HostRuntime) -> Result<(), Fail> {
-    let alloc = rt.alloc();
-    let items = two_of_a_kind(alloc)?;
-    for (size, count, octets) in [(70, 3, TWO_RECORDS_BY_SIZE), (71, 2, TWO_RECORDS_BY_COUNT)] {
-        let (shelf, setting) = (shelf(alloc, None)?, (size, count, -210));
-        takes_all(&rt, alloc, shelf, setting, &items, &[(1, octets)])?;
-    }
-    Ok(())
-}
-
-#[test]
-fn files_are_closed_before_another_kind_and_at_a_close(rt: HostRuntime) -> Result<(), Fail> {
-    let alloc = rt.alloc();
-    let items = two_kinds_and_a_close(alloc)?;
-    let files = [(1, BEFORE_ANOTHER_KIND), (2, AT_A_CLOSE)];
-    takes_all(
-        &rt,
-        alloc,
-        shelf(alloc, None)?,
-        (1000, 9, -210),
-        &items,
-        &files,
-    )
-}
-
-#[test]
-fn files_are_closed_at_a_tick(rt: HostRuntime) -> Result<(), Fail> {
-    let alloc = rt.alloc();
-    let items = one_and_a_tick(alloc)?;
-    takes_all(
-        &rt,
-        alloc,
-        shelf(alloc, None)?,
-        (1000, 9, 0),
-        &items,
-        &[(1, AT_A_TICK)],
-    )
-}
 
 const FIRST_OF_TWO: &str =
     "000000410000003460602E8008002E80080000000002000000010300000000000000000000\
