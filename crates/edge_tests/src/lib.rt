@@ -9,6 +9,8 @@ mod clock;
 #[cfg(test)]
 mod connection;
 #[cfg(test)]
+mod disk;
+#[cfg(test)]
 mod shelf;
 #[cfg(test)]
 mod streams;

@@ -1,10 +1,12 @@
+use crate::disk::{holds, lay};
 use cgf_edge::{BehindProgress, FileSource, Line, Progress, ReaderSource, WriterSink};
 use gw_base::{Failed, Sink, Source};
+use std::alloc::Global;
 use std::fmt::Display;
-use std::fs::{File, OpenOptions};
+use std::fs::{File, Files, OpenOptions};
+use std::io;
 use std::io::{Print, Read, Write};
-use std::test::Fail;
-use std::{fs, io};
+use std::process::Abort;
 
 /// A reader that is interrupted, gives two octets, fails once, and then is at its end.
 #[derive(Drop)]
@@ -69,88 +71,129 @@ fn a_reader_that_fails_is_not_at_its_end_and_an_interruption_is_no_fault(rt: Hos
     assert_eq!(rt; source.take(&mut into), Ok(0));
 }
 
+/// How many octets each piece of a file has, and what stands at the end of the room for them then.
+const PIECES: [(usize, u8); 5] = [(10, b'1'), (10, b'2'), (5, b'2'), (0, b'2'), (0, b'2')];
+
+/// Takes the next piece.
+fn takes<R: Files + Abort>(
+    rt: &R,
+    source: &mut FileSource<'_, R>,
+    into: &mut [u8],
+    (count, last): (usize, u8),
+) {
+    assert_eq!(rt; source.take(into), Ok(count));
+    assert_eq!(rt; into.last(), Some(&last));
+}
+
 #[test]
-fn a_file_is_read_on_from_piece_to_piece(rt: HostRuntime) -> Result<(), Fail> {
-    let mut octets = vec![in rt.alloc(); 1; 10]?;
-    octets.resize(25, 2)?;
-    fs::write(&rt, "pieces", octets.as_slice())?;
+fn a_file_is_read_on_from_piece_to_piece(rt: HostRuntime) {
+    lay(&rt, "pieces", "1111111111222222222222222");
     let mut source = FileSource::new(&rt, "pieces");
     let mut into = [0; 10];
-    for (count, last) in [(10, 1), (10, 2), (5, 2), (0, 2), (0, 2)] {
-        assert_eq!(rt; source.take(&mut into), Ok(count));
-        assert_eq!(rt; into[9], last);
+    for piece in PIECES {
+        takes(&rt, &mut source, &mut into, piece);
     }
-    Ok(())
+}
+
+/// What stands at a path can't be read.
+fn is_no_file<R: Files<File = File> + Abort>(rt: &R, path: &str) {
+    let mut source = FileSource::new(rt, path);
+    let mut into = [0; 10];
+    assert_eq!(rt; source.take(&mut into), Err(Failed), "{path}");
+    assert_eq!(rt; source.take(&mut into), Err(Failed), "{path}");
 }
 
 #[test]
 fn what_cannot_be_read_as_a_file_is_a_fault(rt: HostRuntime) {
-    let mut into = [0; 10];
-    for path in ["missing", "."] {
-        let mut source = FileSource::new(&rt, path);
-        for _ in 0..2 {
-            assert_eq!(rt; source.take(&mut into), Err(Failed), "{path}");
-        }
+    is_no_file(&rt, "missing");
+    is_no_file(&rt, ".");
+}
+
+/// A file that is made where it is missing, and written at its end.
+fn behind<R: Files<File = File> + Abort>(rt: &R, path: &str) -> File {
+    match OpenOptions::new().append(true).create(true).open(rt, path) {
+        Ok(file) => file,
+        Err(_) => panic!(rt; "{path} is not opened"),
     }
 }
 
+/// Puts octets.
+fn puts<K: Sink>(rt: &impl Abort, sink: &mut K, octets: &str, put: Result<usize, Failed>) {
+    assert_eq!(rt; sink.put(octets.as_bytes()), put, "{octets}");
+}
+
 #[test]
-fn a_sink_says_how_much_was_written_and_what_was_not(rt: HostRuntime) -> Result<(), Fail> {
+fn a_sink_says_how_much_was_written_and_what_was_not(rt: HostRuntime) {
     let mut sink = WriterSink::new(SlowWriter { calls: 0, last: 0 });
-    for (octets, count) in [("abc", 1), ("bc", 1), ("", 0)] {
-        assert_eq!(rt; sink.put(octets.as_bytes()), Ok(count), "{octets}");
+    puts(&rt, &mut sink, "abc", Ok(1));
+    puts(&rt, &mut sink, "bc", Ok(1));
+    puts(&rt, &mut sink, "", Ok(0));
+    let mut sink = WriterSink::new(behind(&rt, "/dev/full"));
+    puts(&rt, &mut sink, "abc", Err(Failed));
+    puts(&rt, &mut sink, "abc", Err(Failed));
+}
+
+/// One more handle of a file.
+fn cloned(rt: &impl Abort, file: &File) -> File {
+    match file.try_clone() {
+        Ok(file) => file,
+        Err(_) => panic!(rt; "no further handle"),
     }
-    let full = OpenOptions::new().write(true).open(&rt, "/dev/full")?;
-    let mut sink = WriterSink::new(full);
-    for _ in 0..2 {
-        assert_eq!(rt; sink.put(b"abc"), Err(Failed));
+}
+
+/// How many lines were run, and of how many.
+const RUNS: [(u64, u64); 5] = [
+    (50_000, 99_999),
+    (0, 200_000),
+    (1_999, 200_000),
+    (2_000, 200_000),
+    (199_999, 200_000),
+];
+
+fn run_all(progress: &mut Progress<'_, File>) {
+    for (lines, all) in RUNS {
+        progress.ran(lines, all);
     }
-    Ok(())
+}
+
+/// Runs once more, and clears the line each time.
+fn clear(progress: &mut Progress<'_, File>) {
+    progress.clear();
+    progress.ran(100_000, 200_000);
+    progress.clear();
+    progress.clear();
+}
+
+/// Runs where there is no terminal.
+fn run_unseen(alloc: Global, line: &Line) {
+    let mut nowhere: Progress<'_, SlowWriter> = Progress::new(alloc, line, None);
+    nowhere.ran(1, 200_000);
+    nowhere.clear();
 }
 
 /// A long job is shown in hundredths on one line, which is written anew where they change. It is empty before the first
 /// octet of the report, which goes to the same terminal, and at the end. A short job isn't shown, and none is where
 /// there is no terminal.
 #[test]
-fn a_long_job_is_shown_on_a_terminal_and_cleared_before_the_report(
-    rt: HostRuntime,
-) -> Result<(), Fail> {
-    let terminal = OpenOptions::new()
-        .append(true)
-        .create(true)
-        .open(&rt, "shown")?;
+fn a_long_job_is_shown_on_a_terminal_and_cleared_before_the_report(rt: HostRuntime) {
+    let terminal = behind(&rt, "shown");
     let line = Line::new();
     let mut sink = BehindProgress::new(
-        WriterSink::new(terminal.try_clone()?),
+        WriterSink::new(cloned(&rt, &terminal)),
         &line,
-        Some(terminal.try_clone()?),
+        Some(cloned(&rt, &terminal)),
     );
     let mut progress = Progress::new(rt.alloc(), &line, Some(terminal));
-    for (lines, all) in [
-        (50_000, 99_999),
-        (0, 200_000),
-        (1_999, 200_000),
-        (2_000, 200_000),
-        (199_999, 200_000),
-    ] {
-        progress.ran(lines, all);
-    }
-    for _ in 0..2 {
-        assert_eq!(rt; sink.put(b"report\n"), Ok(7));
-    }
-    progress.clear();
-    progress.ran(100_000, 200_000);
-    progress.clear();
-    progress.clear();
-    let shown = fs::read(&rt, "shown")?;
-    assert_eq!(rt;
-        shown.as_slice(),
-        b"\rcgf:   0 %\rcgf:   1 %\rcgf:  99 %\r\x1b[Kreport\nreport\n\rcgf:  50 %\r\x1b[K".as_slice()
+    run_all(&mut progress);
+    puts(&rt, &mut sink, "report\n", Ok(7));
+    puts(&rt, &mut sink, "report\n", Ok(7));
+    clear(&mut progress);
+    holds(
+        &rt,
+        "shown",
+        "\rcgf:   0 %\rcgf:   1 %\rcgf:  99 %\r\x1b[Kreport\nreport\n\rcgf:  50 %\r\x1b[K",
     );
-    let mut nowhere: Progress<'_, SlowWriter> = Progress::new(rt.alloc(), &line, None);
-    nowhere.ran(1, 200_000);
-    nowhere.clear();
-    Ok(())
+    run_unseen(rt.alloc(), &line);
 }
 
 /// A terminal that is a file.
@@ -184,35 +227,33 @@ impl Print for Paper {
     }
 }
 
+/// The place of a node, how many packets it has done, and its favourite.
+const TURNS: [(usize, u64, u8); 6] = [
+    (0, 0, 0),
+    (1, 1, 1),
+    (0, 1, 0),
+    (0, 2, 0),
+    (0, 2, 1),
+    (8, 9, 0),
+];
+
 /// The line of a loop says how many packets are done of all, and which gateway each node holds for its favourite. It is
 /// written anew where the hundredths of all packets or a favourite change.
 #[test]
-fn nodes_of_a_loop_are_shown_on_a_terminal(rt: HostRuntime) -> Result<(), Fail> {
-    let file = OpenOptions::new()
-        .append(true)
-        .create(true)
-        .open(&rt, "nodes")?;
+fn nodes_of_a_loop_are_shown_on_a_terminal(rt: HostRuntime) {
     let line = Line::new();
-    let mut progress = Progress::new(rt.alloc(), &line, Some(Paper(file)));
-    for (place, done, favourite) in [
-        (0, 0, 0),
-        (1, 1, 1),
-        (0, 1, 0),
-        (0, 2, 0),
-        (0, 2, 1),
-        (8, 9, 0),
-    ] {
+    let terminal = Paper(behind(&rt, "nodes"));
+    let mut progress = Progress::new(rt.alloc(), &line, Some(terminal));
+    for (place, done, favourite) in TURNS {
         progress.turned(place, done, 200, favourite);
     }
     progress.clear();
-    let shown = fs::read(&rt, "nodes")?;
-    assert_eq!(rt;
-        shown.as_slice(),
-        b"\rcgf:    0 of 200 packets done, favourites 1\
+    holds(
+        &rt,
+        "nodes",
+        "\rcgf:    0 of 200 packets done, favourites 1\
 \rcgf:    1 of 200 packets done, favourites 1 2\
 \rcgf:    2 of 200 packets done, favourites 1 2\
-\rcgf:    3 of 200 packets done, favourites 2 2\r\x1b[K"
-            .as_slice()
+\rcgf:    3 of 200 packets done, favourites 2 2\r\x1b[K",
     );
-    Ok(())
 }
