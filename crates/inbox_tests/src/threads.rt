@@ -1,12 +1,11 @@
 //! Four threads that push and take at once, at an inbox that is soon full.
-ghost use Rattle.std.specs.Prelude.{IfSome};
 ghost use Rattle.job_inbox.specs.Inbox.{ArePassesOf, IsPassOf};
 
 use gw_base::{Addr, Moment, Octets};
 use job_inbox::{Inbox, InboxPass, Job};
 use std::alloc::Global;
+use std::process::Abort;
 use std::sync::Wait;
-use std::test::Fail;
 use std::thread::{self, Threads};
 
 // How many jobs each thread pushes, and how many it takes; and how many the inbox has room for.
@@ -28,20 +27,23 @@ struct Desk {
 }
 
 // A job of this number, without octets.
-pub(crate) fn job(alloc: Global, serial: u64) -> Option<Job> {
-    Some(Job {
+pub(crate) fn job(rt: &impl Abort, alloc: Global, serial: u64) -> Job {
+    let Some(moment) = Moment::of(serial) else {
+        panic!(rt; "no such moment");
+    };
+    Job {
         from: Addr {
             ip: 0x0A00_0001,
             port: 3386,
         },
         octets: Octets::from_vec(Vec::new(alloc)),
-        moment: Moment::of(serial)?,
+        moment,
         serial,
-    })
+    }
 }
 
 // Pushes jobs with the numbers from this one on, until one is handed back: the number of that one, or else the end.
-fn push_some<R: Wait>(
+fn push_some<R: Wait + Abort>(
     rt: &R,
     alloc: Global,
     inbox: &Inbox,
@@ -53,10 +55,7 @@ fn push_some<R: Wait>(
     ensures { IsPassOf inbox.now result.1 }
 {
     for number in first..end {
-        let Some(job) = job(alloc, number) else {
-            return (number, pass);
-        };
-        let (pushed, now) = inbox.push(rt, pass, job);
+        let (pushed, now) = inbox.push(rt, pass, job(rt, alloc, number));
         pass = now;
         if pushed.is_err() {
             return (number, pass);
@@ -90,7 +89,7 @@ fn take_some<R: Wait>(
 }
 
 // Pushes all jobs of a thread and takes as many, whosever they are.
-fn work<R: Wait>(rt: &R, alloc: Global, inbox: &Inbox, desk: Desk) -> Desk
+fn work<R: Wait + Abort>(rt: &R, alloc: Global, inbox: &Inbox, desk: Desk) -> Desk
     requires { IsPassOf inbox.now desk.pass }
     ensures { IsPassOf inbox.now result.pass }
 {
@@ -126,7 +125,7 @@ fn work<R: Wait>(rt: &R, alloc: Global, inbox: &Inbox, desk: Desk) -> Desk
 }
 
 // Two threads at once.
-fn two_at_once<R: Threads + Wait + Sync>(
+fn two_at_once<R: Threads + Wait + Abort + Sync>(
     rt: &R,
     alloc: Global,
     inbox: &Inbox,
@@ -150,7 +149,7 @@ fn two_at_once<R: Threads + Wait + Sync>(
 }
 
 // Four threads at once.
-fn four_at_once<R: Threads + Wait + Sync>(
+fn four_at_once<R: Threads + Wait + Abort + Sync>(
     rt: &R,
     alloc: Global,
     inbox: &Inbox,
@@ -175,27 +174,63 @@ fn four_at_once<R: Threads + Wait + Sync>(
     )
 }
 
-// A thread's desk, with the next pass of a list; None for want of memory.
-fn open_desk(alloc: Global, inbox: &Inbox, passes: &mut Vec<InboxPass>, place: u64) -> Option<Desk>
+// A count for each job of all threads, each of so much.
+fn counts_of(rt: &impl Abort, alloc: Global, count: u8) -> Vec<u8> {
+    match Vec::from_elem(alloc, count, 4 * JOBS as usize) {
+        Ok(counts) => counts,
+        Err(_) => panic!(rt; "no memory for counts"),
+    }
+}
+
+// A thread's desk, with the next pass of a list.
+fn open_desk(
+    rt: &impl Abort,
+    alloc: Global,
+    inbox: &Inbox,
+    passes: &mut Vec<InboxPass>,
+    place: u64,
+) -> Desk
     requires { ArePassesOf inbox.now passes.old.items }
-    ensures own { IfSome result (λ desk. IsPassOf inbox.now desk.pass) }
+    ensures own { IsPassOf inbox.now result.pass }
     ensures others { ArePassesOf inbox.now passes.new.items }
 {
-    Some(Desk {
-        pass: passes.pop()?,
+    let Some(pass) = passes.pop() else {
+        panic!(rt; "no pass is left");
+    };
+    Desk {
+        pass,
         first: place.saturating_mul(JOBS),
-        counts: Vec::from_elem(alloc, 0u8, 4 * JOBS as usize).ok()?,
+        counts: counts_of(rt, alloc, 0),
         refused: false,
-    })
+    }
+}
+
+fn add(sums: &mut [u8], counts: &[u8]) {
+    for (sum, count) in sums.iter_mut().zip(counts.iter()) {
+        *sum = sum.saturating_add(*count);
+    }
+}
+
+// Puts a pass back.
+fn put_back(rt: &impl Abort, inbox: &Inbox, pass: InboxPass, passes: &mut Vec<InboxPass>)
+    requires passes { ArePassesOf inbox.now passes.old.items }
+    requires own { IsPassOf inbox.now pass }
+    ensures { ArePassesOf inbox.now passes.new.items }
+{
+    match passes.push(pass) {
+        Ok(()) => {}
+        Err(_) => panic!(rt; "no memory for a pass"),
+    }
 }
 
 // Adds what a thread counted, and puts its pass back: whether a job was handed back to it.
 fn clear_desk(
+    rt: &impl Abort,
     inbox: &Inbox,
     desk: Desk,
     passes: &mut Vec<InboxPass>,
     sums: &mut Vec<u8>,
-) -> Option<bool>
+) -> bool
     requires passes { ArePassesOf inbox.now passes.old.items }
     requires own { IsPassOf inbox.now desk.pass }
     ensures { ArePassesOf inbox.now passes.new.items }
@@ -206,35 +241,54 @@ fn clear_desk(
         counts,
         refused,
     } = desk;
-    for (sum, count) in sums.iter_mut().zip(counts.iter()) {
-        *sum = sum.saturating_add(*count);
-    }
-    passes.push(pass).ok()?;
-    Some(refused)
+    add(sums.as_mut_slice(), counts.as_slice());
+    put_back(rt, inbox, pass, passes);
+    refused
 }
 
-// Whether a job was handed back, each was taken once, and the inbox ended with its four passes; None for want of
-// memory. Some job is surely handed back: a thread takes none before, or before it has pushed all of its own.
-fn runs<R: Threads + Wait + Sync>(rt: &R, alloc: Global) -> Option<[bool; 3]> {
-    let (inbox, mut passes) = Inbox::new(alloc, ROOM, 4).ok()?;
-    let a = open_desk(alloc, &inbox, &mut passes, 0)?;
-    let b = open_desk(alloc, &inbox, &mut passes, 1)?;
-    let c = open_desk(alloc, &inbox, &mut passes, 2)?;
-    let d = open_desk(alloc, &inbox, &mut passes, 3)?;
-    let ((a, b), (c, d)) = four_at_once(rt, alloc, &inbox, (a, b), (c, d));
-    let mut sums = Vec::from_elem(alloc, 0u8, 4 * JOBS as usize).ok()?;
+// Runs four threads, each with a pass: whether a job was handed back. Some job is surely handed back: a thread takes
+// none before, or before it has pushed all of its own.
+fn run_four<R: Threads + Wait + Abort + Sync>(
+    rt: &R,
+    alloc: Global,
+    inbox: &Inbox,
+    passes: &mut Vec<InboxPass>,
+    sums: &mut Vec<u8>,
+) -> bool
+    requires { ArePassesOf inbox.now passes.old.items }
+    ensures { ArePassesOf inbox.now passes.new.items }
+{
+    let a = open_desk(rt, alloc, inbox, passes, 0);
+    let b = open_desk(rt, alloc, inbox, passes, 1);
+    let c = open_desk(rt, alloc, inbox, passes, 2);
+    let d = open_desk(rt, alloc, inbox, passes, 3);
+    let ((a, b), (c, d)) = four_at_once(rt, alloc, inbox, (a, b), (c, d));
     let refused = [
-        clear_desk(&inbox, a, &mut passes, &mut sums)?,
-        clear_desk(&inbox, b, &mut passes, &mut sums)?,
-        clear_desk(&inbox, c, &mut passes, &mut sums)?,
-        clear_desk(&inbox, d, &mut passes, &mut sums)?,
+        clear_desk(rt, inbox, a, passes, sums),
+        clear_desk(rt, inbox, b, passes, sums),
+        clear_desk(rt, inbox, c, passes, sums),
+        clear_desk(rt, inbox, d, passes, sums),
     ];
-    let once = sums == Vec::from_elem(alloc, 1u8, 4 * JOBS as usize).ok()?;
-    Some([refused != [false; 4], once, inbox.finish(passes).is_ok()])
+    refused != [false; 4]
 }
 
+// An inbox with four passes.
+fn four_passes(rt: &impl Abort, alloc: Global) -> (Inbox, Vec<InboxPass>)
+    ensures { ArePassesOf result.0 result.1.items }
+{
+    match Inbox::new(alloc, ROOM, 4) {
+        Ok(made) => made,
+        Err(_) => panic!(rt; "no memory for an inbox"),
+    }
+}
+
+// A job is handed back, each is taken once, and the inbox ends with its four passes.
 #[test]
-fn four_threads_at_an_inbox_lose_no_job_and_take_none_twice(rt: HostRuntime) -> Result<(), Fail> {
-    assert!(rt; runs(&rt, rt.alloc()) == Some([true, true, true]));
-    Ok(())
+fn four_threads_at_an_inbox_lose_no_job_and_take_none_twice(rt: HostRuntime) {
+    let alloc = rt.alloc();
+    let (inbox, mut passes) = four_passes(&rt, alloc);
+    let mut sums = counts_of(&rt, alloc, 0);
+    assert!(rt; run_four(&rt, alloc, &inbox, &mut passes, &mut sums));
+    assert!(rt; sums == counts_of(&rt, alloc, 1));
+    assert!(rt; inbox.finish(passes).is_ok());
 }
