@@ -1,11 +1,10 @@
 //! A stop, with either outcome, and a failure at each call of an area.
 
-use crate::told::{Run, assert_told, run_before_end};
+use crate::told::{assert_told, joined, played_before_end, script_of};
 use area_disk::Drill;
-use replay_world::LineEnd;
+use replay_world::Played;
 use std::alloc::Global;
 use std::process::Abort;
-use std::test::Fail;
 
 /// A packet is sent and recorded, and isn't firm yet.
 const RECORDED: &str = "reserve 30000\ntick 1\nflow\nflow\nflow\ncommit 1\nflow\n\
@@ -45,132 +44,149 @@ resolved 1.1\ndone 1.1\n";
 /// The commit has four calls, so that nothing comes of what is armed for a fifth.
 const NOT_REACHED: &str = "m 6 g1 n1:1 4EF1000700000180FD00020000\nresolved 1.1\ndone 1.1\n";
 
-#[test]
-fn a_commit_stops_or_fails_at_each_call(rt: HostRuntime) -> Result<(), Fail> {
-    let alloc = rt.alloc();
-    for (arms, rest, told, entries) in [
-        ("arm 1 1 old", OPENED, OPENED_LOST, 5),
-        ("arm 1 1 new", OPENED, OPENED_LOST, 5),
-        ("arm 1 2 old", OPENED, OPENED_LOST, 5),
-        ("arm 1 2 new", OPENED, OPENED_LOST, 5),
-        ("arm 1 3 old", OPENED, OPENED_LOST, 5),
-        ("arm 1 3 new", OPENED, OPENED_KEPT, 5),
-        ("arm 1 4 old", OPENED, OPENED_LOST, 5),
-        ("arm 1 4 new", OPENED, OPENED_KEPT, 5),
-        ("fail 1 1", AGAIN, AGAIN_LOST, 4),
-        ("fail 1 2", AGAIN, AGAIN_LOST, 4),
-        ("fail 1 3", AGAIN, AGAIN_LOST, 4),
-        ("fail 1 4", AGAIN, AGAIN_KEPT, 4),
-        ("arm 1 5 old", AGAIN, NOT_REACHED, 4),
-        ("arm 1 5 new", AGAIN, NOT_REACHED, 4),
-        ("fail 1 5", AGAIN, NOT_REACHED, 4),
-        // What is armed later takes the place of what was armed before.
-        ("arm 1 1 new\nfail 1 4", AGAIN, AGAIN_KEPT, 4),
-        ("fail 1 1\narm 1 3 new", OPENED, OPENED_KEPT, 5),
-        ("arm 1 1 old\nfail 1 5", AGAIN, NOT_REACHED, 4),
-    ] {
-        let text = format!(in alloc; "{RECORDED}{arms}\ncommit 1\n{rest}")?;
-        let wanted = format!(in alloc;
-            "{RECORDED_TOLD}{told}{FILED}gateway 1 entries {entries} records 1 held 0 stranded 0\n{DONE}"
-        )?;
-        assert_told(&rt, alloc, &text, &wanted)?;
-    }
-    Ok(())
-}
-
-/// What is printed of a gateway whose commit failed at the fourth call, where its journal is opened again in this line,
-/// up to the end: its torn entry is lost, or stands.
-const STOPPED_LOST: &str = "stopped 1\ngateway 1 entries 3 records 0 held 0 stranded 0\n";
-
+/// The counts of the gateway.
 const COUNTS_4: &str = "gateway 1 entries 4 records 1 held 0 stranded 0\n";
 
 const COUNTS_5: &str = "gateway 1 entries 5 records 1 held 0 stranded 0\n";
 
+/// What is armed, the lines behind the commit, and what is printed for them: before the file, and behind it.
+type Commit = [&'static str; 4];
+
+const COMMITS: [Commit; 18] = [
+    ["arm 1 1 old", OPENED, OPENED_LOST, COUNTS_5],
+    ["arm 1 1 new", OPENED, OPENED_LOST, COUNTS_5],
+    ["arm 1 2 old", OPENED, OPENED_LOST, COUNTS_5],
+    ["arm 1 2 new", OPENED, OPENED_LOST, COUNTS_5],
+    ["arm 1 3 old", OPENED, OPENED_LOST, COUNTS_5],
+    ["arm 1 3 new", OPENED, OPENED_KEPT, COUNTS_5],
+    ["arm 1 4 old", OPENED, OPENED_LOST, COUNTS_5],
+    ["arm 1 4 new", OPENED, OPENED_KEPT, COUNTS_5],
+    ["fail 1 1", AGAIN, AGAIN_LOST, COUNTS_4],
+    ["fail 1 2", AGAIN, AGAIN_LOST, COUNTS_4],
+    ["fail 1 3", AGAIN, AGAIN_LOST, COUNTS_4],
+    ["fail 1 4", AGAIN, AGAIN_KEPT, COUNTS_4],
+    ["arm 1 5 old", AGAIN, NOT_REACHED, COUNTS_4],
+    ["arm 1 5 new", AGAIN, NOT_REACHED, COUNTS_4],
+    ["fail 1 5", AGAIN, NOT_REACHED, COUNTS_4],
+    // What is armed later takes the place of what was armed before.
+    ["arm 1 1 new\nfail 1 4", AGAIN, AGAIN_KEPT, COUNTS_4],
+    ["fail 1 1\narm 1 3 new", OPENED, OPENED_KEPT, COUNTS_5],
+    ["arm 1 1 old\nfail 1 5", AGAIN, NOT_REACHED, COUNTS_4],
+];
+
+#[test]
+fn a_commit_stops_or_fails_at_each_call(rt: HostRuntime) {
+    for commit in COMMITS {
+        assert_commit(&rt, rt.alloc(), commit);
+    }
+}
+
+fn assert_commit(rt: &impl Abort, alloc: Global, [arms, rest, told, counts]: Commit) {
+    let text = joined(rt, alloc, &[RECORDED, arms, "\ncommit 1\n", rest]);
+    let wanted = joined(rt, alloc, &[RECORDED_TOLD, told, FILED, counts, DONE]);
+    assert_told(rt, alloc, &text, &wanted);
+}
+
+/// What is printed for a commit that fails, and of a node whose packet isn't resolved.
+const FAULTED: &str = "fault 1\nm 6 g1 n1:1 4EF10007000001CCFD00020000\n";
+
+const NOT_RESOLVED: &str = "node 1 packets 1 resolved 0 done 0\n";
+
+/// What is printed of a gateway whose commit failed at the fourth call, where its journal is opened again in this line,
+/// up to the end: its torn entry is lost.
+const STOPPED_LOST: &str = "stopped 1\ngateway 1 entries 3 records 0 held 0 stranded 0\n";
+
+/// And of one whose commit failed before that.
+const GONE: &str = "gateway 1 entries 2 records 0 held 0 stranded 0\n";
+
 /// A line that opens the journal again stops or fails at the one call of that, and goes on where nothing is armed for
 /// it.
 #[test]
-fn an_opening_again_stops_or_fails(rt: HostRuntime) -> Result<(), Fail> {
+fn an_opening_again_stops_or_fails(rt: HostRuntime) {
     let alloc = rt.alloc();
-    // What the line prints where it goes on, and the counts then.
-    for (line, told, counts) in [
-        ("commit 1", "", COUNTS_4),
-        (
-            "deliver 5",
-            "m 7 g1 n1:1 4EF10007000001FDFD00020000\n",
-            COUNTS_4,
-        ),
-        ("mark 1", "", COUNTS_5),
-        ("close 1", "", COUNTS_4),
-    ] {
-        let old = format!(in alloc; "{STOPPED_LOST}")?;
-        let new = format!(in alloc; "stopped 1\n{FILED}{COUNTS_5}")?;
-        let failed = format!(in alloc; "fault 1\n{FILED}{COUNTS_4}")?;
-        let calm = format!(in alloc; "{told}{FILED}{counts}")?;
-        assert_again(&rt, alloc, "fail 1 4", "arm 1 1 old", line, &old)?;
-        assert_again(&rt, alloc, "fail 1 4", "arm 1 1 new", line, &new)?;
-        assert_again(&rt, alloc, "fail 1 4", "fail 1 1", line, &failed)?;
-        assert_again(&rt, alloc, "fail 1 4", "fail 1 2", line, &calm)?;
-    }
-    // Two lines open nothing.
-    for arms in ["arm 1 1 old", "arm 1 1 new", "fail 1 1"] {
-        let asked = format!(in alloc; "m 7 g1 n1:1 4E0600020000013F\n{FILED}{COUNTS_4}")?;
-        assert_again(&rt, alloc, "fail 1 4", arms, "redirect 1 63", &asked)?;
-        let written = format!(in alloc; "{FILED}{COUNTS_4}")?;
-        assert_again(&rt, alloc, "fail 1 4", arms, "write 1", &written)?;
-    }
-    // A batch whose commit failed before its fourth call is gone.
-    for (arms, told) in [
-        ("arm 1 1 old", STOPPED_LOST),
-        ("arm 1 1 new", STOPPED_LOST),
-        (
-            "fail 1 1",
-            "fault 1\ngateway 1 entries 2 records 0 held 0 stranded 0\n",
-        ),
-        (
-            "fail 1 2",
-            "gateway 1 entries 2 records 0 held 0 stranded 0\n",
-        ),
-    ] {
-        for call in ["fail 1 1", "fail 1 2", "fail 1 3"] {
-            assert_again(&rt, alloc, call, arms, "commit 1", told)?;
-        }
-    }
-    Ok(())
+    assert_opening(&rt, alloc, "commit 1", "", COUNTS_4);
+    assert_opening(
+        &rt,
+        alloc,
+        "deliver 5",
+        "m 7 g1 n1:1 4EF10007000001FDFD00020000\n",
+        COUNTS_4,
+    );
+    assert_opening(&rt, alloc, "mark 1", "", COUNTS_5);
+    assert_opening(&rt, alloc, "close 1", "", COUNTS_4);
+    assert_no_opening(&rt, alloc, "arm 1 1 old");
+    assert_no_opening(&rt, alloc, "arm 1 1 new");
+    assert_no_opening(&rt, alloc, "fail 1 1");
+    assert_gone(&rt, alloc, "arm 1 1 old", ["", "", STOPPED_LOST]);
+    assert_gone(&rt, alloc, "arm 1 1 new", ["", "", STOPPED_LOST]);
+    assert_gone(&rt, alloc, "fail 1 1", ["fault 1\n", "", GONE]);
+    assert_gone(&rt, alloc, "fail 1 2", ["", "", GONE]);
+}
+
+/// A line that opens the journal again. This is what it prints where it goes on, and the counts then.
+fn assert_opening(rt: &impl Abort, alloc: Global, line: &str, told: &str, counts: &str) {
+    let old = ["", "", STOPPED_LOST];
+    assert_again(rt, alloc, ["fail 1 4", "arm 1 1 old", line], old);
+    let new = ["stopped 1\n", FILED, COUNTS_5];
+    assert_again(rt, alloc, ["fail 1 4", "arm 1 1 new", line], new);
+    let failed = ["fault 1\n", FILED, COUNTS_4];
+    assert_again(rt, alloc, ["fail 1 4", "fail 1 1", line], failed);
+    let calm = [told, FILED, counts];
+    assert_again(rt, alloc, ["fail 1 4", "fail 1 2", line], calm);
+}
+
+/// Two lines open nothing, so nothing comes of what is armed.
+fn assert_no_opening(rt: &impl Abort, alloc: Global, arms: &str) {
+    let asked = ["m 7 g1 n1:1 4E0600020000013F\n", FILED, COUNTS_4];
+    let written = ["", FILED, COUNTS_4];
+    assert_again(rt, alloc, ["fail 1 4", arms, "redirect 1 63"], asked);
+    assert_again(rt, alloc, ["fail 1 4", arms, "write 1"], written);
+}
+
+/// A batch whose commit failed before its fourth call is gone.
+fn assert_gone(rt: &impl Abort, alloc: Global, arms: &str, told: [&str; 3]) {
+    assert_again(rt, alloc, ["fail 1 1", arms, "commit 1"], told);
+    assert_again(rt, alloc, ["fail 1 2", arms, "commit 1"], told);
+    assert_again(rt, alloc, ["fail 1 3", arms, "commit 1"], told);
 }
 
 /// A commit fails, something is armed, a line runs, and this is printed from it to the nodes' lines.
-fn assert_again(
-    rt: &impl Abort,
-    alloc: Global,
-    fails: &str,
-    arms: &str,
-    line: &str,
-    told: &str,
-) -> Result<(), Fail> {
-    let text = format!(in alloc; "{RECORDED}{fails}\ncommit 1\n{arms}\n{line}\nend\n")?;
-    let wanted = format!(in alloc;
-        "{RECORDED_TOLD}fault 1\nm 6 g1 n1:1 4EF10007000001CCFD00020000\n{told}node 1 packets 1 resolved 0 done 0\n"
-    )?;
-    assert_told(rt, alloc, &text, &wanted)
+fn assert_again(rt: &impl Abort, alloc: Global, armed: [&str; 3], told: [&str; 3]) {
+    let text = text_again(rt, alloc, armed);
+    assert_told(rt, alloc, &text, &told_again(rt, alloc, told));
+}
+
+fn text_again(rt: &impl Abort, alloc: Global, [fails, arms, line]: [&str; 3]) -> String {
+    joined(
+        rt,
+        alloc,
+        &[RECORDED, fails, "\ncommit 1\n", arms, "\n", line, "\nend\n"],
+    )
+}
+
+fn told_again(rt: &impl Abort, alloc: Global, [told, file, counts]: [&str; 3]) -> String {
+    joined(
+        rt,
+        alloc,
+        &[RECORDED_TOLD, FAULTED, told, file, counts, NOT_RESOLVED],
+    )
 }
 
 /// Three packets of one node are recorded, and one commit of four calls answers them.
 #[test]
-fn three_packets_have_one_commit(rt: HostRuntime) -> Result<(), Fail> {
-    let text =
+fn three_packets_have_one_commit(rt: HostRuntime) {
+    let alloc = rt.alloc();
+    let script = script_of(
+        &rt,
+        alloc,
         "reserve 30000\ntick 1\nflow\nflow\nflow\ncommit 1\nflow\nsubmit 1 1 0600 A003800105\n\
-submit 1 1 0600 A003800105\nsubmit 1 1 0600 A003800105\ntick 1\nflow\nfail 1 9\ncommit 1\nend\n";
-    let Run {
-        replay,
-        out: _,
-        place: _,
-        end,
-    } = run_before_end(rt.alloc(), text)?;
-    assert_eq!(rt; end, LineEnd::Ran);
-    let played = replay.into_played();
-    assert_eq!(rt; played.areas.len(), 1);
-    for area in &played.areas {
-        assert_eq!(rt; area.calls(), 4);
-    }
-    Ok(())
+submit 1 1 0600 A003800105\nsubmit 1 1 0600 A003800105\ntick 1\nflow\nfail 1 9\ncommit 1\nend\n",
+    );
+    let Played {
+        areas,
+        shelves: _,
+        nodes: _,
+    } = played_before_end(&rt, alloc, &script).into_played();
+    assert_eq!(rt; areas.len(), 1);
+    assert_eq!(rt; areas[0].calls(), 4);
 }

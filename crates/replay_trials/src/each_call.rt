@@ -2,12 +2,11 @@
 //! fails. After it the record stands at most once, and where its packet is resolved it does; in the end the packet is
 //! done.
 
-use crate::told::script_of;
+use crate::told::{begun, joined, nothing, script_of};
 use gw_base::Octets;
 use replay_world::{LineEnd, Replay, Summary};
 use std::alloc::Global;
 use std::process::Abort;
-use std::test::Fail;
 use world_script::Line;
 
 /// Before anything is armed.
@@ -22,60 +21,105 @@ deliver 15\ndeliver 16\ntick 1\ndeliver 17\ncommit 2\ndeliver 18\nopen 1\nopen 2
 
 const ROUND: &str = "tick 1\nflow\ncommit 1\ncommit 2\nflow\n";
 
-/// What a call is armed by to fail and to stop, the gateway, and the first call of that device that the story doesn't
-/// make there.
-const CALLS: [(&str, &str, u64, u64); 3] = [
-    ("fail", "arm", 1, 9),
-    ("fail", "arm", 2, 13),
-    ("failshelf", "armshelf", 1, 8),
+/// A device: what it is called behind `fail` and `arm`, its gateway, and the first of its calls that the story doesn't
+/// make.
+type Device = (&'static str, u64, u64);
+
+const DEVICES: [Device; 3] = [("", 1, 9), ("", 2, 13), ("shelf", 1, 8)];
+
+/// How a call is armed: to fail, or to stop in a mode.
+const WAYS: [(&str, &str); 4] = [
+    ("fail", ""),
+    ("arm", " old"),
+    ("arm", " new"),
+    ("arm", " rot"),
 ];
 
-const MODES: [&str; 3] = ["old", "new", "rot"];
-
 #[test]
-fn a_record_stands_once_whichever_call_stops_or_fails(rt: HostRuntime) -> Result<(), Fail> {
-    let alloc = rt.alloc();
-    for (fail, arm, gateway, beyond) in CALLS {
-        for call in 1..=beyond {
-            let arms = format!(in alloc; "{fail} {gateway} {call}\n")?;
-            assert_stands_once(&rt, alloc, &arms, call < beyond)?;
-            for mode in MODES {
-                let arms = format!(in alloc; "{arm} {gateway} {call} {mode}\n")?;
-                assert_stands_once(&rt, alloc, &arms, call < beyond)?;
-            }
-        }
+fn a_record_stands_once_whichever_call_stops_or_fails(rt: HostRuntime) {
+    for device in DEVICES {
+        assert_of_device(&rt, rt.alloc(), device);
     }
-    Ok(())
+}
+
+/// Each call of a device, and the one beyond, is armed in each way.
+fn assert_of_device(rt: &impl Abort, alloc: Global, device: Device) {
+    let (.., beyond) = device;
+    for call in 1..=beyond {
+        assert_of_call(rt, alloc, device, call);
+    }
+}
+
+/// A call of a device is armed in each way.
+fn assert_of_call(rt: &impl Abort, alloc: Global, device: Device, call: u64) {
+    let (.., beyond) = device;
+    for way in WAYS {
+        let arms = arms_of(rt, alloc, device, call, way);
+        assert_stands_once(rt, alloc, &arms, call < beyond);
+    }
+}
+
+/// The line by which a call of a device is armed.
+fn arms_of(
+    rt: &impl Abort,
+    alloc: Global,
+    (device, gateway, _): Device,
+    call: u64,
+    (way, mode): (&str, &str),
+) -> String {
+    match format!(in alloc; "{way}{device} {gateway} {call}{mode}\n") {
+        Ok(line) => line,
+        Err(_) => panic!(rt; "no memory for a line"),
+    }
 }
 
 /// The story and the rounds run with this in front of them, but for lines that the world refuses. It is told that a
 /// device stopped or failed exactly where the call is made.
-fn assert_stands_once(
+fn assert_stands_once(rt: &impl Abort, alloc: Global, arms: &str, is_met: bool) {
+    let text = joined(
+        rt,
+        alloc,
+        &[BEFORE, arms, STORY, ROUND, ROUND, ROUND, "end\n"],
+    );
+    let script = script_of(rt, alloc, &text);
+    let mut replay = begun(rt, alloc, &script);
+    let met = steps_all(rt, alloc, &mut replay, script.lines(), arms);
+    assert_eq!(rt; met, is_met, "{arms}");
+    assert_is_done(rt, sums_of(rt, alloc, &mut replay), arms);
+}
+
+/// Runs lines, but for those that the world refuses. Whether one tells what a device did.
+fn steps_all(
     rt: &impl Abort,
     alloc: Global,
+    replay: &mut Replay,
+    lines: &[Line],
     arms: &str,
-    is_met: bool,
-) -> Result<(), Fail> {
-    let text = format!(in alloc; "{BEFORE}{arms}{STORY}{ROUND}{ROUND}{ROUND}end\n")?;
-    let script = script_of(alloc, &text)?;
-    let mut replay = Replay::new(alloc, &script)?;
-    let mut out = Octets::of(alloc, b"")?;
+) -> bool {
     let mut met = false;
-    for line in script.lines() {
-        let before = out.octets().len();
-        let end = replay.run_line(alloc, line, &mut out);
-        assert!(rt; end != LineEnd::NoMemory);
-        met = met || tells(out.octets(), before);
-        // The story ends with two of these.
-        if matches!(line, Line::Open { .. }) {
-            assert_is_once(rt, replay.summary(alloc)?, arms);
-        }
+    for line in lines {
+        met |= steps(rt, alloc, replay, line, arms);
     }
-    let sums = replay.summary(alloc)?;
-    assert_eq!(rt; sums.gateways.records, 1, "{arms}");
-    assert_eq!(rt; sums.nodes.done, 1, "{arms}");
-    assert_eq!(rt; met, is_met, "{arms}");
-    Ok(())
+    met
+}
+
+/// Runs a line, or leaves it where the world refuses it. Whether it tells what a device did.
+fn steps(rt: &impl Abort, alloc: Global, replay: &mut Replay, line: &Line, arms: &str) -> bool {
+    let mut out = nothing(rt, alloc);
+    assert!(rt; replay.run_line(alloc, line, &mut out) != LineEnd::NoMemory);
+    // The story ends with two of these.
+    if matches!(line, Line::Open { .. }) {
+        assert_is_once(rt, sums_of(rt, alloc, replay), arms);
+    }
+    tells(&out)
+}
+
+/// What a whole network counts.
+fn sums_of(rt: &impl Abort, alloc: Global, replay: &mut Replay) -> Summary {
+    match replay.summary(alloc) {
+        Ok(sums) => sums,
+        Err(_) => panic!(rt; "no memory for a summary"),
+    }
 }
 
 fn assert_is_once(rt: &impl Abort, sums: Summary, arms: &str) {
@@ -83,12 +127,14 @@ fn assert_is_once(rt: &impl Abort, sums: Summary, arms: &str) {
     assert!(rt; sums.nodes.resolved <= sums.gateways.records, "{arms}");
 }
 
-/// Whether what was printed behind a place begins with what a device did.
-fn tells(out: &[u8], place: usize) -> bool {
-    if out.len() < place {
-        return false;
-    }
-    let (_, printed) = out.split_at(place);
+fn assert_is_done(rt: &impl Abort, sums: Summary, arms: &str) {
+    assert_eq!(rt; sums.gateways.records, 1, "{arms}");
+    assert_eq!(rt; sums.nodes.done, 1, "{arms}");
+}
+
+/// Whether what was printed begins with what a device did.
+fn tells(out: &Octets) -> bool {
+    let printed = out.octets();
     printed.starts_with(b"stopped")
         || printed.starts_with(b"fault")
         || printed.starts_with(b"shelf fault")

@@ -1,40 +1,48 @@
 //! A message that reaches a gateway whose batch is nearly full: the gateway commits first, and each of the four calls
 //! of that stops or fails.
 
-use crate::told::{ends_with, script_of};
+use crate::told::{joined, nothing, played_before_end, put, reports, runs, script_of, settles};
 use gw_base::Octets;
-use replay_world::{LineEnd, Replay};
+use replay_world::Replay;
 use std::alloc::Global;
 use std::process::Abort;
-use std::test::Fail;
 use world_script::Script;
 
-/// How many lines there are before what is armed.
-const BEFORE: usize = 22;
-
 /// Fourteen packets with one record of 60,004 octets each: after thirteen of them fewer than 270,000 octets of the
-/// batch are free. Then a line for each case, of which one is run, and the `flow` that is to bring the packets.
-fn cases_script(alloc: Global) -> Result<Script, Fail> {
-    let mut record = String::from_str(alloc, "0482EA60")?;
-    for _ in 0..3_750 {
-        record.push_str("00000000000000000000000000000000")?;
-    }
-    let mut text = String::from_str(
-        alloc,
+/// batch are free.
+fn packets(rt: &impl Abort, alloc: Global) -> Script {
+    let mut text = String::new(alloc);
+    put(
+        rt,
+        &mut text,
         "reserve 2000000\ntick 1\nflow\nflow\nflow\ncommit 1\nflow\n",
-    )?;
+    );
+    put_packets(rt, &mut text, &record(rt, alloc));
+    put(rt, &mut text, "tick 1\nend\n");
+    script_of(rt, alloc, &text)
+}
+
+/// Puts the packets behind a text.
+fn put_packets(rt: &impl Abort, text: &mut String, record: &str) {
     for _ in 0..14 {
-        text.push_str("submit 1 1 0600 ")?;
-        text.push_str(&record)?;
-        text.push_str("\n")?;
+        put_packet(rt, text, record);
     }
-    text.push_str("tick 1\n")?;
-    for (arms, ..) in CASES {
-        text.push_str(arms)?;
-        text.push_str("\n")?;
+}
+
+fn put_packet(rt: &impl Abort, text: &mut String, record: &str) {
+    put(rt, text, "submit 1 1 0600 ");
+    put(rt, text, record);
+    put(rt, text, "\n");
+}
+
+/// The record of each packet.
+fn record(rt: &impl Abort, alloc: Global) -> String {
+    let mut record = String::new(alloc);
+    put(rt, &mut record, "0482EA60");
+    for _ in 0..3_750 {
+        put(rt, &mut record, "00000000000000000000000000000000");
     }
-    text.push_str("flow\nend\n")?;
-    script_of(alloc, &text)
+    record
 }
 
 /// What `flow` prints: each of the thirteen packets that wait is told of the failure, and so is the one that came.
@@ -77,61 +85,41 @@ const CASES: [Case; 13] = [
     ("fail 1 5", ANSWERED, 17, 14),
 ];
 
-/// Runs the line at a place, from 0.
-fn runs(
-    rt: &impl Abort,
-    alloc: Global,
-    replay: &mut Replay,
-    script: &Script,
-    place: usize,
-    out: &mut Octets,
-) {
-    let Some(line) = script.line(place) else {
-        panic!(rt; "no line {place}");
-    };
-    assert_eq!(rt; replay.run_line(alloc, line, out), LineEnd::Ran);
+/// What is printed where this is armed, and a `flow` is to bring the packets.
+fn flows(rt: &impl Abort, alloc: Global, replay: &mut Replay, arms: &str) -> Octets {
+    let script = script_of(rt, alloc, &joined(rt, alloc, &[arms, "\nflow\nend\n"]));
+    let mut out = nothing(rt, alloc);
+    runs(rt, alloc, replay, (&script, 2), &mut out, arms);
+    out
 }
 
-/// Plays a case, whose line is at a place.
-fn plays(
-    rt: &impl Abort,
-    alloc: Global,
-    script: &Script,
-    place: usize,
-    case: Case,
-) -> Result<(), Fail> {
-    let (arms, told, entries, records) = case;
-    let mut replay = Replay::new(alloc, script)?;
-    let mut before = Octets::of(alloc, b"")?;
-    for line in 0..BEFORE {
-        runs(rt, alloc, &mut replay, script, line, &mut before);
-    }
-    runs(rt, alloc, &mut replay, script, place, &mut before);
-    let mut out = Octets::of(alloc, b"")?;
-    runs(
-        rt,
-        alloc,
-        &mut replay,
-        script,
-        BEFORE + CASES.len(),
-        &mut out,
-    );
-    assert_eq!(rt; out.octets(), told.as_bytes(), "{arms}");
-    assert_eq!(rt; replay.settle(alloc, &mut out), LineEnd::Ran, "{arms}");
-    assert_eq!(rt; replay.report(alloc, &mut out), LineEnd::Ran, "{arms}");
-    let counts = format!(in alloc;
+/// What is reported after a settling.
+fn counts_of(rt: &impl Abort, alloc: Global, entries: u64, records: u64) -> String {
+    match format!(in alloc;
         "gateway 1 entries {entries} records {records} held 0 stranded 0\nnode 1 packets 14 resolved 0 done 0\n"
-    )?;
-    assert!(rt; ends_with(out.octets(), &counts), "{arms}");
-    Ok(())
+    ) {
+        Ok(counts) => counts,
+        Err(_) => panic!(rt; "no memory for counts"),
+    }
+}
+
+/// Plays a case after the packets.
+fn plays(rt: &impl Abort, alloc: Global, packets: &Script, case: Case) {
+    let (arms, told, entries, records) = case;
+    let mut replay = played_before_end(rt, alloc, packets);
+    let mut out = flows(rt, alloc, &mut replay, arms);
+    assert_eq!(rt; out.octets(), told.as_bytes(), "{arms}");
+    settles(rt, alloc, &mut replay, &mut out, arms);
+    reports(rt, alloc, &mut replay, &mut out, arms);
+    let counts = counts_of(rt, alloc, entries, records);
+    assert!(rt; out.octets().ends_with(counts.as_bytes()), "{arms}");
 }
 
 #[test]
-fn a_gateway_whose_batch_is_nearly_full_commits_first(rt: HostRuntime) -> Result<(), Fail> {
+fn a_gateway_whose_batch_is_nearly_full_commits_first(rt: HostRuntime) {
     let alloc = rt.alloc();
-    let script = cases_script(alloc)?;
-    for (place, case) in (BEFORE..).zip(CASES) {
-        plays(&rt, alloc, &script, place, case)?;
+    let packets = packets(&rt, alloc);
+    for case in CASES {
+        plays(&rt, alloc, &packets, case);
     }
-    Ok(())
 }

@@ -1,15 +1,13 @@
 //! What a replay hands out: the areas, shelves and nodes that it ran.
 
-use crate::told::{Run, ends_with, run_before_end};
-use area_disk::Area;
-use cdr_shelf::FileName;
+use crate::told::{nothing, played_before_end, reports, script_of, settles};
+use area_disk::{Area, MemoryArea};
+use cdr_shelf::{FileName, MemoryShelf};
 use gateway_book::{Book, Setup};
-use gw_base::Octets;
-use node_core::NodeCounts;
-use replay_world::{LineEnd, Played};
+use node_core::{Node, NodeCounts};
+use replay_world::{Played, Replay};
 use std::alloc::Global;
 use std::process::Abort;
-use std::test::Fail;
 
 /// Two gateways and two nodes: a packet is filed at the first gateway, and the second gateway is stopped.
 const FILED: &str =
@@ -32,88 +30,97 @@ const FILE: [u8; 61] = [
 
 /// A settling and a report print what an `end` prints, and what is handed out then is what they tell of.
 #[test]
-fn what_was_run_is_handed_out(rt: HostRuntime) -> Result<(), Fail> {
+fn what_was_run_is_handed_out(rt: HostRuntime) {
     let alloc = rt.alloc();
-    let Run {
-        mut replay,
-        out: _,
-        place: _,
-        end,
-    } = run_before_end(alloc, FILED)?;
-    assert_eq!(rt; end, LineEnd::Ran);
-    let mut out = Octets::of(alloc, b"")?;
-    assert_eq!(rt; replay.settle(alloc, &mut out), LineEnd::Ran);
-    assert!(rt; out.octets().is_empty());
-    assert_eq!(rt; replay.report(alloc, &mut out), LineEnd::Ran);
-    assert_eq!(rt; out.octets(), REPORTED.as_bytes());
-    // A report changes nothing.
-    assert_eq!(rt; replay.report(alloc, &mut out), LineEnd::Ran);
-    assert!(rt; ends_with(out.octets(), REPORTED));
+    let mut replay = played_before_end(&rt, alloc, &script_of(&rt, alloc, FILED));
+    assert_reports(&rt, alloc, &mut replay);
     let played = replay.into_played();
     assert_files(&rt, &played);
     assert_nodes(&rt, &played);
-    assert_histories(&rt, alloc, played)
+    assert_histories(&rt, alloc, played);
+}
+
+fn assert_reports(rt: &impl Abort, alloc: Global, replay: &mut Replay) {
+    let mut out = nothing(rt, alloc);
+    settles(rt, alloc, replay, &mut out, "settled");
+    assert!(rt; out.octets().is_empty());
+    reports(rt, alloc, replay, &mut out, "reported");
+    assert_eq!(rt; out.octets(), REPORTED.as_bytes());
+    // A report changes nothing.
+    reports(rt, alloc, replay, &mut out, "reported again");
+    assert!(rt; out.octets().ends_with(REPORTED.as_bytes()));
 }
 
 fn assert_files(rt: &impl Abort, played: &Played) {
-    let first = FileName {
-        stream: 0,
-        sequence: 1,
-    };
     assert_eq!(rt; played.shelves.len(), 2);
-    let (Some(filed), Some(empty)) = (played.shelves.get(0), played.shelves.get(1)) else {
-        return;
+    assert_file(rt, &played.shelves[0], 1, Some(FILE.as_slice()));
+    assert_file(rt, &played.shelves[0], 2, None);
+    assert_file(rt, &played.shelves[1], 1, None);
+}
+
+/// The file of a shelf that has this number.
+fn assert_file(rt: &impl Abort, shelf: &MemoryShelf, sequence: u32, wanted: Option<&[u8]>) {
+    let name = FileName {
+        stream: 0,
+        sequence,
     };
-    assert_eq!(rt; filed.file(first), Some(FILE.as_slice()));
-    assert!(rt;
-        filed
-            .file(FileName {
-                sequence: 2,
-                ..first
-            })
-            .is_none()
-    );
-    assert!(rt; empty.file(first).is_none());
+    assert_eq!(rt; shelf.file(name), wanted);
 }
 
 fn assert_nodes(rt: &impl Abort, played: &Played) {
     assert_eq!(rt; played.nodes.len(), 2);
-    let (Some(one), Some(other)) = (played.nodes.get(0), played.nodes.get(1)) else {
-        return;
-    };
+    assert!(rt; played.nodes[0].runs());
+    assert_counts(rt, &played.nodes[0], 1);
+    assert_counts(rt, &played.nodes[1], 0);
+}
+
+/// A node that sent so many packets, all of which are done.
+fn assert_counts(rt: &impl Abort, node: &Node, count: u64) {
     let counts = NodeCounts {
-        packets: 1,
-        resolved: 1,
-        done: 1,
+        packets: count,
+        resolved: count,
+        done: count,
     };
-    assert!(rt; one.runs());
-    assert_eq!(rt; one.counts(), counts);
-    let counts = NodeCounts {
-        packets: 0,
-        resolved: 0,
-        done: 0,
-    };
-    assert_eq!(rt; other.counts(), counts);
+    assert_eq!(rt; node.counts(), counts);
 }
 
 /// A book that is opened on an area has the history of its gateway, and a Start more.
-fn assert_histories(rt: &impl Abort, alloc: Global, played: Played) -> Result<(), Fail> {
-    let mut address = 0x0A00_0001u32;
-    let mut entries = 5u64;
-    assert_eq!(rt; played.areas.len(), 2);
-    for area in played.areas {
-        assert!(rt; area.length() >= 30_000);
-        assert!(rt; area.length() <= 30_000);
-        let setup = Setup {
-            address,
-            open_time: 3_600,
-        };
-        match Book::open(alloc, area, setup) {
-            Ok(book) => assert_eq!(rt; book.counts().entries, entries),
-            Err(_) => assert!(rt; false, "no book of {address}"),
-        }
-        address = address.wrapping_add(1);
-        entries = entries.saturating_sub(1);
+fn assert_histories(rt: &impl Abort, alloc: Global, played: Played) {
+    let Played {
+        mut areas,
+        shelves: _,
+        nodes: _,
+    } = played;
+    let other = areas.pop();
+    let one = areas.pop();
+    assert!(rt; areas.is_empty());
+    assert_history(rt, alloc, one, 0x0A00_0001, 5);
+    assert_history(rt, alloc, other, 0x0A00_0002, 4);
+}
+
+fn assert_history(
+    rt: &impl Abort,
+    alloc: Global,
+    area: Option<MemoryArea>,
+    address: u32,
+    entries: u64,
+) {
+    let Some(area) = area else {
+        panic!(rt; "no area of {address}");
+    };
+    let book = opened(rt, alloc, area, address);
+    assert_eq!(rt; book.counts().entries, entries);
+}
+
+fn opened(rt: &impl Abort, alloc: Global, area: MemoryArea, address: u32) -> Book<MemoryArea> {
+    assert!(rt; area.length() >= 30_000);
+    assert!(rt; area.length() <= 30_000);
+    let setup = Setup {
+        address,
+        open_time: 3_600,
+    };
+    match Book::open(alloc, area, setup) {
+        Ok(book) => book,
+        Err(_) => panic!(rt; "no book of {address}"),
     }
-    Ok(())
 }
