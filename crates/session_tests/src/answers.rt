@@ -4,7 +4,7 @@ ghost use Rattle.net_link.specs.Memory.{told_of};
 ghost use Rattle.node_session.specs.Passes.{IsWorkerOf};
 
 use crate::desk::{
-    Cell, Desk, answer, desks, ended, finished, job, net, opened, request, were_sent,
+    Cell, Desk, answer, desks, ended, finished, job, net, opened, replied, request, were_sent,
 };
 use gtpp_message::Why;
 use job_inbox::Job;
@@ -12,7 +12,6 @@ use node_session::{Gate, Go, JobBatch, Served, Worker};
 use std::alloc::Global;
 use std::process::Abort;
 use std::sync::Wait;
-use std::test::Fail;
 
 // A gate that lets every job go on.
 struct Open;
@@ -52,16 +51,8 @@ fn five_jobs<R: Abort + Wait>(rt: &R, alloc: Global) -> ([Served; 5], bool) {
     (told, were_sent(&links, &[(0, 128), (0, 253), (0, 128)]))
 }
 
-// A reply with this cause, and its front.
-fn replied(cause: u8, front: u64) -> Served {
-    Served::Replied {
-        cause: Some(cause),
-        front,
-    }
-}
-
 #[test]
-fn a_session_tells_what_became_of_each_job(rt: HostRuntime) -> Result<(), Fail> {
+fn a_session_tells_what_became_of_each_job(rt: HostRuntime) {
     let wanted = [
         replied(128, 2),
         replied(253, 2),
@@ -70,7 +61,6 @@ fn a_session_tells_what_became_of_each_job(rt: HostRuntime) -> Result<(), Fail> 
         replied(128, 4),
     ];
     assert!(rt; five_jobs(&rt, rt.alloc()) == (wanted, true));
-    Ok(())
 }
 
 // Puts a job into a batch.
@@ -113,11 +103,10 @@ fn served<R: Abort + Wait>(rt: &R, alloc: Global, batch: &mut JobBatch) -> u64 {
 }
 
 #[test]
-fn one_commit_makes_the_answers_of_a_batch_firm(rt: HostRuntime) -> Result<(), Fail> {
+fn one_commit_makes_the_answers_of_a_batch_firm(rt: HostRuntime) {
     let mut batch = three_jobs(&rt, rt.alloc());
     let calls = served(&rt, rt.alloc(), &mut batch);
     let wanted = [replied(128, 2), replied(128, 3), replied(253, 3)];
     assert!(rt; batch.served() == wanted.as_slice());
     assert_eq!(rt; calls, 4);
-    Ok(())
 }

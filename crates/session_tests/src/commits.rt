@@ -4,7 +4,8 @@ ghost use Rattle.net_link.specs.Memory.{told_of};
 ghost use Rattle.node_session.specs.Passes.{IsWorkerOf};
 
 use crate::desk::{
-    Cell, Desk, answer, desks, finished, job, net, opened, plan, request, were_sent,
+    Cell, Desk, answer, commit, desks, finished, job, net, opened, plan, replied, request,
+    were_sent,
 };
 use area_disk::MemoryArea;
 use gateway_book::Book;
@@ -15,7 +16,6 @@ use std::alloc::Global;
 use std::process::Abort;
 use std::sync::Wait;
 use std::sync::atomic::{AtomicBool, Ordering};
-use std::test::Fail;
 use std::thread::{self, Threads};
 
 // How often a gate looks before it gives up.
@@ -147,44 +147,30 @@ fn three_jobs<R: Abort + Threads + Wait + Sync>(
     ([a, b, c], calls, links)
 }
 
-// A reply with this cause, and its front.
-fn replied(cause: u8, front: u64) -> Served {
-    Served::Replied {
-        cause: Some(cause),
-        front,
-    }
-}
-
 #[test]
-fn one_commit_makes_the_entries_of_two_sessions_firm(rt: HostRuntime) -> Result<(), Fail> {
+fn one_commit_makes_the_entries_of_two_sessions_firm(rt: HostRuntime) {
     let alloc = rt.alloc();
     // The third job is the second one's repeat, which adds no entry.
     let (told, calls, links) = three_jobs(&rt, alloc, opened(&rt, alloc), true, 0);
     assert!(rt; told == [replied(128, 2), replied(128, 3), replied(253, 3)]);
     assert_eq!(rt; calls, 4);
     assert!(rt; were_sent(&links, &[(0, 128), (0, 128), (0, 253)]));
-    Ok(())
 }
 
 // A book whose Start is firm, and whose next write fails.
 fn failing(rt: &impl Abort, alloc: Global) -> Book<MemoryArea> {
     let mut book = opened(rt, alloc);
-    let Ok(_) = book.commit() else {
-        panic!(rt; "not committed")
-    };
+    commit(rt, &mut book);
     book.arm(plan(rt, alloc, &[1]));
     book
 }
 
 #[test]
-fn a_commit_that_fails_loses_the_answer_of_a_session_that_waits(
-    rt: HostRuntime,
-) -> Result<(), Fail> {
+fn a_commit_that_fails_loses_the_answer_of_a_session_that_waits(rt: HostRuntime) {
     let alloc = rt.alloc();
     let (told, _calls, links) = three_jobs(&rt, alloc, failing(&rt, alloc), false, 1);
     assert!(rt; told == [Served::Lost, Served::Lost, replied(128, 2)]);
     assert!(rt; were_sent(&links, &[(0, 204), (0, 204), (1, 128)]));
-    Ok(())
 }
 
 // What became of a request of each session, where the second one begins when the first one has ended, and the links.
@@ -200,9 +186,8 @@ fn one_by_one<R: Abort + Wait>(rt: &R, alloc: Global) -> ([Served; 2], MemoryLin
 }
 
 #[test]
-fn a_session_that_is_alone_at_the_gate_is_over(rt: HostRuntime) -> Result<(), Fail> {
+fn a_session_that_is_alone_at_the_gate_is_over(rt: HostRuntime) {
     let (told, links) = one_by_one(&rt, rt.alloc());
     assert!(rt; told == [Served::Over, replied(128, 3)]);
     assert!(rt; were_sent(&links, &[(0, 128)]));
-    Ok(())
 }

@@ -84,8 +84,8 @@ pub(crate) fn plan(rt: &impl Abort, alloc: Global, fail: &[u64]) -> Plan {
     }
 }
 
-/// A book on an area in memory, with a Start that isn't firm. None of the area's calls is counted yet.
-pub(crate) fn opened(rt: &impl Abort, alloc: Global) -> Book<MemoryArea> {
+// A book that was opened on an area in memory.
+fn open(rt: &impl Abort, alloc: Global) -> Book<MemoryArea> {
     let Ok(area) = MemoryArea::new(alloc, 50_000, plan(rt, alloc, &[])) else {
         panic!(rt; "no memory for an area")
     };
@@ -93,11 +93,24 @@ pub(crate) fn opened(rt: &impl Abort, alloc: Global) -> Book<MemoryArea> {
         address: HERE.ip,
         open_time: 60,
     };
-    let Ok(mut book) = Book::open(alloc, area, setup) else {
+    let Ok(book) = Book::open(alloc, area, setup) else {
         panic!(rt; "not opened")
     };
+    book
+}
+
+/// A book on an area in memory, with a Start that isn't firm. None of the area's calls is counted yet.
+pub(crate) fn opened(rt: &impl Abort, alloc: Global) -> Book<MemoryArea> {
+    let mut book = open(rt, alloc);
     book.arm(plan(rt, alloc, &[]));
     book
+}
+
+/// Makes the history of a book firm.
+pub(crate) fn commit(rt: &impl Abort, book: &mut Book<MemoryArea>) {
+    let Ok(_) = book.commit() else {
+        panic!(rt; "not committed")
+    };
 }
 
 /// A session with its link.
@@ -105,6 +118,14 @@ pub(crate) fn opened(rt: &impl Abort, alloc: Global) -> Book<MemoryArea> {
 pub(crate) struct Desk {
     pub worker: Worker,
     pub link: MemoryLink,
+}
+
+/// A reply with this cause, and its front.
+pub(crate) fn replied(cause: u8, front: u64) -> Served {
+    Served::Replied {
+        cause: Some(cause),
+        front,
+    }
 }
 
 /// Serves a job at a desk.

@@ -3,10 +3,10 @@ ghost use Rattle.std.specs.Prelude.{◌≡◌, true};
 ghost use Rattle.file_writer.specs.Writer.{is_broken};
 ghost use Rattle.gateway_book.specs.Book.{value_of};
 ghost use Rattle.gateway_book.specs.Turning.{tells_lists};
-ghost use Rattle.node_session.specs.Writing.{IsActorOf, IsWriterOf, writer_of};
+ghost use Rattle.node_session.specs.Writing.{IsActorOf, IsWriterOf, knowledge_of, writer_of};
 ghost use Rattle.turn_cell.specs.Cell.{ArePassesOf, IsPassOf};
 
-use crate::desk::{Cell, HERE, day, node, numbers, opened, plan, request};
+use crate::desk::{Cell, HERE, commit, day, node, numbers, opened, plan, request};
 use area_disk::{Area, MemoryArea, Plan};
 use cdr_file::Offset16;
 use cdr_shelf::{FileName, MemoryShelf};
@@ -19,7 +19,6 @@ use route_filter::Rules;
 use std::alloc::Global;
 use std::process::Abort;
 use std::sync::Wait;
-use std::test::Fail;
 use turn_cell::{Pass, TurnCell};
 
 // A writer on a shelf in memory of whose calls these fail.
@@ -58,13 +57,6 @@ fn seventy(rt: &impl Abort, alloc: Global) -> Vec<u8> {
         put(rt, &mut octets, &[0, 5, 0xA0, 3, 0x80, 1, 5]);
     }
     octets
-}
-
-// Makes the history of a book firm.
-fn commit(rt: &impl Abort, book: &mut Book<MemoryArea>) {
-    let Ok(_) = book.commit() else {
-        panic!(rt; "not committed")
-    };
 }
 
 // A book that took a request, which isn't firm.
@@ -113,25 +105,40 @@ fn actor(
     (cell, FileActor::new(pass, writer))
 }
 
-// What came of five steps over a history of 70 records, of which the area fails in the first, and the shelf in the
-// second.
-fn five_steps<R: Abort + Wait>(rt: &R, alloc: Global) -> [Filing; 5] {
+// A book with a firm history of 70 records, whose first reading fails.
+fn unread_book(rt: &impl Abort, alloc: Global) -> Book<MemoryArea> {
     let mut book = filed(rt, alloc, &seventy(rt, alloc));
     commit(rt, &mut book);
     book.arm(unread(rt, alloc));
-    let (cell, mut actor) = actor(rt, alloc, book, writer(rt, alloc, &[1]));
-    let one = actor.step(rt, alloc, &cell);
-    let two = actor.step(rt, alloc, &cell);
-    let three = actor.step(rt, alloc, &cell);
-    let four = actor.step(rt, alloc, &cell);
-    let five = actor.step(rt, alloc, &cell);
+    book
+}
+
+// What comes of a step.
+fn step<R: Wait>(rt: &R, alloc: Global, cell: &Cell, actor: &mut FileActor<MemoryShelf>) -> Filing
+    requires own { IsActorOf cell.now actor.old }
+    requires writer { IsWriterOf (tells_lists ⟦<MemoryArea as Area>⟧) (knowledge_of actor.old).known
+        (writer_of actor.old) }
+    ensures own { IsActorOf cell.now actor.new }
+    ensures writer { IsWriterOf (tells_lists ⟦<MemoryArea as Area>⟧) (knowledge_of actor.new).known
+        (writer_of actor.new) }
+{
+    actor.step(rt, alloc, cell)
+}
+
+// What came of five steps over a history of 70 records, of which the area fails in the first, and the shelf in the
+// second.
+fn five_steps<R: Abort + Wait>(rt: &R, alloc: Global) -> [Filing; 5] {
+    let (cell, mut actor) = actor(rt, alloc, unread_book(rt, alloc), writer(rt, alloc, &[1]));
+    let one = step(rt, alloc, &cell, &mut actor);
+    let two = step(rt, alloc, &cell, &mut actor);
+    let three = step(rt, alloc, &cell, &mut actor);
+    let four = step(rt, alloc, &cell, &mut actor);
+    let five = step(rt, alloc, &cell, &mut actor);
     [one, two, three, four, five]
 }
 
 #[test]
-fn who_writes_the_files_takes_64_records_at_most_and_goes_on_after_a_fault(
-    rt: HostRuntime,
-) -> Result<(), Fail> {
+fn who_writes_the_files_takes_64_records_at_most_and_goes_on_after_a_fault(rt: HostRuntime) {
     let wanted = [
         Filing::Area,
         Filing::Shelf,
@@ -140,7 +147,6 @@ fn who_writes_the_files_takes_64_records_at_most_and_goes_on_after_a_fault(
         Filing::Took { items: 0 },
     ];
     assert!(rt; five_steps(&rt, rt.alloc()) == wanted);
-    Ok(())
 }
 
 // What a gateway told that ended: how many entries it has, how many are firm, how many copies are held and stranded.
@@ -198,9 +204,7 @@ const FILE: [u8; 61] = [
 ];
 
 #[test]
-fn a_gateway_that_ends_makes_all_firm_and_files_it_or_tells_which_device_failed(
-    rt: HostRuntime,
-) -> Result<(), Fail> {
+fn a_gateway_that_ends_makes_all_firm_and_files_it_or_tells_which_device_failed(rt: HostRuntime) {
     let alloc = rt.alloc();
     let whole = Ok([3, 3, 0, 0]);
     assert!(rt; ended(&rt, alloc, &[], &[], &FILE) == (whole, whole, true));
@@ -208,5 +212,4 @@ fn a_gateway_that_ends_makes_all_firm_and_files_it_or_tells_which_device_failed(
     assert!(rt; ended(&rt, alloc, &[], &[1], &FILE) == (shelf, whole, true));
     let area = Err(SettleFault::Area);
     assert!(rt; ended(&rt, alloc, &[1], &[], &FILE) == (area, Ok([1, 1, 0, 0]), false));
-    Ok(())
 }

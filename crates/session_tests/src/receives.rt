@@ -12,7 +12,6 @@ use node_session::{Dispatched, Dispatcher};
 use std::alloc::Global;
 use std::process::Abort;
 use std::sync::Wait;
-use std::test::Fail;
 
 // A clock that stands still, or fails.
 #[derive(Drop)]
@@ -122,6 +121,21 @@ fn link(rt: &impl Abort, alloc: Global) -> MemoryLink {
     link
 }
 
+// What comes of a step.
+fn step<R: Wait>(
+    rt: &R,
+    dispatcher: &mut Dispatcher,
+    link: &mut MemoryLink,
+    clock: &mut StillClock,
+    inboxes: &[Inbox],
+) -> Dispatched
+    requires some { 0 < length inboxes.now }
+    requires own { AreOfEach inboxes.now (passes_of dispatcher.old) }
+    ensures own { AreOfEach inboxes.now (passes_of dispatcher.new) }
+{
+    dispatcher.step(rt, link, clock, inboxes)
+}
+
 // What came of six steps, where the clock fails in the fourth.
 fn steps<R: Wait>(
     rt: &R,
@@ -133,13 +147,13 @@ fn steps<R: Wait>(
     requires some { 0 < length inboxes.now }
     requires own { AreOfEach inboxes.now (passes_of dispatcher.old) }
 {
-    let one = dispatcher.step(rt, &mut link, &mut clock, inboxes);
-    let two = dispatcher.step(rt, &mut link, &mut clock, inboxes);
-    let three = dispatcher.step(rt, &mut link, &mut clock, inboxes);
+    let one = step(rt, dispatcher, &mut link, &mut clock, inboxes);
+    let two = step(rt, dispatcher, &mut link, &mut clock, inboxes);
+    let three = step(rt, dispatcher, &mut link, &mut clock, inboxes);
     clock.fails = true;
-    let four = dispatcher.step(rt, &mut link, &mut clock, inboxes);
-    let five = dispatcher.step(rt, &mut link, &mut clock, inboxes);
-    let six = dispatcher.step(rt, &mut link, &mut clock, inboxes);
+    let four = step(rt, dispatcher, &mut link, &mut clock, inboxes);
+    let five = step(rt, dispatcher, &mut link, &mut clock, inboxes);
+    let six = step(rt, dispatcher, &mut link, &mut clock, inboxes);
     [one, two, three, four, five, six]
 }
 
@@ -161,7 +175,7 @@ fn six_steps<R: Abort + Wait>(rt: &R, alloc: Global) -> ([Dispatched; 6], bool, 
 }
 
 #[test]
-fn who_receives_tells_what_became_of_each_datagram(rt: HostRuntime) -> Result<(), Fail> {
+fn who_receives_tells_what_became_of_each_datagram(rt: HostRuntime) {
     let wanted = [
         Dispatched::Pushed,
         Dispatched::Full,
@@ -171,5 +185,4 @@ fn who_receives_tells_what_became_of_each_datagram(rt: HostRuntime) -> Result<()
         Dispatched::Link,
     ];
     assert!(rt; six_steps(&rt, rt.alloc()) == (wanted, true, true));
-    Ok(())
 }
