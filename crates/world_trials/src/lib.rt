@@ -4,6 +4,8 @@
 #![tactic(auto)]
 
 #[cfg(test)]
+mod calls;
+#[cfg(test)]
 mod node_by_log;
 #[cfg(test)]
 mod node_logged;

@@ -1,13 +1,15 @@
 //! A node beside its log, which is written by hand: after each step the plain functions of the log tell what the node
 //! tells.
 
+use crate::calls::had;
 use gw_base::{Absolutes, Addr};
-use node_core::{Command, Draft, Heeded, Node, NodeCopy, PacketCopy, Port, Sending};
+use node_core::{
+    Command, Draft, Heeded, Node, NodeCopy, Outgoing, PacketCopy, Port, Sending, SubmitFault,
+};
 use node_plain::{LogLine, Said, Setup};
 use path_mgmt::PathEvent;
 use std::alloc::Global;
 use std::process::Abort;
-use std::test::Fail;
 
 /// What befalls a node. Gateways are places from 0.
 #[derive(Clone, Copy)]
@@ -90,6 +92,78 @@ pub(crate) fn reply(heeded: &Heeded) -> &[u8] {
     }
 }
 
+/// The number of the packet that a node takes, or why it takes none.
+pub(crate) fn submitted(
+    rt: &impl Abort,
+    alloc: Global,
+    node: &mut Node,
+) -> Result<u64, SubmitFault> {
+    if !node.runs() || node.counts().packets >= 0x4000_0000_0000_0000 {
+        panic!(rt; "the node takes no packet");
+    }
+    match node.submit(alloc, draft(rt, alloc)) {
+        Ok(id) => Ok(id.number),
+        Err((fault, _)) => Err(fault),
+    }
+}
+
+/// What a node that runs sends, and what it makes of a datagram.
+fn ticked(rt: &impl Abort, alloc: Global, node: &mut Node) -> Vec<Outgoing> {
+    if !node.runs() {
+        panic!(rt; "the node is halted");
+    }
+    had(rt, node.tick(alloc))
+}
+
+fn heard(rt: &impl Abort, node: &mut Node, port: Port, from: Addr, octets: &[u8]) -> Heeded {
+    if !node.runs() {
+        panic!(rt; "the node is halted");
+    }
+    node.hear(port, from, octets)
+}
+
+/// A node that doesn't run starts.
+fn starts(rt: &impl Abort, node: &mut Node) {
+    if node.runs() {
+        panic!(rt; "the node isn't halted");
+    }
+    node.start();
+}
+
+/// A datagram is this sending.
+fn is_sent(rt: &impl Abort, datagram: &Outgoing, sending: Sending) {
+    assert_eq!(rt; (datagram.port, datagram.to), way(sending));
+    assert_eq!(rt; (datagram.number, datagram.named), numbers(sending));
+}
+
+fn are_sent(rt: &impl Abort, datagrams: &[Outgoing], sendings: &[Sending]) {
+    assert_eq!(rt; datagrams.len(), sendings.len());
+    for (datagram, sending) in datagrams.iter().zip(sendings) {
+        is_sent(rt, datagram, *sending);
+    }
+}
+
+/// What is said by an answer to one number with a cause.
+fn responds(rt: &impl Abort, alloc: Global, number: u64, cause: u8) -> Said {
+    let mut numbers = Vec::new(alloc);
+    assert!(rt; numbers.push(number).is_ok());
+    Said::Responds {
+        cause,
+        numbers: Absolutes::from_vec(numbers),
+    }
+}
+
+/// The copy in a place.
+fn copy_at(copies: &[PacketCopy], place: usize) -> Option<NodeCopy> {
+    match copies.get(place) {
+        None => None,
+        Some(copy) => Some(NodeCopy {
+            gateway: copy.gateway,
+            number: copy.number,
+        }),
+    }
+}
+
 /// A node, what it was made with, and its log, the newest line first.
 #[derive(Debug, Drop)]
 pub(crate) struct Logged {
@@ -99,33 +173,32 @@ pub(crate) struct Logged {
 }
 
 impl Logged {
-    pub(crate) fn new(rt: &impl Abort, alloc: Global, gateways: &[Addr]) -> Result<Logged, Fail> {
+    pub(crate) fn new(rt: &impl Abort, alloc: Global, gateways: &[Addr]) -> Logged {
         if gateways.is_empty() || gateways.len() > 3 {
             panic!(rt; "no node has {} gateways here", gateways.len());
         }
-        let mut log = Vec::new(alloc);
-        log.push(LogLine::Began)?;
-        Ok(Logged {
-            node: Node::new(alloc, ADDRESS, gateways, 1)?,
-            setup: Setup::of(alloc, ADDRESS, gateways, 1)?,
-            log,
-        })
+        let mut logged = Logged {
+            node: had(rt, Node::new(alloc, ADDRESS, gateways, 1)),
+            setup: had(rt, Setup::of(alloc, ADDRESS, gateways, 1)),
+            log: Vec::new(alloc),
+        };
+        logged.note(rt, LogLine::Began);
+        logged
     }
 
-    pub(crate) fn play(
-        &mut self,
-        rt: &impl Abort,
-        alloc: Global,
-        steps: &[Step<'_>],
-    ) -> Result<(), Fail> {
+    pub(crate) fn play(&mut self, rt: &impl Abort, alloc: Global, steps: &[Step<'_>]) {
         for step in steps {
-            self.step(rt, alloc, *step)?;
-            self.is_told(rt, alloc)?;
+            self.play_one(rt, alloc, *step);
         }
-        Ok(())
     }
 
-    fn step(&mut self, rt: &impl Abort, alloc: Global, step: Step<'_>) -> Result<(), Fail> {
+    /// A step, behind which the log tells what the node tells.
+    fn play_one(&mut self, rt: &impl Abort, alloc: Global, step: Step<'_>) {
+        self.step(rt, alloc, step);
+        self.is_told(rt, alloc);
+    }
+
+    fn step(&mut self, rt: &impl Abort, alloc: Global, step: Step<'_>) {
         match step {
             Step::Restarts => self.restart(rt, alloc),
             Step::Submits => self.submit(rt, alloc),
@@ -133,85 +206,56 @@ impl Logged {
             Step::ComesAlive(gateway) => self.comes_alive(rt, alloc, gateway),
             Step::GoesDown(gateway, next) => self.goes_down(rt, alloc, gateway, next),
             Step::Answers(port, gateway, number, cause, wanted) => {
-                let made = self.answer(rt, alloc, port, gateway, number, cause)?;
+                let made = self.answer(rt, alloc, port, gateway, number, cause);
                 assert_eq!(rt; made, wanted, "{gateway} {cause}");
-                Ok(())
             }
         }
     }
 
-    fn restart(&mut self, rt: &impl Abort, alloc: Global) -> Result<(), Fail> {
+    /// The log has one more line.
+    fn note(&mut self, rt: &impl Abort, line: LogLine) {
+        assert!(rt; self.log.insert(0, line).is_ok());
+    }
+
+    fn restart(&mut self, rt: &impl Abort, alloc: Global) {
         self.node.halt();
-        self.log.insert(0, LogLine::Halted)?;
-        self.is_told(rt, alloc)?;
-        if self.node.runs() {
-            panic!(rt; "the node isn't halted");
-        }
-        self.node.start();
-        self.log.insert(0, LogLine::Began)?;
-        Ok(())
+        self.note(rt, LogLine::Halted);
+        self.is_told(rt, alloc);
+        starts(rt, &mut self.node);
+        self.note(rt, LogLine::Began);
     }
 
-    pub(crate) fn submit(&mut self, rt: &impl Abort, alloc: Global) -> Result<(), Fail> {
-        let submitted = self.node.counts().packets;
-        if !self.node.runs() || submitted >= 0x4000_0000_0000_0000 {
-            panic!(rt; "the node takes no packet");
-        }
-        match self.node.submit(alloc, draft(rt, alloc)) {
-            Ok(id) => assert_eq!(rt; id.number, submitted + 1),
-            Err((fault, _)) => panic!(rt; "it is refused: {fault}"),
-        }
-        self.log.insert(0, LogLine::Submitted(draft(rt, alloc)))?;
-        Ok(())
+    pub(crate) fn submit(&mut self, rt: &impl Abort, alloc: Global) {
+        let before = self.node.counts().packets;
+        let number = submitted(rt, alloc, &mut self.node);
+        assert_eq!(rt; number, Ok(before.saturating_add(1)));
+        self.note(rt, LogLine::Submitted(draft(rt, alloc)));
     }
 
-    fn tick(
-        &mut self,
-        rt: &impl Abort,
-        alloc: Global,
-        appointed: Option<u8>,
-        wanted: &[Sending],
-    ) -> Result<(), Fail> {
-        let due = node_plain::due(alloc, &self.setup, &self.log)?;
+    fn tick(&mut self, rt: &impl Abort, alloc: Global, appointed: Option<u8>, wanted: &[Sending]) {
+        let due = had(rt, node_plain::due(alloc, &self.setup, &self.log));
         assert_eq!(rt; due.as_slice(), wanted);
-        if !self.node.runs() {
-            panic!(rt; "the node is halted");
-        }
-        let sent = self.node.tick(alloc)?;
-        assert_eq!(rt; sent.len(), wanted.len());
-        for (datagram, sending) in sent.iter().zip(wanted) {
-            assert_eq!(rt; (datagram.port, datagram.to), way(*sending));
-            assert_eq!(rt; (datagram.number, datagram.named), numbers(*sending));
-        }
+        are_sent(rt, &ticked(rt, alloc, &mut self.node), wanted);
         if let Some(gateway) = appointed {
-            self.log.insert(0, LogLine::Appointed(gateway))?;
+            self.note(rt, LogLine::Appointed(gateway));
         }
-        self.log.insert(0, LogLine::Ticked(due))?;
-        Ok(())
+        self.note(rt, LogLine::Ticked(due));
     }
 
-    fn comes_alive(&mut self, rt: &impl Abort, alloc: Global, gateway: u8) -> Result<(), Fail> {
+    fn comes_alive(&mut self, rt: &impl Abort, alloc: Global, gateway: u8) {
         let asked = Said::Path(PathEvent::EchoAsked { number: 0 });
-        let heeded = self.hear(rt, alloc, Port::First, gateway, &ECHO_REQUEST, asked)?;
+        let heeded = self.hear(rt, alloc, Port::First, gateway, &ECHO_REQUEST, asked);
         assert_eq!(rt; reply(&heeded).len(), 8);
         let told = Said::Path(PathEvent::AliveTold { number: 0 });
-        let _heeded = self.hear(rt, alloc, Port::First, gateway, &ALIVE_RESPONSE, told)?;
+        let _heeded = self.hear(rt, alloc, Port::First, gateway, &ALIVE_RESPONSE, told);
         assert!(rt; node_plain::is_alive(&self.setup, &self.log, gateway));
-        Ok(())
     }
 
-    fn goes_down(
-        &mut self,
-        rt: &impl Abort,
-        alloc: Global,
-        gateway: u8,
-        next: u8,
-    ) -> Result<(), Fail> {
+    fn goes_down(&mut self, rt: &impl Abort, alloc: Global, gateway: u8, next: u8) {
         let said = Said::Redirects(None);
-        let _heeded = self.hear(rt, alloc, Port::First, gateway, &REDIRECTION, said)?;
-        self.log.insert(0, LogLine::Appointed(next))?;
+        let _heeded = self.hear(rt, alloc, Port::First, gateway, &REDIRECTION, said);
+        self.note(rt, LogLine::Appointed(next));
         assert_eq!(rt; node_plain::favourite(&self.log), next);
-        Ok(())
     }
 
     /// Hears an answer; whether it makes the first packet resolved, and done.
@@ -223,13 +267,12 @@ impl Logged {
         gateway: u8,
         number: u64,
         cause: u8,
-    ) -> Result<(bool, bool), Fail> {
+    ) -> (bool, bool) {
         let last = (number % 256) as u8;
         let octets = [0x4E, 0xF1, 0, 7, 0, last, 1, cause, 0xFD, 0, 2, 0, last];
-        let numbers = Absolutes::from_vec(vec![in alloc; number]?);
-        let said = Said::Responds { cause, numbers };
-        let heeded = self.hear(rt, alloc, port, gateway, &octets, said)?;
-        Ok((heeded.resolved.is_some(), heeded.done.is_some()))
+        let said = responds(rt, alloc, number, cause);
+        let heeded = self.hear(rt, alloc, port, gateway, &octets, said);
+        (heeded.resolved.is_some(), heeded.done.is_some())
     }
 
     /// Hears a datagram from a gateway, which says this.
@@ -241,18 +284,16 @@ impl Logged {
         gateway: u8,
         octets: &[u8],
         said: Said,
-    ) -> Result<Heeded, Fail> {
-        let heeded = self.heeds(rt, alloc, port, at(gateway), octets)?;
+    ) -> Heeded {
+        let heeded = self.heeds(rt, alloc, port, at(gateway), octets);
         assert_eq!(rt; heeded.drop, None, "{octets:?}");
-        self.log.insert(
-            0,
-            LogLine::Heard {
-                port,
-                gateway,
-                said,
-            },
-        )?;
-        Ok(heeded)
+        let line = LogLine::Heard {
+            port,
+            gateway,
+            said,
+        };
+        self.note(rt, line);
+        heeded
     }
 
     /// What the node makes of a datagram, which its log tells beforehand.
@@ -263,80 +304,84 @@ impl Logged {
         port: Port,
         from: Addr,
         octets: &[u8],
-    ) -> Result<Heeded, Fail> {
-        let told = node_plain::heeds(alloc, &self.setup, &self.log, port, from, octets)?;
-        if !self.node.runs() {
-            panic!(rt; "the node is halted");
-        }
-        let heeded = self.node.hear(port, from, octets);
+    ) -> Heeded {
+        let heeds = node_plain::heeds(alloc, &self.setup, &self.log, port, from, octets);
+        let told = had(rt, heeds);
+        let heeded = heard(rt, &mut self.node, port, from, octets);
         assert_eq!(rt; heeded.drop, told.drop, "{octets:?}");
         assert_eq!(rt; heeded.resolved, told.resolved, "{octets:?}");
         assert_eq!(rt; heeded.done, told.done, "{octets:?}");
         assert_eq!(rt; reply(&heeded), reply(&told), "{octets:?}");
-        Ok(heeded)
+        heeded
     }
 
     /// The log tells what the node tells.
-    pub(crate) fn is_told(&self, rt: &impl Abort, alloc: Global) -> Result<(), Fail> {
+    pub(crate) fn is_told(&self, rt: &impl Abort, alloc: Global) {
         let log = self.log.as_slice();
         assert_eq!(rt; node_plain::runs(log), self.node.runs());
         assert_eq!(rt; node_plain::counter(&self.setup, log), self.node.counter());
-        assert_eq!(rt; node_plain::counts(alloc, log)?, self.node.counts());
-        for gateway in 0..3 {
-            let next = node_plain::next_number(alloc, &self.setup, log, gateway)?;
-            assert_eq!(rt; next.checked_sub(1), Some(self.node.last_number(gateway)));
-            assert_eq!(rt; node_plain::uses(alloc, log, gateway, next)?, 0);
-        }
+        assert_eq!(rt; had(rt, node_plain::counts(alloc, log)), self.node.counts());
+        self.numbers_are_told(rt, alloc);
         for packet in 0..3 {
-            self.packet_is_told(rt, alloc, packet)?;
+            self.packet_is_told(rt, alloc, packet);
         }
-        Ok(())
     }
 
-    fn packet_is_told(&self, rt: &impl Abort, alloc: Global, packet: u64) -> Result<(), Fail> {
-        let log = self.log.as_slice();
-        let phase = node_plain::phase(alloc, log, packet)?;
+    fn numbers_are_told(&self, rt: &impl Abort, alloc: Global) {
+        for gateway in 0..3 {
+            self.number_is_told(rt, alloc, gateway);
+        }
+    }
+
+    /// The next number of a gateway is the one behind the last, and has no use yet.
+    fn number_is_told(&self, rt: &impl Abort, alloc: Global, gateway: u8) {
+        let number = node_plain::next_number(alloc, &self.setup, &self.log, gateway);
+        let next = had(rt, number);
+        assert_eq!(rt; next.checked_sub(1), Some(self.node.last_number(gateway)));
+        self.is_used(rt, alloc, gateway, next, 0);
+    }
+
+    /// The log has so many uses of a number.
+    fn is_used(&self, rt: &impl Abort, alloc: Global, gateway: u8, number: u64, wanted: u64) {
+        let uses = had(rt, node_plain::uses(alloc, &self.log, gateway, number));
+        assert_eq!(rt; uses, wanted);
+    }
+
+    fn packet_is_told(&self, rt: &impl Abort, alloc: Global, packet: u64) {
+        let phase = had(rt, node_plain::phase(alloc, &self.log, packet));
         assert_eq!(rt; phase, self.node.phase(packet), "packet {packet}");
-        let copies = node_plain::copies(alloc, log, packet)?;
+        let copies = had(rt, node_plain::copies(alloc, &self.log, packet));
+        self.places_are_told(rt, packet, &copies);
+        self.copies_are_told(rt, alloc, &copies);
+    }
+
+    fn places_are_told(&self, rt: &impl Abort, packet: u64, copies: &[PacketCopy]) {
         for k in 0..4 {
-            let told = match copies.get(k) {
-                None => None,
-                Some(copy) => Some(NodeCopy {
-                    gateway: copy.gateway,
-                    number: copy.number,
-                }),
-            };
+            let told = copy_at(copies, k);
             assert_eq!(rt; self.node.copy(packet, k), told, "packet {packet} copy {k}");
         }
-        for copy in &copies {
-            self.copy_is_told(rt, alloc, *copy)?;
+    }
+
+    fn copies_are_told(&self, rt: &impl Abort, alloc: Global, copies: &[PacketCopy]) {
+        for copy in copies {
+            self.copy_is_told(rt, alloc, *copy);
         }
-        Ok(())
     }
 
     /// What is known of a copy rests on the responses to its number, which has no other use.
-    fn copy_is_told(&self, rt: &impl Abort, alloc: Global, copy: PacketCopy) -> Result<(), Fail> {
-        let log = self.log.as_slice();
-        assert_eq!(rt; node_plain::known(alloc, log, copy)?, copy.verdict);
-        assert_eq!(rt; node_plain::uses(alloc, log, copy.gateway, copy.number)?, 1);
-        match copy.command {
-            None => Ok(()),
-            Some(command) => self.command_is_told(rt, alloc, copy.gateway, command),
+    fn copy_is_told(&self, rt: &impl Abort, alloc: Global, copy: PacketCopy) {
+        let known = had(rt, node_plain::known(alloc, &self.log, copy));
+        assert_eq!(rt; known, copy.verdict);
+        self.is_used(rt, alloc, copy.gateway, copy.number, 1);
+        if let Some(command) = copy.command {
+            self.command_is_told(rt, alloc, copy.gateway, command);
         }
     }
 
-    fn command_is_told(
-        &self,
-        rt: &impl Abort,
-        alloc: Global,
-        gateway: u8,
-        command: Command,
-    ) -> Result<(), Fail> {
-        let log = self.log.as_slice();
-        let is_fulfilled = node_plain::is_fulfilled_by(alloc, log, gateway, command.number)?;
-        assert_eq!(rt; is_fulfilled, command.is_answered);
-        assert_eq!(rt; node_plain::uses(alloc, log, gateway, command.number)?, 1);
-        Ok(())
+    fn command_is_told(&self, rt: &impl Abort, alloc: Global, gateway: u8, command: Command) {
+        let fulfilled = node_plain::is_fulfilled_by(alloc, &self.log, gateway, command.number);
+        assert_eq!(rt; had(rt, fulfilled), command.is_answered);
+        self.is_used(rt, alloc, gateway, command.number, 1);
     }
 }
 

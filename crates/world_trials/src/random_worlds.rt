@@ -2,13 +2,13 @@
 //! has octets of its own: after each event these are looked for in the firm parts of all histories.
 ghost use Rattle.std.specs.Prelude.{◌<◌};
 
+use crate::calls::{does, had, moment, stepped};
 use gateway_book::{FiledRecord, filed};
-use gw_base::{HistoryAct, KeyState, Moment, Octets, scan};
-use node_core::Phase;
+use gw_base::{HistoryAct, HistoryEntry, KeyState, Octets, scan};
+use node_core::{Node, Phase};
 use once_core::{Event, Stepped, World};
 use std::alloc::Global;
 use std::process::Abort;
-use std::test::Fail;
 
 /// The seeds of the worlds, and how many events each has. `bench/world.sh` takes others.
 const SEEDS: [u64; 3] = [26, 163, 124];
@@ -81,25 +81,24 @@ fn record_of(taken: Taken, index: u8) -> [u8; 8] {
 }
 
 /// A packet of two records, of format 1 and version 0x0600.
-fn packet_of(alloc: Global, taken: Taken) -> Result<Octets, Fail> {
+fn packet_of<R: Abort>(rt: &R, alloc: Global, taken: Taken) -> Octets {
     let (node, high, low) = (taken.node, high_of(taken), low_of(taken));
     let octets = [
         2, 1, 6, 0, 0, 8, 0xA0, 6, 0x80, 4, node, high, low, 0, 0, 8, 0xA0, 6, 0x80, 4, node, high,
         low, 1,
     ];
-    Ok(Octets::of(alloc, &octets)?)
+    had(rt, Octets::of(alloc, &octets))
 }
 
 /// A node is given its next packet.
-fn submission(alloc: Global, world: &World, node: u8) -> Result<Event, Fail> {
+fn submission<R: Abort>(rt: &R, alloc: Global, world: &World, node: u8) -> Event {
     let place = node.saturating_sub(1);
-    let number = packets_at(world, place).saturating_add(1);
     let taken = Taken {
         node: place,
-        number,
+        number: packets_at(world, place).saturating_add(1),
     };
-    let packet = packet_of(alloc, taken)?;
-    Ok(Event::Submit { node, packet })
+    let packet = packet_of(rt, alloc, taken);
+    Event::Submit { node, packet }
 }
 
 /// How many packets the node in this place took.
@@ -111,12 +110,12 @@ fn packets_at(world: &World, node: u8) -> u64 {
 }
 
 /// What happens next. Half of it are messages, mostly late ones.
-fn draw(alloc: Global, lots: &mut Lots, world: &World) -> Result<Event, Fail> {
+fn draw<R: Abort>(rt: &R, alloc: Global, lots: &mut Lots, world: &World) -> Event {
     let lot = lots.below(24);
     if lot == 0 {
-        submission(alloc, world, lots.node())
+        submission(rt, alloc, world, lots.node())
     } else {
-        Ok(drawn(lots, world.messages().len() as u64, lot))
+        drawn(lots, world.messages().len() as u64, lot)
     }
 }
 
@@ -163,35 +162,39 @@ fn rare(lots: &mut Lots) -> Event {
     }
 }
 
-/// Plays an event that the world allows.
-fn does<R: Abort>(rt: &R, alloc: Global, world: &mut World, event: &Event) {
-    assert!(rt; matches!(world.step(alloc, event), Stepped::Done { .. }));
-}
-
 /// The messages behind these first ones are delivered, up to the last so far: how many are now no
 /// longer under way.
 fn flow<R: Abort>(rt: &R, alloc: Global, world: &mut World, before: u64) -> u64 {
     let sent = world.messages().len() as u64;
     for place in before..sent {
-        let message = place.saturating_add(1);
-        does(rt, alloc, world, &Event::Deliver { message });
+        delivers(rt, alloc, world, place.saturating_add(1));
     }
     sent
+}
+
+fn delivers<R: Abort>(rt: &R, alloc: Global, world: &mut World, message: u64) {
+    does(rt, alloc, world, &Event::Deliver { message });
 }
 
 /// Both nodes ask whether the gateways are alive, and these make firm what they learn of them.
 fn ticks<R: Abort>(rt: &R, alloc: Global, world: &mut World) {
     for place in 0..NODES {
-        let node = place.saturating_add(1);
-        does(rt, alloc, world, &Event::Tick { node });
+        asks(rt, alloc, world, place.saturating_add(1));
     }
+}
+
+fn asks<R: Abort>(rt: &R, alloc: Global, world: &mut World, node: u8) {
+    does(rt, alloc, world, &Event::Tick { node });
 }
 
 fn commits<R: Abort>(rt: &R, alloc: Global, world: &mut World) {
     for place in 0..GATEWAYS {
-        let gateway = place.saturating_add(1);
-        does(rt, alloc, world, &Event::Commit { gateway });
+        commits_one(rt, alloc, world, place.saturating_add(1));
     }
+}
+
+fn commits_one<R: Abort>(rt: &R, alloc: Global, world: &mut World, gateway: u8) {
+    does(rt, alloc, world, &Event::Commit { gateway });
 }
 
 /// Both nodes become alive at all gateways.
@@ -205,27 +208,31 @@ fn become_alive<R: Abort>(rt: &R, alloc: Global, world: &mut World) {
 }
 
 /// Notes which packets of the present start of this node are resolved.
-fn note(resolved: &mut Vec<Taken>, node: u8, world: &World) -> Result<(), Fail> {
-    let Some(kept) = world.nodes().get(usize::from(node)) else {
-        return Err(Fail::new("no node"));
+fn note<R: Abort>(rt: &R, resolved: &mut Vec<Taken>, world: &World, place: u8) {
+    let Some(kept) = world.nodes().get(usize::from(place)) else {
+        panic!(rt; "no node");
     };
-    for before in 0..kept.node().counts().packets {
-        let number = before.saturating_add(1);
-        let taken = Taken { node, number };
-        let phase = kept.node().phase(number);
-        let is_resolved = phase == Phase::Resolved || phase == Phase::Done;
-        if is_resolved && !resolved.contains(&taken) {
-            resolved.push(taken)?;
-        }
+    for before in 0..packets_at(world, place) {
+        let taken = Taken {
+            node: place,
+            number: before.saturating_add(1),
+        };
+        note_one(rt, resolved, kept.node(), taken);
     }
-    Ok(())
 }
 
-fn note_all(resolved: &mut Vec<Taken>, world: &World) -> Result<(), Fail> {
-    for node in 0..NODES {
-        note(resolved, node, world)?;
+fn note_one<R: Abort>(rt: &R, resolved: &mut Vec<Taken>, node: &Node, taken: Taken) {
+    let phase = node.phase(taken.number);
+    let is_resolved = phase == Phase::Resolved || phase == Phase::Done;
+    if is_resolved && !resolved.contains(&taken) {
+        assert!(rt; resolved.push(taken).is_ok());
     }
-    Ok(())
+}
+
+fn note_all<R: Abort>(rt: &R, resolved: &mut Vec<Taken>, world: &World) {
+    for place in 0..NODES {
+        note(rt, resolved, world, place);
+    }
 }
 
 /// How many of these records have these octets.
@@ -245,89 +252,101 @@ fn places(records: &[Vec<FiledRecord>], octets: &[u8]) -> usize {
     found
 }
 
-/// Whether both records of a packet stand as often as they should.
-fn is_packet_once(records: &[Vec<FiledRecord>], taken: Taken, is_resolved: bool) -> bool {
-    for index in 0..2 {
-        let found = places(records, &record_of(taken, index));
-        if found > 1 || is_resolved && found == 0 {
-            return false;
-        }
-    }
-    true
+/// Whether a record of a packet stands as often as it should.
+fn is_record_once(records: &[Vec<FiledRecord>], record: &[u8], is_resolved: bool) -> bool {
+    let found = places(records, record);
+    found == 1 || found == 0 && !is_resolved
 }
 
-/// Whether this is so of all packets that a node took.
-fn are_once(world: &World, records: &[Vec<FiledRecord>], node: u8, resolved: &[Taken]) -> bool {
+/// Whether both records of a packet do.
+fn is_packet_once(records: &[Vec<FiledRecord>], taken: Taken, is_resolved: bool) -> bool {
+    is_record_once(records, &record_of(taken, 0), is_resolved)
+        && is_record_once(records, &record_of(taken, 1), is_resolved)
+}
+
+/// Both records of each packet that a node took stand as often as they should.
+fn are_once<R: Abort>(
+    rt: &R,
+    world: &World,
+    records: &[Vec<FiledRecord>],
+    node: u8,
+    resolved: &[Taken],
+) {
     for before in 0..packets_at(world, node) {
         let number = before.saturating_add(1);
         let taken = Taken { node, number };
-        if !is_packet_once(records, taken, resolved.contains(&taken)) {
-            return false;
-        }
+        assert!(rt; is_packet_once(records, taken, resolved.contains(&taken)));
     }
-    true
 }
 
-/// The records that each gateway filed. There are none of a copy that is held or was cancelled.
-fn records_of<R: Abort>(
-    rt: &R,
-    alloc: Global,
-    world: &World,
-) -> Result<Vec<Vec<FiledRecord>>, Fail> {
+/// The records that a gateway filed. There are none of a copy that is held or was cancelled.
+fn filed_by<R: Abort>(rt: &R, alloc: Global, firm: &[HistoryEntry]) -> Vec<FiledRecord> {
+    let records = had(rt, filed(alloc, firm));
+    are_filed(rt, firm, &records);
+    records
+}
+
+fn are_filed<R: Abort>(rt: &R, firm: &[HistoryEntry], records: &[FiledRecord]) {
+    for record in records {
+        let state = scan::state(firm, record.key);
+        assert!(rt; state == KeyState::Filed || state == KeyState::Released);
+    }
+}
+
+/// The records that each gateway filed.
+fn records_of<R: Abort>(rt: &R, alloc: Global, world: &World) -> Vec<Vec<FiledRecord>> {
     let mut records = Vec::new(alloc);
     for gateway in world.gateways() {
-        let firm = gateway.firm();
-        let all = filed(alloc, firm)?;
-        for record in &all {
-            let state = scan::state(firm, record.key);
-            assert!(rt; state == KeyState::Filed || state == KeyState::Released);
-        }
-        records.push(all)?;
+        assert!(rt; records.push(filed_by(rt, alloc, gateway.firm())).is_ok());
     }
-    Ok(records)
+    records
 }
 
 /// Each record of each packet stands as often as it should.
-fn check<R: Abort>(rt: &R, alloc: Global, world: &World, resolved: &[Taken]) -> Result<(), Fail> {
-    let records = records_of(rt, alloc, world)?;
+fn check<R: Abort>(rt: &R, alloc: Global, world: &World, resolved: &[Taken]) {
+    let records = records_of(rt, alloc, world);
     for node in 0..NODES {
-        assert!(rt; are_once(world, &records, node, resolved));
+        are_once(rt, world, &records, node, resolved);
     }
-    Ok(())
 }
 
 /// The clock moves to this minute.
-fn goes_on(alloc: Global, world: &mut World, minute: u64) {
-    if let Some(now) = Moment::of(minute.saturating_mul(60)) {
-        let _ = world.step(alloc, &Event::Moment { now });
-    }
+fn goes_on<R: Abort>(rt: &R, alloc: Global, world: &mut World, minute: u64) {
+    let now = moment(rt, minute.saturating_mul(60));
+    does(rt, alloc, world, &Event::Moment { now });
 }
 
 /// An event happens, which the world may refuse.
-fn happens<R: Abort>(
+fn happens<R: Abort>(rt: &R, alloc: Global, world: &mut World, lots: &mut Lots) {
+    let event = draw(rt, alloc, lots, world);
+    assert!(rt; stepped(alloc, world, &event) != Stepped::NoMemory);
+}
+
+/// A minute passes, in which an event happens.
+fn passes<R: Abort>(
     rt: &R,
     alloc: Global,
     world: &mut World,
     lots: &mut Lots,
-) -> Result<(), Fail> {
-    let event = draw(alloc, lots, world)?;
-    assert!(rt; world.step(alloc, &event) != Stepped::NoMemory);
-    Ok(())
+    resolved: &mut Vec<Taken>,
+    minute: u64,
+) {
+    goes_on(rt, alloc, world, minute);
+    happens(rt, alloc, world, lots);
+    note_all(rt, resolved, world);
+    check(rt, alloc, world, resolved);
 }
 
 /// The world of this seed after all its events.
-fn run<R: Abort>(rt: &R, alloc: Global, seed: u64) -> Result<World, Fail> {
-    let mut world = World::new(alloc, GATEWAYS, NODES)?;
+fn run<R: Abort>(rt: &R, alloc: Global, seed: u64) -> World {
+    let mut world = had(rt, World::new(alloc, GATEWAYS, NODES));
     let mut lots = Lots { state: seed };
     let mut resolved = Vec::new(alloc);
     become_alive(rt, alloc, &mut world);
     for minute in 0..EVENTS {
-        goes_on(alloc, &mut world, minute);
-        happens(rt, alloc, &mut world, &mut lots)?;
-        note_all(&mut resolved, &world)?;
-        check(rt, alloc, &world, &resolved)?;
+        passes(rt, alloc, &mut world, &mut lots, &mut resolved, minute);
     }
-    Ok(world)
+    world
 }
 
 /// With an entry more.
@@ -341,21 +360,26 @@ fn with_entry(mut seen: Seen, act: &HistoryAct) -> Seen {
     seen
 }
 
+fn with_entries(mut seen: Seen, entries: &[HistoryEntry]) -> Seen {
+    for entry in entries {
+        seen = with_entry(seen, &entry.act);
+    }
+    seen
+}
+
 /// With a world more.
 fn with_world(mut seen: Seen, world: &World) -> Seen {
     for kept in world.nodes() {
         seen.resolved = seen.resolved.saturating_add(kept.node().counts().resolved);
     }
     for gateway in world.gateways() {
-        for entry in gateway.firm() {
-            seen = with_entry(seen, &entry.act);
-        }
+        seen = with_entries(seen, gateway.firm());
     }
     seen
 }
 
 #[test]
-fn each_record_is_filed_once_in_random_worlds(rt: HostRuntime) -> Result<(), Fail> {
+fn each_record_is_filed_once_in_random_worlds(rt: HostRuntime) {
     let mut seen = Seen {
         resolved: 0,
         seals: 0,
@@ -363,10 +387,8 @@ fn each_record_is_filed_once_in_random_worlds(rt: HostRuntime) -> Result<(), Fai
         cancels: 0,
     };
     for seed in SEEDS {
-        let world = run(&rt, rt.alloc(), seed)?;
-        seen = with_world(seen, &world);
+        seen = with_world(seen, &run(&rt, rt.alloc(), seed));
     }
     assert!(rt; seen.resolved > 0 && seen.seals > 0);
     assert!(rt; seen.releases > 0 && seen.cancels > 0);
-    Ok(())
 }

@@ -1,7 +1,14 @@
 //! Stories of a node and two or three gateways, and what each comes to, octet for octet.
 
+use gw_base::{HistoryAct, HistoryEntry, NodeId, Octets};
+
 /// A packet of one record, of format 1 and version 0x0600.
 pub(crate) const PACKET: [u8; 11] = [1, 1, 6, 0, 0, 5, 0xA0, 3, 0x80, 1, 5];
+
+/// The node of the stories, and the first of its ports.
+pub(crate) const NODE: NodeId = NodeId(0x0A00_0101);
+
+const PORT: u16 = 40_001;
 
 /// What happens to the node, to a gateway or to a message.
 #[derive(Clone, Copy)]
@@ -36,6 +43,51 @@ pub(crate) enum Kind {
 }
 
 use Kind::{Cancelled, Closed, Filed, Held, Learnt, Opened, Released, Sealed};
+
+fn is_packet(node: NodeId, packet: &Octets) -> bool {
+    node == NODE && packet.octets() == PACKET.as_slice()
+}
+
+/// The one number that a list of the node's names.
+fn named(node: NodeId, numbers: &[u64]) -> Option<u64> {
+    match numbers {
+        [number] if node == NODE => Some(*number),
+        _ => None,
+    }
+}
+
+/// What an entry records, where it is of the stories' node and packet.
+pub(crate) fn kind_of(entry: &HistoryEntry) -> Kind {
+    match &entry.act {
+        HistoryAct::Start => Kind::Opened,
+        HistoryAct::Path {
+            node,
+            port,
+            counter,
+        } if *node == NODE && *port == PORT => Kind::Learnt(*counter),
+        HistoryAct::File {
+            node,
+            number,
+            packet,
+        } if is_packet(*node, packet) => Kind::Filed(*number),
+        HistoryAct::Hold {
+            node,
+            number,
+            packet,
+        } if is_packet(*node, packet) => Kind::Held(*number),
+        HistoryAct::Seal { node, number } if *node == NODE => Kind::Sealed(*number),
+        HistoryAct::Release { node, numbers } => match named(*node, numbers.numbers()) {
+            Some(number) => Kind::Released(number),
+            None => Kind::Other,
+        },
+        HistoryAct::Cancel { node, numbers } => match named(*node, numbers.numbers()) {
+            Some(number) => Kind::Cancelled(number),
+            None => Kind::Other,
+        },
+        HistoryAct::Close => Kind::Closed,
+        _ => Kind::Other,
+    }
+}
 
 /// A story: how the node becomes alive, what happens then, the messages that are sent then, the
 /// entries of each gateway at the end, once its files are closed, all of them firm, and whether each
