@@ -1,5 +1,5 @@
 //! Two sessions on two threads that share a gateway's book, whose device fails now and then.
-ghost use Rattle.std.specs.Prelude.{◌≡◌, IfSome};
+ghost use Rattle.std.specs.Prelude.{◌≡◌};
 ghost use Rattle.turn_cell.specs.Cell.{ArePassesOf, AreNew, IsPassOf, begun, knowledge};
 ghost use Rattle.gateway_book.specs.Turning.{facts_of};
 
@@ -9,8 +9,8 @@ use gateway_book::laws::a_turn_owes;
 use gateway_book::{Book, Marked, Outcome, Receipt, Settled, Setup, prepare};
 use gw_base::{Addr, Caller, Item, Moment};
 use std::alloc::Global;
+use std::process::Abort;
 use std::sync::Wait;
-use std::test::Fail;
 use std::thread::{self, Threads};
 use turn_cell::{Pass, Turn, TurnCell};
 
@@ -83,7 +83,7 @@ impl<A: Area> Turn<Book<A>> for Committing {
 
 // What became of a session's requests: a bit each for those that were told to be firm, and how many were lost, and how
 // many weren't accepted.
-#[derive(Clone, Copy, Debug, PartialEq, Eq)]
+#[derive(Clone, Copy)]
 struct Told {
     firm: u64,
     lost: u64,
@@ -197,33 +197,62 @@ fn two_at_once<R: Threads + Wait + Sync>(
 }
 
 // The two passes of a cell that has just been made, the first one first.
-fn both(cell: &Cell, mut passes: Vec<Pass>) -> Option<(Pass, Pass, Vec<Pass>)>
+fn both<R: Abort>(rt: &R, cell: &Cell, mut passes: Vec<Pass>) -> (Pass, Pass, Vec<Pass>)
     requires { AreNew cell.now.table.shared.table_id (facts_of (begun cell.now)) 2 passes.items }
-    ensures a { IfSome result (λ made. IsPassOf cell.now made.0 × ((knowledge made.0).number ≡ 0)) }
-    ensures b { IfSome result (λ made. IsPassOf cell.now made.1 × ((knowledge made.1).number ≡ 1)) }
-    ensures rest { IfSome result (λ made. ArePassesOf cell.now made.2.items) }
+    ensures a { IsPassOf cell.now result.0 × ((knowledge result.0).number ≡ 0) }
+    ensures b { IsPassOf cell.now result.1 × ((knowledge result.1).number ≡ 1) }
+    ensures rest { ArePassesOf cell.now result.2.items }
 {
-    let b = passes.pop()?;
-    let a = passes.pop()?;
-    Some((a, b, passes))
+    let Some(b) = passes.pop() else {
+        panic!(rt; "no pass");
+    };
+    let Some(a) = passes.pop() else {
+        panic!(rt; "no other pass");
+    };
+    (a, b, passes)
 }
 
-// A book on an area in memory, of whose calls the 12th, the 13th, the 30th and the 52nd fail. The 12th is a commit's,
-// and the next an opening's again.
-fn opened(alloc: Global) -> Option<Book<MemoryArea>> {
+// A device of whose calls the 12th, the 13th, the 30th and the 52nd fail. The 12th is a commit's, and the next an
+// opening's again.
+fn plan<R: Abort>(rt: &R, alloc: Global) -> Plan {
     let mut fail = Vec::new(alloc);
-    fail.extend_from_slice(&[12, 13, 30, 52]).ok()?;
-    let plan = Plan {
+    assert!(rt; fail.extend_from_slice(&[12, 13, 30, 52]).is_ok());
+    Plan {
         fail,
         read_fail: Vec::new(alloc),
         stop: None,
+    }
+}
+
+// A book on an area in memory of such a device.
+fn opened<R: Abort>(rt: &R, alloc: Global) -> Book<MemoryArea> {
+    let Ok(area) = MemoryArea::new(alloc, 50_000, plan(rt, alloc)) else {
+        panic!(rt; "no memory");
     };
-    let area = MemoryArea::new(alloc, 50_000, plan).ok()?;
     let setup = Setup {
         address: 0x0A00_0001,
         open_time: 60,
     };
-    Book::open(alloc, area, setup).ok()
+    match Book::open(alloc, area, setup) {
+        Ok(book) => book,
+        Err(_) => panic!(rt; "not opened"),
+    }
+}
+
+// The bit of the request of a session whose record this is.
+fn bit_of(item: &Item, session: u8) -> Option<u64> {
+    let Item::Part { octets, .. } = item else {
+        return None;
+    };
+    let [.., record] = octets.octets() else {
+        return None;
+    };
+    let serial = record.wrapping_sub(session.wrapping_mul(100));
+    if serial < 50 {
+        Some(1u64.wrapping_shl(serial as u32))
+    } else {
+        None
+    }
 }
 
 // A bit for each request of a session whose record is filed, and whether one is filed twice.
@@ -231,56 +260,66 @@ fn filed(items: &[Item], session: u8) -> (u64, bool) {
     let mut found = 0u64;
     let mut twice = false;
     for item in items {
-        if let Item::Part { octets, .. } = item
-            && let [.., record] = octets.octets()
-        {
-            let serial = record.wrapping_sub(session.wrapping_mul(100));
-            if serial < 50 {
-                let bit = 1u64.wrapping_shl(serial as u32);
-                twice = twice || found & bit != 0;
-                found |= bit;
-            }
-        }
+        let bit = bit_of(item, session).unwrap_or(0);
+        twice = twice || found & bit != 0;
+        found |= bit;
     }
     (found, twice)
 }
 
 // A cell with a book, and the passes of two sessions, the first one first.
-fn made(alloc: Global, book: Book<MemoryArea>) -> Option<(Cell, Pass, Pass, Vec<Pass>)>
-    ensures a { IfSome result (λ made. IsPassOf made.0 made.1 × ((knowledge made.1).number ≡ 0)) }
-    ensures b { IfSome result (λ made. IsPassOf made.0 made.2 × ((knowledge made.2).number ≡ 1)) }
-    ensures rest { IfSome result (λ made. ArePassesOf made.0 made.3.items) }
+fn made<R: Abort>(rt: &R, alloc: Global, book: Book<MemoryArea>) -> (Cell, Pass, Pass, Vec<Pass>)
+    ensures a { IsPassOf result.0 result.1 × ((knowledge result.1).number ≡ 0) }
+    ensures b { IsPassOf result.0 result.2 × ((knowledge result.2).number ≡ 1) }
+    ensures rest { ArePassesOf result.0 result.3.items }
 {
     let Ok((cell, passes)) = TurnCell::new(alloc, book, 2) else {
-        return None;
+        panic!(rt; "no memory");
     };
-    let (a, b, passes) = both(&cell, passes)?;
-    Some((cell, a, b, passes))
+    let (a, b, passes) = both(rt, &cell, passes);
+    (cell, a, b, passes)
 }
 
 // Gives a pass back.
-fn back(cell: &Cell, mut passes: Vec<Pass>, pass: Pass) -> Option<Vec<Pass>>
-    requires { ArePassesOf cell.now passes.items × IsPassOf cell.now pass }
-    ensures { IfSome result (λ all. ArePassesOf cell.now all.items) }
+fn back<R: Abort>(rt: &R, cell: &Cell, passes: &mut Vec<Pass>, pass: Pass)
+    requires { ArePassesOf cell.now passes.old.items × IsPassOf cell.now pass }
+    ensures { ArePassesOf cell.now passes.new.items }
 {
-    passes.push(pass).ok()?;
-    Some(passes)
+    match passes.push(pass) {
+        Ok(()) => {}
+        Err(_) => panic!(rt; "no memory"),
+    }
+}
+
+// The book of a cell whose passes are all given.
+fn ended<R: Abort>(rt: &R, cell: Cell, passes: Vec<Pass>) -> Book<MemoryArea>
+    requires { ArePassesOf cell passes.items }
+{
+    match cell.finish(passes) {
+        Ok(book) => book,
+        Err(_) => panic!(rt; "not ended"),
+    }
+}
+
+fn moment<R: Abort>(rt: &R) -> Moment {
+    let Some(now) = Moment::of(1_709_164_800) else {
+        panic!(rt; "no moment");
+    };
+    now
 }
 
 // What was told of the requests of both sessions, what became of marks behind them, and the book as they left it.
-fn shared<R: Threads + Wait + Sync>(
+fn shared<R: Threads + Wait + Sync + Abort>(
     rt: &R,
     alloc: Global,
-) -> Option<(Told, Told, Marks, Book<MemoryArea>)> {
-    let now = Moment::of(1_709_164_800)?;
-    let book = opened(alloc)?;
-    let (cell, a, b, passes) = made(alloc, book)?;
+) -> (Told, Told, Marks, Book<MemoryArea>) {
+    let now = moment(rt);
+    let (cell, a, b, mut passes) = made(rt, alloc, opened(rt, alloc));
     let (one, two, a, b) = two_at_once(rt, &cell, a, b, now);
     let (marks, b) = mark(rt, &cell, b, 1, now);
-    let passes = back(&cell, passes, a)?;
-    let passes = back(&cell, passes, b)?;
-    let book = cell.finish(passes).ok()?;
-    Some((one, two, marks, book))
+    back(rt, &cell, &mut passes, a);
+    back(rt, &cell, &mut passes, b);
+    (one, two, marks, ended(rt, cell, passes))
 }
 
 // Each request was answered, and each that was told to be firm is filed, once.
@@ -292,23 +331,26 @@ fn keeps(items: &[Item], session: u8, told: Told) -> bool {
         && firm.wrapping_add(told.lost).wrapping_add(told.failed) == REQUESTS
 }
 
+// What the book files, behind a commit, which tells that what was answered at first is lost.
+fn items<R: Abort>(rt: &R, alloc: Global, book: &mut Book<MemoryArea>) -> Vec<Item> {
+    assert!(rt; book.commit().is_ok());
+    assert_eq!(rt; book.settled(0, 0), Settled::Lost { faults: 4 });
+    match book.items(alloc, 0, 1000) {
+        Ok(items) => items,
+        Err(_) => panic!(rt; "no items"),
+    }
+}
+
 #[test]
-fn what_two_sessions_are_told_is_firm_stays_whatever_fails(rt: HostRuntime) -> Result<(), Fail> {
-    let Some((one, two, marks, mut book)) = shared(&rt, rt.alloc()) else {
-        panic!(&rt; "no memory")
-    };
+fn what_two_sessions_are_told_is_firm_stays_whatever_fails(rt: HostRuntime) {
+    let (one, two, marks, mut book) = shared(&rt, rt.alloc());
     // Files are open: the first Tick is due, and a Close; behind that no other.
     assert!(rt; matches!(marks.tick, Marked::Made { .. }));
     assert!(rt; matches!(marks.close, Marked::Made { .. }));
     assert_eq!(rt; marks.another, Marked::NotDue);
-    assert!(rt; book.commit().is_ok());
-    assert_eq!(rt; book.settled(0, 0), Settled::Lost { faults: 4 });
-    let Ok(items) = book.items(rt.alloc(), 0, 1000) else {
-        panic!(&rt; "no items")
-    };
+    let items = items(&rt, rt.alloc(), &mut book);
     assert!(rt; matches!(items.last(), Some(Item::Close { .. })));
     assert!(rt; keeps(&items, 0, one));
     assert!(rt; keeps(&items, 1, two));
     assert!(rt; one.lost.wrapping_add(two.lost) > 0);
-    Ok(())
 }

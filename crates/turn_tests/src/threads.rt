@@ -1,11 +1,11 @@
 //! Two passes that take turns one after the other, and on two threads at once.
-ghost use Rattle.std.specs.Prelude.{◌≡◌, false, [], None, IfSome};
+ghost use Rattle.std.specs.Prelude.{◌≡◌, false, [], None};
 ghost use Rattle.turn_cell.specs.Cell.{ArePassesOf, IsPassOf};
 
 use gw_base::Counted;
 use std::alloc::Global;
+use std::process::Abort;
 use std::sync::Wait;
-use std::test::Fail;
 use std::thread::{self, Threads};
 use turn_cell::{Pass, Turn, TurnCell};
 
@@ -95,40 +95,81 @@ fn two_at_once<R: Threads + Wait + Sync>(
 }
 
 // The next pass of a list.
-fn last_of(cell: &TurnCell<Tally>, passes: &mut Vec<Pass>) -> Option<Pass>
+fn last_of<R: Abort>(rt: &R, cell: &TurnCell<Tally>, passes: &mut Vec<Pass>) -> Pass
     requires { ArePassesOf cell.now passes.old.items }
-    ensures pass { IfSome result (IsPassOf cell.now) }
+    ensures pass { IsPassOf cell.now result }
     ensures others { ArePassesOf cell.now passes.new.items }
 {
-    passes.pop()
+    let Some(pass) = passes.pop() else {
+        panic!(rt; "no pass");
+    };
+    pass
 }
 
-// The number that a cell ends with, how often less was seen than should be, and whether one pass of two was refused;
-// None for want of memory.
-fn raised_by_two<R: Threads + Wait + Sync>(rt: &R, alloc: Global) -> Option<(u64, u64, bool)> {
-    let Ok((cell, mut passes)) = TurnCell::new(alloc, Tally { count: 7 }, 2) else {
-        return None;
-    };
-    let b = last_of(&cell, &mut passes)?;
-    let a = last_of(&cell, &mut passes)?;
+// A cell with the number 7, and its two passes.
+fn made<R: Abort>(rt: &R, alloc: Global) -> (TurnCell<Tally>, Vec<Pass>)
+    ensures { ArePassesOf result.0 result.1.items }
+{
+    match TurnCell::new(alloc, Tally { count: 7 }, 2) {
+        Ok(made) => made,
+        Err(_) => panic!(rt; "no memory"),
+    }
+}
+
+// Gives a pass back.
+fn back<R: Abort>(rt: &R, cell: &TurnCell<Tally>, passes: &mut Vec<Pass>, pass: Pass)
+    requires { ArePassesOf cell.now passes.old.items × IsPassOf cell.now pass }
+    ensures { ArePassesOf cell.now passes.new.items }
+{
+    match passes.push(pass) {
+        Ok(()) => {}
+        Err(_) => panic!(rt; "no memory"),
+    }
+}
+
+// The cell and the passes that come back where one pass of two is missing.
+fn too_early<R: Abort>(
+    rt: &R,
+    cell: TurnCell<Tally>,
+    passes: Vec<Pass>,
+) -> (TurnCell<Tally>, Vec<Pass>)
+    requires { ArePassesOf cell passes.items }
+    ensures cell { result.0 ≡ cell }
+    ensures passes { result.1 ≡ passes }
+{
+    match cell.finish(passes) {
+        Ok(_) => panic!(rt; "ended with one pass"),
+        Err((missing, cell, passes)) => {
+            assert!(rt; missing.wanted == 2 && missing.given == 1);
+            (cell, passes)
+        }
+    }
+}
+
+// The number that a cell ends with.
+fn ended<R: Abort>(rt: &R, cell: TurnCell<Tally>, passes: Vec<Pass>) -> u64
+    requires { ArePassesOf cell passes.items }
+{
+    match cell.finish(passes) {
+        Ok(tally) => tally.count,
+        Err(_) => panic!(rt; "not ended"),
+    }
+}
+
+// The number that a cell ends with, and how often less was seen than should be. One pass of two is refused.
+fn raised_by_two<R: Threads + Wait + Sync + Abort>(rt: &R, alloc: Global) -> (u64, u64) {
+    let (cell, mut passes) = made(rt, alloc);
+    let b = last_of(rt, &cell, &mut passes);
+    let a = last_of(rt, &cell, &mut passes);
     let (alone, a) = raise_many(rt, &cell, a, 100);
     let (at_once, a, b) = two_at_once(rt, &cell, a, b);
-    passes.push(a).ok()?;
-    let (missed, cell, mut passes) = match cell.finish(passes) {
-        Ok(_) => return None,
-        Err((missing, cell, passes)) => (missing.wanted == 2 && missing.given == 1, cell, passes),
-    };
-    passes.push(b).ok()?;
-    let Ok(tally) = cell.finish(passes) else {
-        return None;
-    };
-    Some((tally.count, alone.wrapping_add(at_once), missed))
+    back(rt, &cell, &mut passes, a);
+    let (cell, mut passes) = too_early(rt, cell, passes);
+    back(rt, &cell, &mut passes, b);
+    (ended(rt, cell, passes), alone.wrapping_add(at_once))
 }
 
 #[test]
-fn turns_of_two_passes_come_one_at_a_time_and_a_cell_ends_with_both(
-    rt: HostRuntime,
-) -> Result<(), Fail> {
-    assert!(rt; raised_by_two(&rt, rt.alloc()) == Some((1107, 0, true)));
-    Ok(())
+fn turns_of_two_passes_come_one_at_a_time_and_a_cell_ends_with_both(rt: HostRuntime) {
+    assert_eq!(rt; raised_by_two(&rt, rt.alloc()), (1107, 0));
 }
