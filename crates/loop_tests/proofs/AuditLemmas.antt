@@ -1,7 +1,5 @@
 -- The node of an audit keeps its packets, since it ran as those of a loop do.
-use Rattle.std.proofs.Common.{◌≡◌, ℕ, List, Result, Ok, Err, Some, refl, subst, sym, arith}
-use Rattle.std.specs.Prelude.{IfOk}
-use Rattle.std.specs.Result.{result_ok}
+use Rattle.std.proofs.Common.{◌≡◌, ℕ, List, subst, sym, arith}
 use Rattle.loop_audit.specs.Standing.{KeepsAll}
 use Rattle.loop_run.specs.Addresses.{IsLoop}
 use Rattle.loop_run.specs.Looped.{node_made}
@@ -14,14 +12,6 @@ use Rattle.node_run.specs.declared.linked.LinkedNode.{LinkedNode}
 use Rattle.node_run.specs.declared.linked.NodeEnd.{NodeEnd}
 use Rattle.node_run.specs.declared.linked.NodeEnd.TheVariants as end
 use Rattle.node_run.specs.declared.linked.Work.{Work}
-
-told : {X E : Type 0} (made : Result X E) (x : X) → result_ok made ≡ Some x → made ≡ Ok x
-told (Ok y) x e = cc
-told (Err fault) x e = cc
-
--- what holds of a value that is made holds of the one that was
-pub holds_of : {X E : Type 0} (P : X → Type 0) (made : Result X E) (x : X) → IfOk made P → result_ok made ≡ Some x → P x
-holds_of {X = X} {E = E} P made x holds e = subst (λ (r : Result X E). IfOk r P) (told made x e) holds
 
 -- a loop that has the node
 abbrev pub of_two : LoopSetup

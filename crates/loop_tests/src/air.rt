@@ -11,8 +11,8 @@ use rand_core::SeedableRng;
 use rand_core::utils::NextWord;
 use rand_pcg::Pcg32;
 use std::alloc::Global;
+use std::process::Abort;
 use std::sync::{Mutex, Wait};
-use std::test::Fail;
 use std::thread::{self, Threads};
 use std::time::{Clock, Duration};
 
@@ -151,15 +151,18 @@ impl<'a, R: Wait + Clock> Links for Air<'a, R> {
     }
 }
 
-/// How a loop over such a network ends, and what it ran. It is `None` for want of memory.
-pub(crate) fn air_over<R: Threads + Wait + Clock + Sync>(
+/// How a loop over such a network ends, and what it ran.
+fn air_over<R: Threads + Wait + Clock + Sync + Abort>(
     rt: &R,
     alloc: Global,
     seed: u64,
     setup: LoopSetup,
-) -> Option<(LoopEnd, Looped)>
+) -> (LoopEnd, Looped)
     requires { IsLoop setup }
 {
+    let Ok(made) = MemoryLinks::new(alloc, Vec::new(alloc), 0, Vec::new(alloc)) else {
+        panic!(rt; "no memory");
+    };
     let sky = Mutex::new(Sky {
         flights: Vec::new(alloc),
         words: Pcg32::seed_from_u64(seed),
@@ -168,9 +171,9 @@ pub(crate) fn air_over<R: Threads + Wait + Clock + Sync>(
         rt,
         alloc,
         sky: &sky,
-        made: MemoryLinks::new(alloc, Vec::new(alloc), 0, Vec::new(alloc)).ok()?,
+        made,
     };
-    Some(run_loop(rt, alloc, setup, &mut air))
+    run_loop(rt, alloc, setup, &mut air)
 }
 
 /// Whether a loop was fine, or ended with packets that aren't done.
@@ -178,17 +181,25 @@ fn is_sound(end: &LoopEnd) -> bool {
     matches!(end, LoopEnd::Fine { .. } | LoopEnd::Unfinished { .. })
 }
 
-#[test]
-fn losses_repeats_and_delays_file_no_packet_twice(rt: HostRuntime) -> Result<(), Fail> {
+/// Whether a loop of three gateways is, with these words.
+fn is_sound_with<R: Threads + Wait + Clock + Sync + Abort>(
+    rt: &R,
+    alloc: Global,
+    seed: u64,
+) -> bool {
     let setup = LoopSetup {
         gateways: 3,
         nodes: 4,
         packets: 20,
         turns: 10_000,
     };
+    let (end, _looped) = air_over(rt, alloc, seed, setup);
+    is_sound(&end)
+}
+
+#[test]
+fn losses_repeats_and_delays_file_no_packet_twice(rt: HostRuntime) {
     for seed in 0..3 {
-        let (end, _looped) = air_over(&rt, rt.alloc(), seed, setup).ok_or("no memory")?;
-        assert!(rt; is_sound(&end));
+        assert!(rt; is_sound_with(&rt, rt.alloc(), seed));
     }
-    Ok(())
 }
