@@ -273,11 +273,13 @@ fn made<R: Abort>(rt: &R, alloc: Global, book: Book<MemoryArea>) -> (Cell, Pass,
     ensures b { IsPassOf result.0 result.2 × ((knowledge result.2).number ≡ 1) }
     ensures rest { ArePassesOf result.0 result.3.items }
 {
-    let Ok((cell, passes)) = TurnCell::new(alloc, book, 2) else {
-        panic!(rt; "no memory");
-    };
-    let (a, b, passes) = both(rt, &cell, passes);
-    (cell, a, b, passes)
+    match TurnCell::new(alloc, book, 2) {
+        Ok((cell, passes)) => {
+            let (a, b, passes) = both(rt, &cell, passes);
+            (cell, a, b, passes)
+        }
+        Err(_) => panic!(rt; "no memory"),
+    }
 }
 
 // Gives a pass back.
@@ -341,15 +343,23 @@ fn items<R: Abort>(rt: &R, alloc: Global, book: &mut Book<MemoryArea>) -> Vec<It
     }
 }
 
-#[test]
-fn what_two_sessions_are_told_is_firm_stays_whatever_fails(rt: HostRuntime) {
-    let (one, two, marks, mut book) = shared(&rt, rt.alloc());
-    // Files are open: the first Tick is due, and a Close; behind that no other.
+// Files are open: the first Tick is due, and a Close; behind that no other.
+fn are_made<R: Abort>(rt: &R, marks: Marks) {
     assert!(rt; matches!(marks.tick, Marked::Made { .. }));
     assert!(rt; matches!(marks.close, Marked::Made { .. }));
     assert_eq!(rt; marks.another, Marked::NotDue);
+}
+
+fn is_closed(items: &[Item]) -> bool {
+    matches!(items.last(), Some(Item::Close { .. }))
+}
+
+#[test]
+fn what_two_sessions_are_told_is_firm_stays_whatever_fails(rt: HostRuntime) {
+    let (one, two, marks, mut book) = shared(&rt, rt.alloc());
+    are_made(&rt, marks);
     let items = items(&rt, rt.alloc(), &mut book);
-    assert!(rt; matches!(items.last(), Some(Item::Close { .. })));
+    assert!(rt; is_closed(&items));
     assert!(rt; keeps(&items, 0, one));
     assert!(rt; keeps(&items, 1, two));
     assert!(rt; one.lost.wrapping_add(two.lost) > 0);
