@@ -16,13 +16,23 @@ use std::process::Abort;
 // request that is sent once more, and how many entries are firm after the next commit.
 const FAILURES: [(u64, u8, u64); 4] = [(6, 128, 1), (7, 128, 1), (8, 128, 1), (9, 253, 2)];
 
+// How many calls its device was given.
+fn calls(book: &Book<MemoryArea>) -> u64 {
+    book.calls()
+}
+
+// Whether its device stopped.
+fn is_stopped(book: &Book<MemoryArea>) -> bool {
+    book.stopped()
+}
+
 // A book whose first commit failed at this call of the device, and took an accepted request with it.
 fn failed(rt: &impl Abort, alloc: Global, call: u64) -> Book<MemoryArea> {
     let area = area(rt, alloc, 400, failing(rt, alloc, &[call]));
     let mut book = opened(rt, alloc, area);
     let first = sends(rt, &mut book, FROM, &REQUEST, 128);
     assert!(rt; !commits(&mut book));
-    assert_eq!(rt; book.calls(), call);
+    assert_eq!(rt; calls(&book), call);
     let lost = Settled::Lost { faults: 1 };
     settles(rt, &book, (first.front, first.faults), lost);
     book
@@ -69,9 +79,9 @@ fn stopped_opening(rt: &impl Abort, alloc: Global, stop: Stop) -> MemoryArea {
 }
 
 // The book after the device runs again, which makes so many calls to open it.
-fn opened_again(rt: &impl Abort, alloc: Global, area: MemoryArea, calls: u64) -> Book<MemoryArea> {
+fn opened_again(rt: &impl Abort, alloc: Global, area: MemoryArea, wanted: u64) -> Book<MemoryArea> {
     let book = opened(rt, alloc, revived(alloc, area));
-    assert_eq!(rt; book.calls(), calls);
+    assert_eq!(rt; calls(&book), wanted);
     book
 }
 
@@ -106,7 +116,7 @@ fn stopped_commit(rt: &impl Abort, alloc: Global, stop: Stop) -> MemoryArea {
     let mut book = opened(rt, alloc, area);
     let _ = answered(rt, &mut book, FROM, &REQUEST, 5);
     assert!(rt; !commits(&mut book));
-    assert!(rt; book.stopped());
+    assert!(rt; is_stopped(&book));
     area_of(book)
 }
 

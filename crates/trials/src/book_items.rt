@@ -89,8 +89,8 @@ const ALL: [Expected; 9] = [
     Expected::Record(13, 98),
 ];
 
-/// What is asked for, and what is given: items from a number on, at most so many; how many they are, and where they begin in
-/// the list above.
+/// What is asked for, and what is given: items from a number on, at most so many; how many they are, and where they
+/// begin in the list above.
 type Question = (u64, u32, usize, usize);
 
 /// The items are these, from this one on.

@@ -2,9 +2,10 @@
 //! which pieces an input comes, what reads nothing, what a fault of the source or the sink leads to, the line of each
 //! status, and a report of a million octets.
 
-ghost use Rattle.std.specs.Prelude.{◌≤◌, ◌<◌, ◌^◌};
+ghost use Rattle.std.specs.Prelude.{◌≡◌, ◌≤◌, ◌<◌, ◌^◌};
 ghost use Rattle.gate_journal.specs.Format.{fewest_octets, most_octets};
 ghost use Rattle.gw_base.specs.declared.address.Addr.{Addr};
+ghost use Rattle.net_link.specs.Net.{told_by};
 
 use area_disk::{Area, QuietArea};
 use cdr_shelf::QuietShelf;
@@ -14,16 +15,15 @@ use net_link::{Links, MemoryLinks};
 use std::alloc::Global;
 use std::process::Abort;
 use std::sync::Wait;
-use std::test::Fail;
 use std::thread::Threads;
 use std::time::Clock;
 
 /// A script that sends a packet of one record.
-const FIRST: &str =
-    "at 1709164800\nin 10.0.1.1:40001 4EF0001000007E01FC000B010106000005A003800105\nend\n";
+const FIRST: &[u8] =
+    b"at 1709164800\nin 10.0.1.1:40001 4EF0001000007E01FC000B010106000005A003800105\nend\n";
 
 /// What is printed for it.
-const FIRST_REPORT: &str = "4EF1000700000180FD00020000\n\
+const FIRST_REPORT: &[u8] = b"4EF1000700000180FD00020000\n\
 file 1 00-0000000001.cdr 0000003D0000003460602E8008002E80080000000001000000010400000000000000000000FFFF\
 0A00000100000000000000000000056020A003800105\n\
 gateway 1 entries 3 records 1 held 0 stranded 0\n";
@@ -35,11 +35,11 @@ const ONE_CDR: &[u8] = b"\
 \x60\x20\xA0\x03\x80\x01\x05";
 
 /// The listing of it.
-const LISTING: &str = "file 61 52 3.0 3.0 02-29/00:00/+00:00 02-29/00:00/+00:00 1 1 4 \
+const LISTING: &[u8] = b"file 61 52 3.0 3.0 02-29/00:00/+00:00 02-29/00:00/+00:00 1 1 4 \
 00000000000000000000FFFF0A00000100000000 0\ncdr 1 5 3.0 1 0 A003800105\n";
 
 /// A script whose fourth line sets an earlier moment, behind one reply.
-const BACK_IN_TIME: &str = "at 5\nin 10.0.1.1:40001 4EF0000500007E02FC0000\nat 5\nat 4\n\
+const BACK_IN_TIME: &[u8] = b"at 5\nin 10.0.1.1:40001 4EF0000500007E02FC0000\nat 5\nat 4\n\
 in 10.0.1.1:40001 4EF0000500017E02FC0000\nend\n";
 
 /// How a job ended, what it wrote, and how many areas, shelves and nodes it handed back, if a network.
@@ -49,9 +49,6 @@ pub(crate) struct Done {
     pub(crate) printed: Vec<u8>,
     pub(crate) handed: Option<(usize, usize, usize)>,
 }
-
-/// How many octets the area has of a job that uses none.
-const UNUSED: u64 = 100;
 
 /// Words.
 pub(crate) fn words_of(rt: &impl Abort, alloc: Global, words: &[&str]) -> Vec<String> {
@@ -113,6 +110,64 @@ where
     )
 }
 
+/// A source of these octets in pieces of this size, which fails at these calls.
+pub(crate) fn source(
+    rt: &impl Abort,
+    alloc: Global,
+    input: &[u8],
+    piece: usize,
+    fail: &[u64],
+) -> MemorySource
+    requires { 1 ≤ piece }
+{
+    let Ok(input) = Octets::of(alloc, input) else {
+        panic!(rt; "no memory for an input")
+    };
+    let Ok(fail) = fail.to_vec(alloc) else {
+        panic!(rt; "no memory for calls")
+    };
+    MemorySource::new(input, piece, fail)
+}
+
+/// A sink with room for so many octets, which fails at these calls.
+pub(crate) fn sink(rt: &impl Abort, alloc: Global, room: usize, fail: &[u64]) -> MemorySink {
+    let Ok(fail) = fail.to_vec(alloc) else {
+        panic!(rt; "no memory for calls")
+    };
+    match MemorySink::new(alloc, room, fail) {
+        Ok(sink) => sink,
+        Err(_) => panic!(rt; "no memory for what is printed"),
+    }
+}
+
+/// What a sink was given.
+pub(crate) fn printed(rt: &impl Abort, alloc: Global, sink: &MemorySink) -> Vec<u8> {
+    match sink.octets().to_vec(alloc) {
+        Ok(printed) => printed,
+        Err(_) => panic!(rt; "no memory for what was printed"),
+    }
+}
+
+/// The area of a job that uses none.
+pub(crate) fn unused_area(rt: &impl Abort, alloc: Global) -> QuietArea
+    ensures { ⟦<QuietArea as Area>⟧.size result ≡ 100 }
+{
+    match QuietArea::new(alloc, 100) {
+        Ok(area) => area,
+        Err(_) => panic!(rt; "no memory for an area"),
+    }
+}
+
+/// The links of a job that uses none.
+pub(crate) fn unused_links(rt: &impl Abort, alloc: Global) -> MemoryLinks
+    ensures { (at : Addr) → (told_by result).turns at < 2 ^ 63 }
+{
+    match MemoryLinks::new(alloc, Vec::new(alloc), 0, Vec::new(alloc)) {
+        Ok(links) => links,
+        Err(_) => panic!(rt; "no memory for links"),
+    }
+}
+
 /// A job over these words, where the source gives pieces of this size, and source and sink fail at these calls. Each
 /// test of a job over files comes here.
 pub(crate) fn job<R: Abort + Threads + Wait + Clock + Sync + Alloc<A = Global>>(
@@ -122,19 +177,15 @@ pub(crate) fn job<R: Abort + Threads + Wait + Clock + Sync + Alloc<A = Global>>(
     piece: usize,
     fail_source: &[u64],
     fail_sink: &[u64],
-) -> Result<Done, Fail>
+) -> Done
     requires { 1 ≤ piece }
 {
     let alloc = rt.alloc();
     let given = words_of(rt, alloc, words);
-    let input = Octets::of(alloc, input)?;
-    let mut source = MemorySource::new(input, piece, fail_source.to_vec(alloc)?);
-    let mut sink = MemorySink::new(alloc, 1_100_000, fail_sink.to_vec(alloc)?)?;
-    let Ok(area) = QuietArea::new(alloc, UNUSED) else {
-        return Err(Fail::from("no area"));
-    };
-    let links = MemoryLinks::new(alloc, Vec::new(alloc), 0, Vec::new(alloc));
-    let mut links = links?;
+    let mut source = source(rt, alloc, input, piece, fail_source);
+    let mut sink = sink(rt, alloc, 1_100_000, fail_sink);
+    let area = unused_area(rt, alloc);
+    let mut links = unused_links(rt, alloc);
     let mut clock = clock_at(rt, alloc, 0);
     let Ended {
         status,
@@ -151,11 +202,11 @@ pub(crate) fn job<R: Abort + Threads + Wait + Clock + Sync + Alloc<A = Global>>(
         &mut links,
         &mut clock,
     );
-    Ok(Done {
+    Done {
         status,
-        printed: sink.octets().to_vec(alloc)?,
+        printed: printed(rt, alloc, &sink),
         handed: handed(played),
-    })
+    }
 }
 
 /// How many gateways, as areas and as shelves, and nodes were handed back.
@@ -166,79 +217,103 @@ fn handed(played: Option<Played>) -> Option<(usize, usize, usize)> {
     }
 }
 
+/// What is printed for an input, in pieces of this size.
+fn is_told<R: Abort + Threads + Wait + Clock + Sync + Alloc<A = Global>>(
+    rt: &R,
+    command: &str,
+    input: &[u8],
+    piece: usize,
+    told: &[u8],
+)
+    requires { 1 ≤ piece }
+{
+    let done = job(rt, &[command, "-"], input, piece, &[], &[]);
+    assert_eq!(rt; done.status, Status::Done);
+    assert_eq!(rt; done.printed.as_slice(), told);
+}
+
 #[test]
-fn an_input_comes_in_pieces(rt: HostRuntime) -> Result<(), Fail> {
-    let inputs: [(&str, &[u8], &str); 2] = [
-        ("feed", FIRST.as_bytes(), FIRST_REPORT),
-        ("show", ONE_CDR, LISTING),
-    ];
-    for (command, input, told) in inputs {
-        for piece in [4096, 1] {
-            let done = job(&rt, &[command, "-"], input, piece, &[], &[])?;
-            assert_eq!(rt; done.status, Status::Done);
-            assert_eq!(rt; done.printed.as_slice(), told.as_bytes());
-        }
-    }
-    Ok(())
+fn an_input_comes_in_pieces(rt: HostRuntime) {
+    is_told(&rt, "feed", FIRST, 4096, FIRST_REPORT);
+    is_told(&rt, "feed", FIRST, 1, FIRST_REPORT);
+    is_told(&rt, "show", ONE_CDR, 4096, LISTING);
+    is_told(&rt, "show", ONE_CDR, 1, LISTING);
+}
+
+/// Words of none of the forms.
+const NO_FORMS: [&[&str]; 28] = [
+    &[],
+    &["-V"],
+    &["--", "feed", "-"],
+    &["feed"],
+    &["show"],
+    &["show", "-x"],
+    &["list", "-"],
+    &["feed", "-x"],
+    &["feed", "--help"],
+    &["feed", "a", "b"],
+    &["replay"],
+    &["replay", "-x"],
+    &["replay", "-", "-"],
+    &["sample", "7", "4", "3"],
+    &["drill", "07", "1", "1", "1"],
+    &["drill", "+7", "1", "1", "1"],
+    &["drill", "-7", "1", "1", "1"],
+    &["drill", "18446744073709551616", "1", "1", "1"],
+    &["drill", "7", "0", "1", "1"],
+    &["drill", "7", "17", "1", "1"],
+    &["drill", "7", "1", "0", "1"],
+    &["drill", "7", "1", "9", "1"],
+    &["drill", "7", "1", "1", "0"],
+    &["drill", "7", "1", "1", "20001"],
+    &["drill", "7", "1", "1", "1", "1"],
+    &["sample", "7", "1", "1", ""],
+    &["sample", "", "1", "1", "1"],
+    &["samples", "7", "1", "1", "1"],
+];
+
+/// A job over these words, where source and sink fail at these calls, ends so, prints nothing, and hands nothing back.
+fn ends<R: Abort + Threads + Wait + Clock + Sync + Alloc<A = Global>>(
+    rt: &R,
+    words: &[&str],
+    input: &[u8],
+    fail_source: &[u64],
+    fail_sink: &[u64],
+    status: Status,
+) {
+    let done = job(rt, words, input, 20, fail_source, fail_sink);
+    assert_eq!(rt; done.status, status);
+    assert!(rt; done.printed.is_empty());
+    assert_eq!(rt; done.handed, None);
 }
 
 /// Nothing is read where words are none of the forms: the source, which would fail, isn't asked.
 #[test]
-fn words_decide_before_anything_is_read(rt: HostRuntime) -> Result<(), Fail> {
-    let none: [&str; 0] = [];
-    let lists: [&[&str]; 28] = [
-        &none,
-        &["-V"],
-        &["--", "feed", "-"],
-        &["feed"],
-        &["show"],
-        &["show", "-x"],
-        &["list", "-"],
-        &["feed", "-x"],
-        &["feed", "--help"],
-        &["feed", "a", "b"],
-        &["replay"],
-        &["replay", "-x"],
-        &["replay", "-", "-"],
-        &["sample", "7", "4", "3"],
-        &["drill", "07", "1", "1", "1"],
-        &["drill", "+7", "1", "1", "1"],
-        &["drill", "-7", "1", "1", "1"],
-        &["drill", "18446744073709551616", "1", "1", "1"],
-        &["drill", "7", "0", "1", "1"],
-        &["drill", "7", "17", "1", "1"],
-        &["drill", "7", "1", "0", "1"],
-        &["drill", "7", "1", "9", "1"],
-        &["drill", "7", "1", "1", "0"],
-        &["drill", "7", "1", "1", "20001"],
-        &["drill", "7", "1", "1", "1", "1"],
-        &["sample", "7", "1", "1", ""],
-        &["sample", "", "1", "1", "1"],
-        &["samples", "7", "1", "1", "1"],
-    ];
-    for words in lists {
-        let done = job(&rt, words, FIRST.as_bytes(), 4096, &[1], &[1])?;
-        assert_eq!(rt; done.status, Status::Words);
-        assert!(rt; done.printed.is_empty());
-        assert_eq!(rt; done.handed, None);
+fn words_decide_before_anything_is_read(rt: HostRuntime) {
+    for words in NO_FORMS {
+        ends(&rt, words, FIRST, &[1], &[1], Status::Words);
     }
-    Ok(())
+}
+
+/// A job that has no input, and hands back so many areas, shelves and nodes.
+fn reads_nothing<R: Abort + Threads + Wait + Clock + Sync + Alloc<A = Global>>(
+    rt: &R,
+    words: &[&str],
+    handed: Option<(usize, usize, usize)>,
+) {
+    let done = job(rt, words, b"frob\n", 4096, &[1], &[]);
+    assert_eq!(rt; done.status, Status::Done);
+    assert_eq!(rt; done.handed, handed);
 }
 
 /// A sample and a drill read nothing. The last is a sample of the greatest numbers.
 #[test]
-fn the_script_of_a_seed_has_no_input(rt: HostRuntime) -> Result<(), Fail> {
-    let lists: [([&str; 5], Option<(usize, usize, usize)>); 3] = [
-        (["sample", "7", "1", "1", "1"], None),
-        (["drill", "7", "4", "3", "2000"], Some((3, 3, 4))),
-        (["sample", "18446744073709551615", "16", "8", "1"], None),
-    ];
-    for (words, handed) in lists {
-        let done = job(&rt, &words, b"frob\n", 4096, &[1], &[])?;
-        assert_eq!(rt; done.status, Status::Done);
-        assert_eq!(rt; done.handed, handed);
-    }
-    Ok(())
+fn the_script_of_a_seed_has_no_input(rt: HostRuntime) {
+    reads_nothing(&rt, &["sample", "7", "1", "1", "1"], None);
+    let handed = Some((3, 3, 4));
+    reads_nothing(&rt, &["drill", "7", "4", "3", "2000"], handed);
+    let greatest = ["sample", "18446744073709551615", "16", "8", "1"];
+    reads_nothing(&rt, &greatest, None);
 }
 
 /// A job, at which calls its source fails, which gives 20 octets a call, at which its sink fails, and how it ends.
@@ -250,50 +325,51 @@ type Faulty = (
     Status,
 );
 
+const FAULTS: [Faulty; 8] = [
+    (&["feed", "-"], FIRST, &[], &[1], Status::Write),
+    (&["feed", "-"], BACK_IN_TIME, &[], &[1], Status::Write),
+    (&["show", "-"], ONE_CDR, &[3], &[], Status::Read),
+    (&["show", "-"], ONE_CDR, &[], &[1], Status::Write),
+    (&["replay", "-"], b"end\n", &[1], &[], Status::Read),
+    (&["replay", "-"], b"end\n", &[], &[1], Status::Write),
+    (
+        &["sample", "7", "1", "1", "1"],
+        b"",
+        &[],
+        &[1],
+        Status::Write,
+    ),
+    (
+        &["drill", "7", "1", "1", "1"],
+        b"",
+        &[],
+        &[1],
+        Status::Write,
+    ),
+];
+
+/// How the job of the first script ends, of which the source and the sink fail at these calls.
+fn feeds_to<R: Abort + Threads + Wait + Clock + Sync + Alloc<A = Global>>(
+    rt: &R,
+    fail_source: &[u64],
+    fail_sink: &[u64],
+    status: Status,
+) {
+    let input = FIRST;
+    let done = job(rt, &["feed", "-"], input, 20, fail_source, fail_sink);
+    assert_eq!(rt; done.status, status);
+}
+
 #[test]
-fn a_fault_of_the_input_or_the_output_is_told(rt: HostRuntime) -> Result<(), Fail> {
-    let cases: [Faulty; 8] = [
-        (&["feed", "-"], FIRST.as_bytes(), &[], &[1], Status::Write),
-        (
-            &["feed", "-"],
-            BACK_IN_TIME.as_bytes(),
-            &[],
-            &[1],
-            Status::Write,
-        ),
-        (&["show", "-"], ONE_CDR, &[3], &[], Status::Read),
-        (&["show", "-"], ONE_CDR, &[], &[1], Status::Write),
-        (&["replay", "-"], b"end\n", &[1], &[], Status::Read),
-        (&["replay", "-"], b"end\n", &[], &[1], Status::Write),
-        (
-            &["sample", "7", "1", "1", "1"],
-            b"",
-            &[],
-            &[1],
-            Status::Write,
-        ),
-        (
-            &["drill", "7", "1", "1", "1"],
-            b"",
-            &[],
-            &[1],
-            Status::Write,
-        ),
-    ];
-    for (words, input, fail_source, fail_sink, status) in cases {
-        let done = job(&rt, words, input, 20, fail_source, fail_sink)?;
-        assert_eq!(rt; done.status, status);
-        assert!(rt; done.printed.is_empty());
-        assert_eq!(rt; done.handed, None);
+fn a_fault_of_the_input_or_the_output_is_told(rt: HostRuntime) {
+    for (words, input, fail_source, fail_sink, status) in FAULTS {
+        ends(&rt, words, input, fail_source, fail_sink, status);
     }
     // The source is called six times, the last time behind its last octet, and the sink once.
     for call in 1..=6 {
-        let done = job(&rt, &["feed", "-"], FIRST.as_bytes(), 20, &[call], &[])?;
-        assert_eq!(rt; done.status, Status::Read);
+        feeds_to(&rt, &[call], &[], Status::Read);
     }
-    let done = job(&rt, &["feed", "-"], FIRST.as_bytes(), 20, &[7], &[2])?;
-    assert_eq!(rt; done.status, Status::Done);
-    Ok(())
+    feeds_to(&rt, &[7], &[2], Status::Done);
 }
 
 /// How many octets the sample of seed 7 has for 2,000 packets of four nodes at three gateways, and a sum of them all,
@@ -313,46 +389,63 @@ fn sum_of(octets: &[u8]) -> u64 {
     sum
 }
 
+/// What a job prints that ends well has so many octets, and this sum; and how much it hands back.
+fn is_summed(
+    rt: &impl Abort,
+    done: &Done,
+    sum: (usize, u64),
+    handed: Option<(usize, usize, usize)>,
+) {
+    assert_eq!(rt; done.status, Status::Done);
+    assert_eq!(rt; (done.printed.len(), sum_of(&done.printed)), sum);
+    assert_eq!(rt; done.handed, handed);
+}
+
 /// With losses, repeats and stops each packet is done in the end, and its records are filed once.
 #[test]
-fn a_sample_of_2000_packets_runs_as_the_plain_model_runs_it(rt: HostRuntime) -> Result<(), Fail> {
+fn a_sample_of_2000_packets_runs_as_the_plain_model_runs_it(rt: HostRuntime) {
     let words = ["sample", "7", "4", "3", "2000"];
-    let sample = job(&rt, &words, b"", 4096, &[], &[])?;
-    assert_eq!(rt; sample.status, Status::Done);
-    assert_eq!(rt;
-        (sample.printed.len(), sum_of(&sample.printed)),
-        LARGE_SAMPLE
-    );
-    let done = job(&rt, &["replay", "-"], &sample.printed, 65_536, &[], &[])?;
-    assert_eq!(rt; done.status, Status::Done);
-    assert_eq!(rt; (done.printed.len(), sum_of(&done.printed)), LARGE_REPLAY);
-    assert_eq!(rt; done.handed, Some((3, 3, 4)));
-    Ok(())
+    let sample = job(&rt, &words, b"", 4096, &[], &[]);
+    is_summed(&rt, &sample, LARGE_SAMPLE, None);
+    let done = job(&rt, &["replay", "-"], &sample.printed, 65_536, &[], &[]);
+    is_summed(&rt, &done, LARGE_REPLAY, Some((3, 3, 4)));
+}
+
+/// The number of a status, and the line that is printed for it.
+fn has_line(rt: &impl Abort, alloc: Global, status: Status, number: u8, line: &str) {
+    assert_eq!(rt; status.number(), number);
+    let Ok(printed) = format!(in alloc; "{status}") else {
+        panic!(rt; "no memory for a line")
+    };
+    assert_eq!(rt; printed.as_str(), line);
 }
 
 #[test]
-fn each_status_has_its_number_and_its_line(rt: HostRuntime) -> Result<(), Fail> {
-    let earlier = Status::Input {
-        place: 1,
-        kind: InputKind::Earlier,
-    };
-    let too_long = Status::Input {
-        place: 16_777_217,
-        kind: InputKind::TooLong,
-    };
+fn each_status_has_its_number_and_its_line(rt: HostRuntime) {
     let lines = [
         (Status::Words, 1, "cgf: words"),
-        (earlier, 2, "cgf: input 1: Earlier"),
-        (too_long, 2, "cgf: input 16777217: TooLong"),
+        (
+            Status::Input {
+                place: 1,
+                kind: InputKind::Earlier,
+            },
+            2,
+            "cgf: input 1: Earlier",
+        ),
+        (
+            Status::Input {
+                place: 16_777_217,
+                kind: InputKind::TooLong,
+            },
+            2,
+            "cgf: input 16777217: TooLong",
+        ),
         (Status::Read, 3, "cgf: read"),
         (Status::Write, 4, "cgf: write"),
         (Status::Memory, 5, "cgf: memory"),
     ];
     for (status, number, line) in lines {
-        assert_eq!(rt; status.number(), number);
-        let printed = format!(in rt.alloc(); "{status}")?;
-        assert_eq!(rt; printed.as_str(), line);
+        has_line(&rt, rt.alloc(), status, number, line);
     }
-    assert_eq!(rt; Status::Done.number(), 0);
-    Ok(())
+    assert_eq!(&rt; Status::Done.number(), 0);
 }

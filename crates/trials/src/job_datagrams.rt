@@ -2,7 +2,11 @@
 
 use crate::job::job;
 use cgf_top::Status;
-use std::test::Fail;
+use std::alloc::Global;
+use std::process::Abort;
+use std::sync::Wait;
+use std::thread::Threads;
+use std::time::Clock;
 
 /// Datagrams, and the line that is printed for each.
 pub(crate) const ANSWERED: [(&str, &str); 16] = [
@@ -34,45 +38,85 @@ pub(crate) const ANSWERED: [(&str, &str); 16] = [
     ("4EF0000700027E02FC00020001", "4EF10007000201C9FD00020002"),
 ];
 
+/// Puts octets behind a datagram's.
+fn put(rt: &impl Abort, datagram: &mut Vec<u8>, octets: &[u8]) {
+    assert!(rt; datagram.extend_from_slice(octets).is_ok());
+}
+
 /// The largest datagram that sends a record.
-pub(crate) fn largest(rt: &HostRuntime) -> Result<Vec<u8>, Fail> {
-    let mut datagram = Vec::new(rt.alloc());
-    datagram.extend_from_slice(&[0x4E, 0xF0, 0xFF, 0xDD, 0, 0, 0x7E, 1, 0xFC, 0xFF, 0xD8])?;
-    datagram.extend_from_slice(&[1, 1, 6, 0, 0xFF, 0xD2, 4, 0x82, 0xFF, 0xCE])?;
-    for _ in 0..65_486 {
-        datagram.push(0)?;
-    }
-    Ok(datagram)
+pub(crate) fn largest(rt: &impl Abort, alloc: Global) -> Vec<u8> {
+    let Ok(mut datagram) = vec![in alloc; 0; 65_507] else {
+        panic!(rt; "no memory for a datagram")
+    };
+    let (head, _) = datagram.split_at_mut(21);
+    head.copy_from_slice(&[
+        0x4E, 0xF0, 0xFF, 0xDD, 0, 0, 0x7E, 1, 0xFC, 0xFF, 0xD8, 1, 1, 6, 0, 0xFF, 0xD2, 4, 0x82,
+        0xFF, 0xCE,
+    ]);
+    datagram
 }
 
 /// A datagram that sends 255 records.
-pub(crate) fn with_255_records(rt: &HostRuntime) -> Result<Vec<u8>, Fail> {
-    let mut datagram = Vec::new(rt.alloc());
-    datagram.extend_from_slice(&[0x4E, 0xF0, 7, 2, 0, 0, 0x7E, 1, 0xFC, 6, 0xFD])?;
-    datagram.extend_from_slice(&[255, 1, 6, 0])?;
+pub(crate) fn with_255_records(rt: &impl Abort, alloc: Global) -> Vec<u8> {
+    let mut datagram = Vec::new(alloc);
+    let head = [0x4E, 0xF0, 7, 2, 0, 0, 0x7E, 1, 0xFC, 6, 0xFD, 255, 1, 6, 0];
+    put(rt, &mut datagram, &head);
     for _ in 0..255 {
-        datagram.extend_from_slice(&[0, 5, 0xA0, 3, 0x80, 1, 5])?;
+        put(rt, &mut datagram, &[0, 5, 0xA0, 3, 0x80, 1, 5]);
     }
-    Ok(datagram)
+    datagram
 }
 
-/// The report on it is too long to stand among the stories of `story_runs`.
-#[test]
-fn the_largest_datagram_is_filed(rt: HostRuntime) -> Result<(), Fail> {
-    let datagram = largest(&rt)?;
-    assert_eq!(rt; datagram.len(), 65_507);
-    let digits = hex::encode_upper(rt.alloc(), &datagram)?;
-    let (_, record) = datagram.split_at(17);
-    let record = hex::encode_upper(rt.alloc(), record)?;
-    let script = format!(in rt.alloc(); "reserve 200000\nin 10.0.1.1:40001 {digits}\nend\n")?;
-    let report = format!(in rt.alloc();
+/// Octets in hexadecimal.
+pub(crate) fn digits(rt: &impl Abort, alloc: Global, octets: &[u8]) -> String {
+    match hex::encode_upper(alloc, octets) {
+        Ok(digits) => digits,
+        Err(_) => panic!(rt; "no memory for digits"),
+    }
+}
+
+/// A script that sends a datagram.
+fn script(rt: &impl Abort, alloc: Global, datagram: &str) -> String {
+    let script = format!(in alloc; "reserve 200000\nin 10.0.1.1:40001 {datagram}\nend\n");
+    match script {
+        Ok(script) => script,
+        Err(_) => panic!(rt; "no memory for a script"),
+    }
+}
+
+/// What is printed for the largest datagram, with this record.
+fn report(rt: &impl Abort, alloc: Global, record: &str) -> String {
+    let report = format!(in alloc;
         "4EF1000700000180FD00020000\n\
         file 1 00-0000000001.cdr 0001000A0000003460601080080010800800\
         00000001000000010400000000000000000000FFFF0A000001000000000000000000FFD26020{record}\n\
         gateway 1 entries 3 records 1 held 0 stranded 0\n"
-    )?;
-    let done = job(&rt, &["feed", "-"], script.as_bytes(), 4096, &[], &[])?;
+    );
+    match report {
+        Ok(report) => report,
+        Err(_) => panic!(rt; "no memory for a report"),
+    }
+}
+
+/// What is printed for a script.
+fn is_reported<R: Abort + Threads + Wait + Clock + Sync + Alloc<A = Global>>(
+    rt: &R,
+    script: &str,
+    report: &str,
+) {
+    let done = job(rt, &["feed", "-"], script.as_bytes(), 4096, &[], &[]);
     assert_eq!(rt; done.status, Status::Done);
     assert_eq!(rt; done.printed.as_slice(), report.as_bytes());
-    Ok(())
+}
+
+/// The report on it is too long to stand among the stories of `story_runs`.
+#[test]
+fn the_largest_datagram_is_filed(rt: HostRuntime) {
+    let alloc = rt.alloc();
+    let datagram = largest(&rt, alloc);
+    assert_eq!(&rt; datagram.len(), 65_507);
+    let (_, record) = datagram.split_at(17);
+    let script = script(&rt, alloc, &digits(&rt, alloc, &datagram));
+    let report = report(&rt, alloc, &digits(&rt, alloc, record));
+    is_reported(&rt, &script, &report);
 }

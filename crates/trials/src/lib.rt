@@ -1,7 +1,7 @@
-//! Tests of the upper crates by their public calls: the book of a gateway, CDR files and their writer, and of the job of
-//! `feed` and `show` what `story_runs` can't show. A crate with tests is proved twice in the gate, so tests stand here,
-//! above the crates, and are proved over their contracts alone. What the lower crates answer is lines of `layer_runs` and
-//! `journal_runs`, and tests of nodes and worlds stand in `world_trials`.
+//! Tests of the upper crates by their public calls: the book of a gateway, CDR files and their writer, and of the job
+//! of `feed` and `show` what `story_runs` can't show. A crate with tests is proved twice in the gate, so tests stand
+//! here, above the crates, and are proved over their contracts alone. What the lower crates answer is lines of
+//! `layer_runs` and `journal_runs`, and tests of nodes and worlds stand in `world_trials`.
 #![tactic(auto)]
 
 #[cfg(test)]

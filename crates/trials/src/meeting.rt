@@ -1,4 +1,5 @@
-//! Two sessions of a gateway serve at once: links in memory at which no send ends before sends at two of them have begun.
+//! Two sessions of a gateway serve at once: links in memory at which no send ends before sends at two of them have
+//! begun.
 ghost use Rattle.std.specs.Prelude.{◌≤◌, length};
 ghost use Rattle.net_link.specs.Steps.{most_octets};
 
@@ -7,7 +8,6 @@ use cgf_top::Status;
 use gw_base::{Addr, Failed};
 use net_link::{Heard, Link, LinkStop, Links, MemoryLink, MemoryLinks};
 use std::sync::atomic::{AtomicU64, Ordering};
-use std::test::Fail;
 use std::thread;
 
 /// How often a send looks whether another has begun.
@@ -107,9 +107,10 @@ impl<'a> Links for MeetingLinks<'a> {
     }
 }
 
-/// Of a gateway whose sessions serve in turn no send would end. It takes two turns, so the third request isn't received.
+/// Of a gateway whose sessions serve in turn no send would end. It takes two turns, so the third request isn't
+/// received.
 #[test]
-fn two_sessions_send_at_once(rt: HostRuntime) -> Result<(), Fail> {
+fn two_sessions_send_at_once(rt: HostRuntime) {
     let alloc = rt.alloc();
     let meeting = Meeting {
         begun: AtomicU64::new(0),
@@ -119,7 +120,6 @@ fn two_sessions_send_at_once(rt: HostRuntime) -> Result<(), Fail> {
         meeting: &meeting,
     };
     let served = serve(&rt, "2", journal(&rt, alloc, 0), &mut links);
-    assert_eq!(rt; served.status, Status::Done);
-    assert_eq!(rt; served.printed.as_slice(), TWO_RECORDS);
-    Ok(())
+    assert_eq!(&rt; served.status, Status::Done);
+    assert_eq!(&rt; served.printed.as_slice(), TWO_RECORDS);
 }

@@ -1,20 +1,20 @@
-//! A gateway that serves, over links in memory: what it replies and files, what it refuses to open, and links that fail.
+//! A gateway that serves, over links in memory: what it replies and files, what it refuses to open, and links that
+//! fail.
 ghost use Rattle.std.specs.Prelude.{◌≡◌, ◌≤◌, ◌<◌, ◌^◌, length};
 ghost use Rattle.gw_base.specs.declared.address.Addr.{Addr as Address};
 ghost use Rattle.net_link.specs.Memory.{AreShort};
 ghost use Rattle.net_link.specs.Net.{told_by};
 
 use crate::book::REQUEST;
-use crate::job::{clock_at, run, words_of};
+use crate::job::{clock_at, printed, run, sink, source, words_of};
 use area_disk::{Area, QuietArea};
 use cdr_shelf::{FileName, QuietShelf};
 use cgf_top::{Ended, Status, StoreFault};
-use gw_base::{Addr, MemorySink, MemorySource, Octets};
+use gw_base::{Addr, Octets};
 use net_link::{Links, MemoryLinks, Post};
 use std::alloc::Global;
 use std::process::Abort;
 use std::sync::Wait;
-use std::test::Fail;
 use std::thread::Threads;
 use std::time::Clock;
 
@@ -120,7 +120,8 @@ where
     ];
     let words = words_of(rt, alloc, &words);
     let mut clock = clock_at(rt, alloc, 1_709_164_800);
-    let (mut source, mut sink) = files(rt, alloc);
+    let mut source = source(rt, alloc, b"end\n", 4096, &[]);
+    let mut sink = sink(rt, alloc, 1000, &[]);
     let Ended {
         status,
         area: _,
@@ -128,37 +129,30 @@ where
         looped: _,
         played: _,
     } = run(rt, &words, &mut source, &mut sink, area, links, &mut clock);
-    let Ok(printed) = sink.octets().to_vec(alloc) else {
-        panic!(rt; "no memory for what was printed")
-    };
     Served {
         status,
-        printed,
+        printed: printed(rt, alloc, &sink),
         shelf,
     }
 }
 
-/// No settings, and where a line can be written.
-fn files(rt: &impl Abort, alloc: Global) -> (MemorySource, MemorySink) {
-    let Ok(text) = Octets::of(alloc, b"end\n") else {
-        panic!(rt; "no memory for settings")
+/// Puts the cause of what was sent in this place behind others, where it was sent to a node.
+fn put_cause(rt: &impl Abort, causes: &mut Vec<u8>, post: &Post, last: u8) {
+    if post.peer != node(last) {
+        return;
+    }
+    let Some(cause) = post.octets.octets().get(7) else {
+        return;
     };
-    let Ok(sink) = MemorySink::new(alloc, 1000, Vec::new(alloc)) else {
-        panic!(rt; "no memory for a line")
-    };
-    (MemorySource::new(text, 4096, Vec::new(alloc)), sink)
+    assert!(rt; causes.push(*cause).is_ok());
 }
 
 /// The causes of what was sent to a node, in order.
 fn causes_to(rt: &impl Abort, alloc: Global, links: &MemoryLinks, last: u8) -> Vec<u8> {
     let mut causes = Vec::new(alloc);
     for k in 0..10 {
-        if let Some(post) = links.sent(k)
-            && post.peer == node(last)
-            && let Some(cause) = post.octets.octets().get(7)
-            && causes.push(*cause).is_err()
-        {
-            panic!(rt; "no memory for a cause");
+        if let Some(post) = links.sent(k) {
+            put_cause(rt, &mut causes, post, last);
         }
     }
     causes
@@ -181,24 +175,27 @@ const TWO_CDRS: &[u8] = b"\
 \x00\x00\x00\x00\x00\x00\x00\x00\x00\x00\xFF\xFF\x0A\x00\x00\x01\x00\x00\x00\x00\x00\x00\x00\x00\x00\x00\x05\
 \x60\x20\xA0\x03\x80\x01\x05\x00\x05\x60\x20\xA0\x03\x80\x01\x05";
 
+/// What was sent to a node has these causes, in order.
+fn are_told(rt: &impl Abort, alloc: Global, links: &MemoryLinks, last: u8, causes: &[u8]) {
+    assert_eq!(rt; causes_to(rt, alloc, links, last).as_slice(), causes);
+}
+
+/// A gateway ended well, printed that it has the records of two nodes, and filed them.
+fn filed_two(rt: &impl Abort, served: &Served) {
+    assert_eq!(rt; served.status, Status::Done);
+    assert_eq!(rt; served.printed.as_slice(), TWO_RECORDS);
+    assert_eq!(rt; file(&served.shelf), Some(TWO_CDRS));
+}
+
 /// The fourth turn hears nothing.
 #[test]
-fn a_gateway_tells_a_repeat_and_files_a_record_of_each_node(rt: HostRuntime) -> Result<(), Fail> {
+fn a_gateway_tells_a_repeat_and_files_a_record_of_each_node(rt: HostRuntime) {
     let alloc = rt.alloc();
     let mut links = links(&rt, alloc, [1, 1, 2], &[]);
     let served = serve(&rt, "4", journal(&rt, alloc, 0), &mut links);
-    assert_eq!(rt; served.status, Status::Done);
-    assert_eq!(rt; served.printed.as_slice(), TWO_RECORDS);
-    assert_eq!(rt;
-        causes_to(&rt, alloc, &links, 1).as_slice(),
-        [0x80, 0xFD].as_slice()
-    );
-    assert_eq!(rt;
-        causes_to(&rt, alloc, &links, 2).as_slice(),
-        [0x80].as_slice()
-    );
-    assert_eq!(rt; file(&served.shelf), Some(TWO_CDRS));
-    Ok(())
+    filed_two(&rt, &served);
+    are_told(&rt, alloc, &links, 1, &[0x80, 0xFD]);
+    are_told(&rt, alloc, &links, 2, &[0x80]);
 }
 
 /// How a gateway ended over a journal that begins with this octet, whose links fail at these calls, and wrote nothing.
@@ -217,11 +214,10 @@ fn ended<R: Abort + Threads + Wait + Clock + Sync + Alloc<A = Global>>(
 
 /// The first call of the link that receives splits it; the other four are its receipts.
 #[test]
-fn another_journal_and_links_that_fail_end_it(rt: HostRuntime) -> Result<(), Fail> {
+fn another_journal_and_links_that_fail_end_it(rt: HostRuntime) {
     let foreign = Status::Store(StoreFault::NotOurs { at: 0 });
-    assert_eq!(rt; ended(&rt, 0xFF, &[]), foreign);
+    assert_eq!(&rt; ended(&rt, 0xFF, &[]), foreign);
     for call in 1..=5 {
-        assert_eq!(rt; ended(&rt, 0, &[call]), Status::Link);
+        assert_eq!(&rt; ended(&rt, 0, &[call]), Status::Link);
     }
-    Ok(())
 }

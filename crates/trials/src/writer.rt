@@ -1,18 +1,18 @@
 //! Files of items, octet for octet, and what a stop at each call of the shelf leaves.
-ghost use Rattle.std.specs.Prelude.{◌<◌, ◌^◌, length, All, IfOk};
+ghost use Rattle.std.specs.Prelude.{◌≡◌, ◌<◌, ◌+◌, ◌^◌, length, All};
 ghost use Rattle.file_rotate.specs.Items.{AreLimits};
 ghost use Rattle.file_writer.specs.AllStreams.{IsFit};
 
-use area_disk::{Drill, Outcome3, Plan, Stop};
+use crate::book::{moment, stopping};
+use area_disk::{Drill, Outcome3, Stop};
 use cdr_file::Offset16;
 use cdr_shelf::{FileName, MemoryShelf};
 use file_rotate::Limits;
 use file_writer::*;
-use gw_base::{Item, Moment, Octets, Tag, cdr_kind};
-use route_filter::{Rules, decoded};
+use gw_base::{Item, Octets, Tag, cdr_kind};
+use route_filter::Rules;
 use std::alloc::Global;
 use std::process::Abort;
-use std::test::Fail;
 
 /// The gateway's address, 10.0.0.1.
 const ADDRESS: u32 = 0x0A00_0001;
@@ -23,41 +23,47 @@ const PROFILE: u8 = 1;
 /// The format version of the records, of release 3.
 const RELEASE_3: u16 = 0x0600;
 
-fn moment(seconds: u64) -> Result<Moment, Fail> {
-    Ok(Moment::of(seconds).ok_or("a moment past the last")?)
-}
-
 /// A record of format 1.
-fn part(
-    alloc: Global,
-    tag: Option<Tag>,
-    version: u16,
-    octets: &[u8],
-    seconds: u64,
-) -> Result<Item, Fail>
+fn part(rt: &impl Abort, alloc: Global, tag: Option<Tag>, octets: &[u8], seconds: u64) -> Item
     requires { length octets.now < 2 ^ 16 }
-    ensures { IfOk result (λ item. IsFit item) }
+    ensures { IsFit result }
 {
-    Ok(Item::Part {
-        kind: cdr_kind(1, version),
-        tag,
-        octets: Octets::of(alloc, octets)?,
-        moment: moment(seconds)?,
-    })
-}
-
-/// A shelf in memory, with one stop or with none.
-fn shelf(alloc: Global, stop: Option<Stop>) -> Result<MemoryShelf, Fail> {
-    let plan = Plan {
-        fail: Vec::new(alloc),
-        read_fail: Vec::new(alloc),
-        stop,
+    let Ok(octets) = Octets::of(alloc, octets) else {
+        panic!(rt; "no memory for a record")
     };
-    Ok(MemoryShelf::new(alloc, plan)?)
+    Item::Part {
+        kind: cdr_kind(1, RELEASE_3),
+        tag,
+        octets,
+        moment: moment(rt, seconds),
+    }
 }
 
-fn offset(minutes: i16) -> Result<Offset16, Fail> {
-    Ok(Offset16::of(minutes).ok_or("an offset past the last")?)
+/// Puts an item behind others.
+fn put(rt: &impl Abort, items: &mut Vec<Item>, item: Item)
+    requires fit { All IsFit items.old.items }
+    requires item { IsFit item }
+    ensures fit { All IsFit items.new.items }
+    ensures count { length items.new.items ≡ length items.old.items + 1 }
+{
+    let Ok(()) = items.push(item) else {
+        panic!(rt; "no memory for items")
+    };
+}
+
+/// A shelf in memory, with one stop.
+fn shelf(rt: &impl Abort, alloc: Global, stop: Stop) -> MemoryShelf {
+    match MemoryShelf::new(alloc, stopping(alloc, stop)) {
+        Ok(shelf) => shelf,
+        Err(_) => panic!(rt; "no memory for a shelf"),
+    }
+}
+
+fn offset(rt: &impl Abort, minutes: i16) -> Offset16 {
+    match Offset16::of(minutes) {
+        Some(offset) => offset,
+        None => panic!(rt; "an offset past the last"),
+    }
 }
 
 /// The greatest size at which a file may be closed.
@@ -86,39 +92,27 @@ fn write(
     requires fit { All IsFit items.now }
 {
     let mut writer = Writer::new(shelf, rules, limits, offset, ADDRESS, PROFILE);
-    if let Err(fault) = writer.recover() {
-        return (writer.into_shelf(), Err(fault));
-    }
-    let answer = writer.advance(items);
+    let answer = match writer.recover() {
+        Ok(()) => writer.advance(items),
+        Err(fault) => Err(fault),
+    };
     (writer.into_shelf(), answer)
 }
 
-/// Whether the file with this name has these octets, in hexadecimal.
-fn has_file(
-    alloc: Global,
-    shelf: &MemoryShelf,
-    stream: u8,
-    sequence: u32,
-    octets: &str,
-) -> Result<bool, Fail> {
-    let expected = decoded(alloc, octets.as_bytes())?.ok_or("no hexadecimal")?;
-    let Some(found) = shelf.file(FileName { stream, sequence }) else {
-        return Ok(false);
+/// Whether the file of the first stream with this sequence number has these octets.
+fn has_file(shelf: &MemoryShelf, sequence: u32, octets: &[u8]) -> bool {
+    let name = FileName {
+        stream: 0,
+        sequence,
     };
-    Ok(found == expected.as_slice())
+    shelf.file(name) == Some(octets)
 }
 
 /// The first stream has these files.
-fn has_files(
-    rt: &impl Abort,
-    alloc: Global,
-    shelf: &MemoryShelf,
-    files: &[(u32, &str)],
-) -> Result<(), Fail> {
+fn has_files(rt: &impl Abort, shelf: &MemoryShelf, files: &[(u32, &[u8])]) {
     for (sequence, octets) in files {
-        assert!(rt; has_file(alloc, shelf, 0, *sequence, octets)?, "{sequence}");
+        assert!(rt; has_file(shelf, *sequence, octets), "{sequence}");
     }
-    Ok(())
 }
 
 /// A size and a count at which files are closed, and the minutes of the offset from UTC.
@@ -131,42 +125,47 @@ fn takes_all(
     shelf: MemoryShelf,
     setting: Setting,
     items: &[Item],
-    files: &[(u32, &str)],
-) -> Result<(), Fail>
+    files: &[(u32, &[u8])],
+)
     requires few { length items.now < 2 ^ 31 }
     requires fit { All IsFit items.now }
 {
     let (size, count, minutes) = setting;
     let limits = limits(size, count);
-    let (shelf, answer) = write(shelf, Rules::none(alloc), limits, offset(minutes)?, items);
+    let rules = Rules::none(alloc);
+    let (shelf, answer) = write(shelf, rules, limits, offset(rt, minutes), items);
     assert_eq!(rt; answer, Ok(items.len() as u64));
-    has_files(rt, alloc, &shelf, files)
+    has_files(rt, &shelf, files);
 }
 
 const FIRST: [u8; 5] = [0xA0, 3, 0x80, 1, 5];
 
 const THIRD: [u8; 5] = [0xA0, 3, 0x80, 1, 7];
 
-const FIRST_OF_TWO: &str =
-    "000000410000003460602E8008002E80080000000002000000010300000000000000000000\
-FFFF0A00000100000000000000000000056020A00380010500006020";
+const FIRST_OF_TWO: &[u8] = b"\
+\x00\x00\x00\x41\x00\x00\x00\x34\x60\x60\x2E\x80\x08\x00\x2E\x80\x08\x00\x00\x00\x00\x02\x00\x00\x00\x01\x03\
+\x00\x00\x00\x00\x00\x00\x00\x00\x00\x00\xFF\xFF\x0A\x00\x00\x01\x00\x00\x00\x00\x00\x00\x00\x00\x00\x00\x05\
+\x60\x20\xA0\x03\x80\x01\x05\x00\x00\x60\x20";
 
-const SECOND_OF_TWO: &str =
-    "0000003D0000003460602E8008002E80080000000001000000020400000000000000000000\
-FFFF0A00000100000000000000000000056020A003800107";
+const SECOND_OF_TWO: &[u8] = b"\
+\x00\x00\x00\x3D\x00\x00\x00\x34\x60\x60\x2E\x80\x08\x00\x2E\x80\x08\x00\x00\x00\x00\x01\x00\x00\x00\x02\x04\
+\x00\x00\x00\x00\x00\x00\x00\x00\x00\x00\xFF\xFF\x0A\x00\x00\x01\x00\x00\x00\x00\x00\x00\x00\x00\x00\x00\x05\
+\x60\x20\xA0\x03\x80\x01\x07";
 
 /// The first and the second file after all items.
-const BOTH: [(u32, &str); 2] = [(1, FIRST_OF_TWO), (2, SECOND_OF_TWO)];
+const BOTH: [(u32, &[u8]); 2] = [(1, FIRST_OF_TWO), (2, SECOND_OF_TWO)];
 
-fn three_and_a_close(alloc: Global) -> Result<Vec<Item>, Fail>
-    ensures fit { IfOk result (λ items. All IsFit items.items) }
-    ensures few { IfOk result (λ items. length items.items < 2 ^ 31) }
+fn three_and_a_close(rt: &impl Abort, alloc: Global) -> Vec<Item>
+    ensures fit { All IsFit result.items }
+    ensures few { length result.items < 2 ^ 31 }
 {
-    let first = part(alloc, None, RELEASE_3, &FIRST, 1_709_164_800)?;
-    let second = part(alloc, None, RELEASE_3, &[], 1_709_164_801)?;
-    let third = part(alloc, None, RELEASE_3, &THIRD, 1_709_164_802)?;
-    let moment = moment(1_709_164_803)?;
-    Ok(vec![in alloc; first, second, third, Item::Close { moment }]?)
+    let mut items = Vec::new(alloc);
+    put(rt, &mut items, part(rt, alloc, None, &FIRST, 1_709_164_800));
+    put(rt, &mut items, part(rt, alloc, None, &[], 1_709_164_801));
+    put(rt, &mut items, part(rt, alloc, None, &THIRD, 1_709_164_802));
+    let moment = moment(rt, 1_709_164_803);
+    put(rt, &mut items, Item::Close { moment });
+    items
 }
 
 /// The shelf after a writer was stopped, with the device running again.
@@ -176,49 +175,48 @@ fn stopped(
     rules: Rules,
     setting: Setting,
     items: &[Item],
-) -> Result<MemoryShelf, Fail>
+) -> MemoryShelf
     requires few { length items.now < 2 ^ 31 }
     requires fit { All IsFit items.now }
 {
     let (size, count, minutes) = setting;
     let limits = limits(size, count);
-    let (mut shelf, answer) = write(shelf, rules, limits, offset(minutes)?, items);
+    let (mut shelf, answer) = write(shelf, rules, limits, offset(rt, minutes), items);
     assert_eq!(rt; answer, Err(ShelfFault::Device));
     shelf.revive();
-    Ok(shelf)
+    shelf
 }
 
 /// Stops at this call: whether the first file is sealed then, and both files after all items are taken once more.
-fn stop_and_go_on(rt: &impl Abort, alloc: Global, items: &[Item], stop: Stop) -> Result<(), Fail>
+fn stop_and_go_on(rt: &impl Abort, alloc: Global, items: &[Item], stop: Stop)
     requires few { length items.now < 2 ^ 31 }
     requires fit { All IsFit items.now }
 {
     let sealed = stop.call > 9 || stop.call == 9 && stop.outcome == Outcome3::New;
     let (call, setting) = (stop.call, (1000, 2, 0));
-    let shelf = stopped(
-        rt,
-        shelf(alloc, Some(stop))?,
-        Rules::none(alloc),
-        setting,
-        items,
-    )?;
-    assert!(rt;
-        has_file(alloc, &shelf, 0, 1, FIRST_OF_TWO)? == sealed,
-        "{call}"
-    );
-    takes_all(rt, alloc, shelf, setting, items, &BOTH)
+    let shelf = shelf(rt, alloc, stop);
+    let shelf = stopped(rt, shelf, Rules::none(alloc), setting, items);
+    assert!(rt; has_file(&shelf, 1, FIRST_OF_TWO) == sealed, "{call}");
+    takes_all(rt, alloc, shelf, setting, items, &BOTH);
+}
+
+/// Stops with this outcome, at each call.
+fn stop_at_each_call(rt: &impl Abort, alloc: Global, items: &[Item], outcome: Outcome3)
+    requires few { length items.now < 2 ^ 31 }
+    requires fit { All IsFit items.now }
+{
+    for call in 1..=16 {
+        stop_and_go_on(rt, alloc, items, Stop { call, outcome });
+    }
 }
 
 #[test]
-fn a_stop_at_each_call_leaves_the_same_files_in_the_end(rt: HostRuntime) -> Result<(), Fail> {
+fn a_stop_at_each_call_leaves_the_same_files_in_the_end(rt: HostRuntime) {
     let alloc = rt.alloc();
-    let items = three_and_a_close(alloc)?;
-    for outcome in [Outcome3::Old, Outcome3::New, Outcome3::Rot] {
-        for call in 1..=16 {
-            stop_and_go_on(&rt, alloc, &items, Stop { call, outcome })?;
-        }
-    }
-    Ok(())
+    let items = three_and_a_close(&rt, alloc);
+    stop_at_each_call(&rt, alloc, &items, Outcome3::Old);
+    stop_at_each_call(&rt, alloc, &items, Outcome3::New);
+    stop_at_each_call(&rt, alloc, &items, Outcome3::Rot);
 }
 
 /// Rules that send a record of format 1 to the stream with the number of its tag.
@@ -241,32 +239,44 @@ const RULES: [&str; 16] = [
     "rule 8F 1 15",
 ];
 
-fn rules(alloc: Global) -> Result<Rules, Fail> {
+/// Adds a rule behind others.
+fn add(rt: &impl Abort, rules: &mut Rules, line: &str) {
+    assert!(rt; rules.add(line).is_ok(), "{line}");
+}
+
+fn rules(rt: &impl Abort, alloc: Global) -> Rules {
     let mut rules = Rules::none(alloc);
     for line in RULES {
-        rules.add(line).map_err(|_| "no rule")?;
+        add(rt, &mut rules, line);
     }
-    Ok(rules)
+    rules
+}
+
+/// The record that goes to the stream before which so many others stand, from the last one.
+fn record_for(rt: &impl Abort, alloc: Global, n: u8) -> Item
+    requires { n < 16 }
+    ensures { IsFit result }
+{
+    let tag = Tag {
+        class: 2,
+        constructed: false,
+        number: u32::from(15 - n),
+    };
+    part(rt, alloc, Some(tag), &[0x8F - n, 0], 1_709_164_800)
 }
 
 /// A record for each stream, the last stream's first, and a Tick at which all their files are due.
-fn a_record_for_each(alloc: Global) -> Result<Vec<Item>, Fail>
-    ensures fit { IfOk result (λ items. All IsFit items.items) }
-    ensures few { IfOk result (λ items. length items.items < 2 ^ 31) }
+fn a_record_for_each(rt: &impl Abort, alloc: Global) -> Vec<Item>
+    ensures fit { All IsFit result.items }
+    ensures few { length result.items < 2 ^ 31 }
 {
     let mut items = Vec::new(alloc);
     for n in 0..16u8 {
-        let tag = Tag {
-            class: 2,
-            constructed: false,
-            number: u32::from(15 - n),
-        };
-        let item = part(alloc, Some(tag), RELEASE_3, &[0x8F - n, 0], 1_709_164_800)?;
-        items.push(item).map_err(|_| "no memory")?;
+        put(rt, &mut items, record_for(rt, alloc, n));
     }
-    let moment = moment(1_709_164_860)?;
-    items.push(Item::Tick { moment }).map_err(|_| "no memory")?;
-    Ok(items)
+    let moment = moment(rt, 1_709_164_860);
+    put(rt, &mut items, Item::Tick { moment });
+    items
 }
 
 /// The streams up to this one have a sealed file, and no other.
@@ -281,19 +291,25 @@ fn are_sealed_up_to(rt: &impl Abort, shelf: &MemoryShelf, last: u8) {
     }
 }
 
+/// Stops behind the seal of this stream's file.
+fn stop_at_seal(rt: &impl Abort, alloc: Global, items: &[Item], last: u8)
+    requires few { length items.now < 2 ^ 31 }
+    requires fit { All IsFit items.now }
+{
+    // Four calls begin each file, and three close it: the seal of this stream's file stops.
+    let stop = Stop {
+        call: 64 + 3 * (u64::from(last) + 1),
+        outcome: Outcome3::New,
+    };
+    let shelf = shelf(rt, alloc, stop);
+    let shelf = stopped(rt, shelf, rules(rt, alloc), (1000, 9, 0), items);
+    are_sealed_up_to(rt, &shelf, last);
+}
+
 #[test]
-fn streams_close_at_one_mark_in_order_of_number(rt: HostRuntime) -> Result<(), Fail> {
-    let alloc = rt.alloc();
-    let items = a_record_for_each(alloc)?;
+fn streams_close_at_one_mark_in_order_of_number(rt: HostRuntime) {
+    let items = a_record_for_each(&rt, rt.alloc());
     for last in 0..16u8 {
-        // Four calls begin each file, and three close it: the seal of this stream's file stops.
-        let stop = Stop {
-            call: 64 + 3 * (u64::from(last) + 1),
-            outcome: Outcome3::New,
-        };
-        let shelf = shelf(alloc, Some(stop))?;
-        let shelf = stopped(&rt, shelf, rules(alloc)?, (1000, 9, 0), &items)?;
-        are_sealed_up_to(&rt, &shelf, last);
+        stop_at_seal(&rt, rt.alloc(), &items, last);
     }
-    Ok(())
 }

@@ -5,4 +5,4 @@ use Rattle.trials.proofs.writer.a_record_for_each.Given as goal
 
 -- the records so far can be written, one for each number so far
 abbrev pub invariant-loop-n : goal.invariant-loop-n
-invariant-loop-n l = record { fit : All IsFit l.items.items; count : length l.items.items ≡ l.n }
+invariant-loop-n g l = record { fit : All IsFit l.items.items; count : length l.items.items ≡ l.n }
