@@ -1,10 +1,9 @@
 ghost use Rattle.std.specs.Prelude.{◌≡◌};
 
-use crate::disk::{holds, is_there, lay, length};
-use area_disk::{Area, Failed};
+use crate::disk::{holds, is_there, lay, length, opened};
+use area_disk::Area;
 use cgf_edge::{DiskFile, FileArea, Trouble};
 use std::alloc::AllocGlobal;
-use std::fs;
 use std::fs::{File, Files, OpenOptions};
 use std::os::fd::AsRawFd;
 use std::process::Abort;
@@ -40,7 +39,7 @@ fn writes<R: Files<File = File> + Abort>(
 ) {
     assert!(rt; at <= area.length());
     assert!(rt; octets.len() as u64 <= area.length() - at);
-    assert_eq!(rt; area.write_at(at, octets), Ok(()));
+    assert!(rt; area.write_at(at, octets).is_ok());
 }
 
 /// What a read gives from this place on.
@@ -53,7 +52,7 @@ fn reads<R: Files<File = File> + Abort, const N: usize>(
     let mut into = [9; N];
     assert!(rt; at <= area.length());
     assert!(rt; N as u64 <= area.length() - at);
-    assert_eq!(rt; area.read_at(at, &mut into), Ok(()));
+    assert!(rt; area.read_at(at, &mut into).is_ok());
     assert_eq!(rt; into, *wanted);
 }
 
@@ -76,7 +75,7 @@ fn what_is_written_is_read_after_opening_again(rt: HostRuntime) {
     reads(&rt, &mut area, 9_996, &[0; 4]);
     writes(&rt, &mut area, 9_997, b"abc");
     reads(&rt, &mut area, 9_996, b"\0abc");
-    assert_eq!(rt; area.sync(), Ok(()));
+    assert!(rt; area.sync().is_ok());
     drop(area);
     assert_eq!(rt; length(&rt, "again.area"), 10_000);
     reads_anew(&rt, "again.area", 10_000, 9_996, b"\0abc");
@@ -103,8 +102,8 @@ fn a_file_that_is_locked_is_refused(rt: HostRuntime) {
     let mut holder = area(&rt, "held.area", 100);
     writes(&rt, &mut holder, 0, b"x");
     let mut second = area(&rt, "held.area", 100);
-    assert_eq!(rt; second.write_at(0, b"y"), Err(Failed));
-    assert_eq!(rt; second.sync(), Err(Failed));
+    assert!(rt; second.write_at(0, b"y").is_err());
+    assert!(rt; second.sync().is_err());
     assert!(rt; is_locked(&second.trouble()));
     reads(&rt, &mut holder, 0, b"x");
     drop(holder);
@@ -115,7 +114,7 @@ fn a_file_that_is_locked_is_refused(rt: HostRuntime) {
 fn is_refused<R: Files<File = File> + AllocGlobal + Abort>(rt: &R, octets: &str) {
     lay(rt, "other.area", octets);
     let mut area = area(rt, "other.area", 11);
-    assert_eq!(rt; area.read_at(0, &mut [0; 1]), Err(Failed));
+    assert!(rt; area.read_at(0, &mut [0; 1]).is_err());
     assert!(rt; is_length(&area.trouble(), octets.len() as u64));
     holds(rt, "other.area", octets);
 }
@@ -129,7 +128,7 @@ fn a_file_of_another_length_is_refused_and_stays(rt: HostRuntime) {
 
 /// The area in what stands at a path can't be synced.
 fn fails<R: Files<File = File> + AllocGlobal + Abort>(rt: &R, path: &str) {
-    assert_eq!(rt; area(rt, path, 100).sync(), Err(Failed), "{path}");
+    assert!(rt; area(rt, path, 100).sync().is_err(), "{path}");
 }
 
 /// A folder, a device, and a file in a folder that is missing.
@@ -155,22 +154,11 @@ fn a_file_that_was_left_short_is_filled_to_its_end(rt: HostRuntime) {
     is_filled(&rt, "\0\0\0\0\0");
 }
 
-/// A device of zeros, which takes reads and writes.
-fn zeros<R: Files<File = File> + Abort>(rt: &R) -> DiskFile {
-    match OpenOptions::new()
-        .read(true)
-        .write(true)
-        .open(rt, "/dev/zero")
-    {
-        Ok(zeros) => DiskFile::new(zeros),
-        Err(_) => panic!(rt; "no device of zeros"),
-    }
-}
-
 /// A device of zeros takes reads and writes and can't be synced.
 #[test]
 fn after_a_sync_that_failed_writes_and_syncs_fail_and_reads_go_on(rt: HostRuntime) {
-    let mut file = zeros(&rt);
+    let zeros = opened(&rt, OpenOptions::new().read(true).write(true), "/dev/zero");
+    let mut file = DiskFile::new(zeros);
     let mut into = [9; 3];
     assert!(rt; file.write(5, b"abc").is_ok());
     assert!(rt; !file.is_unsynced());
@@ -183,19 +171,11 @@ fn after_a_sync_that_failed_writes_and_syncs_fail_and_reads_go_on(rt: HostRuntim
     assert_eq!(rt; into, [0; 3]);
 }
 
-/// A file, which may only be read.
-fn opened<R: Files<File = File> + Abort>(rt: &R, path: &str) -> File {
-    match fs::open(rt, path) {
-        Ok(file) => file,
-        Err(_) => panic!(rt; "not opened"),
-    }
-}
-
 /// A handle that may only read, and a read behind the end.
 #[test]
 fn a_write_that_the_system_refuses_is_a_fault(rt: HostRuntime) {
     lay(&rt, "read-only", "0123");
-    let file = DiskFile::new(opened(&rt, "read-only"));
+    let file = DiskFile::new(opened(&rt, OpenOptions::new().read(true), "read-only"));
     let mut into = [0; 3];
     assert!(rt; file.read(1, &mut into).is_ok());
     assert_eq!(rt; into, [b'1', b'2', b'3']);
@@ -210,7 +190,7 @@ fn the_number_of_a_standard_stream_is_left_free(rt: HostRuntime) {
     assert_eq!(rt; libc::close(0), 0);
     let mut area = area(&rt, "streams.area", 100);
     writes(&rt, &mut area, 0, b"x");
-    let next = opened(&rt, "streams.area");
+    let next = opened(&rt, OpenOptions::new().read(true), "streams.area");
     assert_eq!(rt; next.as_raw_fd(), 0);
     writes(&rt, &mut area, 1, b"y");
     reads(&rt, &mut area, 0, b"xy");

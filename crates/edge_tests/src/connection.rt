@@ -153,8 +153,8 @@ fn a_peer_that_never_reads_holds_the_sink_until_it_is_gone_and_that_is_a_fault_t
 
 /// A call of each end fails.
 fn fail(rt: &impl Abort, source: &mut ConnectionSource, sink: &mut ConnectionSink) {
-    assert_eq!(rt; source.take(&mut [0; 4]), Err(Failed));
-    assert_eq!(rt; sink.put(b"xy"), Err(Failed));
+    assert!(rt; source.take(&mut [0; 4]).is_err());
+    assert!(rt; sink.put(b"xy").is_err());
 }
 
 /// Somebody has the address of a port.

@@ -1,7 +1,7 @@
 //! The files of a test's folder, each call by itself. Where the system refuses one the test ends.
 use std::alloc::AllocGlobal;
 use std::fs;
-use std::fs::Files;
+use std::fs::{File, Files, OpenOptions};
 use std::process::Abort;
 
 /// Writes a file with this text.
@@ -34,4 +34,21 @@ pub(crate) fn length<R: Files + Abort>(rt: &R, path: &str) -> u64 {
         Ok(found) => found.len(),
         Err(_) => panic!(rt; "{path} is not there"),
     }
+}
+
+/// A file that is opened so.
+pub(crate) fn opened<R: Files<File = File> + Abort>(
+    rt: &R,
+    options: &OpenOptions,
+    path: &str,
+) -> File {
+    match options.open(rt, path) {
+        Ok(file) => file,
+        Err(_) => panic!(rt; "{path} is not opened"),
+    }
+}
+
+/// A file that is made where it is missing, and written at its end.
+pub(crate) fn opened_behind<R: Files<File = File> + Abort>(rt: &R, path: &str) -> File {
+    opened(rt, OpenOptions::new().append(true).create(true), path)
 }

@@ -1,9 +1,9 @@
-use crate::disk::{holds, lay};
+use crate::disk::{holds, lay, opened_behind};
 use cgf_edge::{BehindProgress, FileSource, Line, Progress, ReaderSource, WriterSink};
 use gw_base::{Failed, Sink, Source};
 use std::alloc::Global;
 use std::fmt::Display;
-use std::fs::{File, Files, OpenOptions};
+use std::fs::{File, Files};
 use std::io;
 use std::io::{Print, Read, Write};
 use std::process::Abort;
@@ -61,28 +61,38 @@ impl Write for SlowWriter {
     }
 }
 
+/// What a source says that it took.
+fn takes<S: Source>(
+    rt: &impl Abort,
+    source: &mut S,
+    into: &mut [u8],
+    taken: Result<usize, Failed>,
+) {
+    assert_eq!(rt; source.take(into), taken);
+}
+
 #[test]
 fn a_reader_that_fails_is_not_at_its_end_and_an_interruption_is_no_fault(rt: HostRuntime) {
     let mut source = ReaderSource::new(FaultyReader { calls: 0 });
     let mut into = [0; 4];
-    assert_eq!(rt; source.take(&mut into), Ok(2));
+    takes(&rt, &mut source, &mut into, Ok(2));
     assert_eq!(rt; into, [7, 9, 0, 0]);
-    assert_eq!(rt; source.take(&mut into), Err(Failed));
-    assert_eq!(rt; source.take(&mut into), Ok(0));
+    takes(&rt, &mut source, &mut into, Err(Failed));
+    takes(&rt, &mut source, &mut into, Ok(0));
 }
 
 /// How many octets each piece of a file has, and what stands at the end of the room for them then.
 const PIECES: [(usize, u8); 5] = [(10, b'1'), (10, b'2'), (5, b'2'), (0, b'2'), (0, b'2')];
 
 /// Takes the next piece.
-fn takes<R: Files + Abort>(
-    rt: &R,
-    source: &mut FileSource<'_, R>,
-    into: &mut [u8],
+fn takes_piece<S: Source>(
+    rt: &impl Abort,
+    source: &mut S,
+    into: &mut [u8; 10],
     (count, last): (usize, u8),
 ) {
-    assert_eq!(rt; source.take(into), Ok(count));
-    assert_eq!(rt; into.last(), Some(&last));
+    takes(rt, source, into, Ok(count));
+    assert_eq!(rt; into[9], last);
 }
 
 #[test]
@@ -91,7 +101,7 @@ fn a_file_is_read_on_from_piece_to_piece(rt: HostRuntime) {
     let mut source = FileSource::new(&rt, "pieces");
     let mut into = [0; 10];
     for piece in PIECES {
-        takes(&rt, &mut source, &mut into, piece);
+        takes_piece(&rt, &mut source, &mut into, piece);
     }
 }
 
@@ -99,22 +109,14 @@ fn a_file_is_read_on_from_piece_to_piece(rt: HostRuntime) {
 fn is_no_file<R: Files<File = File> + Abort>(rt: &R, path: &str) {
     let mut source = FileSource::new(rt, path);
     let mut into = [0; 10];
-    assert_eq!(rt; source.take(&mut into), Err(Failed), "{path}");
-    assert_eq!(rt; source.take(&mut into), Err(Failed), "{path}");
+    assert!(rt; source.take(&mut into).is_err(), "{path}");
+    assert!(rt; source.take(&mut into).is_err(), "{path}");
 }
 
 #[test]
 fn what_cannot_be_read_as_a_file_is_a_fault(rt: HostRuntime) {
     is_no_file(&rt, "missing");
     is_no_file(&rt, ".");
-}
-
-/// A file that is made where it is missing, and written at its end.
-fn behind<R: Files<File = File> + Abort>(rt: &R, path: &str) -> File {
-    match OpenOptions::new().append(true).create(true).open(rt, path) {
-        Ok(file) => file,
-        Err(_) => panic!(rt; "{path} is not opened"),
-    }
 }
 
 /// Puts octets.
@@ -128,7 +130,7 @@ fn a_sink_says_how_much_was_written_and_what_was_not(rt: HostRuntime) {
     puts(&rt, &mut sink, "abc", Ok(1));
     puts(&rt, &mut sink, "bc", Ok(1));
     puts(&rt, &mut sink, "", Ok(0));
-    let mut sink = WriterSink::new(behind(&rt, "/dev/full"));
+    let mut sink = WriterSink::new(opened_behind(&rt, "/dev/full"));
     puts(&rt, &mut sink, "abc", Err(Failed));
     puts(&rt, &mut sink, "abc", Err(Failed));
 }
@@ -176,7 +178,7 @@ fn run_unseen(alloc: Global, line: &Line) {
 /// there is no terminal.
 #[test]
 fn a_long_job_is_shown_on_a_terminal_and_cleared_before_the_report(rt: HostRuntime) {
-    let terminal = behind(&rt, "shown");
+    let terminal = opened_behind(&rt, "shown");
     let line = Line::new();
     let mut sink = BehindProgress::new(
         WriterSink::new(cloned(&rt, &terminal)),
@@ -242,7 +244,7 @@ const TURNS: [(usize, u64, u8); 6] = [
 #[test]
 fn nodes_of_a_loop_are_shown_on_a_terminal(rt: HostRuntime) {
     let line = Line::new();
-    let terminal = Paper(behind(&rt, "nodes"));
+    let terminal = Paper(opened_behind(&rt, "nodes"));
     let mut progress = Progress::new(rt.alloc(), &line, Some(terminal));
     for (place, done, favourite) in TURNS {
         progress.turned(place, done, 200, favourite);

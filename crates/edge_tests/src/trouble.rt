@@ -1,4 +1,4 @@
-use area_disk::{Area, Failed};
+use area_disk::Area;
 use cgf_edge::{FileArea, Trouble};
 use std::alloc::AllocGlobal;
 use std::io;
@@ -36,7 +36,7 @@ fn each_trouble_says_what_happened(rt: HostRuntime) {
 fn what_the_system_refuses_is_told_as_it_says_it(rt: HostRuntime) {
     let mut area = FileArea::new(rt.alloc(), &rt, "missing/a.area", 100);
     assert!(rt; area.trouble().is_none());
-    assert_eq!(rt; area.sync(), Err(Failed));
+    assert!(rt; area.sync().is_err());
     let Some(trouble) = area.trouble() else {
         panic!(rt; "no trouble");
     };
