@@ -11,7 +11,7 @@ seeds=$(seq -s ', ' 0 $((worlds - 1)))
 sed -i "s/^const SEEDS: .*/const SEEDS: [u64; $worlds] = [$seeds];/
     s/^const EVENTS: u64 = .*/const EVENTS: u64 = ${2:-1000};/" "$work/crates/world_trials/src/random_worlds.rt"
 # The other tests are left out: there is one time for all of them.
-for test in node_logged node_by_log world_stories world_worked worlds; do
+for test in node_steps nodes world_stories world_worked worlds; do
     sed -i "/^#\[cfg(test)\]\$/{N;/mod $test;/d}" "$work/crates/world_trials/src/lib.rt"
     rm -r "$work/crates/world_trials/src/$test.rt"
 done

@@ -15,7 +15,7 @@ use gw_base::NoMemory;
 
 /// Whether the records are filed once: the plain copy is filed, or a possible duplicate is
 /// released.
-pub fn is_resolved(copies: &[PacketCopy]) -> bool
+pub(crate) fn is_resolved(copies: &[PacketCopy]) -> bool
     ensures { result ≡ is_resolved copies.now }
 {
     match copies {
@@ -25,7 +25,7 @@ pub fn is_resolved(copies: &[PacketCopy]) -> bool
 }
 
 /// Whether they are, and every other copy is out of the way.
-pub fn is_done(copies: &[PacketCopy]) -> bool
+pub(crate) fn is_done(copies: &[PacketCopy]) -> bool
     ensures { result ≡ is_done copies.now }
 {
     match copies {
@@ -54,7 +54,7 @@ pub(crate) fn any_is_held(duplicates: &[PacketCopy]) -> bool
 }
 
 /// Whether nothing is known of the copy at a gateway.
-pub fn is_unknown_at(gateway: u8, copies: &[PacketCopy]) -> bool
+pub(crate) fn is_unknown_at(gateway: u8, copies: &[PacketCopy]) -> bool
     ensures { result ≡ list_any (is_unknown_at gateway) copies.now }
 {
     copies.iter().any(|copy| copy.gateway == gateway && copy.verdict.is_unknown())
@@ -124,7 +124,7 @@ pub(crate) fn hear(
 }
 
 /// The copies after a sending of their packet.
-pub fn note_sending(copies: &mut Vec<PacketCopy>, sending: &Sending) -> Result<(), NoMemory>
+pub(crate) fn note_sending(copies: &mut Vec<PacketCopy>, sending: &Sending) -> Result<(), NoMemory>
     ensures { OnOk result (copies.new.items ≡ copies_after sending.now copies.old.items) }
 {
     match *sending {

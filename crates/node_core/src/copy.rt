@@ -7,7 +7,7 @@ use gw_base::cause::{ACCEPTED, ALREADY_FULFILLED, DUPLICATE_ALREADY_FULFILLED};
 
 /// What a node knows of a copy of a packet. The first response that tells something decides.
 #[derive(Clone, Copy, Debug, PartialEq, Eq)]
-pub enum Verdict {
+pub(crate) enum Verdict {
     /// No response has told anything of it.
     Unknown,
     /// The gateway has filed it.
@@ -21,7 +21,7 @@ pub enum Verdict {
 
 impl Verdict {
     /// Whether nothing is known of the copy.
-    pub fn is_unknown(self) -> bool
+    pub(crate) fn is_unknown(self) -> bool
         ensures { result ≡ is_unknown self }
     {
         matches!(self, Verdict::Unknown)
@@ -46,7 +46,7 @@ impl Verdict {
     }
 
     /// The verdict with what is told later, which counts where nothing was told before.
-    pub fn first_told(self, later: Verdict) -> Verdict
+    fn first_told(self, later: Verdict) -> Verdict
         ensures { result ≡ first_told self later }
     {
         match self {
@@ -58,7 +58,7 @@ impl Verdict {
 
 /// What a node asks of a gateway that holds a copy.
 #[derive(Clone, Copy, Debug, PartialEq, Eq)]
-pub enum Order {
+pub(crate) enum Order {
     Release,
     Cancel,
 }
@@ -73,7 +73,7 @@ impl Order {
 
 /// The release or the cancel that was sent for a copy.
 #[derive(Clone, Copy, Debug, PartialEq, Eq)]
-pub struct Command {
+pub(crate) struct Command {
     pub order: Order,
     /// Its own request number at the copy's gateway.
     pub number: u64,
@@ -97,7 +97,7 @@ impl Command {
 /// A copy of a packet: the gateway that it was sent to and its request number there, and what the
 /// node knows of it.
 #[derive(Clone, Copy, Debug, PartialEq, Eq)]
-pub struct PacketCopy {
+pub(crate) struct PacketCopy {
     /// The gateway's place in the node's list, counted from 0.
     pub gateway: u8,
     /// Its whole request number there, of which the wire carries the last 16 bits.
@@ -201,7 +201,7 @@ fn command_hearing(command: Option<Command>, cause: u8, numbers: &Responded<'_>)
 
 /// Whether the cause is that of a release or a cancel that is fulfilled, now or before, and of a
 /// possible duplicate that is held.
-pub fn is_fulfilled(cause: u8) -> bool
+fn is_fulfilled(cause: u8) -> bool
     ensures { result ≡ is_fulfilled cause }
 {
     cause == ACCEPTED || cause == DUPLICATE_ALREADY_FULFILLED
@@ -215,7 +215,7 @@ fn is_filing(cause: u8) -> bool
 }
 
 /// What a response with this cause tells of a copy, where it names it.
-pub fn told_if(is_named: bool, port: Port, is_plain: bool, cause: u8) -> Verdict
+fn told_if(is_named: bool, port: Port, is_plain: bool, cause: u8) -> Verdict
     ensures { result ≡ told_if is_named port is_plain cause }
 {
     if is_named {
@@ -226,7 +226,7 @@ pub fn told_if(is_named: bool, port: Port, is_plain: bool, cause: u8) -> Verdict
 }
 
 /// What a response with this cause tells of a copy, plain or not, at this port.
-pub fn told(port: Port, is_plain: bool, cause: u8) -> Verdict
+fn told(port: Port, is_plain: bool, cause: u8) -> Verdict
     ensures { result ≡ told port is_plain cause }
 {
     match (port, is_plain) {

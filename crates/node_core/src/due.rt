@@ -13,7 +13,7 @@ use gw_base::NoMemory;
 
 /// Where a new copy goes: the favourite, and whether it is alive.
 #[derive(Clone, Copy)]
-pub struct Aim {
+pub(crate) struct Aim {
     pub favourite: u8,
     pub is_alive: bool,
 }
@@ -34,7 +34,7 @@ pub(crate) fn due_for(
 }
 
 /// Appends what is due for an open packet with this number and these copies.
-pub fn due_by_copies(
+fn due_by_copies(
     aim: Aim,
     peers: &[Peer],
     packet: u64,

@@ -229,7 +229,7 @@ impl Node {
 }
 
 /// The datagram is dropped.
-pub fn dropping(why: Why) -> Heeded
+fn dropping(why: Why) -> Heeded
     ensures { result ≡ dropping why }
 {
     Heeded {
@@ -241,7 +241,7 @@ pub fn dropping(why: Why) -> Heeded
 }
 
 /// The datagram is answered so, and made no packet resolved or done.
-pub fn replying(reply: Option<Short>) -> Heeded
+fn replying(reply: Option<Short>) -> Heeded
     ensures { result ≡ record { reply = reply; drop = None; resolved = None; done = None } }
 {
     Heeded {
@@ -270,7 +270,7 @@ fn telling(address: u32, made: Made) -> Heeded
 }
 
 /// The packet of a node with this address and this number, where there is one.
-pub fn id_of(address: u32, number: Option<u64>) -> Option<PacketId>
+fn id_of(address: u32, number: Option<u64>) -> Option<PacketId>
     ensures { result ≡ id_of address number }
 {
     match number {
@@ -283,7 +283,7 @@ pub fn id_of(address: u32, number: Option<u64>) -> Option<PacketId>
 }
 
 /// The octets of an answer of path management, where there is one.
-pub fn path_reply(answer: Option<PathEvent>) -> Option<Short>
+fn path_reply(answer: Option<PathEvent>) -> Option<Short>
     ensures { result ≡ option_map path_octets answer }
 {
     match answer {

@@ -11,7 +11,7 @@ use byteorder::{BigEndian, ByteOrder};
 use gw_base::cause::{NO_RESOURCES, SYSTEM_FAILURE};
 
 /// The gateway after this one, among so many; with one gateway there is no other.
-pub fn next_place(size: usize, gateway: u8) -> Option<u8>
+pub(crate) fn next_place(size: usize, gateway: u8) -> Option<u8>
     requires { size ≤ 255 }
     ensures place { result ≡ next_place size gateway }
     ensures within { IfSome result (λ place. place < size) }

@@ -195,7 +195,7 @@ impl Node {
 
 /// The gateways as at a start.
 #[tactic(auto, using(crate::proofs::NodeLemmas::numbers_anew))]
-pub fn peers_of(alloc: Global, gateways: &[Addr]) -> Result<Vec<Peer>, NoMemory>
+fn peers_of(alloc: Global, gateways: &[Addr]) -> Result<Vec<Peer>, NoMemory>
     ensures peers { IfOk result (λ peers. peers.items ≡ map peer_anew gateways.now) }
     ensures numbers { IfOk result (λ peers. AreNumbers peers.items) }
 {

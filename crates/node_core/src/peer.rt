@@ -13,7 +13,7 @@ pub const END_OF_NUMBERS: u64 = 0x8000_0000_0000_0000;
 
 /// A gateway as a node sees it: where it is, and the next numbers that the node draws for it.
 #[derive(Clone, Copy, Debug, PartialEq, Eq)]
-pub struct Peer {
+pub(crate) struct Peer {
     pub address: Addr,
     /// The next path number, which returns to 0 behind 65,535.
     pub path: u16,
@@ -45,7 +45,7 @@ pub(crate) fn renew(peers: &mut [Peer])
 }
 
 /// The next request number of a gateway.
-pub fn next_number(peers: &[Peer], gateway: u8) -> u64
+pub(crate) fn next_number(peers: &[Peer], gateway: u8) -> u64
     ensures { result ≡ next_number peers.now gateway }
 {
     match peers.get(usize::from(gateway)) {
@@ -55,7 +55,7 @@ pub fn next_number(peers: &[Peer], gateway: u8) -> u64
 }
 
 /// The last request number that was drawn for a gateway.
-pub fn last_number(peers: &[Peer], gateway: u8) -> u64
+pub(crate) fn last_number(peers: &[Peer], gateway: u8) -> u64
     ensures { result ≡ last_number peers.now gateway }
 {
     next_number(peers, gateway).saturating_sub(1)
@@ -72,7 +72,7 @@ pub(crate) fn address_at(peers: &[Peer], gateway: u8) -> Addr
 }
 
 /// The place of the gateway with this IPv4 address.
-pub fn place_of(peers: &[Peer], ip: u32) -> Option<u8>
+pub(crate) fn place_of(peers: &[Peer], ip: u32) -> Option<u8>
     requires { length peers.now ≤ 255 }
     ensures place { result ≡ place_of peers.now ip }
     ensures within { IfSome result (λ place. place < length peers.now) }
@@ -91,7 +91,7 @@ fn position_of(peers: &[Peer], ip: u32) -> Option<usize>
 }
 
 /// Notes the number that a sending draws, if it draws one.
-pub fn draw(peers: &mut [Peer], sending: &Sending)
+pub(crate) fn draw(peers: &mut [Peer], sending: &Sending)
     requires { AreNumbers peers.old }
     ensures drawn { peers.new ≡ drawn sending.now peers.old }
     ensures numbers { AreNumbers peers.new }

@@ -9,7 +9,7 @@ use crate::port::Port;
 /// from 0, packets are numbered from 1 over all starts of the node, and request numbers are whole
 /// ones, of which the wire carries the last 16 bits.
 #[derive(Clone, Copy, Debug, PartialEq, Eq)]
-pub enum Sending {
+pub(crate) enum Sending {
     /// A Node Alive Request with this path number.
     Probe {
         gateway: u8,
@@ -43,7 +43,7 @@ pub enum Sending {
 
 impl Sending {
     /// Whether it is of the packet with this number.
-    pub fn is_of(&self, number: u64) -> bool
+    pub(crate) fn is_of(&self, number: u64) -> bool
         ensures { result ≡ is_of number self.now }
     {
         match self {

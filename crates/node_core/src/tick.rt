@@ -20,7 +20,7 @@ use path_mgmt::NodePath;
 use std::alloc::Global;
 
 /// The ticks without a message from the favourite after which it may move.
-pub const MOST_QUIET: u8 = 3;
+const MOST_QUIET: u8 = 3;
 
 /// What a tick does to a node, before it is done.
 #[derive(Drop)]
@@ -80,7 +80,7 @@ impl Node {
 }
 
 /// The favourite, once one is appointed or not.
-pub fn favourite_by(appointed: Option<u8>, gateway: u8) -> u8
+fn favourite_by(appointed: Option<u8>, gateway: u8) -> u8
     ensures { result ≡ favourite_by appointed gateway }
 {
     match appointed {

@@ -1,14 +1,14 @@
-//! Tests of serving nodes beside their logs and of worlds of gateways and nodes, by the public calls of `node_core` and
-//! `once_core`. They stand above these, so that each of them is proved once, and apart from `trials`, which stands on the
-//! job. What a node sends and makes of an answer is told by lines of `layer_runs`.
+//! Tests of serving nodes and of worlds of gateways and nodes, by the public calls of `node_core` and `once_core`. They
+//! stand above these, so that each of them is proved once, and apart from `trials`, which stands on the job. More of what
+//! a node sends and makes of an answer is told by lines of `layer_runs`.
 #![tactic(auto)]
 
 #[cfg(test)]
 mod calls;
 #[cfg(test)]
-mod node_by_log;
+mod node_steps;
 #[cfg(test)]
-mod node_logged;
+mod nodes;
 #[cfg(test)]
 mod random_worlds;
 #[cfg(test)]

@@ -1,5 +1,0 @@
-use Rattle.std.proofs.Common.{length}
-use Rattle.node_plain.proofs.steps.+send_each.Given as goal
-
-abbrev pub decreases-send_each : goal.decreases-send_each
-decreases-send_each l = length l.sendings.now
