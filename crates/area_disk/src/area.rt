@@ -25,7 +25,7 @@ impl fmt::Display for Failed {
 impl Error for Failed {}
 
 /// There was no memory for it, and nothing was made.
-#[derive(Clone, Copy, Debug, PartialEq, Eq)]
+#[derive(Clone, Copy, Debug)]
 pub struct NoMemory;
 
 impl fmt::Display for NoMemory {

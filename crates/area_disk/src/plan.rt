@@ -1,7 +1,7 @@
 // Which calls of an object in memory are to fail or to stop.
 
 /// What a stop leaves of the octets that were written since the last sync, those of the stopped write included.
-#[derive(Clone, Copy, Debug, PartialEq, Eq)]
+#[derive(Clone, Copy, PartialEq, Eq)]
 pub enum Outcome3 {
     /// They hold what stood at the last sync.
     Old,
@@ -12,7 +12,7 @@ pub enum Outcome3 {
 }
 
 /// One stop: at the counted call with this number, from 1, with this outcome.
-#[derive(Clone, Copy, Debug, PartialEq, Eq)]
+#[derive(Clone, Copy)]
 pub struct Stop {
     pub call: u64,
     pub outcome: Outcome3,
@@ -20,7 +20,7 @@ pub struct Stop {
 
 /// The calls that are to fail and the one stop, by numbers from 1 since the plan was armed. The counted calls of an
 /// area are `write_at` and `sync`, and its reads are `read_at`.
-#[derive(Debug, Drop)]
+#[derive(Drop)]
 pub struct Plan {
     /// Counted calls that fail and change nothing but the counts.
     pub fail: Vec<u64>,
@@ -31,7 +31,7 @@ pub struct Plan {
 }
 
 /// What comes of a call.
-#[derive(Clone, Copy, Debug, PartialEq, Eq)]
+#[derive(Clone, Copy)]
 pub enum Fate {
     Runs,
     /// It fails, and changes nothing but the counts.

@@ -13,7 +13,7 @@ use std::marker::Model;
 const DEPTH: usize = 32;
 
 /// A constructed value that was entered.
-#[derive(Clone, Copy, Debug)]
+#[derive(Clone, Copy)]
 struct Level<'a> {
     /// Whether its length is indefinite.
     endless: bool,
@@ -22,7 +22,7 @@ struct Level<'a> {
 }
 
 /// Where the walk stands.
-#[derive(Debug, Drop)]
+#[derive(Drop)]
 pub(crate) struct Walk<'a> {
     /// The place of the next octet.
     at: usize,

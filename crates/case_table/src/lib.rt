@@ -17,7 +17,7 @@ mod macros;
 mod rows;
 
 /// One case: what a table has under a key.
-#[derive(Clone, Copy, Debug, PartialEq, Eq)]
+#[derive(Clone, Copy, Debug)]
 pub struct Row {
     /// What the row is found by.
     pub key: u32,
@@ -28,7 +28,7 @@ pub struct Row {
 }
 
 /// A key that more than one row has, the least of them.
-#[derive(Clone, Copy, Debug, PartialEq, Eq)]
+#[derive(Clone, Copy, Debug)]
 pub struct Twice {
     /// The key.
     pub key: u32,
@@ -36,7 +36,7 @@ pub struct Twice {
 
 /// A table of `N` rows, in the order in which they were given. [`cases!`](crate::cases) writes
 /// one in the body of a function.
-#[derive(Clone, Copy, Debug, PartialEq, Eq)]
+#[derive(Clone, Copy)]
 pub struct Cases<const N: usize> {
     rows: [Row; N],
 }

@@ -6,7 +6,7 @@ use crate::head_octets::HeadOctets;
 use crate::octet::octet_of;
 
 /// The header of a CDR (3GPP TS 32.297, clause 6.1.2).
-#[derive(Clone, Copy, Debug, PartialEq, Eq)]
+#[derive(Clone, Copy)]
 pub struct CdrHeader {
     /// How many octets the CDR has after this header.
     pub length: u16,

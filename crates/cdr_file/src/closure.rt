@@ -1,7 +1,7 @@
 ghost use Rattle.std.specs.Prelude.{◌≡◌};
 
 /// Why a CDR file was closed: the file closure trigger reason (3GPP TS 32.297, clause 6.1.1).
-#[derive(Clone, Copy, Debug, PartialEq, Eq)]
+#[derive(Clone, Copy, Debug)]
 pub enum ClosureReason {
     /// Closed in the normal course.
     Normal = 0,

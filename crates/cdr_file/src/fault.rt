@@ -3,7 +3,7 @@ use std::error::Error;
 use std::fmt;
 
 /// Why octets aren't a CDR file. The first test that a file fails decides.
-#[derive(Clone, Copy, Debug, PartialEq, Eq)]
+#[derive(Clone, Copy, Debug)]
 pub enum FileFault {
     /// The octets are no file.
     Bad {
@@ -18,7 +18,7 @@ pub enum FileFault {
 }
 
 /// What is wrong with a CDR file, in the order in which it is tested.
-#[derive(Clone, Copy, Debug, PartialEq, Eq)]
+#[derive(Clone, Copy, Debug)]
 pub enum FileKind {
     /// There are fewer octets than the least header has.
     Short,

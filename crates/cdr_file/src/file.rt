@@ -6,7 +6,7 @@ use gw_base::Octets;
 use std::marker::Model;
 
 /// A CDR file (3GPP TS 32.297, clause 6.1).
-#[derive(Debug, Drop)]
+#[derive(Drop)]
 pub struct CdrFile {
     /// The fields of the header that every file has.
     pub header: FileHeader,
@@ -19,7 +19,7 @@ pub struct CdrFile {
 }
 
 /// A CDR of a file.
-#[derive(Debug, Drop)]
+#[derive(Drop)]
 pub struct Cdr {
     /// Its header.
     pub header: CdrHeader,
@@ -28,7 +28,7 @@ pub struct Cdr {
 }
 
 /// The CDRs of a file, in their order.
-#[derive(Debug, Drop)]
+#[derive(Drop)]
 pub struct Cdrs {
     cdrs: Vec<Cdr>,
 }

@@ -7,7 +7,7 @@ use byteorder::{BigEndian, ByteOrder};
 
 /// The header of a CDR file, but for its routeing filter and its private extension (3GPP TS 32.297,
 /// clause 6.1.1).
-#[derive(Clone, Copy, Debug, PartialEq, Eq)]
+#[derive(Clone, Copy)]
 pub struct FileHeader {
     /// How many octets the whole file has, this header among them.
     pub length: u32,

@@ -6,7 +6,7 @@ use gw_base::CdrKind;
 
 /// A kind in the form of a profile: what the header of a CDR says of its record (3GPP TS 32.297, clause
 /// 6.1.2). A CDR file holds records of one such kind.
-#[derive(Clone, Copy, Debug, PartialEq, Eq)]
+#[derive(Clone, Copy)]
 pub struct FiledKind {
     /// The release, from 0 to 7.
     pub release: u8,

@@ -5,7 +5,7 @@ use gw_base::Short;
 use std::marker::Model;
 
 /// The octets of a header of a file or of a CDR: at most 54.
-#[derive(Debug, Drop)]
+#[derive(Drop)]
 pub struct HeadOctets {
     octets: Short,
 }

@@ -5,7 +5,7 @@ use std::marker::Model;
 
 /// How far a local clock is ahead of UTC, in minutes, from -959 to 959: less than 16 hours either
 /// way.
-#[derive(Clone, Copy, Debug, PartialEq, Eq)]
+#[derive(Clone, Copy)]
 pub struct Offset16 {
     minutes: i16,
 }

@@ -13,7 +13,7 @@ use byteorder::{BigEndian, ByteOrder};
 use gw_base::Moment;
 
 /// What the header of a file says of the records in it.
-#[derive(Clone, Copy, Debug, PartialEq, Eq)]
+#[derive(Clone, Copy)]
 pub struct RunFacts {
     /// The kind of each of them, in the form of the file's profile.
     pub kind: FiledKind,

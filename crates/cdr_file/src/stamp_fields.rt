@@ -3,7 +3,7 @@ ghost use Rattle.cdr_file.specs.Timestamp.{fields_of};
 
 /// The fields of a timestamp of a CDR file, as they stand in it (3GPP TS 32.297, clause 6.1.1). Each may
 /// be any number of its bits: a month of 0 or a minute of 63 is no fault.
-#[derive(Clone, Copy, Debug, PartialEq, Eq)]
+#[derive(Clone, Copy, Debug)]
 pub struct StampFields {
     /// The month, 4 bits.
     pub month: u8,

@@ -4,7 +4,7 @@ use std::fmt;
 
 /// An entry wasn't pushed, and nothing changed: it has more octets than these, which are free of the 1,048,576 of a
 /// batch. All are free after a commit.
-#[derive(Clone, Copy, Debug, PartialEq, Eq)]
+#[derive(Clone, Copy, Debug)]
 pub struct BatchFull {
     pub free: u64,
 }

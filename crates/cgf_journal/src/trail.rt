@@ -27,7 +27,7 @@ use gate_journal::{AppendFault, Device, Journal};
 use gw_base::{Buffer, Entry, Place};
 
 /// Entries that aren't firm, as octets.
-#[derive(Clone, Copy, Debug)]
+#[derive(Clone, Copy)]
 pub struct Waiting<'a> {
     /// How many octets spell the firm entries.
     pub at: u64,

@@ -23,7 +23,7 @@ pub struct Serving {
 
 /// The outside of `serve`: the length of the area of its journal, the path of the area's file, and that of the folder of
 /// its files.
-#[derive(Clone, Copy, Debug, PartialEq, Eq)]
+#[derive(Clone, Copy)]
 pub struct Places<'a> {
     pub length: u64,
     pub area: &'a str,

@@ -21,7 +21,7 @@ pub struct Streaming {
 
 /// The outside of `stream`: the length of the area of its journal, the path of the area's file, that of the folder of its
 /// files, and the path of the stream, which `-` names where it is the standard input.
-#[derive(Clone, Copy, Debug, PartialEq, Eq)]
+#[derive(Clone, Copy)]
 pub struct StreamPlaces<'a> {
     pub length: u64,
     pub area: &'a str,

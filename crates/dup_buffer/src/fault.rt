@@ -2,7 +2,7 @@ use std::error::Error;
 use std::fmt;
 
 /// Why a copy isn't held. All copies are held as before.
-#[derive(Clone, Copy, Debug, PartialEq, Eq)]
+#[derive(Clone, Copy, Debug)]
 pub enum HoldFault {
     /// As many copies are held as a gateway may hold, 65,536.
     Full,

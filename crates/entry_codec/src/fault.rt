@@ -2,7 +2,7 @@ use std::error::Error;
 use std::fmt;
 
 /// No prefix of the octets is an entry.
-#[derive(Clone, Copy, Debug, PartialEq, Eq)]
+#[derive(Clone, Copy, Debug)]
 pub struct EntryFault {
     /// The first octet, counted from 0, at which that is certain: an entry begins with the octets
     /// before it, and none with it too. It is the number of octets where they end too early.

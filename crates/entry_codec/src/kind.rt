@@ -3,7 +3,7 @@ ghost use Rattle.entry_codec.specs.Reading.{fits_length, kind_from};
 ghost use Rattle.entry_codec.specs.Spelling.{code_of};
 
 /// The kind of an entry.
-#[derive(Clone, Copy, Debug, PartialEq, Eq)]
+#[derive(Clone, Copy)]
 pub(crate) enum Kind {
     Start,
     Path,

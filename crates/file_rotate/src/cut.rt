@@ -5,7 +5,7 @@ use cdr_file::ClosureReason;
 
 /// Where an item cuts the stream: the codes of the reasons for which files are closed there
 /// (3GPP TS 32.297, clause 6.1.1).
-#[derive(Clone, Copy, Debug, PartialEq, Eq)]
+#[derive(Clone, Copy, Debug)]
 pub struct Cut {
     /// Why the open file is closed before this item, if it is: 5 before a record of another kind, 2
     /// at a Tick, 4 at a Close.

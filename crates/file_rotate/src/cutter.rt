@@ -13,7 +13,7 @@ use std::marker::Model;
 
 /// Cuts the records of one stream into files: it is told each item of the stream in order, and
 /// answers where files are closed. No call takes memory.
-#[derive(Clone, Copy, Debug)]
+#[derive(Clone, Copy)]
 pub struct Cutter {
     limits: Limits,
     profile: u8,

@@ -1,5 +1,5 @@
 /// When a file is full, or old.
-#[derive(Clone, Copy, Debug, PartialEq, Eq)]
+#[derive(Clone, Copy, Debug)]
 pub struct Limits {
     /// A file is closed where it has this many octets, its header included: from 1 to 2^32 - 2^17.
     pub size: u32,

@@ -10,7 +10,7 @@ use gw_base::Moment;
 use gw_base::scan::is_long_ago;
 
 /// What is kept of an open file.
-#[derive(Clone, Copy, Debug)]
+#[derive(Clone, Copy)]
 pub(crate) struct OpenFile {
     /// The kind of its records.
     pub kind: FiledKind,

@@ -6,7 +6,7 @@ use std::error::Error;
 use std::fmt;
 
 /// The device failed. Its count of faults rose in this call.
-#[derive(Clone, Copy, Debug, PartialEq, Eq)]
+#[derive(Clone, Copy, Debug)]
 pub struct Device;
 
 impl fmt::Display for Device {
@@ -20,7 +20,7 @@ impl fmt::Display for Device {
 impl Error for Device {}
 
 /// Why a journal wasn't opened or drafted. The area is handed back beside it.
-#[derive(Clone, Copy, Debug, PartialEq, Eq)]
+#[derive(Clone, Copy, Debug)]
 pub enum OpenFault {
     /// The device failed. Its count of faults rose in this call. An area whose making it broke off is made anew by
     /// the next opening, or stands for no batch.
@@ -47,7 +47,7 @@ impl fmt::Display for OpenFault {
 impl Error for OpenFault {}
 
 /// Why a batch wasn't appended.
-#[derive(Clone, Copy, Debug, PartialEq, Eq)]
+#[derive(Clone, Copy, Debug)]
 pub enum AppendFault {
     /// The device failed. Its count of faults rose in this call. The journal is closed until it is opened again; the
     /// batch then stands or it doesn't.

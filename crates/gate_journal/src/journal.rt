@@ -16,7 +16,7 @@ use area_disk::laws::area_laws;
 use area_disk::{Area, Failed};
 
 /// How far a journal's area is made.
-#[derive(Clone, Copy, Debug, PartialEq, Eq)]
+#[derive(Clone, Copy)]
 pub enum Front {
     /// It has its whole header.
     Founded,

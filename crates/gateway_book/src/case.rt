@@ -2,7 +2,7 @@ use gtpp_message::{Transfer, Why};
 use path_mgmt::PathEvent;
 
 /// What a gateway makes of a datagram before it looks at its history.
-#[derive(Debug, Drop)]
+#[derive(Drop)]
 pub(crate) enum Case<'a> {
     /// It isn't answered.
     Drop(Why),

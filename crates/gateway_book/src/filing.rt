@@ -14,7 +14,7 @@ use gw_base::{
 use std::alloc::Global;
 
 /// A record that goes into a CDR file.
-#[derive(Debug, Drop)]
+#[derive(Drop)]
 pub struct FiledRecord {
     /// The key of the packet that brought it.
     pub key: PacketKey,

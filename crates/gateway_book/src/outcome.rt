@@ -2,7 +2,7 @@ use gtpp_message::Why;
 use gw_base::Short;
 
 /// What a gateway is set up with.
-#[derive(Clone, Copy, Debug, PartialEq, Eq)]
+#[derive(Clone, Copy)]
 pub struct Setup {
     /// Its IPv4 address.
     pub address: u32,
@@ -26,7 +26,7 @@ pub enum BookFault {
 }
 
 /// What became of a datagram.
-#[derive(Debug, Drop)]
+#[derive(Drop)]
 pub enum Outcome {
     /// It is answered.
     Answer(Receipt),
@@ -35,7 +35,7 @@ pub enum Outcome {
 }
 
 /// An answer, and when it may be sent.
-#[derive(Debug, Drop)]
+#[derive(Drop)]
 pub struct Receipt {
     /// The octets of the message that goes back to the sender.
     pub reply: Short,
@@ -82,14 +82,14 @@ pub enum Settled {
 }
 
 /// A commit or an opening again failed, and the book is broken until one succeeds.
-#[derive(Clone, Copy, Debug, PartialEq, Eq)]
+#[derive(Clone, Copy, Debug)]
 pub struct Broken {
     /// How many have failed by now.
     pub faults: u64,
 }
 
 /// Why items aren't told.
-#[derive(Clone, Copy, Debug, PartialEq, Eq)]
+#[derive(Clone, Copy, Debug)]
 pub enum ItemsFault {
     /// The device failed.
     Device,

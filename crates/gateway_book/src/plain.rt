@@ -17,7 +17,7 @@ use gw_base::{Act, Addr, HistoryAct, HistoryEntry, NoMemory, Short};
 use std::alloc::Global;
 
 /// What a gateway answers to a datagram.
-#[derive(Debug, Drop)]
+#[derive(Drop)]
 pub enum OwnedAnswer {
     /// It isn't answered.
     Drop(Why),

@@ -14,7 +14,7 @@ use path_mgmt::PathEvent;
 use std::marker::Model;
 
 /// A datagram that was read and whose records were checked. It is seen as its octets.
-#[derive(Debug, Drop)]
+#[derive(Drop)]
 pub struct Prepared<'a> {
     octets: &'a [u8],
     case: Case<'a>,

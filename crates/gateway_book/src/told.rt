@@ -1,7 +1,7 @@
 use gw_base::{Absolute, KeyState};
 
 /// What a sequence number on the wire means in a node's present epoch.
-#[derive(Clone, Copy, Debug, PartialEq, Eq)]
+#[derive(Clone, Copy)]
 pub struct Key {
     /// The start of the node's present epoch: the restart counter that its Path told, and 0 where
     /// none did.
@@ -13,7 +13,7 @@ pub struct Key {
 }
 
 /// How much a gateway has recorded and holds.
-#[derive(Clone, Copy, Debug, PartialEq, Eq)]
+#[derive(Clone, Copy)]
 pub struct Counts {
     /// The entries of the history.
     pub entries: u64,

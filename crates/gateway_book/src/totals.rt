@@ -5,7 +5,7 @@ ghost use Rattle.gateway_book.specs.Sides.{no_totals, totals_after};
 use gw_base::{Act, Entry, Moment};
 
 /// What an index keeps of all entries together.
-#[derive(Clone, Copy, Debug, PartialEq, Eq)]
+#[derive(Clone, Copy)]
 pub struct Totals {
     /// How often the gateway began to run.
     pub starts: u64,

@@ -8,7 +8,7 @@ use crate::table::is_known_fixed;
 use byteorder::{BigEndian, ByteOrder};
 
 /// An element at the front of octets, and what follows it.
-#[derive(Clone, Copy, Debug)]
+#[derive(Clone, Copy)]
 pub struct Parsed<'a> {
     pub kind: u8,
     pub value: &'a [u8],

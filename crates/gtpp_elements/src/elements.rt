@@ -9,7 +9,7 @@ use crate::fault::ElementFault;
 use std::marker::Model;
 
 /// The elements of a body, in their order. They lend their octets from it.
-#[derive(Debug, Drop)]
+#[derive(Drop)]
 pub struct Elements<'a> {
     body: &'a [u8],
 }

@@ -2,7 +2,7 @@ use std::error::Error;
 use std::fmt;
 
 /// Why a body is no list of elements. The first faulty element decides.
-#[derive(Clone, Copy, Debug, PartialEq, Eq)]
+#[derive(Clone, Copy, Debug)]
 pub enum ElementFault {
     /// The element runs past the body.
     Overrun {
@@ -19,7 +19,7 @@ pub enum ElementFault {
 }
 
 /// A list of sequence numbers has an odd number of octets.
-#[derive(Clone, Copy, Debug, PartialEq, Eq)]
+#[derive(Clone, Copy, Debug)]
 pub struct OddLength;
 
 impl fmt::Display for ElementFault {

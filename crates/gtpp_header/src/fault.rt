@@ -2,7 +2,7 @@ use std::error::Error;
 use std::fmt;
 
 /// Why octets are not read as a header, in the order of the tests (3GPP TS 32.295, clause 6.1).
-#[derive(Clone, Copy, Debug, PartialEq, Eq)]
+#[derive(Clone, Copy, Debug)]
 pub enum HeadFault {
     /// There are fewer octets than a header has.
     Short,

@@ -30,7 +30,7 @@ const VERSION: u8 = 2;
 const SENT_FLAGS: u8 = 0x4E;
 
 /// What a header says of the message behind it.
-#[derive(Clone, Copy, Debug, PartialEq, Eq)]
+#[derive(Clone, Copy, Debug)]
 pub struct Header {
     /// The message type.
     pub kind: u8,

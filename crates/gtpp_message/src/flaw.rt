@@ -8,7 +8,7 @@ use gw_base::cause::{ELEMENT_INCORRECT, ELEMENT_MISSING, INVALID_MESSAGE_FORMAT}
 const NO_MARK: u32 = 0;
 
 /// What is wrong with the body of a message.
-#[derive(Clone, Copy, Debug, PartialEq, Eq)]
+#[derive(Clone, Copy, Debug)]
 pub enum Flaw {
     /// It is no list of elements.
     Elements,

@@ -6,7 +6,7 @@ use crate::records::{Records, are_records, nth_record};
 use byteorder::{BigEndian, ByteOrder};
 
 /// The value of a Data Record Packet (3GPP TS 32.295, clause 6.2.4.5).
-#[derive(Clone, Copy, Debug, PartialEq, Eq)]
+#[derive(Clone, Copy, Debug)]
 pub enum Packet<'a> {
     /// The empty packet, which tests a number.
     Empty,

@@ -10,14 +10,14 @@ use gtpp_elements::element_types::{
 };
 
 /// An element of one octet.
-#[derive(Clone, Copy, Debug)]
+#[derive(Clone, Copy)]
 pub struct OctetElement {
     pub kind: u8,
     pub octet: u8,
 }
 
 /// An element that states its length, with a value that the message lends.
-#[derive(Clone, Copy, Debug)]
+#[derive(Clone, Copy)]
 pub struct LentElement<'a> {
     pub kind: u8,
     pub value: &'a [u8],
@@ -25,7 +25,7 @@ pub struct LentElement<'a> {
 
 /// The elements of a message as it is sent: one of one octet at most, and then one that states its
 /// length at most.
-#[derive(Clone, Copy, Debug)]
+#[derive(Clone, Copy)]
 pub struct Parts<'a> {
     pub octet: Option<OctetElement>,
     pub value: Option<LentElement<'a>>,

@@ -9,7 +9,7 @@ use byteorder::{BigEndian, ByteOrder};
 use std::marker::Model;
 
 /// The records of a packet that are still to be lent, in their order.
-#[derive(Debug, Drop)]
+#[derive(Drop)]
 pub struct Records<'a> {
     left: u8,
     octets: &'a [u8],

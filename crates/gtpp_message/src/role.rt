@@ -10,7 +10,7 @@ use crate::reading::{Reading, Why};
 use gtpp_header::{HEADER_OCTETS, HeadFault, Header};
 
 /// An end of a path.
-#[derive(Clone, Copy, Debug, PartialEq, Eq)]
+#[derive(Clone, Copy)]
 pub enum Role {
     /// The charging gateway.
     Gateway,

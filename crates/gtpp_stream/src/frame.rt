@@ -2,7 +2,7 @@ use std::error::Error;
 use std::fmt;
 
 /// Why a stream is bad: octet 1 of what should be its next message.
-#[derive(Clone, Copy, Debug, PartialEq, Eq)]
+#[derive(Clone, Copy, Debug)]
 pub enum FrameKind {
     /// It has the protocol type of GTP, and not of GTP'.
     NotPrime,
@@ -27,7 +27,7 @@ impl fmt::Display for FrameKind {
 impl Error for FrameKind {}
 
 /// What a piece of a stream brought.
-#[derive(Clone, Copy, Debug, PartialEq, Eq)]
+#[derive(Clone, Copy)]
 pub enum FrameEnd {
     /// A message stands. What is left of the piece comes after it.
     Whole,

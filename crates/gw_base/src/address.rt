@@ -6,11 +6,11 @@ pub struct Addr {
 }
 
 /// A serving node, known by its IPv4 address alone, whose first octet is the top one.
-#[derive(Clone, Copy, Debug, PartialEq, Eq, PartialOrd, Ord, Hash)]
+#[derive(Clone, Copy, Debug, PartialEq, Eq)]
 pub struct NodeId(pub u32);
 
 /// A gateway, known by its IPv4 address, whose first octet is the top one.
-#[derive(Clone, Copy, Debug, PartialEq, Eq)]
+#[derive(Clone, Copy, Debug)]
 pub struct GatewayId(pub u32);
 
 /// A request's number counted on past 65,535, of which the wire carries the last 16 bits.

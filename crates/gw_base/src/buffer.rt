@@ -6,7 +6,7 @@ use std::marker::Model;
 
 /// A list of octets with a fixed capacity: what it holds grows up to that and takes no memory. Memory that it has never
 /// held octets in isn't touched.
-#[derive(Debug, Drop)]
+#[derive(Drop)]
 pub struct Buffer {
     octets: Vec<u8>,
     capacity: usize,

@@ -9,7 +9,7 @@ use crate::octets::Octets;
 use std::alloc::Global;
 
 /// One entry of a gateway's history, which borrows its packet or its numbers.
-#[derive(Clone, Copy, Debug, PartialEq, Eq)]
+#[derive(Clone, Copy, Debug)]
 pub struct Entry<'a> {
     pub moment: Moment,
     pub caller: Caller,
@@ -18,7 +18,7 @@ pub struct Entry<'a> {
 
 /// What an entry records. A packet is the value of a Data Record Packet (3GPP TS 32.295, clause
 /// 6.2.4.5).
-#[derive(Clone, Copy, Debug, PartialEq, Eq)]
+#[derive(Clone, Copy, Debug)]
 pub enum Act<'a> {
     /// The gateway began to run.
     Start,

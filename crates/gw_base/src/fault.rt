@@ -19,7 +19,7 @@ impl fmt::Display for Failed {
 impl Error for Failed {}
 
 /// There isn't room in a buffer, which stays as it was.
-#[derive(Clone, Copy, Debug, PartialEq, Eq)]
+#[derive(Clone, Copy, Debug)]
 pub struct Full {
     /// How many octets there is room for.
     pub free: usize,
@@ -39,7 +39,7 @@ impl fmt::Display for Full {
 impl Error for Full {}
 
 /// There was no memory for what the call had to keep. All objects are as before the call.
-#[derive(Clone, Copy, Debug, PartialEq, Eq)]
+#[derive(Clone, Copy, Debug)]
 pub struct NoMemory;
 
 impl fmt::Display for NoMemory {

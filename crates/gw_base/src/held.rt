@@ -10,7 +10,7 @@ use crate::scan::{HoldFate, copies_of, fate_of, is_close_due};
 use std::alloc::Global;
 
 /// A number of a node that is held in the node's present epoch.
-#[derive(Clone, Copy, Debug, PartialEq, Eq, PartialOrd, Ord, Hash)]
+#[derive(Clone, Copy, Debug)]
 pub struct HeldKey {
     pub node: NodeId,
     pub number: Absolute,

@@ -21,7 +21,7 @@ impl Caller {
 }
 
 /// One entry of a gateway's history, which owns what it says.
-#[derive(Debug, Drop)]
+#[derive(Drop)]
 pub struct HistoryEntry {
     pub moment: Moment,
     pub caller: Caller,
@@ -30,7 +30,7 @@ pub struct HistoryEntry {
 
 /// What an entry records. A packet is the value of a Data Record Packet (3GPP TS 32.295, clause
 /// 6.2.4.5).
-#[derive(Debug, Drop)]
+#[derive(Drop)]
 pub enum HistoryAct {
     /// The gateway began to run.
     Start,
@@ -74,7 +74,7 @@ pub enum HistoryAct {
 }
 
 /// A list of request numbers.
-#[derive(Debug, Drop)]
+#[derive(Drop)]
 pub struct Absolutes {
     numbers: Vec<Absolute>,
 }
@@ -112,7 +112,7 @@ impl Absolutes {
 
 /// A request number of a node, within one of the node's epochs. The epochs are counted by the Path
 /// entries that began them; epoch 0 is the one before the first.
-#[derive(Clone, Copy, Debug, PartialEq, Eq, PartialOrd, Ord, Hash)]
+#[derive(Clone, Copy, Debug)]
 pub struct PacketKey {
     pub node: NodeId,
     pub epoch: u64,
@@ -121,7 +121,7 @@ pub struct PacketKey {
 
 /// What the Path entry that began a node's epoch says of the node: the port that it sent from, and
 /// its restart counter.
-#[derive(Clone, Copy, Debug, PartialEq, Eq)]
+#[derive(Clone, Copy)]
 pub struct Opening {
     pub port: u16,
     pub counter: u8,

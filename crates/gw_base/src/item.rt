@@ -4,7 +4,7 @@ use crate::octets::Octets;
 use crate::tag::Tag;
 
 /// What the writer of files is told, one after the other.
-#[derive(Debug, Drop)]
+#[derive(Drop)]
 pub enum Item {
     /// A filed record.
     Part {

@@ -8,7 +8,7 @@ use crate::moment::Moment;
 use std::marker::Model;
 
 /// A clock that gives the moments that it was made with, and fails at the calls that it is told to.
-#[derive(Debug, Drop)]
+#[derive(Drop)]
 pub struct MemoryClock {
     moments: Vec<Moment>,
     given: usize,

@@ -11,7 +11,7 @@ use std::marker::Model;
 
 /// A sink that holds what was written, tells it, and fails at the calls that it is told to and at
 /// a piece that it has no room for.
-#[derive(Debug, Drop)]
+#[derive(Drop)]
 pub struct MemorySink {
     buffer: Vec<u8>,
     written: usize,

@@ -9,7 +9,7 @@ use crate::source::Source;
 use std::marker::Model;
 
 /// A source that holds its octets, tells them, and fails at the calls that it is told to.
-#[derive(Debug, Drop)]
+#[derive(Drop)]
 pub struct MemorySource {
     octets: Vec<u8>,
     taken: usize,

@@ -56,7 +56,7 @@ pub fn epoch(history: &[HistoryEntry], node: NodeId) -> u64
 }
 
 /// How far a scan for one key has come: the epoch of the key's node, and the key's state.
-#[derive(Clone, Copy, PartialEq, Eq)]
+#[derive(Clone, Copy)]
 struct KeyScan {
     epoch: u64,
     state: KeyState,
@@ -127,7 +127,7 @@ pub fn is_close_due(history: &[HistoryEntry]) -> bool
 }
 
 /// What became of a held number.
-#[derive(Clone, Copy, Debug, PartialEq, Eq)]
+#[derive(Clone, Copy, PartialEq, Eq)]
 pub enum HoldFate {
     /// No later entry of its epoch names it.
     Held,
@@ -153,7 +153,7 @@ pub fn fate_of(later: &[HistoryEntry], node: NodeId, number: Absolute) -> HoldFa
 }
 
 /// How many copies a gateway holds.
-#[derive(Clone, Copy, Debug, PartialEq, Eq)]
+#[derive(Clone, Copy, Debug)]
 pub struct Copies {
     /// Those of present epochs.
     pub held: u64,

@@ -3,7 +3,7 @@ ghost use Rattle.std.specs.Prelude.{◌≡◌, ◌≤◌, ◌+◌, ◌++◌, ◌
 use std::marker::Model;
 
 /// A list of at most 64 octets, which is long enough for every reply.
-#[derive(Debug, Drop)]
+#[derive(Drop)]
 pub struct Short {
     octets: [u8; 64],
     used: usize,

@@ -1,7 +1,7 @@
 use gw_base::PacketId;
 
 /// What an audit found.
-#[derive(Clone, Copy, Debug, PartialEq, Eq)]
+#[derive(Clone, Copy, PartialEq, Eq)]
 pub enum Audited {
     /// Each packet stands as often as it has to.
     Fine,

@@ -10,7 +10,7 @@ pub struct NodeSum {
 
 /// What a gateway counts: its entries, the records that they file, the copies that it holds, and those of earlier
 /// epochs that were neither released nor cancelled.
-#[derive(Clone, Copy, Debug, PartialEq, Eq)]
+#[derive(Clone, Copy)]
 pub struct GatewaySum {
     pub entries: u64,
     pub records: u64,

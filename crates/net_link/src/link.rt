@@ -8,7 +8,7 @@ use std::error::Error;
 use std::fmt;
 
 /// What came of waiting for a datagram.
-#[derive(Clone, Copy, Debug, PartialEq, Eq)]
+#[derive(Clone, Copy, PartialEq, Eq)]
 pub enum Heard {
     /// One came from this address, with so many octets.
     Datagram { from: Addr, length: usize },

@@ -6,7 +6,7 @@ use crate::responded::Responded;
 use gw_base::cause::{ACCEPTED, ALREADY_FULFILLED, DUPLICATE_ALREADY_FULFILLED};
 
 /// What a node knows of a copy of a packet. The first response that tells something decides.
-#[derive(Clone, Copy, Debug, PartialEq, Eq)]
+#[derive(Clone, Copy)]
 pub(crate) enum Verdict {
     /// No response has told anything of it.
     Unknown,
@@ -72,7 +72,7 @@ impl Order {
 }
 
 /// The release or the cancel that was sent for a copy.
-#[derive(Clone, Copy, Debug, PartialEq, Eq)]
+#[derive(Clone, Copy)]
 pub(crate) struct Command {
     pub order: Order,
     /// Its own request number at the copy's gateway.
@@ -96,7 +96,7 @@ impl Command {
 
 /// A copy of a packet: the gateway that it was sent to and its request number there, and what the
 /// node knows of it.
-#[derive(Clone, Copy, Debug, PartialEq, Eq)]
+#[derive(Clone, Copy)]
 pub(crate) struct PacketCopy {
     /// The gateway's place in the node's list, counted from 0.
     pub gateway: u8,

@@ -10,7 +10,7 @@ pub struct NodeCounts {
 }
 
 /// Packets that became resolved, and that became done.
-#[derive(Clone, Copy, Debug, PartialEq, Eq)]
+#[derive(Clone, Copy)]
 pub(crate) struct Tally {
     pub resolved: u64,
     pub done: u64,

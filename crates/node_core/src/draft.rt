@@ -20,7 +20,7 @@ pub const MOST_VALUE_OCTETS: usize = 65_496;
 const BER_FORMAT: u8 = 1;
 
 /// A packet that is built record by record.
-#[derive(Debug, Drop)]
+#[derive(Drop)]
 pub struct Draft {
     format: u8,
     version: u16,

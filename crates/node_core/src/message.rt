@@ -3,7 +3,7 @@ use gtpp_message::Why;
 use gw_base::{Absolute, Addr, Octets, PacketId, Short};
 
 /// A datagram that a tick sends.
-#[derive(Debug, Drop)]
+#[derive(Drop)]
 pub struct Outgoing {
     /// The node's port from which it goes.
     pub port: Port,
@@ -18,7 +18,7 @@ pub struct Outgoing {
 }
 
 /// What a node makes of a datagram.
-#[derive(Debug, Drop)]
+#[derive(Drop)]
 pub struct Heeded {
     /// The answer, which goes from the port that heard, to the sender.
     pub reply: Option<Short>,

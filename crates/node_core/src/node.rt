@@ -14,7 +14,7 @@ use std::alloc::Global;
 use std::marker::Model;
 
 /// The driver of a serving node.
-#[derive(Debug, Drop)]
+#[derive(Drop)]
 pub struct Node {
     pub(crate) address: u32,
     pub(crate) is_running: bool,

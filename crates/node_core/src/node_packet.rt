@@ -15,7 +15,7 @@ use std::alloc::Global;
 use std::marker::Model;
 
 /// A packet as its node follows it: its number and its copies in order of sending.
-#[derive(Debug, Drop)]
+#[derive(Drop)]
 pub(crate) struct NodePacket {
     number: u64,
     copies: Vec<PacketCopy>,

@@ -25,7 +25,7 @@ use std::marker::Model;
 
 /// The packets since a node's start, in order of submission. Those before the first open one are
 /// all done, and cost nothing more.
-#[derive(Debug, Drop)]
+#[derive(Drop)]
 pub(crate) struct Packets {
     packets: Vec<NodePacket>,
     first: usize,

@@ -19,7 +19,7 @@ pub struct Work {
 }
 
 /// How the run of a node ended.
-#[derive(Clone, Copy, PartialEq, Eq)]
+#[derive(Clone, Copy)]
 pub enum NodeEnd {
     /// All its packets are done.
     Done,

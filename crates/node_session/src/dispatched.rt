@@ -1,7 +1,7 @@
 // What became of a step of the dispatcher.
 
 /// What became of a step of the dispatcher.
-#[derive(Clone, Copy, Debug, PartialEq, Eq)]
+#[derive(Clone, Copy, PartialEq, Eq)]
 pub enum Dispatched {
     /// A datagram came, and was pushed to the inbox of its session.
     Pushed,

@@ -1,7 +1,7 @@
 // What became of a step of who writes the files.
 
 /// What became of a step that takes items to a writer of files.
-#[derive(Clone, Copy, Debug, PartialEq, Eq)]
+#[derive(Clone, Copy, PartialEq, Eq)]
 pub enum Filing {
     /// So many were taken: at most 64, and none where all firm items were.
     Took { items: u64 },

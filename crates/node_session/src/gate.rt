@@ -1,7 +1,7 @@
 // Whether a session goes on with an answer.
 
 /// Whether a session goes on.
-#[derive(Clone, Copy, Debug, PartialEq, Eq)]
+#[derive(Clone, Copy)]
 pub enum Go {
     /// It asks whether the answer may be sent, and sends it.
     On,

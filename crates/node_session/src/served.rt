@@ -2,7 +2,7 @@
 use gtpp_message::Why;
 
 /// What became of a job that a session served.
-#[derive(Clone, Copy, Debug, PartialEq, Eq)]
+#[derive(Clone, Copy, PartialEq, Eq)]
 pub enum Served {
     /// A reply went to its sender: its cause, where it is a Data Record Transfer Response, and the length of the
     /// history that it rests on, which was firm before.

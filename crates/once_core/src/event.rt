@@ -1,7 +1,7 @@
 use gw_base::{Moment, Octets};
 
 /// What happens next in a world. Gateways, nodes and messages are counted from 1.
-#[derive(Debug, Drop)]
+#[derive(Drop)]
 pub enum Event {
     /// A node is given a packet, by the octets of its value. What is no draft, or what the node refuses,
     /// does nothing.

@@ -12,7 +12,7 @@ use std::alloc::Global;
 use std::marker::Model;
 
 /// A gateway of a world. Its journal never fails.
-#[derive(Debug, Drop)]
+#[derive(Drop)]
 pub struct KeptGateway {
     pub(crate) history: Vec<HistoryEntry>,
     /// How many of its entries are firm.

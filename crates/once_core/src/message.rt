@@ -13,7 +13,7 @@ use std::alloc::Global;
 /// numbers. A gateway or a node that hears a message goes by its octets. The three fields decide
 /// whether the message is expired, and laws say by them what it means; an answer takes over the first
 /// two.
-#[derive(Debug, Drop)]
+#[derive(Drop)]
 pub struct Message {
     /// Whether it goes from the node to the gateway, or the other way.
     pub to_gateway: bool,
@@ -86,7 +86,7 @@ fn has_type(kind: u8, octets: &[u8]) -> bool
 }
 
 /// An answer that is sent once so many entries of the gateway's history are firm.
-#[derive(Debug, Drop)]
+#[derive(Drop)]
 pub struct Waiting {
     /// How many entries have to be firm, counted from the first of the history.
     pub front: u64,

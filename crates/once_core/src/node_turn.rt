@@ -22,7 +22,7 @@ use std::marker::Model;
 const MOST_SUBMISSIONS: u64 = 4_611_686_018_427_355_136;
 
 /// A node of a world.
-#[derive(Debug, Drop)]
+#[derive(Drop)]
 pub struct KeptNode {
     pub(crate) node: Node,
     /// How many starts it has made.

@@ -16,7 +16,7 @@ use std::alloc::Global;
 use std::marker::Model;
 
 /// Gateways and nodes, with all messages ever sent between them. No device fails in it.
-#[derive(Debug, Drop)]
+#[derive(Drop)]
 pub struct World {
     pub(crate) gateways: Vec<KeptGateway>,
     pub(crate) nodes: Vec<KeptNode>,

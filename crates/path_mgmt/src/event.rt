@@ -2,7 +2,7 @@ ghost use Rattle.std.specs.Prelude.{◌≡◌};
 ghost use Rattle.path_mgmt.specs.Answers.{replying, silence};
 
 /// A message of path management, with its sequence number (3GPP TS 32.295, clause 6.2).
-#[derive(Clone, Copy, Debug, PartialEq, Eq)]
+#[derive(Clone, Copy, Debug)]
 pub enum PathEvent {
     /// Echo Request, which asks whether the path is there.
     EchoAsked {
@@ -29,7 +29,7 @@ pub enum PathEvent {
 }
 
 /// What an end of the path makes of a message.
-#[derive(Clone, Copy, Debug, PartialEq, Eq)]
+#[derive(Clone, Copy, Debug)]
 pub struct PathAnswer {
     /// The message that goes back to the sender.
     pub reply: Option<PathEvent>,

@@ -4,7 +4,7 @@ ghost use Rattle.path_mgmt.specs.GatewayPath.{heard_at_gateway, opened_by};
 use crate::event::{PathAnswer, PathEvent};
 
 /// The gateway's end of a path. It keeps nothing: the node's present epoch is the caller's.
-#[derive(Clone, Copy, Debug, PartialEq, Eq)]
+#[derive(Clone, Copy)]
 pub struct GatewayPath;
 
 impl GatewayPath {

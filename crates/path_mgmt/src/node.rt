@@ -5,7 +5,7 @@ use crate::event::{PathAnswer, PathEvent};
 use std::marker::Model;
 
 /// The node's end of its paths: its restart counter, and which of the gateways 0 to 255 are alive.
-#[derive(Debug, Drop)]
+#[derive(Drop)]
 pub struct NodePath {
     counter: u8,
     alive: [bool; 256],

@@ -22,7 +22,7 @@ use gw_base::{Item, NoMemory};
 use std::alloc::Global;
 
 /// What came of a write.
-#[derive(Clone, Copy, PartialEq, Eq)]
+#[derive(Clone, Copy)]
 pub(crate) enum Wrote {
     /// All items were written.
     All,

@@ -13,7 +13,7 @@ use node_core::NodeCounts;
 use std::alloc::Global;
 
 /// What all nodes count together: packets that were submitted, that became resolved, and that became done.
-#[derive(Clone, Copy, Debug, PartialEq, Eq)]
+#[derive(Clone, Copy)]
 pub struct NodeSums {
     pub packets: u128,
     pub resolved: u128,
@@ -21,7 +21,7 @@ pub struct NodeSums {
 }
 
 /// What all gateways count together: records that they filed, copies that they hold, and stranded ones.
-#[derive(Clone, Copy, Debug, PartialEq, Eq)]
+#[derive(Clone, Copy)]
 pub struct GatewaySums {
     /// Records that firm entries filed.
     pub records: u128,
@@ -32,7 +32,7 @@ pub struct GatewaySums {
 }
 
 /// What a whole network counts.
-#[derive(Clone, Copy, Debug, PartialEq, Eq)]
+#[derive(Clone, Copy)]
 pub struct Summary {
     pub nodes: NodeSums,
     pub gateways: GatewaySums,

@@ -28,7 +28,7 @@ use once_core::{Message, Waiting, node_address};
 use std::alloc::Global;
 
 /// What is told of a message.
-#[derive(Clone, Copy, PartialEq, Eq)]
+#[derive(Clone, Copy)]
 pub(crate) enum Ending {
     /// Nothing.
     Quiet,

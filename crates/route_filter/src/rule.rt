@@ -16,7 +16,7 @@ const LAST_FORMAT: u64 = 7;
 const LAST_STREAM: u64 = 15;
 
 /// Which records belong to a stream.
-#[derive(Clone, Copy, Debug, PartialEq, Eq)]
+#[derive(Clone, Copy)]
 pub struct Rule {
     /// The outer tag of its records, where it isn't any.
     pub tag: Option<Tag>,

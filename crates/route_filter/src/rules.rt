@@ -8,7 +8,7 @@ use std::alloc::Global;
 use std::marker::Model;
 
 /// Why a rule isn't added. The rules are as before.
-#[derive(Clone, Copy, Debug, PartialEq, Eq)]
+#[derive(Clone, Copy, Debug)]
 pub enum RuleFault {
     /// The line isn't of the form `rule TAG FORMAT STREAM`.
     Form,

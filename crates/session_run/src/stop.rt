@@ -1,5 +1,5 @@
 /// Why sessions stopped before they were told to.
-#[derive(Clone, Copy, Debug, PartialEq, Eq)]
+#[derive(Clone, Copy, Debug)]
 pub enum Stop {
     /// A link failed: its count of faults rose.
     Link,

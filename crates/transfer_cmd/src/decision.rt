@@ -8,7 +8,7 @@ use gw_base::KeyState::{Cancelled, Filed, Fresh, Held, Released, Sealed};
 use gw_base::cause::{ACCEPTED, ALREADY_FULFILLED, DUPLICATE_ALREADY_FULFILLED, NOT_FULFILLED};
 
 /// What a request asks of the number that it bears.
-#[derive(Clone, Copy, Debug, PartialEq, Eq)]
+#[derive(Clone, Copy)]
 pub enum Ask {
     /// Send Data Record Packet, with records.
     Send,

@@ -6,7 +6,7 @@ use gw_base::KeyState;
 use gw_base::cause::{ACCEPTED, DUPLICATE_ALREADY_FULFILLED, NUMBERS_INCORRECT};
 
 /// What a request to release or to cancel the packets of a list of numbers comes to.
-#[derive(Clone, Copy, Debug, PartialEq, Eq)]
+#[derive(Clone, Copy, Debug)]
 pub enum Verdict {
     /// The list is empty, or names a number that is neither held nor released (cancelled) before.
     Wrong,

@@ -37,7 +37,7 @@ pub struct TurnCell<V: Counted> {
 }
 
 /// Fewer passes are given than were made.
-#[derive(Clone, Copy, Debug, PartialEq, Eq)]
+#[derive(Clone, Copy, Debug)]
 pub struct Missing {
     pub wanted: u32,
     pub given: u32,

@@ -1,5 +1,5 @@
 /// How many nodes and gateways a sample has, and how many packets are submitted in it.
-#[derive(Clone, Copy, Debug, PartialEq, Eq)]
+#[derive(Clone, Copy)]
 pub struct Extent {
     /// From 1 to 16.
     pub nodes: u8,

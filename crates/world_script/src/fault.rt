@@ -1,7 +1,7 @@
 use gw_base::NoMemory;
 
 /// Why a line of a script is refused by the grammar, in the order in which a line is tested.
-#[derive(Clone, Copy, Debug, PartialEq, Eq)]
+#[derive(Clone, Copy, Debug)]
 pub enum InputKind {
     /// The line holds the octet after the first 16,777,216 of the text.
     TooLong,
@@ -26,7 +26,7 @@ pub enum InputKind {
 }
 
 /// Why a script isn't read.
-#[derive(Clone, Copy, Debug, PartialEq, Eq)]
+#[derive(Clone, Copy, Debug)]
 pub enum InputFault {
     /// The first line that the grammar refuses, by its number from 1.
     Bad { place: u64, kind: InputKind },
@@ -35,7 +35,7 @@ pub enum InputFault {
 }
 
 /// Why a line isn't read.
-#[derive(Clone, Copy, Debug, PartialEq, Eq)]
+#[derive(Clone, Copy)]
 pub(crate) enum LineFault {
     /// The grammar refuses it.
     Refused(InputKind),

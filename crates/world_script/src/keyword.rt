@@ -5,7 +5,7 @@ use crate::fault::InputKind;
 use crate::kind::ScriptKind;
 
 /// The form of a line that does something, as its first word says it.
-#[derive(Clone, Copy, Debug, PartialEq, Eq)]
+#[derive(Clone, Copy)]
 pub enum Keyword {
     At,
     In,

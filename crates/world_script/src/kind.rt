@@ -1,5 +1,5 @@
 /// The kinds of script.
-#[derive(Clone, Copy, Debug, PartialEq, Eq)]
+#[derive(Clone, Copy, PartialEq, Eq)]
 pub enum ScriptKind {
     /// What befalls one gateway.
     Feed,

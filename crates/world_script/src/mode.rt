@@ -1,5 +1,5 @@
 /// What a stop of an area or a shelf leaves of the octets that weren't synced.
-#[derive(Clone, Copy, Debug, PartialEq, Eq)]
+#[derive(Clone, Copy, Debug)]
 pub enum Mode {
     /// What stood there at the last sync.
     Old,

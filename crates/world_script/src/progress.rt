@@ -20,7 +20,7 @@ use std::alloc::Global;
 const MOST_TEXT: usize = 16_777_216;
 
 /// What of the lines before one decides what it may say.
-#[derive(Clone, Copy, Debug, PartialEq, Eq)]
+#[derive(Clone, Copy)]
 pub struct Progress {
     /// The kind of the script.
     pub kind: ScriptKind,

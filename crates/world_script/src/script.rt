@@ -15,7 +15,7 @@ use std::marker::Model;
 
 /// A script: its kind, and its lines in order. Its text, as [`print`](crate::print) gives it, is a script of that kind
 /// with these lines.
-#[derive(Debug, Drop)]
+#[derive(Drop)]
 pub struct Script {
     kind: ScriptKind,
     lines: Vec<Line>,

@@ -10,7 +10,7 @@ const LINE_FEED: u8 = b'\n';
 const CARRIAGE_RETURN: u8 = b'\r';
 
 /// A line of a text, without the line feed.
-#[derive(Clone, Copy, Debug)]
+#[derive(Clone, Copy)]
 pub struct TextLine<'a> {
     pub octets: &'a [u8],
     /// Whether a line feed ends it: the last line of a text may lack it.

@@ -21,7 +21,7 @@ const GATEWAYS: u8 = 3;
 const NODES: u8 = 2;
 
 /// A packet that a node took: the place of its node, and its number there, from 1 on.
-#[derive(Clone, Copy, Debug, PartialEq, Eq)]
+#[derive(Clone, Copy, PartialEq, Eq)]
 struct Taken {
     node: u8,
     number: u64,
