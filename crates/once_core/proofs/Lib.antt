@@ -56,7 +56,7 @@ pub mod NearestLemmas
 pub mod MeantLemmas
 pub mod DueLemmas
 pub mod TimelyLemmas
-pub mod SettlingLemmas
+pub mod PartingLemmas
 pub mod HistoryKeptLemmas
 pub mod NodeTurnLemmas
 pub mod KeptMoveLemmas

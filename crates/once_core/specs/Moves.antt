@@ -1,22 +1,16 @@
 -- How a gateway that is kept moves.
-use Rattle.std.specs.Prelude.{◌≡◌, ℕ, not, nat_le, List, ◌++◌, filter, map}
+use Rattle.std.specs.Prelude.{◌≡◌, ℕ, List, ◌++◌}
 use Rattle.gateway_book.specs.Answered.{no_caller}
 use Rattle.gateway_book.specs.Value.{recorded}
 use Rattle.gw_base.specs.declared.history.HistoryAct.{HistoryAct}
 use Rattle.once_core.specs.Beginning.{default_rules}
 use Rattle.once_core.specs.Gateway.{Gateway, Moved, with_start}
 use Rattle.once_core.specs.declared.message.Message.{Message}
-use Rattle.once_core.specs.declared.message.Waiting.{Waiting}
 
 -- it moved so: it is this one now, and what it sent joined these messages
 pub record HasMoved (moved : Moved) (g : Gateway) (before after : List Message) : Type 0 where
   pub gateway : g ≡ moved.gateway
   pub sends : after ≡ before ++ moved.sends
-
--- of these answers those whose front is firm were sent, in their order, and the others wait
-pub record HaveParted (firm : ℕ) (answers : List Waiting) (before after : List Waiting × List Message) : Type 0 where
-  pub wait : after.0 ≡ before.0 ++ filter (λ w. not (nat_le w.front firm)) answers
-  pub sends : after.1 ≡ before.1 ++ map (λ w. w.message) (filter (λ w. nat_le w.front firm) answers)
 
 -- with one more entry
 abbrev pub with_entry : ℕ → HistoryAct → Gateway → Gateway

@@ -2,14 +2,15 @@
 ghost use Rattle.std.specs.Prelude.{◌≡◌, [], ◌∷◌, ◌||◌, false, true, IfOk, OnOk};
 ghost use Rattle.gateway_book.specs.Value.{is_batch_full};
 ghost use Rattle.once_core.specs.HistoryKept.{is_kept_act};
-ghost use Rattle.once_core.specs.Moves.{HaveParted};
 
+use crate::due::{joined, parted};
 use crate::message::{Message, Waiting};
 use crate::room::{SIZE, first_moment, is_rest_full};
 use gateway_book::has_room;
 use gw_base::{Act, Caller, HistoryAct, HistoryEntry, Moment, NoMemory, scan};
 use std::alloc::Global;
 use std::marker::Model;
+use std::mem;
 
 /// A gateway of a world. Its journal never fails.
 #[derive(Drop)]
@@ -102,9 +103,11 @@ impl KeptGateway {
     pub(crate) fn settle(&mut self, alloc: Global, sends: &mut Vec<Message>) -> Result<(), NoMemory>
         ensures { OnOk result (HasMoved (settling self.old) self.new sends.old.items sends.new.items) }
     {
-        let mut wait = Vec::new(alloc);
-        part(alloc, &self.waiting, self.firm as u64, &mut wait, sends)?;
-        self.waiting = wait;
+        let waiting = mem::replace(&mut self.waiting, Vec::new(alloc));
+        let (due, later) = parted(alloc, self.firm as u64, waiting)?;
+        self.waiting = later;
+        let before = mem::replace(sends, Vec::new(alloc));
+        *sends = joined(before, due)?;
         Ok(())
     }
 
@@ -171,41 +174,4 @@ fn give_up(answers: &mut Vec<Waiting>)
     ensures { answers.new.items ≡ [] }
 {
     answers.clear();
-}
-
-/// Sends the answers whose front is firm, in their order, and keeps the others.
-fn part(
-    alloc: Global,
-    answers: &[Waiting],
-    firm: u64,
-    wait: &mut Vec<Waiting>,
-    sends: &mut Vec<Message>,
-) -> Result<(), NoMemory>
-    ensures { OnOk result (HaveParted firm answers.now (wait.old.items, sends.old.items)
-        (wait.new.items, sends.new.items)) }
-{
-    for answer in answers {
-        part_one(alloc, answer, firm, wait, sends)?;
-    }
-    Ok(())
-}
-
-fn part_one(
-    alloc: Global,
-    answer: &Waiting,
-    firm: u64,
-    wait: &mut Vec<Waiting>,
-    sends: &mut Vec<Message>,
-) -> Result<(), NoMemory>
-    ensures { OnOk result (HaveParted firm (answer.now ∷ []) (wait.old.items, sends.old.items)
-        (wait.new.items, sends.new.items)) }
-{
-    let message = answer.message.copy(alloc)?;
-    if answer.front <= firm {
-        sends.push(message)?;
-    } else {
-        let front = answer.front;
-        wait.push(Waiting { front, message })?;
-    }
-    Ok(())
 }

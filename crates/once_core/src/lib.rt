@@ -13,6 +13,7 @@
 #![tactic(auto)]
 
 mod addresses;
+mod due;
 mod event;
 mod expired;
 mod gateway;
@@ -29,6 +30,7 @@ mod world;
 pub mod world_laws;
 
 pub use addresses::{addresses_of, gateway_address, node_address, node_id, port_at};
+pub use due::{joined, parted};
 pub use event::{Event, Stepped, WorldKind};
 pub use expired::is_expired_at_node;
 pub use gateway::KeptGateway;

@@ -1,5 +1,5 @@
 -- What a filter picks of a list that grows.
-use Rattle.std.proofs.Common.{◌≡◌, ◌∙◌, refl, sym, ap, Bool, true, false, cond, List, [], ◌∷◌, ◌++◌, map, filter}
+use Rattle.std.proofs.Common.{◌≡◌, refl, ap, Bool, true, false, cond, List, [], ◌∷◌, ◌++◌, map, filter}
 
 picked_one : {A B : Type 0} (f : A → B) (x : A) (b : Bool) → map f (cond b (x ∷ []) []) ≡ cond b (f x ∷ []) []
 picked_one f x true = refl
@@ -16,13 +16,3 @@ pub picked : {A B : Type 0} (p : A → Bool) (f : A → B) (xs : List A) (x : A)
 picked p f [] x = picked_one f x (p x)
 picked p f (y ∷ xs) x =
     picked_by f y (filter p (xs ++ x ∷ [])) (filter p xs) (cond (p x) (f x ∷ []) []) (p y) (picked p f xs x)
-
-pub same_map : {A : Type 0} (xs : List A) → map (λ x. x) xs ≡ xs
-same_map [] = refl
-same_map {A = A} (x ∷ xs) = ap (λ (ys : List A). x ∷ ys) (same_map xs)
-
-pub kept_in : {A : Type 0} (p : A → Bool) (xs : List A) (x : A) →
-    filter p (xs ++ x ∷ []) ≡ filter p xs ++ cond (p x) (x ∷ []) []
-kept_in {A = A} p xs x =
-    sym (same_map (filter p (xs ++ x ∷ []))) ∙ picked p (λ y. y) xs x
-    ∙ ap (λ (ys : List A). ys ++ cond (p x) (x ∷ []) []) (same_map (filter p xs))

@@ -26,7 +26,7 @@ use area_disk::MemoryArea;
 use gateway_book::Book;
 use gateway_book::laws::{a_gateway_goes_as_armed, filed_records_stay, what_a_gateway_leaves};
 use gw_base::{Caller, Moment, NoMemory};
-use once_core::{Message, Waiting};
+use once_core::{Message, Waiting, parted};
 use std::alloc::Global;
 use std::mem;
 
@@ -197,44 +197,6 @@ fn came_of(book: &Book<MemoryArea>) -> Came
     } else {
         Came::Went
     }
-}
-
-/// The messages of these answers whose front is firm, and the other answers.
-fn parted(
-    alloc: Global,
-    firm: u64,
-    waiting: Vec<Waiting>,
-) -> Result<(Vec<Message>, Vec<Waiting>), NoMemory>
-    ensures due { IfOk result (λ parts. parts.0.items ≡
-        map (λ w. w.message) (filter (λ w. nat_le w.front firm) waiting.items)) }
-    ensures later { IfOk result (λ parts. parts.1.items ≡ filter (λ w. not (nat_le w.front firm)) waiting.items) }
-{
-    let mut due = Vec::new(alloc);
-    let mut later = Vec::new(alloc);
-    for w in waiting {
-        part(firm, w, &mut due, &mut later)?;
-    }
-    Ok((due, later))
-}
-
-/// An answer is due, or waits on.
-fn part(
-    firm: u64,
-    w: Waiting,
-    due: &mut Vec<Message>,
-    later: &mut Vec<Waiting>,
-) -> Result<(), NoMemory>
-    ensures due { OnOk result (due.new.items ≡
-        due.old.items ++ (if nat_le w.front firm then w.message ∷ [] else [])) }
-    ensures later { OnOk result (later.new.items ≡
-        later.old.items ++ (if not (nat_le w.front firm) then w ∷ [] else [])) }
-{
-    if w.front <= firm {
-        due.push(w.message)?;
-        return Ok(());
-    }
-    later.push(w)?;
-    Ok(())
 }
 
 /// The messages by which a gateway that broke tells of the failure to those whose requests wait for these answers.

@@ -1,5 +1,5 @@
 // A message that reaches a gateway.
-ghost use Rattle.std.specs.Prelude.{◌≡◌, ◌≢◌, ◌++◌, ℕ, IfOk, false, true};
+ghost use Rattle.std.specs.Prelude.{◌≡◌, ◌≢◌, ℕ, IfOk, false, true};
 ghost use Rattle.gateway_book.specs.Answered.{no_caller};
 ghost use Rattle.gateway_book.specs.Calls.{taken};
 ghost use Rattle.gateway_book.specs.Preparing.{prepared_of};
@@ -24,7 +24,7 @@ use gateway_book::laws::{a_gateway_goes_as_armed, filed_records_stay};
 use gateway_book::{Book, Outcome, Prepared, Receipt, prepare};
 use gtpp_message::Why;
 use gw_base::{Addr, Caller, Moment, NoMemory};
-use once_core::{Message, Waiting, node_address};
+use once_core::{Message, Waiting, joined, node_address};
 use std::alloc::Global;
 
 /// What is told of a message.
@@ -242,17 +242,6 @@ fn answered(came: Came, messages: Vec<Message>) -> Delivery
         sent: Sent { came, messages },
         ending: Ending::Quiet,
     }
-}
-
-/// Messages, and others behind them.
-fn joined(first: Vec<Message>, later: Vec<Message>) -> Result<Vec<Message>, NoMemory>
-    ensures { IfOk result (λ all. all.items ≡ first.items ++ later.items) }
-{
-    let mut all = first;
-    for message in later {
-        all.push(message)?;
-    }
-    Ok(all)
 }
 
 /// A book takes a datagram.

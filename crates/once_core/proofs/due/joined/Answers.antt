@@ -2,7 +2,7 @@ use Rattle.std.proofs.Common.{◌∙◌, ap, sym, [], ◌∷◌, ◌++◌, List,
 use Rattle.std.proofs.lemmas.Iterator.Adapters.{YieldsList-from_vec}
 use Rattle.std.proofs.lemmas.Iterator.Consumers.{YieldsList-end}
 use Rattle.once_core.specs.declared.message.Message.{Message}
-use Rattle.replay_world.proofs.taking.joined.Goals as goal
+use Rattle.once_core.proofs.due.joined.Goals as goal
 
 pub loop-message-init : goal.loop-message-init
 loop-message-init c = sym (append-nil c.args.first.items)

@@ -1,5 +1,5 @@
 use Rattle.std.proofs.Common.{◌≡◌, ◌++◌}
-use Rattle.replay_world.proofs.taking.joined.Given as goal
+use Rattle.once_core.proofs.due.joined.Given as goal
 
 -- the messages so far stand behind the first ones
 abbrev pub invariant-loop-message : goal.invariant-loop-message

@@ -1,21 +1,21 @@
 use Rattle.std.proofs.Common.{◌∙◌, sym, ap, [], ◌∷◌, ◌++◌, List, if◌then◌else◌, not, nat_le, rules, map-id}
 use Rattle.std.proofs.lemmas.Iterator.Adapters.{YieldsList-from_vec}
 use Rattle.std.proofs.lemmas.Iterator.Consumers.{YieldsList-end}
+use Rattle.once_core.proofs.PartingLemmas.{due_more, later_more}
 use Rattle.once_core.specs.declared.message.Message.{Message}
 use Rattle.once_core.specs.declared.message.Waiting.{Waiting}
-use Rattle.replay_world.proofs.PickLemmas.{kept_in, picked}
-use Rattle.replay_world.proofs.calls.parted.Goals as goal
+use Rattle.once_core.proofs.due.parted.Goals as goal
 
 pub loop-w-preserved : goal.loop-w-preserved
 loop-w-preserved c = record {
   due = c.in_ok-part.ensures.due
       ∙ ap (λ (ms : List Message). ms ++ (if nat_le c.in-Some.w.front c.args.firm then c.in-Some.w.message ∷ [] else []))
       c.loop-w.invariant.due
-      ∙ sym (picked (λ w. nat_le w.front c.args.firm) (λ w. w.message) c.loop-w.yielded c.in-Some.w);
+      ∙ sym (due_more c.args.firm c.loop-w.yielded c.in-Some.w);
   later = c.in_ok-part.ensures.later
       ∙ ap (λ (ws : List Waiting). ws ++ (if not (nat_le c.in-Some.w.front c.args.firm) then c.in-Some.w ∷ [] else []))
       c.loop-w.invariant.later
-      ∙ sym (kept_in (λ w. not (nat_le w.front c.args.firm)) c.loop-w.yielded c.in-Some.w);
+      ∙ sym (later_more c.args.firm c.loop-w.yielded c.in-Some.w);
 }
 
 pub returns-clause-due : goal.returns-clause-due

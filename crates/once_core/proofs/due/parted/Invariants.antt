@@ -1,5 +1,5 @@
 use Rattle.std.proofs.Common.{◌≡◌, filter, map, nat_le, not}
-use Rattle.replay_world.proofs.calls.parted.Given as goal
+use Rattle.once_core.proofs.due.parted.Given as goal
 
 -- the answers so far were parted
 abbrev pub invariant-loop-w : goal.invariant-loop-w
