@@ -7,7 +7,7 @@ use gw_base::cause::{ACCEPTED, ALREADY_FULFILLED, DUPLICATE_ALREADY_FULFILLED};
 
 /// What a node knows of a copy of a packet. The first response that tells something decides.
 #[derive(Clone, Copy)]
-pub(crate) enum Verdict {
+pub enum Verdict {
     /// No response has told anything of it.
     Unknown,
     /// The gateway has filed it.
@@ -58,7 +58,7 @@ impl Verdict {
 
 /// What a node asks of a gateway that holds a copy.
 #[derive(Clone, Copy, Debug, PartialEq, Eq)]
-pub(crate) enum Order {
+pub enum Order {
     Release,
     Cancel,
 }
@@ -73,7 +73,7 @@ impl Order {
 
 /// The release or the cancel that was sent for a copy.
 #[derive(Clone, Copy)]
-pub(crate) struct Command {
+pub struct Command {
     pub order: Order,
     /// Its own request number at the copy's gateway.
     pub number: u64,
@@ -97,7 +97,7 @@ impl Command {
 /// A copy of a packet: the gateway that it was sent to and its request number there, and what the
 /// node knows of it.
 #[derive(Clone, Copy)]
-pub(crate) struct PacketCopy {
+pub struct PacketCopy {
     /// The gateway's place in the node's list, counted from 0.
     pub gateway: u8,
     /// Its whole request number there, of which the wire carries the last 16 bits.

@@ -11,7 +11,7 @@ pub struct NodeCounts {
 
 /// Packets that became resolved, and that became done.
 #[derive(Clone, Copy)]
-pub(crate) struct Tally {
+pub struct Tally {
     pub resolved: u64,
     pub done: u64,
 }

@@ -35,10 +35,13 @@ mod sending;
 mod submit;
 mod tick;
 
-pub use counts::{NodeCopy, NodeCounts, Phase};
+pub use copy::{Command, Order, PacketCopy, Verdict};
+pub use counts::{NodeCopy, NodeCounts, Phase, Tally};
 pub use draft::Draft;
 pub use fault::{DraftFault, SubmitFault};
 pub use logs::{a_node_stands_for_its_log, each_call_goes_on, ticks_and_messages_follow_every_log};
 pub use message::{Heeded, Outgoing};
 pub use node::Node;
+pub use peer::Peer;
 pub use port::Port;
+pub use sending::Sending;

@@ -13,7 +13,7 @@ pub const END_OF_NUMBERS: u64 = 0x8000_0000_0000_0000;
 
 /// A gateway as a node sees it: where it is, and the next numbers that the node draws for it.
 #[derive(Clone, Copy)]
-pub(crate) struct Peer {
+pub struct Peer {
     pub address: Addr,
     /// The next path number, which returns to 0 behind 65,535.
     pub path: u16,

@@ -9,7 +9,7 @@ use crate::port::Port;
 /// from 0, packets are numbered from 1 over all starts of the node, and request numbers are whole
 /// ones, of which the wire carries the last 16 bits.
 #[derive(Clone, Copy, Debug, PartialEq, Eq)]
-pub(crate) enum Sending {
+pub enum Sending {
     /// A Node Alive Request with this path number.
     Probe {
         gateway: u8,
