@@ -70,6 +70,7 @@ check_libraries() {
         {
             sources "$crate" | xargs sed 's,//.*,,'
             { specs "$crate"; proofs "$crate"; } | xargs -r sed 's,--.*,,'
+            cat /dev/null "crates/$crate/must-fail"/*.edit 2>/dev/null
         } | grep -oE 'Rattle\.[a-z_0-9]+|(^|[^:A-Za-z_0-9])[a-z_0-9]+::' | grep -oE '[a-z_0-9]+(::)?$' | sed 's/::$//' |
             grep -vxF -- "$crate" | sort -u | comm -12 - "$work/libraries" >"$work/named"
         comm -23 "$work/listed" "$work/named" | sed "s,.*,crates.txt: no file of $crate names &,"

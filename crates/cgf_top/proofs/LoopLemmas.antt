@@ -19,12 +19,12 @@ use Rattle.net_link.specs.Making.{LinksState}
 use Rattle.node_core.specs.Counting.{counts_of}
 use Rattle.node_core.specs.Value.{NodeValue}
 use Rattle.replay_world.specs.Report.{counts_line, node_text}
-use Rattle.cgf_top.specs.Ending.{HasCause}
-use Rattle.cgf_top.specs.Job.{Job}
+use Rattle.cgf_jobs.specs.Ending.{HasCause}
+use Rattle.cgf_jobs.specs.Job.{Job}
 use Rattle.cgf_top.specs.LoopEnds.{IsCalmEnd, IsFine, IsLoopEnd, Loops, loop_report}
 use Rattle.cgf_top.specs.LoopSteps.{WritesEnd, WritesLoop, WritesSums, gateway_sum_text, lines_from, node_sum_text, sums_text}
-use Rattle.cgf_top.specs.declared.status.Status.{Status}
-use Rattle.cgf_top.specs.declared.status.Status.TheVariants as status
+use Rattle.cgf_jobs.specs.declared.status.Status.{Status}
+use Rattle.cgf_jobs.specs.declared.status.Status.TheVariants as status
 
 -- What the sums say is what the nodes and the books count.
 

@@ -1,27 +1,6 @@
 -- what public clauses cite
-pub mod Words
-pub mod Kinds
-pub mod Command
-pub mod Job
-pub mod Run
-pub mod Ending
-pub mod StatusText
-pub mod Gateway
-pub mod FeedReport
-pub mod ShowReport
-pub mod NetworkReport
-pub mod Serving
-pub mod Served
-pub mod ServeEnds
-pub mod Streaming
-pub mod Replies
-pub mod StreamEnds
 pub mod Looping
 pub mod LoopEnds
+pub mod OverFiles
 -- steps of proofs
-pub mod BookSteps
-pub mod NetworkSteps
-pub mod ServeSteps
-pub mod StreamSteps
 pub mod LoopSteps
-pub mod Steps

@@ -14,10 +14,10 @@ use Rattle.net_link.specs.Making.{LinksState}
 use Rattle.node_core.specs.Counting.{counts_of}
 use Rattle.replay_world.specs.Report.{counts_line, node_text}
 use Rattle.replay_world.specs.declared.replay.Played.{Played}
-use Rattle.cgf_top.specs.Ending.{HasCause}
-use Rattle.cgf_top.specs.Job.{Job}
-use Rattle.cgf_top.specs.declared.status.Status.{Status}
-use Rattle.cgf_top.specs.declared.status.Status.TheVariants as status
+use Rattle.cgf_jobs.specs.Ending.{HasCause}
+use Rattle.cgf_jobs.specs.Job.{Job}
+use Rattle.cgf_jobs.specs.declared.status.Status.{Status}
+use Rattle.cgf_jobs.specs.declared.status.Status.TheVariants as status
 
 -- what is written of a loop that is fine: what each node counts, what each gateway counts, and that the audit is fine
 abbrev pub loop_report : Looped → List ℕ

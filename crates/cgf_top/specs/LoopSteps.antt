@@ -15,8 +15,8 @@ use Rattle.loop_run.specs.declared.setup.LoopSetup.{LoopSetup}
 use Rattle.net_link.specs.Making.{LinksState}
 use Rattle.replay_world.specs.Report.{counts_text, node_text}
 use Rattle.cgf_top.specs.LoopEnds.{IsFine, loop_report}
-use Rattle.cgf_top.specs.declared.status.Status.{Status}
-use Rattle.cgf_top.specs.declared.status.Status.TheVariants as status
+use Rattle.cgf_jobs.specs.declared.status.Status.{Status}
+use Rattle.cgf_jobs.specs.declared.status.Status.TheVariants as status
 
 -- the line of what a node counts, and of what a gateway counts, by their places
 abbrev pub node_sum_text : ℕ → NodeSum → List ℕ

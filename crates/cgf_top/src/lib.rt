@@ -1,79 +1,48 @@
 //! The job of the program, over any source and any sink.
 //!
-//! The model is the octets of an input, a script or a CDR file, and what is printed for them:
-//! `report_of` of `specs/Run.antt`. The contract is that of `run_cgf`: what is written is the
-//! report of what was read.
+//! The contract is that of `run_cgf`: which command the words ask for, and all that it does. The commands are those of
+//! `cgf_jobs`, with the definitions of what each does.
 //!
 //!     let ended = run_cgf(&rt, alloc, &words, &mut source, &mut sink, area, shelf, &mut links, &mut clock);
 #![tactic(auto)]
 
-ghost use Rattle.std.specs.Prelude.{◌≡◌, ◌≢◌, ◌<◌, ◌≤◌, ◌^◌, Some, false, true, None, Err, IfOk, OnOk, length, map, string_bytes};
+ghost use Rattle.std.specs.Prelude.{◌≡◌, ◌<◌, ◌≤◌, ◌^◌, Some, false, true, None, map, string_bytes};
 ghost use Rattle.gate_journal.specs.Format.{fewest_octets, most_octets};
-ghost use Rattle.gw_base.specs.Faults.{Rose};
 ghost use Rattle.gw_base.specs.declared.address.Addr.{Addr};
-ghost use Rattle.cgf_top.specs.Command.{IsWithin, command_of, has_input, most_read};
-ghost use Rattle.cgf_top.specs.Ending.{DoesJob, HasCause, IsBounded, IsComplete, WordsDecide};
-ghost use Rattle.cgf_top.specs.Job.{job_of};
+ghost use Rattle.cgf_jobs.specs.Command.{command_of};
+ghost use Rattle.cgf_jobs.specs.Ending.{DoesJob, WordsDecide};
+ghost use Rattle.cgf_jobs.specs.Job.{job_of};
+ghost use Rattle.cgf_jobs.specs.NetworkReport.{HandsNetwork};
+ghost use Rattle.cgf_jobs.specs.Run.{may_have_written};
+ghost use Rattle.cgf_jobs.specs.ServeEnds.{IsUntouched, Serves};
+ghost use Rattle.cgf_jobs.specs.Serving.{serving_of};
+ghost use Rattle.cgf_jobs.specs.StreamEnds.{Streams, may_have_used};
+ghost use Rattle.cgf_jobs.specs.Streaming.{streaming_of};
+ghost use Rattle.cgf_jobs.specs.declared.serving.Serving.{Serving};
+ghost use Rattle.cgf_jobs.specs.declared.streaming.Streaming.{Streaming};
 ghost use Rattle.cgf_top.specs.LoopEnds.{IsNoLoop, LoopsBy};
 ghost use Rattle.cgf_top.specs.Looping.{looping_of};
-ghost use Rattle.cgf_top.specs.NetworkReport.{HandsNetwork};
-ghost use Rattle.cgf_top.specs.Run.{HasReported, WritesFront, is_reported, may_have_written};
-ghost use Rattle.cgf_top.specs.ServeEnds.{IsUntouched, Serves};
-ghost use Rattle.cgf_top.specs.Serving.{serving_of};
-ghost use Rattle.cgf_top.specs.StreamEnds.{Streams, is_over_files, may_have_used};
-ghost use Rattle.cgf_top.specs.Streaming.{streaming_of};
-ghost use Rattle.cgf_top.specs.Steps.{IsRefusal, IsReport, ended_by};
-ghost use Rattle.cgf_top.specs.declared.report.Refusal.{Refusal};
-ghost use Rattle.cgf_top.specs.declared.serving.Serving.{Serving};
-ghost use Rattle.cgf_top.specs.declared.streaming.Streaming.{Streaming};
+ghost use Rattle.cgf_top.specs.OverFiles.{is_over_files};
 
-mod command;
-mod connection;
-mod feed;
-mod files;
-mod gateway;
-mod input;
-mod input_kind;
 mod looping;
-mod network;
-mod output;
-mod printing;
-mod report;
-mod serve;
-mod serving;
-mod settling;
-mod show;
-mod status;
-mod stream;
-mod streaming;
 mod watch;
-mod words;
 
-use crate::command::Command;
-use crate::input::{ReadEnd, read_input};
 use crate::looping::{loop_back, looping_of};
-use crate::output::write_all;
-use crate::report::{NoReport, Refusal, Report};
-use crate::serve::serve_gateway;
-use crate::stream::stream_gateway;
 use crate::watch::Nobody;
 use area_disk::Area;
 use cdr_shelf::Shelf;
-use gw_base::{NoMemory, Sink, Source};
-pub use input_kind::InputKind;
+use cgf_jobs::{GatewayEnd, JobEnd, do_job, serve_gateway, stream_gateway};
+pub use cgf_jobs::{
+    InputKind, NodeTurn, Places, Played, Serving, Status, StoreFault, StreamPlaces, Streaming,
+    Watch, serve_places, stream_places, tcp_address,
+};
+use gw_base::{Sink, Source};
 pub use loop_run::Looped;
 use net_link::Links;
-pub use replay_world::Played;
-use replay_world::laws::a_script_is_short;
-pub use serving::{Places, Serving, serve_places};
-pub use status::{Status, StoreFault};
 use std::alloc::Global;
 use std::sync::Wait;
 use std::thread::Threads;
 use std::time::Clock;
-pub use streaming::{StreamPlaces, Streaming, stream_places, tcp_address};
-pub use watch::{NodeTurn, Watch};
-use world_script::{InputFault, Script};
 
 /// How a job ended, and what it ran.
 #[derive(Drop)]
@@ -249,7 +218,20 @@ where
         sink.new ≡ sink.old }
 {
     match Serving::of(words) {
-        Some(serving) => serve_gateway(rt, alloc, serving, source, sink, area, shelf, links, clock),
+        Some(serving) => {
+            let GatewayEnd {
+                status,
+                area,
+                shelf,
+            } = serve_gateway(rt, alloc, serving, source, sink, area, shelf, links, clock);
+            Ended {
+                status,
+                area,
+                shelf,
+                looped: Looped::none(alloc),
+                played: None,
+            }
+        }
         None => run_unserved(
             rt, alloc, words, source, sink, area, shelf, links, clock, watch,
         ),
@@ -347,7 +329,20 @@ fn run_on_one<S: Source, K: Sink, A: Area, F: Shelf, C: gw_base::Clock, W: Watch
         sink.new ≡ sink.old }
 {
     match Streaming::of(words) {
-        Some(streaming) => stream_gateway(alloc, streaming, source, sink, area, shelf, clock),
+        Some(streaming) => {
+            let GatewayEnd {
+                status,
+                area,
+                shelf,
+            } = stream_gateway(alloc, streaming, source, sink, area, shelf, clock);
+            Ended {
+                status,
+                area,
+                shelf,
+                looped: Looped::none(alloc),
+                played: None,
+            }
+        }
         None => {
             let JobEnd { status, played } = do_job(alloc, words, source, sink, watch);
             Ended {
@@ -358,159 +353,5 @@ fn run_on_one<S: Source, K: Sink, A: Area, F: Shelf, C: gw_base::Clock, W: Watch
                 played,
             }
         }
-    }
-}
-
-/// How a job over files ended, and what it ran.
-#[derive(Drop)]
-struct JobEnd {
-    status: Status,
-    played: Option<Played>,
-}
-
-/// Does a job over files, and no other.
-fn do_job<S: Source, K: Sink, W: Watch>(
-    alloc: Global,
-    words: &[String],
-    source: &mut S,
-    sink: &mut K,
-    watch: &mut W,
-) -> JobEnd
-    ensures once { HandsNetwork (map string_bytes words.now) (S.left source.old) result.status result.played }
-    ensures job { DoesJob (job_of S.Source K.Sink (map string_bytes words.now) source.old source.new sink.old sink.new)
-        result.status result.played }
-    ensures words { WordsDecide (command_of (map string_bytes words.now)) result.status source.old source.new }
-    ensures untouched { may_have_written result.status ≡ false → sink.new ≡ sink.old }
-{
-    run(alloc, words, source, sink, watch)
-}
-
-/// The same, clause by clause of what a job does.
-#[tactic(auto, using(crate::proofs::Ends::complete, crate::proofs::Ends::complete_by, crate::proofs::Ends::bounded_by, crate::proofs::Streams::takes_none, crate::proofs::Whole::keeps_none, crate::proofs::Whole::writes_done, crate::proofs::Whole::writes_refusal))]
-fn run<S: Source, K: Sink, W: Watch>(
-    alloc: Global,
-    words: &[String],
-    source: &mut S,
-    sink: &mut K,
-    watch: &mut W,
-) -> JobEnd
-    ensures words { WordsDecide (command_of (map string_bytes words.now)) result.status source.old source.new }
-    ensures untouched { may_have_written result.status ≡ false → sink.new ≡ sink.old }
-    ensures report { is_reported result.status ≡ true → HasReported
-        (job_of S.Source K.Sink (map string_bytes words.now) source.old source.new sink.old sink.new) result.status
-        result.played }
-    ensures front { result.status ≡ Status.Write → WritesFront
-        (job_of S.Source K.Sink (map string_bytes words.now) source.old source.new sink.old sink.new) }
-    ensures none { result.status ≢ Status.Done → result.played ≡ None }
-    ensures cause { HasCause result.status (S.faults source.old) (S.faults source.new) (K.faults sink.old)
-        (K.faults sink.new) }
-    ensures bound { IsBounded (map string_bytes words.now) (S.left source.old) (S.left source.new) }
-    ensures complete { command_of (map string_bytes words.now) ≢ None →
-        ¬ (Rose (S.faults source.old) (S.faults source.new)) → ¬ (Rose (K.faults sink.old) (K.faults sink.new)) →
-        IsComplete (map string_bytes words.now) (S.left source.old) (S.left source.new) result.status }
-{
-    let command = match Command::of(alloc, words) {
-        Ok(Some(command)) => command,
-        Ok(None) => return JobEnd {
-            status: Status::Words,
-            played: None,
-        },
-        Err(NoMemory) => return JobEnd {
-            status: Status::Memory,
-            played: None,
-        },
-    };
-    let octets = match read_input(alloc, source, command.most_read()) {
-        Ok(octets) => octets,
-        Err(ReadEnd::Failed) => return JobEnd {
-            status: Status::Read,
-            played: None,
-        },
-        Err(ReadEnd::NoMemory) => return JobEnd {
-            status: Status::Memory,
-            played: None,
-        },
-    };
-    match report_of(alloc, command, octets, watch) {
-        Ok(
-            Report {
-                printed,
-                refused,
-                played,
-            },
-        ) => match write_all(sink, &printed) {
-            Ok(()) => JobEnd {
-                status: ended_by(refused),
-                played,
-            },
-            Err(_) => JobEnd {
-                status: Status::Write,
-                played: None,
-            },
-        },
-        Err(NoReport::Refused(Refusal { place, kind })) => {
-            JobEnd {
-                status: Status::Input { place, kind },
-                played: None,
-            }
-        }
-        Err(NoReport::NoMemory) => JobEnd {
-            status: Status::Memory,
-            played: None,
-        },
-    }
-}
-
-/// How a job ends whose report was written.
-fn ended_by(refused: Option<Refusal>) -> Status
-    ensures { result ≡ ended_by refused }
-{
-    match refused {
-        None => Status::Done,
-        Some(Refusal { place, kind }) => Status::Input { place, kind },
-    }
-}
-
-/// What a command prints for the octets of its input, or their first place that the grammar refuses. The octets are let
-/// go once they are read.
-fn report_of<W: Watch>(
-    alloc: Global,
-    command: Command,
-    octets: Vec<u8>,
-    watch: &mut W,
-) -> Result<Report, NoReport>
-    requires { IsWithin command }
-    ensures within { OnOk result (has_input command ≡ true → length octets.items < most_read command) }
-    ensures report { IfOk result (λ report. IsReport command octets.items report) }
-    ensures refused { (refusal : Refusal) →
-        result ≡ Err (NoReport.Refused refusal) → IsRefusal command octets.items refusal }
-{
-    match command {
-        Command::Feed => feed_report_of(alloc, octets),
-        Command::Show => show::report(alloc, octets),
-        Command::Replay => network::replay_report_of(alloc, octets, watch),
-        Command::Sample(of) => Ok(network::sample_report_of(alloc, of)?),
-        Command::Drill(of) => Ok(network::drill_report_of(alloc, of, watch)?),
-    }
-}
-
-/// What is printed for a script, or its first line that the grammar refuses.
-#[tactic(auto, using(crate::proofs::FeedLemmas::fed_is_report, crate::proofs::FeedLemmas::refused_is))]
-fn feed_report_of(alloc: Global, text: Vec<u8>) -> Result<Report, NoReport>
-    ensures within { OnOk result (length text.items < most_read Command.Feed) }
-    ensures report { IfOk result (λ report. IsReport Command.Feed text.items report) }
-    ensures refused { (refusal : Refusal) →
-        result ≡ Err (NoReport.Refused refusal) → IsRefusal Command.Feed text.items refusal }
-{
-    a_script_is_short();
-    let read = Script::read(alloc, &text);
-    drop(text);
-    match read {
-        Ok(script) => Ok(feed::report(alloc, script)?),
-        Err(InputFault::Bad { place, kind }) => {
-            let kind = InputKind::from(kind);
-            Err(NoReport::Refused(Refusal { place, kind }))
-        }
-        Err(InputFault::NoMemory) => Err(NoReport::NoMemory),
     }
 }

@@ -4,12 +4,10 @@ ghost use Rattle.gw_base.specs.declared.address.Addr.{Addr};
 ghost use Rattle.loop_run.specs.Addresses.{IsLoop};
 ghost use Rattle.cgf_top.specs.LoopSteps.{WritesEnd, WritesLoop, WritesSums, gateway_sum_text, lines_from, node_sum_text, sums_text};
 ghost use Rattle.cgf_top.specs.Looping.{looping_by, looping_of};
-ghost use Rattle.cgf_top.specs.Run.{may_have_written};
+ghost use Rattle.cgf_jobs.specs.Run.{may_have_written};
 
-use crate::output::write_all;
-use crate::serving::between;
-use crate::status::Status;
-use crate::watch::{LoopWatch, Watch};
+use crate::watch::LoopWatch;
+use cgf_jobs::{Status, Watch, number_between, write_all};
 use gw_base::{NoMemory, Sink};
 use loop_run::{GatewaySum, LoopEnd, LoopSetup, Looped, NodeSum, run_loop_watched};
 use net_link::Links;
@@ -60,10 +58,10 @@ fn by_numbers(gateways: &[u8], nodes: &[u8], packets: &[u8], turns: &[u8]) -> Op
     ensures within { IfSome result IsLoop }
 {
     Some(LoopSetup {
-        gateways: between(gateways, 1, 4)? as u8,
-        nodes: between(nodes, 1, 8)? as u8,
-        packets: between(packets, 1, 1_000)? as u32,
-        turns: between(turns, 1, 10_000_000)?,
+        gateways: number_between(gateways, 1, 4)? as u8,
+        nodes: number_between(nodes, 1, 8)? as u8,
+        packets: number_between(packets, 1, 1_000)? as u32,
+        turns: number_between(turns, 1, 10_000_000)?,
     })
 }
 

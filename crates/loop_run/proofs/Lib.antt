@@ -12,7 +12,6 @@ pub mod ListLemmas
 pub mod MakeLemmas
 pub mod NodeLemmas
 pub mod OpenLemmas
-pub mod PieceLemmas
 pub mod PigeonLemmas
 pub mod SeatLemmas
 pub mod StillLemmas

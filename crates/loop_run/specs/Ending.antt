@@ -1,5 +1,5 @@
 -- How a loop ends: by what its nodes count, and else by the audit.
-use Rattle.std.specs.Prelude.{◌≡◌, ℕ, ◌+◌, ◌<◌, not, Bool, true, false, List, [], All, Some, count_by, filter, length, map, slice_get, ⊤}
+use Rattle.std.specs.Prelude.{◌≡◌, ℕ, ◌+◌, ◌<◌, not, Bool, true, false, List, [], All, Some, filter, length, map, slice_get, ⊤}
 use Rattle.std.specs.List.{flat_map, range_with_len}
 use Rattle.area_disk.specs.contracts.quiet.QuietAreaArea.TheImpl.{ghosts as quiet_area}
 use Rattle.area_disk.specs.declared.quiet.QuietArea.{QuietArea}
@@ -9,7 +9,6 @@ use Rattle.gateway_book.specs.Value.{BookValue, history_of, standing_for}
 use Rattle.gateway_book.specs.declared.book.Book.{Book}
 use Rattle.gw_base.specs.Faults.{Rose}
 use Rattle.gw_base.specs.History.{copies_of}
-use Rattle.gw_base.specs.declared.item.Item.{Item}
 use Rattle.gw_base.specs.declared.packet.PacketId.{PacketId}
 use Rattle.loop_audit.specs.Audit.{audit_of, id_of}
 use Rattle.loop_audit.specs.Standing.{histories_of}
@@ -21,7 +20,6 @@ use Rattle.node_core.specs.Value.{NodeValue}
 use Rattle.node_core.specs.declared.counts.Phase.{Phase}
 use Rattle.node_core.specs.declared.counts.Phase.TheVariants as phase
 use Rattle.node_core.specs.declared.port.Port.TheVariants.{First, Second}
-use Rattle.replay_world.specs.Tally.{is_part}
 use Rattle.loop_run.specs.Addresses.{node_at}
 use Rattle.loop_run.specs.Looped.{IsLooped}
 use Rattle.loop_run.specs.declared.end.GatewaySum.{GatewaySum}
@@ -32,10 +30,6 @@ use Rattle.loop_run.specs.declared.looped.Looped.{Looped}
 use Rattle.loop_run.specs.declared.setup.LoopSetup.{LoopSetup}
 
 -- What is counted.
-
--- how many of these items are records
-abbrev pub part_count : List Item → ℕ
-part_count items = count_by is_part items
 
 abbrev pub node_sum : NodeValue → NodeSum
 node_sum node =

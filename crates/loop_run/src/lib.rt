@@ -14,7 +14,6 @@ mod addresses;
 mod books;
 mod clock;
 mod collecting;
-mod counting;
 mod end;
 mod ending;
 mod laws;
@@ -27,7 +26,6 @@ mod seating;
 mod setup;
 mod sums;
 
-pub use counting::count_records;
 pub use end::{GatewaySum, LoopEnd, NodeSum};
 pub use laws::nodes_of_a_loop_keep_all;
 pub use loop_audit::{Audited, audit};

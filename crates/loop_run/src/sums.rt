@@ -1,16 +1,15 @@
 // What nodes and gateways count.
 ghost use Rattle.std.specs.Prelude.{◌≡◌, IfOk, map};
 ghost use Rattle.gateway_book.specs.Book.{value_of};
-ghost use Rattle.node_core.specs.Value.{NodeValue};
 ghost use Rattle.loop_run.specs.Ending.{AreAllFirm, gateway_sum, node_sum};
 ghost use Rattle.loop_run.specs.Finishing.{AreAlike, shown};
 
-use crate::counting::count_records;
 use crate::end::{GatewaySum, NodeSum};
 use area_disk::QuietArea;
 use gateway_book::{Book, Counts, ItemsFault};
 use gw_base::NoMemory;
 use node_core::{Node, NodeCounts};
+use replay_world::count_records;
 use replay_world::laws::a_history_filed_its_parts;
 use std::alloc::Global;
 

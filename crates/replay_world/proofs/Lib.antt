@@ -36,6 +36,7 @@ mod NodeToldLemmas
 mod OpeningLemmas
 mod OutcomeLemmas
 mod PickLemmas
+mod PieceLemmas
 mod PrintedLemmas
 mod QuietLemmas
 mod RangeLemmas

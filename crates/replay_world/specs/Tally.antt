@@ -1,5 +1,5 @@
 -- What a report counts of a gateway.
-use Rattle.std.specs.Prelude.{◌≡◌, ℕ, Bool, true, false, length}
+use Rattle.std.specs.Prelude.{◌≡◌, ℕ, Bool, true, false, List, count_by, length}
 use Rattle.gateway_book.specs.Calls.{counts_of}
 use Rattle.gateway_book.specs.Filed.{filed}
 use Rattle.gateway_book.specs.Value.{BookValue, history_of}
@@ -15,6 +15,10 @@ abbrev pub is_part : Item → Bool
 is_part (item.Part kind tag octets moment) = true
 is_part (item.Tick moment) = false
 is_part (item.Close moment) = false
+
+-- how many of these items are records
+abbrev pub part_count : List Item → ℕ
+part_count items = count_by is_part items
 
 -- so many entries and records a book has, and so many copies are held and stranded
 pub record Counts (book : BookValue) (tally : Tally) : Type 0 where

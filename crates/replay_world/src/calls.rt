@@ -1,5 +1,5 @@
 // What a gateway does: it commits, makes marks and redirects, and sends the answers that waited.
-ghost use Rattle.std.specs.Prelude.{◌≡◌, ◌≢◌, ℕ, IfOk, List, OnOk, [], ◌∷◌, ◌++◌, false, filter, if◌then◌else◌, map, nat_le, not};
+ghost use Rattle.std.specs.Prelude.{◌≡◌, ℕ, IfOk, List, OnOk, [], ◌∷◌, ◌++◌, false, filter, if◌then◌else◌, map, nat_le, not};
 ghost use Rattle.file_writer.specs.Streams.{Settings};
 ghost use Rattle.gateway_book.specs.Comes.{asked_to_commit};
 ghost use Rattle.gateway_book.specs.Up as up;

@@ -13,6 +13,7 @@
 #![tactic(auto)]
 
 mod calls;
+mod counting;
 mod delivering;
 mod fallen;
 mod files;
@@ -34,6 +35,7 @@ mod summary;
 mod taking;
 mod writing;
 
+pub use counting::count_records;
 pub use lines::LineEnd;
 pub use replay::{Played, Replay};
 pub use report::record_count;

@@ -1,5 +1,5 @@
 // A message that reaches a gateway.
-ghost use Rattle.std.specs.Prelude.{◌≡◌, ◌≢◌, ℕ, IfOk, false, true};
+ghost use Rattle.std.specs.Prelude.{◌≡◌, ℕ, IfOk, false, true};
 ghost use Rattle.gateway_book.specs.Answered.{no_caller};
 ghost use Rattle.gateway_book.specs.Calls.{taken};
 ghost use Rattle.gateway_book.specs.Preparing.{prepared_of};

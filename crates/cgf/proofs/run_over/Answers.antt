@@ -1,8 +1,8 @@
 use Rattle.std.proofs.Common.{map, string_bytes, subst}
 use Rattle.cgf_top.specs.LoopEnds.{IsLoopEnd}
 use Rattle.cgf_top.specs.Looping.{looping_of}
-use Rattle.cgf_top.specs.Serving.{serving_of}
-use Rattle.cgf_top.specs.Streaming.{streaming_of}
+use Rattle.cgf_jobs.specs.Serving.{serving_of}
+use Rattle.cgf_jobs.specs.Streaming.{streaming_of}
 use Rattle.cgf.proofs.Asked.{either, over_files}
 use Rattle.cgf.proofs.run_over.Goals as goal
 

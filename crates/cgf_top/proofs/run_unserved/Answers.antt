@@ -1,17 +1,15 @@
 use Rattle.std.proofs.Common.{refl, subst, sym, ◌∙◌, map, string_bytes, None}
 use Rattle.std.proofs.lemmas.Option.{same_Some}
 use Rattle.loop_run.specs.declared.setup.LoopSetup.{LoopSetup}
-use Rattle.cgf_top.specs.Job.{job_of}
+use Rattle.cgf_jobs.specs.Job.{job_of}
 use Rattle.cgf_top.specs.LoopEnds.{Loops}
-use Rattle.cgf_top.proofs.EndingLemmas.{some_is_none}
 use Rattle.cgf_top.proofs.LoopLemmas.{loops_as}
-use Rattle.cgf_top.proofs.LoopWords.{not_a_command, not_streaming}
-use Rattle.cgf_top.proofs.Whole.{no_network}
+use Rattle.cgf_top.proofs.OneCommand.{loop_is_no_job, no_network, not_streaming, some_is_none}
 use Rattle.cgf_top.proofs.run_unserved.Goals as goal
 
 pub returns-in-Some-clause-once : goal.returns-in-Some-clause-once
 returns-in-Some-clause-once g c = no_network _ _ _ _
-    (not_a_command (map string_bytes c.args.words.now) c.in-Some.setup (sym c.in-Some.ensures.asked))
+    (loop_is_no_job (map string_bytes c.args.words.now) c.in-Some.setup (sym c.in-Some.ensures.asked))
 
 pub returns-in-Some-clause-streams : goal.returns-in-Some-clause-streams
 returns-in-Some-clause-streams g c of asked = absurd (some_is_none of

@@ -1,32 +1,28 @@
-use Rattle.std.proofs.Common.{◌≡◌, subst, sym, ◌∙◌, false, map, string_bytes, Option}
+use Rattle.std.proofs.Common.{◌≡◌, subst, sym, ◌∙◌, false, map, string_bytes, None, Option}
 use Rattle.std.proofs.lemmas.Option.{same_Some}
-use Rattle.cgf_top.specs.Job.{job_of}
+use Rattle.cgf_jobs.specs.Job.{job_of}
 use Rattle.cgf_top.specs.Looping.{looping_of}
-use Rattle.cgf_top.specs.ServeEnds.{Serves}
-use Rattle.cgf_top.specs.Serving.{serving_of}
-use Rattle.cgf_top.specs.StreamEnds.{may_have_used}
-use Rattle.cgf_top.specs.Streaming.{streaming_of}
-use Rattle.cgf_top.specs.declared.serving.Serving.{Serving}
-use Rattle.cgf_top.proofs.EndingLemmas.{some_is_none}
-use Rattle.cgf_top.proofs.LoopWords.{not_looping}
-use Rattle.cgf_top.proofs.ServingWords.{not_a_command}
-use Rattle.cgf_top.proofs.StreamWords.{not_both, over_files, used_by_none}
-use Rattle.cgf_top.proofs.Whole.{no_network}
+use Rattle.cgf_jobs.specs.ServeEnds.{Serves}
+use Rattle.cgf_jobs.specs.Serving.{serving_of}
+use Rattle.cgf_jobs.specs.StreamEnds.{may_have_used}
+use Rattle.cgf_jobs.specs.Streaming.{streaming_of}
+use Rattle.cgf_jobs.specs.declared.serving.Serving.{Serving}
+use Rattle.cgf_top.proofs.OneCommand.{no_network, not_both, not_looping, over_files, serve_is_no_job, some_is_none, used_by_none}
 use Rattle.cgf_top.proofs.run_watched.Goals as goal
 
 pub returns-in-Some-clause-once : goal.returns-in-Some-clause-once
 returns-in-Some-clause-once g c = no_network _ _ _ _
-    (not_a_command (map string_bytes c.args.words.now) c.in-Some.serving (sym c.in-Some.ensures.asked))
+    (serve_is_no_job (map string_bytes c.args.words.now) c.in-Some.serving (sym c.in-Some.ensures.asked))
 
 pub returns-in-Some-clause-serves : goal.returns-in-Some-clause-serves
 returns-in-Some-clause-serves g c of asked =
     subst (λ (s : Serving). Serves g.A.Area g.F.Shelf s
-    (job_of g.S.Source g.K.Sink (map string_bytes c.args.words.now) c.args.source.now c.serve_gateway.new.source c.args.sink.now c.serve_gateway.new.sink)
-    c.args.area c.serve_gateway.result.area c.args.shelf c.serve_gateway.result.shelf (g.L.Links.state c.args.links.now)
-    (g.L.Links.state c.serve_gateway.new.links) (g.C.Clock.faults c.args.clock.now) (g.C.Clock.faults c.serve_gateway.new.clock)
-    c.serve_gateway.result.status c.serve_gateway.result.played)
+    (job_of g.S.Source g.K.Sink (map string_bytes c.args.words.now) c.args.source.now c.serve_gateway-status.new.source c.args.sink.now c.serve_gateway-status.new.sink)
+    c.args.area c.serve_gateway-status.result.area c.args.shelf c.serve_gateway-status.result.shelf (g.L.Links.state c.args.links.now)
+    (g.L.Links.state c.serve_gateway-status.new.links) (g.C.Clock.faults c.args.clock.now) (g.C.Clock.faults c.serve_gateway-status.new.clock)
+    c.serve_gateway-status.result.status None)
     (same_Some c.in-Some.serving of (c.in-Some.ensures.asked ∙ asked))
-    (c.serve_gateway.ensures.serves (map string_bytes c.args.words.now))
+    (c.serve_gateway-status.ensures.serves (map string_bytes c.args.words.now))
 
 pub returns-in-Some-clause-streams : goal.returns-in-Some-clause-streams
 returns-in-Some-clause-streams g c of asked =
@@ -38,13 +34,13 @@ returns-in-Some-clause-loops g c = record {
       (sym is ∙ not_looping (map string_bytes c.args.words.now) c.in-Some.serving (sym c.in-Some.ensures.asked));
   aside = λ of is. some_is_none of
       (sym is ∙ not_looping (map string_bytes c.args.words.now) c.in-Some.serving (sym c.in-Some.ensures.asked));
-  none = λ none. c.serve_gateway.ensures.none;
+  none = λ none. c.none.ensures;
 }
 
 pub returns-in-Some-clause-outside : goal.returns-in-Some-clause-outside
 returns-in-Some-clause-outside g c unused not_looped =
-    c.serve_gateway.ensures.outside (subst (λ (o : Option Serving). may_have_used o (streaming_of (map string_bytes c.args.words.now))
-    c.serve_gateway.result.status ≡ false) (sym c.in-Some.ensures.asked) unused)
+    c.serve_gateway-status.ensures.outside (subst (λ (o : Option Serving). may_have_used o (streaming_of (map string_bytes c.args.words.now))
+    c.serve_gateway-status.result.status ≡ false) (sym c.in-Some.ensures.asked) unused)
 
 pub returns-in-Some-clause-job : goal.returns-in-Some-clause-job
 returns-in-Some-clause-job g c files =

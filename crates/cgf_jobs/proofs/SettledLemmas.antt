@@ -1,0 +1,204 @@
+-- How a gateway that was to serve ends: it wasn't opened, or it was settled.
+use Rattle.std.proofs.Common.{◌≡◌, ◌⊎◌, ⊎_elim, inl, inr, ℕ, ◌≤◌, true, false, List, [], ◌++◌, Result, Ok, Err, IfErr, IfOk, refl, sym, ap, subst, ◌∙◌, arith}
+use Rattle.area_disk.specs.AreaLaws.{AreaLaws}
+use Rattle.area_disk.specs.Disk.{Rose}
+use Rattle.area_disk.specs.declared.area.Area as areas
+use Rattle.cdr_shelf.specs.declared.shelf.Shelf as shelves
+use Rattle.file_writer.specs.Writer.{is_broken, settings_in, shelf_of}
+use Rattle.file_writer.specs.declared.writer.Writer.{Writer}
+use Rattle.cgf_journal.specs.Format.{StandsFor}
+use Rattle.gate_journal.specs.Format.{Starts}
+use Rattle.gate_journal.specs.Moments.{Told}
+use Rattle.gateway_book.specs.Book.{area_of, header_of, value_of}
+use Rattle.gateway_book.specs.Comes.{LeavesFit}
+use Rattle.gateway_book.specs.FitHistory.{StandsFitFor}
+use Rattle.gateway_book.specs.Items.{items_of}
+use Rattle.gateway_book.specs.Opened.{FindsHistory, IsMadeAnew, IsNotOurs, IsOpened, IsRefused, StandsOrStarts}
+use Rattle.gateway_book.specs.Value.{BookValue}
+use Rattle.gateway_book.specs.declared.book.Book.{Book}
+use Rattle.gateway_book.specs.declared.outcome.BookFault.{BookFault}
+use Rattle.gateway_book.specs.declared.outcome.BookFault.TheVariants as of_book
+use Rattle.gw_base.specs.History.{is_close_due}
+use Rattle.gw_base.specs.Owes.{Begins}
+use Rattle.gw_base.specs.declared.history.HistoryEntry.{HistoryEntry}
+use Rattle.net_link.specs.Making.{LinksState}
+use Rattle.replay_world.specs.Settled.{AreShut}
+use Rattle.replay_world.specs.Setup.{Setup}
+use Rattle.cgf_jobs.specs.ServeSteps.{HasLine, HasNoLine, HasServedAt, HasSettledAll, NeverFalls, RefusesAsForeign, StopsServing, status_by}
+use Rattle.cgf_jobs.specs.Served.{GoesOnIn, HasServed, LosesNothing, files_at, header_for, served_line}
+use Rattle.cgf_jobs.specs.declared.serving.Serving.{Serving}
+use Rattle.cgf_jobs.specs.declared.settling.Service.{Service}
+use Rattle.cgf_jobs.specs.declared.status.Status.{Status}
+use Rattle.cgf_jobs.specs.declared.status.Status.TheVariants as status
+use Rattle.cgf_jobs.specs.declared.status.StoreFault.TheVariants as fault
+use Rattle.cgf_jobs.proofs.GrownLemmas.{opened_is_fresh}
+use Rattle.cgf_jobs.proofs.KeptLemmas.{goes_on_unsent, replies_rest, told_lists}
+use Rattle.cgf_jobs.proofs.ServedLemmas.{FilesGrow, ItemsStay, has_served}
+use Rattle.cgf_jobs.proofs.ServiceLemmas.{ReplyLater, StaysInTurn, begins_self, begins_then}
+
+-- ---- it wasn't opened
+
+module _ {A F : Type 0} (tells : areas.Ghosts A) (files : shelves.Ghosts F) (of : Serving) (area : A) (shelf : F)
+    (links : LinksState) (clock : ℕ) where
+  pub unopened_stops : (why : BookFault) (area' : A) (ended : Status) → ended ≡ status_by why → IsRefused tells area (header_for tells area of) (why, area')
+      → StopsServing tells files of area area' shelf shelf links links clock clock ended
+  unopened_stops why area' ended is refused =
+      subst (λ (s : Status). StopsServing tells files of area area' shelf shelf links links clock clock s) (sym is) (by_fault why refused)
+    where
+      by_fault : (w : BookFault) → IsRefused tells area (header_for tells area of) (w, area')
+          → StopsServing tells files of area area' shelf shelf links links clock clock (status_by w)
+      by_fault of_book.Device refused = inl (refused.cause refl)
+      by_fault (of_book.NotOurs at) refused = λ told. (refused.place told at refl, refused.unwritten told (λ is. cc is))
+      by_fault of_book.NoMemory refused = tt
+
+  -- what a crash leaves of an area whose opening failed stands as it did, or starts, where it was to be made anew
+  pub unopened_keeps : (why : BookFault) (area' : A) → AreaLaws tells
+      → (Told tells → (h : List HistoryEntry) → StandsFitFor (header_for tells area of) (tells.octets area) h → FindsHistory {tells = tells} area (Err (why, area')) h)
+      → (Told tells → Starts (header_for tells area of) (tells.octets area) → IsMadeAnew {tells = tells} area (Err (why, area')) (header_for tells area of))
+      → LosesNothing tells of area area' links links
+  unopened_keeps why area' laws reads anew told start holds = record {
+    now = goes_on (tells.octets area') (laws.holds area');
+    crash = goes_on;
+  }
+    where
+      left : (c : List ℕ) → tells.may_leave area' c → StandsOrStarts (header_for tells area of) (tells.octets area) start
+          → StandsOrStarts (header_for tells area of) c start
+      left c may (inl stands) = holds.crash c ((reads told start stands).moments.now c may)
+      left c may (inr starts) = ⊎_elim
+          (λ (old : tells.may_leave area c). holds.crash c old)
+          (λ (made : Starts (header_for tells area of) c ⊎ StandsFor (header_for tells area of) c []). ⊎_elim
+          (λ (s : Starts (header_for tells area of) c). inr (s, starts.1))
+          (λ (s : StandsFor (header_for tells area of) c []). inl (subst (λ (h : List HistoryEntry). StandsFitFor (header_for tells area of) c h) (sym starts.1)
+          (record { stands = s; fit = tt }))) made)
+          ((anew told starts.0).moments.now c may)
+
+      goes_on : (c : List ℕ) → tells.may_leave area' c → GoesOnIn tells of area area' links links start c
+      goes_on c may = goes_on_unsent tells of area area' links start c (left c may holds.now)
+
+-- ---- it was settled
+
+module _ {A F : Type 0} (tells : areas.Ghosts A) (files : shelves.Ghosts F) (of : Serving) (area : A) (shelf : F)
+    (book book' book'' : Book A tells) (writer writer' writer'' : Writer F files)
+    (links links' : LinksState) (clock clock' : ℕ) (service : Service) (open_time : ℕ)
+    {X : Type 0} (octets : X → List ℕ) (result : Result X Status)
+    (sized : tells.size (area_of book) ≡ tells.size area) (opens : IsOpened (header_for tells area of) area open_time book)
+    (on : shelf_of writer ≡ shelf) (serves : HasServedAt tells files of book book' writer writer' links links' clock clock' service)
+    (settles : HasSettledAll tells files octets service book' book'' writer' writer'' result) where
+  device : tells.faults area ≤ tells.faults (area_of book')
+  device = let same = opens.faults in let up = serves.stays.later in omega (arith, same, up)
+
+  shelf_up : files.faults shelf ≤ files.faults (shelf_of writer')
+  shelf_up = subst (λ (f : F). files.faults f ≤ files.faults (shelf_of writer')) on serves.kept.later
+
+  pub settled_stays : NeverFalls tells files of area (area_of book'') shelf (shelf_of writer'') links links' clock clock'
+  settled_stays = record {
+    device = let a = device in let b = settles.later.0 in omega (arith, a, b);
+    shelf_too = let a = shelf_up in let b = settles.later.1 in omega (arith, a, b);
+    link = serves.later.0;
+    time = serves.later.1;
+    size = settles.stays.0.size ∙ serves.stays.size ∙ sized;
+  }
+
+  stops : (ended : Status) → HasNoLine tells files service book' book'' writer' writer'' ended
+      → StopsServing tells files of area (area_of book'') shelf (shelf_of writer'') links links' clock clock' ended
+  stops status.Link none = ⊎_elim (λ is. inl (serves.link is)) (λ is. inr (serves.time is)) none
+  stops (status.Store fault.Device) none = ⊎_elim
+      (λ (r : Rose (tells.faults (area_of book')) (tells.faults (area_of book''))). inl (let a = device in omega (arith, a, r)))
+      (λ (r : Rose (files.faults (shelf_of writer')) (files.faults (shelf_of writer''))). inr (let a = shelf_up in omega (arith, a, r))) none
+  stops status.Memory none = tt
+  stops _ none = absurd none
+
+  by_err : (r : Result X Status) → IfErr r (HasNoLine tells files service book' book'' writer' writer'')
+      → IfErr r (StopsServing tells files of area (area_of book'') shelf (shelf_of writer'') links links' clock clock')
+  by_err (Ok x) none = tt
+  by_err (Err ended) none = stops ended none
+
+  pub settled_stops : IfErr result (StopsServing tells files of area (area_of book'') shelf (shelf_of writer'') links links' clock clock')
+  settled_stops = by_err result settles.err
+
+  -- of the area and the shelf as they were handed back
+  pub stops_as : (area'' : A) (shelf'' : F) → area'' ≡ area_of book'' → shelf'' ≡ shelf_of writer''
+      → IfErr result (StopsServing tells files of area area'' shelf shelf'' links links' clock clock')
+  stops_as area'' shelf'' is_area is_shelf =
+      subst (λ (a : A). IfErr result (StopsServing tells files of area a shelf shelf'' links links' clock clock')) (sym is_area)
+      (subst (λ (f : F). IfErr result (StopsServing tells files of area (area_of book'') shelf f links links' clock clock')) (sym is_shelf) settled_stops)
+
+  -- an area that was opened isn't another's
+  pub settled_foreign : ((octets : List ℕ) (h : List HistoryEntry) (at : ℕ) → StandsFitFor (header_for tells area of) octets h
+      → ¬ (IsNotOurs (header_for tells area of) octets at))
+      → ((octets : List ℕ) (at : ℕ) → IsNotOurs (header_for tells area of) octets at → ¬ (Starts (header_for tells area of) octets))
+      → Told tells → RefusesAsForeign tells of area result
+  settled_foreign ours others told at foreign = ⊎_elim
+      (λ (s : StandsFitFor (header_for tells area of) (tells.octets area) (opens.found told).0). absurd (ours (tells.octets area) (opens.found told).0 at s foreign))
+      (λ s. absurd (others (tells.octets area) at foreign s.0)) (opens.found told).1
+
+  module _ (setup : Setup) (told : Told tells) (laws : AreaLaws tells) (stay : ItemsStay) (grow : FilesGrow)
+      (shuts : (h : List HistoryEntry) → is_close_due h ≡ false → AreShut (items_of h)) (in_turn : StaysInTurn) (later_reply : ReplyLater) (fresh : is_broken writer ≡ true)
+      (by : settings_in writer ≡ files_at of setup) (leaves : LeavesFit book'') where
+    by_ok : (r : Result X Status) → IfOk r (λ x. HasLine tells files service book' book'' writer'' (octets x))
+        → IfOk r (λ x. (history : List HistoryEntry) × HasServed tells files of setup area (area_of book'') shelf (shelf_of writer'') links links' history
+        × (octets x ≡ served_line history))
+    by_ok (Err ended) has = tt
+    by_ok (Ok x) has = (
+      (value_of book'').firm,
+      has_served tells files of setup told laws stay grow shuts in_turn later_reply area shelf book book' book'' writer writer' writer'' links links' clock clock' service open_time (octets x)
+          sized opens fresh on by serves settles.stays.0 settles.later.0 settles.stays.1 (settles.files_stay (told_lists tells told)) has leaves,
+      has.line_is told,
+    )
+
+    pub settled_serves : IfOk result (λ x. (history : List HistoryEntry) × HasServed tells files of setup area (area_of book'') shelf (shelf_of writer'') links links' history
+        × (octets x ≡ served_line history))
+    settled_serves = by_ok result settles.ok
+
+    pub serves_as : (area'' : A) (shelf'' : F) → area'' ≡ area_of book'' → shelf'' ≡ shelf_of writer''
+        → IfOk result (λ x. (history : List HistoryEntry) × HasServed tells files of setup area area'' shelf shelf'' links links' history
+        × (octets x ≡ served_line history))
+    serves_as area'' shelf'' is_area is_shelf =
+        subst (λ (a : A). IfOk result (λ x. (history : List HistoryEntry) × HasServed tells files of setup area a shelf shelf'' links links' history
+        × (octets x ≡ served_line history))) (sym is_area)
+        (subst (λ (f : F). IfOk result (λ x. (history : List HistoryEntry) × HasServed tells files of setup area (area_of book'') shelf f links links' history
+        × (octets x ≡ served_line history))) (sym is_shelf) settled_serves)
+
+  -- Nothing is lost.
+
+  module _ (laws : AreaLaws tells) (later_reply : ReplyLater) (leaves : LeavesFit book'')
+      (reads : Told tells → (h : List HistoryEntry) → StandsFitFor (header_for tells area of) (tells.octets area) h → FindsHistory {tells = tells} area (Ok book) h)
+      (anew : Told tells → Starts (header_for tells area of) (tells.octets area) → IsMadeAnew {tells = tells} area (Ok book) (header_for tells area of)) where
+    found_is : Told tells → (start : List HistoryEntry) → StandsOrStarts (header_for tells area of) (tells.octets area) start → (value_of book).firm ≡ start
+    found_is told start (inl stands) =
+        ap (λ (v : BookValue). v.firm) (reads told start stands).value ∙ (opened_is_fresh (tells.size area) start).firm
+    found_is told start (inr starts) =
+        ap (λ (v : BookValue). v.firm) (anew told starts.0).value ∙ (opened_is_fresh (tells.size area) []).firm ∙ sym starts.1
+
+    goes_on_in : Told tells → (start : List HistoryEntry) → StandsOrStarts (header_for tells area of) (tells.octets area) start
+        → (c : List ℕ) → tells.may_leave (area_of book'') c → GoesOnIn tells of area (area_of book'') links links' start c
+    goes_on_in told start found c may = ⊎_elim
+        (λ (s : StandsFitFor (header_of book'') c (value_of book'').firm). stands_for (value_of book'').firm (begins_self (value_of book'').firm) s)
+        (λ (s : StandsFitFor (header_of book'') c ((value_of book'').firm ++ (value_of book'').rest)).
+        stands_for ((value_of book'').firm ++ (value_of book'').rest) ((value_of book'').rest, refl) s)
+        (leaves.any told c may)
+      where
+        named : header_of book'' ≡ header_for tells area of
+        named = settles.stays.0.header ∙ serves.stays.name ∙ opens.named
+
+        served : Begins start (value_of book').firm
+        served = subst (λ (h : List HistoryEntry). Begins h (value_of book').firm) (found_is told start found) (serves.goes_on (told_lists tells told)).goes.begins
+
+        stands_for : (history : List HistoryEntry) → Begins (value_of book'').firm history → StandsFitFor (header_of book'') c history
+            → GoesOnIn tells of area (area_of book'') links links' start c
+        stands_for history begins stands =
+            let behind : Begins (value_of book').firm history = begins_then (value_of book').firm (value_of book'').firm history (settles.grows told) begins in
+            record {
+              history = history;
+              stands = inl (subst (λ (h : List ℕ). StandsFitFor h c history) named stands);
+              begins = begins_then start (value_of book').firm history served behind;
+              replies = replies_rest tells files of told area book book' book'' writer writer' links links' clock clock' service open_time sized opens serves
+                  settles.later.0 later_reply history behind;
+            }
+
+    pub keeps_as : (area'' : A) → area'' ≡ area_of book'' → LosesNothing tells of area area'' links links'
+    keeps_as area'' is_area told start holds = record { now = all (tells.octets area'') (laws.holds area''); crash = all }
+      where
+        all : (c : List ℕ) → tells.may_leave area'' c → GoesOnIn tells of area area'' links links' start c
+        all = subst (λ (a : A). (c : List ℕ) → tells.may_leave a c → GoesOnIn tells of area a links links' start c) (sym is_area)
+            (goes_on_in told start holds.now)

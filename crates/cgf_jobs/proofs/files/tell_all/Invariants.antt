@@ -1,0 +1,25 @@
+use Rattle.std.proofs.Common.{◌≡◌, ◌+◌, ◌-◌, ◌<◌, ◌≤◌, ◌^◌, count_by, false, length, take}
+use Rattle.cdr_shelf.specs.contracts.quiet.QuietShelfShelf.TheImpl.{ghosts as shelf_tells}
+use Rattle.file_writer.specs.Parts.{HasAdvanced}
+use Rattle.file_writer.specs.Writer.{is_broken, settings_in, taken_of}
+use Rattle.gateway_book.specs.Items.{items_of}
+use Rattle.replay_world.specs.Tally.{is_part}
+use Rattle.cgf_jobs.proofs.files.tell_all.Given as goal
+
+-- the items of the parts that were told are taken, and their records counted
+abbrev pub invariant-loop-count : goal.invariant-loop-count
+invariant-loop-count l = record {
+  ready : is_broken l.writer ≡ false;
+  taken : taken_of l.writer ≡ l.taken;
+  short : l.count ≤ 4096;
+  settings : settings_in l.writer ≡ settings_in l.fn.writer;
+  same : l.gateway ≡ l.fn.gateway;
+  told : HasAdvanced shelf_tells (λ s. 0) (take l.taken (items_of l.fn.gateway.history)) l.fn.writer l.writer;
+  records : l.records ≡ count_by is_part (take l.taken (items_of l.fn.gateway.history));
+  some : l.taken ≤ length (items_of l.fn.gateway.history);
+  few : l.taken < 2 ^ 31;
+  all : l.count < 4096 → l.taken ≡ length (items_of l.fn.gateway.history);
+}
+
+abbrev pub decreases-loop-count : goal.decreases-loop-count
+decreases-loop-count l = 2 ^ 31 + l.count - l.taken

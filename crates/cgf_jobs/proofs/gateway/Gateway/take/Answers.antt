@@ -1,0 +1,34 @@
+use Rattle.std.proofs.Common.{refl, ap, ◌∙◌}
+use Rattle.gateway_book.specs.Answer.{decided}
+use Rattle.gateway_book.specs.Answered.{act_decided, answer_to}
+use Rattle.gateway_book.specs.Book.{fortune_of, size_of, value_of}
+use Rattle.gateway_book.specs.Preparing.{prepared_of}
+use Rattle.cgf_jobs.specs.FeedReport.{reply_line}
+use Rattle.cgf_jobs.specs.Gateway.{GatewayValue, after_datagram, answered}
+use Rattle.cgf_jobs.proofs.BookLemmas.{taken_all_firm, taken_records, taken_answers, recorded_gateway}
+use Rattle.cgf_jobs.proofs.gateway.Gateway.take.Goals as goal
+
+pub invariant_of-self : goal.invariant_of-self
+invariant_of-self c =
+    let old = c.self.inside.book in
+    let middle = c.take-outcome.new.self in
+    taken_all_firm old middle c.commit.new.book (fortune_of old middle) c.args.from (prepared_of c.prepare.result) c.args.now c.self.invariant
+    (c.take-outcome.ensures.taken (refl, refl)).value c.commit.ensures.committed
+
+pub returns-clause-after : goal.returns-clause-after
+returns-clause-after c =
+    let old = c.self.inside.book in
+    let middle = c.take-outcome.new.self in
+    let moved = taken_records old middle (fortune_of old middle) c.args.from (prepared_of c.prepare.result) c.args.now c.self.invariant (c.take-outcome.ensures.taken (refl, refl)).value in
+    recorded_gateway old middle c.commit.new.book c.args.now (act_decided (decided (answer_to (value_of old).firm c.args.from (prepared_of c.prepare.result) (size_of old))))
+    moved c.commit.ensures.committed c.take-outcome.ensures.stays c.commit.ensures.stays
+    ∙ ap (λ octets. after_datagram (record { history = (value_of old).firm; reserved = size_of old; open_time = old.open_time }) c.args.now c.args.from octets) c.prepare.ensures
+    ∙ ap (λ (g : GatewayValue). after_datagram g c.args.now c.args.from c.args.octets.now) c.self.view_is
+
+pub returns-clause-answered : goal.returns-clause-answered
+returns-clause-answered c =
+    let old = c.self.inside.book in
+    let middle = c.take-outcome.new.self in
+    taken_answers old middle (fortune_of old middle) c.args.from (prepared_of c.prepare.result) c.args.now c.take-outcome.result c.self.invariant (c.take-outcome.ensures.taken (refl, refl)).answer
+    ∙ ap (λ octets. reply_line (answered (record { history = (value_of old).firm; reserved = size_of old; open_time = old.open_time }) c.args.from octets)) c.prepare.ensures
+    ∙ ap (λ (g : GatewayValue). reply_line (answered g c.args.from c.args.octets.now)) c.self.view_is

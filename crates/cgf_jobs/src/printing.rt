@@ -1,0 +1,168 @@
+//! The lines that `feed` prints.
+ghost use Rattle.std.specs.Prelude.{◌≡◌, ◌+◌, ◌-◌, ◌*◌, ◌^◌, ◌≤◌, ◌++◌, ◌∷◌, [], OnOk, length, min, vec_capacity};
+ghost use Rattle.std.specs.List.{flat_map};
+ghost use Rattle.cdr_shelf.specs.Files.{file_of, in_stream};
+ghost use Rattle.replay_world.specs.Report.{counts_text, digits, file_line, file_name};
+ghost use Rattle.cgf_jobs.specs.FeedReport.{lines_size, octets_line};
+ghost use Rattle.cgf_jobs.specs.Steps.{outcome_line};
+
+use cdr_shelf::{FileName, QuietShelf, Shelf};
+use gateway_book::{Counts, Outcome};
+use gw_base::NoMemory;
+use std::alloc::Global;
+
+/// The digits of numbers in hexadecimal.
+const DIGITS: &[u8; 16] = b"0123456789ABCDEF";
+
+/// Appends the reply to a datagram, or why it isn't answered.
+pub fn print_outcome(printed: &mut Vec<u8>, outcome: &Outcome) -> Result<(), NoMemory>
+    ensures { OnOk result (printed.new.items ≡ printed.old.items ++ outcome_line outcome.now) }
+{
+    match outcome {
+        Outcome::Answer(receipt) => print_octets(printed, receipt.reply.octets()),
+        Outcome::Drop(why) => {
+            printed.extend_from_slice(b"- ")?;
+            printed.extend_from_slice(why.name().as_bytes())?;
+            printed.push(b'\n')?;
+            Ok(())
+        }
+    }
+}
+
+/// Appends octets in hexadecimal, as a line.
+fn print_octets(printed: &mut Vec<u8>, octets: &[u8]) -> Result<(), NoMemory>
+    ensures { OnOk result (printed.new.items ≡ printed.old.items ++ octets_line octets.now) }
+{
+    let start = printed.len();
+    // Past 64 bits it is the greatest number, for which `resize` has no room.
+    let end = octets.len().saturating_mul(2).saturating_add(start + 1);
+    printed.resize(end, 0)?;
+    let (_, line) = printed.as_mut_slice().split_at_mut(start);
+    spell_line(line, octets);
+    Ok(())
+}
+
+/// Writes octets in hexadecimal, as a line.
+fn spell_line(line: &mut [u8], octets: &[u8])
+    requires { length line.old ≡ 2 * length octets.now + 1 }
+    ensures { line.new ≡ octets_line octets.now }
+{
+    'octets: for k in 0..octets.len() {
+        let octet = octets[k];
+        line[2 * k] = DIGITS[(octet >> 4) as usize];
+        line[2 * k + 1] = DIGITS[(octet & 0x0F) as usize];
+    }
+    line[2 * octets.len()] = b'\n';
+}
+
+/// Takes room for the lines of all files at once, so that what was printed isn't copied again and again.
+pub fn make_room(printed: &mut Vec<u8>, shelf: &QuietShelf) -> Result<(), NoMemory>
+    ensures same { printed.new.items ≡ printed.old.items }
+    ensures room { OnOk result (length printed.new.items
+        + lines_size (⟦<QuietShelf as Shelf>⟧.files shelf.now) ≤ vec_capacity printed.new) }
+{
+    let mut size: usize = 0;
+    let mut at = 0;
+    while let Some(file) = shelf.nth(at) {
+        size = size.saturating_add(line_size(file.1.len()));
+        at += 1;
+    }
+    printed.reserve(size)?;
+    Ok(())
+}
+
+/// How many octets the line of a file of so many has: its digits, and those of `file 1 `, of the name, of a space and
+/// of the line feed.
+fn line_size(octets: usize) -> usize
+    ensures { result ≡ min (2 * octets + 26) (2 ^ 64 - 1) }
+{
+    octets.saturating_mul(2).saturating_add(26)
+}
+
+/// Appends the lines of the sealed files of a stream, in the order in which they were sealed.
+pub fn print_stream(printed: &mut Vec<u8>, shelf: &QuietShelf, stream: u8) -> Result<(), NoMemory>
+    ensures { OnOk result (printed.new.items ≡
+        printed.old.items ++ flat_map (file_line 0) (in_stream stream (⟦<QuietShelf as Shelf>⟧.files shelf.now))) }
+{
+    let mut at = 0;
+    while let Some((name, octets)) = shelf.nth(at) {
+        print_if_in(printed, stream, name, octets)?;
+        at += 1;
+    }
+    Ok(())
+}
+
+/// Appends the line of a file, where it is one of the stream.
+fn print_if_in(
+    printed: &mut Vec<u8>,
+    stream: u8,
+    name: FileName,
+    octets: &[u8],
+) -> Result<(), NoMemory>
+    ensures { OnOk result (printed.new.items ≡
+        printed.old.items ++ flat_map (file_line 0) (in_stream stream (file_of name octets.now ∷ []))) }
+{
+    if name.stream == stream {
+        print_file(printed, name, octets)?;
+    }
+    Ok(())
+}
+
+/// Appends the line of a file.
+fn print_file(printed: &mut Vec<u8>, name: FileName, octets: &[u8]) -> Result<(), NoMemory>
+    ensures { OnOk result (printed.new.items ≡ printed.old.items ++ file_line 0 (file_of name octets.now)) }
+{
+    printed.extend_from_slice(b"file 1 ")?;
+    print_name(printed, name)?;
+    printed.push(b' ')?;
+    print_octets(printed, octets)?;
+    Ok(())
+}
+
+/// Appends the name of a file.
+fn print_name(printed: &mut Vec<u8>, name: FileName) -> Result<(), NoMemory>
+    ensures { OnOk result (printed.new.items ≡ printed.old.items ++ file_name name) }
+{
+    print_digits(printed, 2, u32::from(name.stream))?;
+    printed.push(b'-')?;
+    print_digits(printed, 10, name.sequence)?;
+    printed.extend_from_slice(b".cdr")?;
+    Ok(())
+}
+
+/// Appends so many of the last decimal digits of a number.
+fn print_digits(printed: &mut Vec<u8>, count: u32, number: u32) -> Result<(), NoMemory>
+    ensures { OnOk result (printed.new.items ≡ printed.old.items ++ digits count number) }
+{
+    if count == 0 {
+        return Ok(());
+    }
+    print_digits(printed, count - 1, number / 10)?;
+    printed.push(b'0' + (number % 10) as u8)?;
+    Ok(())
+}
+
+/// Appends the line of a gateway's counts, with so many filed records.
+pub fn print_counts(
+    alloc: Global,
+    printed: &mut Vec<u8>,
+    counts: Counts,
+    records: usize,
+) -> Result<(), NoMemory>
+    ensures { OnOk result (printed.new.items ≡
+        printed.old.items ++ counts_text 0 counts.entries records counts.held counts.stranded) }
+{
+    let Counts {
+        entries,
+        held,
+        stranded,
+        ..
+    } = counts;
+    // The only gateway is the first.
+    let place: u32 = 1;
+    let line = format!(in alloc;
+        "gateway {place} entries {entries} records {records} held {held} stranded {stranded}\n"
+    )?;
+    printed.extend_from_slice(line.as_bytes())?;
+    Ok(())
+}
