@@ -19,7 +19,7 @@ use Rattle.cgf_jobs.specs.Ending.{HasCause}
 use Rattle.cgf_jobs.specs.Job.{Job}
 use Rattle.cgf_jobs.specs.Kinds.{of_line}
 use Rattle.cgf_jobs.specs.Run.{IsRead, TakesUpTo, may_have_written}
-use Rattle.cgf_jobs.specs.ServeEnds.{EndsBy, IsCalm, IsRefusedAt, ServedBy, Serves, may_have_opened}
+use Rattle.cgf_jobs.specs.ServeEnds.{EndsBy, IsCalm, IsGatewayEnd, IsRefusedAt, ServedBy, Serves, may_have_opened}
 use Rattle.cgf_jobs.specs.ServeSteps.{AreOf, CausesRead, IsSetBy, RefusesAsForeign, RefusesSettings, RefusesText, StopsServing, WritesLine}
 use Rattle.cgf_jobs.specs.Served.{HasServed, LosesNothing, header_for, served_line}
 use Rattle.cgf_jobs.specs.Serving.{address_in}
@@ -87,6 +87,12 @@ module _ {A F : Type 0} (tells : areas.Ghosts A) (files : shelves.Ghosts F) (of 
   refused_cause (status.Input place why) r same = (r.0, same)
   refused_cause _ r same = absurd r
 
+  refused_known : (ended : Status) → Refuses job ended → IsGatewayEnd ended
+  refused_known status.Read r = tt
+  refused_known status.Memory r = tt
+  refused_known (status.Input place why) r = tt
+  refused_known _ r = absurd r
+
   refused_complete : (ended : Status) → Refuses job ended → IsCalm tells files of job area area' shelf shelf' links links' clock clock' ended
       → (text : List ℕ) → job.left ≡ Some text
       → EndsBy tells files of job area area' shelf shelf' links links' clock clock' ended (script_in kind.Serve (take (most_text + 1) text))
@@ -128,7 +134,7 @@ module _ {A F : Type 0} (tells : areas.Ghosts A) (files : shelves.Ghosts F) (of 
         foreign = λ at is told. absurd (subst (Refuses job) is r);
         link = λ is. absurd (subst (Refuses job) is r);
         cause = refused_cause ended r same;
-        known = λ is. absurd (subst (Refuses job) is r);
+        known = refused_known ended r;
         bound = bound;
         none = refl;
         complete = λ calm told text left. refused_complete ended r calm text left;
@@ -142,6 +148,12 @@ module _ {A F : Type 0} (tells : areas.Ghosts A) (files : shelves.Ghosts F) (of 
   stopped_cause (status.Store why) s read same = (read, same)
   stopped_cause status.Memory s read same = (read, same)
   stopped_cause _ s read same = absurd s
+
+  stopped_known : (ended : Status) → Stops ended → IsGatewayEnd ended
+  stopped_known status.Link s = tt
+  stopped_known (status.Store why) s = tt
+  stopped_known status.Memory s = tt
+  stopped_known _ s = absurd s
 
   -- an area that is found isn't another's
   abbrev Ours : Type 0
@@ -186,7 +198,7 @@ module _ {A F : Type 0} (tells : areas.Ghosts A) (files : shelves.Ghosts F) (of 
     foreign = λ at is told. (subst (λ (e : Status). Stops e) is s) told;
     link = λ is. subst (λ (e : Status). Stops e) is s;
     cause = stopped_cause ended s unread same;
-    known = λ is. absurd (subst (λ (e : Status). Stops e) is s);
+    known = stopped_known ended s;
     bound = bound;
     none = refl;
     complete = λ calm told left is.
@@ -220,6 +232,11 @@ module _ {A F : Type 0} (tells : areas.Ghosts A) (files : shelves.Ghosts F) (of 
   written_cause line status.Done w read = (read, w.1)
   written_cause line status.Write w read = (read, w.1)
   written_cause line _ w read = absurd w
+
+  written_known : (line : List ℕ) (ended : Status) → Writes job line ended → IsGatewayEnd ended
+  written_known line status.Done w = tt
+  written_known line status.Write w = tt
+  written_known line _ w = absurd w
 
   written_calmly : (line : List ℕ) (ended : Status) → Writes job line ended → IsCalm tells files of job area area' shelf shelf' links links' clock clock' ended
       → ended ≡ status.Done
@@ -288,7 +305,7 @@ module _ {A F : Type 0} (tells : areas.Ghosts A) (files : shelves.Ghosts F) (of 
           foreign = λ at is told. absurd (subst (Writes job line) is w);
           link = λ is. absurd (subst (Writes job line) is w);
           cause = written_cause line ended w unread;
-          known = λ is. absurd (subst (Writes job line) is w);
+          known = written_known line ended w;
           bound = bound;
           none = refl;
           complete = λ calm told left is.

@@ -148,7 +148,7 @@ module _ {A F : Type 0} (tells : areas.Ghosts A) (files : shelves.Ghosts F) (of 
     foreign = λ at is. absurd (cc is);
     link = λ is. absurd (cc is);
     cause = (refl, refl);
-    known = λ is. absurd (cc is);
+    known = tt;
     bound = ([], omega arith, consumes_none l);
     none = refl;
     complete = λ calm told text is short. record { ours = λ h stands. inl refl; others = λ at foreign. inl refl };
@@ -181,7 +181,7 @@ module _ {A F : Type 0} (tells : areas.Ghosts A) (files : shelves.Ghosts F) (of 
     foreign = λ at is. absurd (cc is);
     link = λ is. absurd (cc is);
     cause = (refl, refl);
-    known = λ is. absurd (cc is);
+    known = tt;
     bound = ([], omega arith, consumes_none l);
     none = refl;
     complete = λ calm told text is short. absurd (calm.device (refused.cause refl));
@@ -203,7 +203,7 @@ module _ {A F : Type 0} (tells : areas.Ghosts A) (files : shelves.Ghosts F) (of 
     );
     link = λ is. absurd (cc is);
     cause = (refl, refl);
-    known = λ is. absurd (cc is);
+    known = tt;
     bound = ([], omega arith, consumes_none l);
     none = refl;
     complete = λ calm told text is short. record {
@@ -363,7 +363,7 @@ module _ {A F : Type 0} (tells : areas.Ghosts A) (files : shelves.Ghosts F) (of 
       foreign = λ at is. absurd (cc is);
       link = λ is. absurd (cc is);
       cause = stood;
-      known = λ is. absurd (cc is);
+      known = tt;
       bound = (text, bounded, consumed);
       none = refl;
       complete = λ calm told whole is short. as_said status.Done text whole told is short read (sym says);
@@ -382,7 +382,7 @@ module _ {A F : Type 0} (tells : areas.Ghosts A) (files : shelves.Ghosts F) (of 
       foreign = λ at is. absurd (cc is);
       link = λ is. absurd (cc is);
       cause = stood;
-      known = λ is. absurd (cc is);
+      known = tt;
       bound = (text, bounded, consumed);
       none = refl;
       complete = λ calm told whole is short. record { ours = λ h stands. inl refl; others = λ at foreign. inl refl };
@@ -401,7 +401,7 @@ module _ {A F : Type 0} (tells : areas.Ghosts A) (files : shelves.Ghosts F) (of 
       foreign = λ at is. absurd (cc is);
       link = λ is. absurd (cc is);
       cause = stood;
-      known = λ is. absurd (cc is);
+      known = tt;
       bound = (text, bounded, consumed);
       none = refl;
       complete = λ calm told whole is short. absurd (⊎_elim (λ rose. calm.device rose) (λ rose. calm.shelf_runs rose) (device_rose e));
@@ -436,7 +436,7 @@ module _ {A F : Type 0} (tells : areas.Ghosts A) (files : shelves.Ghosts F) (of 
       foreign = λ at is. absurd (cc is);
       link = λ is. absurd (cc is);
       cause = (causes.source_stood (λ e. cc e), causes.sink_stood (λ e. cc e));
-      known = λ is. absurd (cc is);
+      known = tt;
       bound = (served.text, served.bounded, served.consumed);
       none = refl;
       complete = λ calm told whole is short. as_said (status.Input place kind) served.text whole told is short
@@ -458,7 +458,7 @@ module _ {A F : Type 0} (tells : areas.Ghosts A) (files : shelves.Ghosts F) (of 
       foreign = λ at is. absurd (cc is);
       link = λ is. absurd (cc is);
       cause = (causes.source_failed refl, causes.sink_stood (λ e. cc e));
-      known = λ is. absurd (cc is);
+      known = tt;
       bound = (served.text, served.bounded, served.consumed);
       none = refl;
       complete = λ calm told whole is short. absurd (calm.source (causes.source_failed refl));
@@ -479,7 +479,7 @@ module _ {A F : Type 0} (tells : areas.Ghosts A) (files : shelves.Ghosts F) (of 
       foreign = λ at is. absurd (cc is);
       link = λ is. absurd (cc is);
       cause = (causes.source_stood (λ e. cc e), causes.sink_failed refl);
-      known = λ is. absurd (cc is);
+      known = tt;
       bound = (served.text, served.bounded, served.consumed);
       none = refl;
       complete = λ calm told whole is short. absurd (calm.sink (causes.sink_failed refl));
@@ -500,7 +500,7 @@ module _ {A F : Type 0} (tells : areas.Ghosts A) (files : shelves.Ghosts F) (of 
       foreign = λ at is. absurd (cc is);
       link = λ is. causes.clock_failed refl;
       cause = (causes.source_stood (λ e. cc e), causes.sink_stood (λ e. cc e));
-      known = λ is. absurd (cc is);
+      known = tt;
       bound = (served.text, served.bounded, served.consumed);
       none = refl;
       complete = λ calm told whole is short. absurd (calm.time (causes.clock_failed refl));

@@ -1,5 +1,5 @@
 -- How `serve` ends, and why.
-use Rattle.std.specs.Prelude.{◌≡◌, ◌≢◌, ◌⊎◌, ℕ, ◌+◌, Bool, true, false, List, take, Option, Some, None, Result, Ok, Err}
+use Rattle.std.specs.Prelude.{◌≡◌, ◌⊎◌, ℕ, ◌+◌, Bool, true, false, List, take, Option, Some, None, Result, Ok, Err, ⊤}
 use Rattle.std.specs.Io.KnownBytes.{Appends}
 use Rattle.area_disk.specs.Disk as disk
 use Rattle.area_disk.specs.declared.area.Area as areas
@@ -44,6 +44,19 @@ may_have_opened (status.Store why) = true
 may_have_opened status.Link = true
 may_have_opened (status.Audit packet places wanted) = false
 may_have_opened (status.Unfinished turns packet count) = false
+
+-- the ways in which a job ends that serves, or answers a stream
+abbrev pub IsGatewayEnd : Status → Type 0
+IsGatewayEnd status.Done = ⊤
+IsGatewayEnd status.Words = ⊥
+IsGatewayEnd (status.Input place why) = ⊤
+IsGatewayEnd status.Read = ⊤
+IsGatewayEnd status.Write = ⊤
+IsGatewayEnd status.Memory = ⊤
+IsGatewayEnd (status.Store why) = ⊤
+IsGatewayEnd status.Link = ⊤
+IsGatewayEnd (status.Audit packet places wanted) = ⊥
+IsGatewayEnd (status.Unfinished turns packet count) = ⊥
 
 -- The area, the shelf, the links and the clock are as they were.
 pub record IsUntouched {A F L C : Type 0} (area area' : A) (shelf shelf' : F) (links links' : L) (clock clock' : C)
@@ -104,8 +117,9 @@ module _ {A F : Type 0} (tells : areas.Ghosts A) (files : shelves.Ghosts F) (of 
     -- At `Link` a link failed, or the clock; at `Read` the source, at `Write` the sink, and at no other end did these.
     pub link : ended ≡ status.Link → Rose links.faults links'.faults ⊎ Rose clock clock'
     pub cause : HasCause ended job.read_before job.read_after job.written_before job.written_after
-    -- The words are known, no octet of the settings past the first 16,777,217 is taken, and no network is handed back.
-    pub known : ended ≢ status.Words
+    -- It ends in one of these ways, no octet of the settings past the first 16,777,217 is taken, and no network is handed
+    -- back.
+    pub known : IsGatewayEnd ended
     pub bound : TakesUpTo (most_text + 1) job.left job.rest
     pub none : played ≡ None
     -- Where nothing fails, the settings and the area decide how it ends, unless memory runs out: of what the source has,

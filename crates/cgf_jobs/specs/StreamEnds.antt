@@ -27,7 +27,7 @@ use Rattle.cgf_jobs.specs.Job.{Job}
 use Rattle.cgf_jobs.specs.Kinds.{of_frame}
 use Rattle.cgf_jobs.specs.Replies.{Tried, after_all, message_of, replies, sent_for_all}
 use Rattle.cgf_jobs.specs.Run.{TakesUpTo, is_reported}
-use Rattle.cgf_jobs.specs.ServeEnds.{may_have_opened}
+use Rattle.cgf_jobs.specs.ServeEnds.{IsGatewayEnd, may_have_opened}
 use Rattle.cgf_jobs.specs.Served.{HasAllFiles, HasFirstFiles, HoldsHistory}
 use Rattle.cgf_jobs.specs.declared.input_kind.InputKind.TheVariants as input
 use Rattle.cgf_jobs.specs.declared.serving.Serving.{Serving}
@@ -202,8 +202,8 @@ module _ {A F : Type 0} (tells : areas.Ghosts A) (files : shelves.Ghosts F) (of 
     -- At `Link` the clock failed; at `Read` the source, at `Write` the sink, and at no other end did these.
     pub link : ended ≡ status.Link → Rose clock clock'
     pub cause : HasCause ended job.read_before job.read_after job.written_before job.written_after
-    -- The words are known, no octet past the first 2^40 is taken, and no network is handed back.
-    pub known : ended ≢ status.Words
+    -- It ends in one of these ways, no octet past the first 2^40 is taken, and no network is handed back.
+    pub known : IsGatewayEnd ended
     pub bound : TakesUpTo most_stream job.left job.rest
     pub none : played ≡ None
     -- Where nothing fails, area and stream decide how it ends, unless memory runs out.
