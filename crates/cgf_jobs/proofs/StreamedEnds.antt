@@ -135,7 +135,7 @@ module _ {A F : Type 0} (tells : areas.Ghosts A) (files : shelves.Ghosts F) (of 
 
   untouched : {area' : A} → HoldsStill area' → (ended : Status) → Told tells
       → IsUnopened tells files of job area area' shelf shelf clock clock ended
-  untouched keeps ended told = record { unread = refl; unwritten = refl; keeps = keeps told }
+  untouched keeps ended told = record { unread = refl; unwritten = refl; same_shelf = refl; same_clock = refl; keeps = keeps told }
 
   pub stops_memory : (area' : A) → HoldsStill area' → Streams tells files of job area area' shelf shelf clock clock status.Memory None
   stops_memory area' keeps = record {
@@ -194,6 +194,8 @@ module _ {A F : Type 0} (tells : areas.Ghosts A) (files : shelves.Ghosts F) (of 
     behind = λ is. inl refl;
     device = λ is. absurd (cc is);
     foreign = λ at is. (
+      refl,
+      refl,
       refl,
       refl,
       λ told. (

@@ -140,10 +140,13 @@ module _ {A F : Type 0} (tells : areas.Ghosts A) (files : shelves.Ghosts F) (of 
     pub closed : ¬ (disk.Rose (tells.faults area) (tells.faults area'))
         → (history : List HistoryEntry) × HasClosedBehind s history
 
-  -- The gateway wasn't opened: nothing was read or written, and the area holds the history that it held.
+  -- The gateway wasn't opened: nothing was read or written, the clock never failed, the shelf is as it was, and the area
+  -- holds the history that it held.
   pub record IsUnopened : Type 0 where
     pub unread : job.rest ≡ job.left
     pub unwritten : job.after ≡ job.before
+    pub same_shelf : shelf' ≡ shelf
+    pub same_clock : clock' ≡ clock
     pub keeps : (start : List HistoryEntry) → HoldsHistory tells (header_at tells area of.ip) area start
         → HoldsHistory tells (header_at tells area of.ip) area' start
 
@@ -193,12 +196,13 @@ module _ {A F : Type 0} (tells : areas.Ghosts A) (files : shelves.Ghosts F) (of 
     -- At `Memory`, and at `Store` without a place, nothing was read, or the stream had ended well.
     pub behind : (ended ≡ status.Memory) ⊎ (ended ≡ status.Store fault.Device) →
         (job.rest ≡ job.left) ⊎ ((text : List ℕ) × IsStreamRead job.left job.rest text × (stream_end text ≡ status.Done))
-    -- At `Store` a device failed; or the area is another's, at the place that shows it, and stays as it was, and nothing
-    -- was read or written.
+    -- At `Store` a device failed; or the area is another's, at the place that shows it, and stays as it was, as the shelf
+    -- does, and nothing was read or written.
     pub device : ended ≡ status.Store fault.Device →
         disk.Rose (tells.faults area) (tells.faults area') ⊎ disk.Rose (files.faults shelf) (files.faults shelf')
     pub foreign : (at : ℕ) → ended ≡ status.Store (fault.NotOurs at) → (job.rest ≡ job.left) × (job.after ≡ job.before)
-        × (Told tells → IsNotOurs (header_at tells area of.ip) (tells.octets area) at × (tells.octets area' ≡ tells.octets area))
+        × (shelf' ≡ shelf) × (clock' ≡ clock) × (Told tells → IsNotOurs (header_at tells area of.ip) (tells.octets area) at
+        × (tells.octets area' ≡ tells.octets area))
     -- At `Link` the clock failed; at `Read` the source, at `Write` the sink, and at no other end did these.
     pub link : ended ≡ status.Link → Rose clock clock'
     pub cause : HasCause ended job.read_before job.read_after job.written_before job.written_after
