@@ -147,6 +147,7 @@ module _ {A F : Type 0} (tells : areas.Ghosts A) (files : shelves.Ghosts F) (of 
     device = λ is. absurd (cc is);
     foreign = λ at is. absurd (cc is);
     link = λ is. absurd (cc is);
+    time = λ no. refl;
     cause = (refl, refl);
     known = tt;
     bound = ([], omega arith, consumes_none l);
@@ -180,6 +181,7 @@ module _ {A F : Type 0} (tells : areas.Ghosts A) (files : shelves.Ghosts F) (of 
     device = λ is. inl (refused.cause refl);
     foreign = λ at is. absurd (cc is);
     link = λ is. absurd (cc is);
+    time = λ no. refl;
     cause = (refl, refl);
     known = tt;
     bound = ([], omega arith, consumes_none l);
@@ -204,6 +206,7 @@ module _ {A F : Type 0} (tells : areas.Ghosts A) (files : shelves.Ghosts F) (of 
       ),
     );
     link = λ is. absurd (cc is);
+    time = λ no. refl;
     cause = (refl, refl);
     known = tt;
     bound = ([], omega arith, consumes_none l);
@@ -331,7 +334,8 @@ module _ {A F : Type 0} (tells : areas.Ghosts A) (files : shelves.Ghosts F) (of 
       (goes : IsGoingOn tells book text sent c) (says : stream_end text ≡ status.Done) (read : IsStreamRead job.left job.rest text)
       (written : Appends job.before job.after sent)
       (later : tells.faults (area_of c.book) ≤ tells.faults area') (files_later : files.faults (shelf_of writer) ≤ files.faults shelf')
-      (keeps : Holds) (closes : Closes) (stood : (job.read_after ≡ job.read_before) × (job.written_after ≡ job.written_before)) where
+      (keeps : Holds) (closes : Closes) (stood : (job.read_after ≡ job.read_before) × (job.written_after ≡ job.written_before))
+      (ticked : clock' ≡ clock) where
     abbrev gone : HasGoneTo tells book text sent c
     gone = (all_gone tells book text sent c goes).0
 
@@ -364,6 +368,7 @@ module _ {A F : Type 0} (tells : areas.Ghosts A) (files : shelves.Ghosts F) (of 
       device = λ is. absurd (cc is);
       foreign = λ at is. absurd (cc is);
       link = λ is. absurd (cc is);
+      time = λ no. ticked;
       cause = stood;
       known = tt;
       bound = (text, bounded, consumed);
@@ -383,6 +388,7 @@ module _ {A F : Type 0} (tells : areas.Ghosts A) (files : shelves.Ghosts F) (of 
       device = λ is. absurd (cc is);
       foreign = λ at is. absurd (cc is);
       link = λ is. absurd (cc is);
+      time = λ no. ticked;
       cause = stood;
       known = tt;
       bound = (text, bounded, consumed);
@@ -402,6 +408,7 @@ module _ {A F : Type 0} (tells : areas.Ghosts A) (files : shelves.Ghosts F) (of 
       device = λ is. device_rose e;
       foreign = λ at is. absurd (cc is);
       link = λ is. absurd (cc is);
+      time = λ no. ticked;
       cause = stood;
       known = tt;
       bound = (text, bounded, consumed);
@@ -437,6 +444,7 @@ module _ {A F : Type 0} (tells : areas.Ghosts A) (files : shelves.Ghosts F) (of 
       device = λ is. absurd (cc is);
       foreign = λ at is. absurd (cc is);
       link = λ is. absurd (cc is);
+      time = λ no. causes.clock_stood (λ e. cc e);
       cause = (causes.source_stood (λ e. cc e), causes.sink_stood (λ e. cc e));
       known = tt;
       bound = (served.text, served.bounded, served.consumed);
@@ -459,6 +467,7 @@ module _ {A F : Type 0} (tells : areas.Ghosts A) (files : shelves.Ghosts F) (of 
       device = λ is. absurd (cc is);
       foreign = λ at is. absurd (cc is);
       link = λ is. absurd (cc is);
+      time = λ no. causes.clock_stood (λ e. cc e);
       cause = (causes.source_failed refl, causes.sink_stood (λ e. cc e));
       known = tt;
       bound = (served.text, served.bounded, served.consumed);
@@ -480,6 +489,7 @@ module _ {A F : Type 0} (tells : areas.Ghosts A) (files : shelves.Ghosts F) (of 
       device = λ is. absurd (cc is);
       foreign = λ at is. absurd (cc is);
       link = λ is. absurd (cc is);
+      time = λ no. causes.clock_stood (λ e. cc e);
       cause = (causes.source_stood (λ e. cc e), causes.sink_failed refl);
       known = tt;
       bound = (served.text, served.bounded, served.consumed);
@@ -501,6 +511,7 @@ module _ {A F : Type 0} (tells : areas.Ghosts A) (files : shelves.Ghosts F) (of 
       device = λ is. absurd (cc is);
       foreign = λ at is. absurd (cc is);
       link = λ is. causes.clock_failed refl;
+      time = λ no. absurd (no refl);
       cause = (causes.source_stood (λ e. cc e), causes.sink_stood (λ e. cc e));
       known = tt;
       bound = (served.text, served.bounded, served.consumed);
@@ -516,6 +527,7 @@ module _ {A F : Type 0} (tells : areas.Ghosts A) (files : shelves.Ghosts F) (of 
   ends_streams (Ok done) ended served causes settles =
       let ok = served.ok refl in
       ends_well served.text served.sent served.consumed served.bounded ok.0 ok.1 ok.2 ok.3 settles.later.0 settles.later.1 settles.keeps settles.closed
-      (causes.source_stood (ok_not_err tt status.Read), causes.sink_stood (ok_not_err tt status.Write)) ended (settles.ok refl)
+      (causes.source_stood (ok_not_err tt status.Read), causes.sink_stood (ok_not_err tt status.Write)) (causes.clock_stood (ok_not_err tt status.Link))
+      ended (settles.ok refl)
   ends_streams (Err why) ended served causes settles =
       subst (λ (s : Status). Ends s) (sym settles.err) (ends_badly settles.later.0 settles.keeps settles.closed why served causes)

@@ -205,6 +205,7 @@ module _ {A F : Type 0} (tells : areas.Ghosts A) (files : shelves.Ghosts F) (of 
         × (tells.octets area' ≡ tells.octets area))
     -- At `Link` the clock failed; at `Read` the source, at `Write` the sink, and at no other end did these.
     pub link : ended ≡ status.Link → Rose clock clock'
+    pub time : ended ≢ status.Link → clock' ≡ clock
     pub cause : HasCause ended job.read_before job.read_after job.written_before job.written_after
     -- It ends in one of these ways, no octet past the first 2^40 is taken, and no network is handed back.
     pub known : IsGatewayEnd ended

@@ -163,23 +163,23 @@ module _ {A : Type 0} (tells : areas.Ghosts A) where
     pub stays : Stays c.book book
 
 -- The counts of faults of the sink and the clock say why a message isn't answered and sent: each rose where it was that
--- one's fault, and nowhere else did that of the sink.
+-- one's fault, and nowhere else.
 pub record CausesReply {X : Type 0} (sink sink' clock clock' : ℕ) (result : Result X Status) : Type 0 where
   pub sink_failed : result ≡ Err status.Write → gw.Rose sink sink'
   pub sink_stood : result ≢ Err status.Write → sink' ≡ sink
   pub clock_failed : result ≡ Err status.Link → gw.Rose clock clock'
-  pub clock_later : clock ≤ clock'
+  pub clock_stood : result ≢ Err status.Link → clock' ≡ clock
   pub not_source : result ≢ Err status.Read
 
 -- The counts of faults of the source, the sink and the clock say why the serving ended: each rose where it was that one's
--- fault, and nowhere else did that of the source or the sink.
+-- fault, and nowhere else.
 pub record CausesStop {X : Type 0} (source source' sink sink' clock clock' : ℕ) (result : Result X Status) : Type 0 where
   pub source_failed : result ≡ Err status.Read → gw.Rose source source'
   pub source_stood : result ≢ Err status.Read → source' ≡ source
   pub sink_failed : result ≡ Err status.Write → gw.Rose sink sink'
   pub sink_stood : result ≢ Err status.Write → sink' ≡ sink
   pub clock_failed : result ≡ Err status.Link → gw.Rose clock clock'
-  pub clock_later : clock ≤ clock'
+  pub clock_stood : result ≢ Err status.Link → clock' ≡ clock
 
 module _ {A F : Type 0} (tells : areas.Ghosts A) (files : shelves.Ghosts F) where
   -- It was settled too, and its shelf was handed back: all of its history is written.
