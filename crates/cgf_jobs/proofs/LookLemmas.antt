@@ -20,15 +20,9 @@ module _ {A F : Type 0} (tells : areas.Ghosts A) (files : shelves.Ghosts F) (of 
       → HasServed tells files of setup area area' looked shelf' links links' history
       → HasServed tells files of setup area area' shelf shelf' links links' history
   has_before setup history same has = record {
-    start = has.start;
-    found = has.found;
-    stands = has.stands;
-    crash = has.crash;
-    grown = has.grown;
-    replies = has.replies;
+    closed = has.closed;
     sealed = λ told first. has.sealed told
-        (subst (λ (sealed : List SealedFile). HasFirstFiles (files_at of setup) has.start sealed) (sym same) first);
-    shut = has.shut;
+        (subst (λ (sealed : List SealedFile). HasFirstFiles (files_at of setup) has.closed.start sealed) (sym same) first);
   }
 
   pub served_before : {X : Type 0} (octets : X → List ℕ) (setup : Setup) (result : Result X Status) → files.files looked ≡ files.files shelf

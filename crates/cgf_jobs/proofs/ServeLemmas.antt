@@ -21,7 +21,7 @@ use Rattle.cgf_jobs.specs.Kinds.{of_line}
 use Rattle.cgf_jobs.specs.Run.{IsRead, TakesUpTo, may_have_written}
 use Rattle.cgf_jobs.specs.ServeEnds.{EndsBy, IsCalm, IsGatewayEnd, IsRefusedAt, ServedBy, Serves, may_have_opened}
 use Rattle.cgf_jobs.specs.ServeSteps.{AreOf, CausesRead, IsSetBy, RefusesAsForeign, RefusesSettings, RefusesText, StopsServing, WritesLine}
-use Rattle.cgf_jobs.specs.Served.{HasServed, LosesNothing, header_for, served_line}
+use Rattle.cgf_jobs.specs.Served.{HasServed, LosesNothing, SettlesStill, header_for, served_line}
 use Rattle.cgf_jobs.specs.Serving.{address_in}
 use Rattle.cgf_jobs.specs.declared.input_kind.InputKind.{InputKind}
 use Rattle.cgf_jobs.specs.declared.serve.FileSettings.{FileSettings}
@@ -133,6 +133,7 @@ module _ {A F : Type 0} (tells : areas.Ghosts A) (files : shelves.Ghosts F) (of 
         device = λ is. absurd (subst (Refuses job) is r);
         foreign = λ at is told. absurd (subst (Refuses job) is r);
         link = λ is. absurd (subst (Refuses job) is r);
+        closed = λ is. absurd (subst (Refuses job) is r);
         cause = refused_cause ended r same;
         known = refused_known ended r;
         bound = bound;
@@ -185,11 +186,12 @@ module _ {A F : Type 0} (tells : areas.Ghosts A) (files : shelves.Ghosts F) (of 
 
   pub stopped_serves : {X : Type 0} (result : Result X Status) (ended : Status) (text : List ℕ) (by : FileSettings)
       → IsRead (most_text + 1) job.left job.rest text → IsSetBy text by → result ≡ Err ended
-      → IfErr result (λ e. Stops e) → (Told tells → RefusesAsForeign tells of area result) → Ours → Others
+      → IfErr result (λ e. Stops e) → (result ≡ Err status.Link → SettlesStill tells of area area' links links')
+      → (Told tells → RefusesAsForeign tells of area result) → Ours → Others
       → job.read_after ≡ job.read_before → TakesUpTo (most_text + 1) job.left job.rest → job.written_after ≡ job.written_before
       → LosesNothing tells of area area' links links'
       → Serves tells files of job area area' shelf shelf' links links' clock clock' ended None
-  stopped_serves {X = X} result ended text by read set is_err stops foreign_so ours others unread bound same keeps = record {
+  stopped_serves {X = X} result ended text by read set is_err stops settles foreign_so ours others unread bound same keeps = record {
     done = λ is. absurd (subst (λ (e : Status). Stops e) is s);
     front = λ is. absurd (subst (λ (e : Status). Stops e) is s);
     keeps = keeps;
@@ -197,6 +199,7 @@ module _ {A F : Type 0} (tells : areas.Ghosts A) (files : shelves.Ghosts F) (of 
     device = λ is. subst (λ (e : Status). Stops e) is s;
     foreign = λ at is told. (subst (λ (e : Status). Stops e) is s) told;
     link = λ is. subst (λ (e : Status). Stops e) is s;
+    closed = λ is. settles (is_err ∙ ap (λ (e : Status). Err e) is);
     cause = stopped_cause ended s unread same;
     known = stopped_known ended s;
     bound = bound;
@@ -304,6 +307,7 @@ module _ {A F : Type 0} (tells : areas.Ghosts A) (files : shelves.Ghosts F) (of 
           device = λ is. absurd (subst (Writes job line) is w);
           foreign = λ at is told. absurd (subst (Writes job line) is w);
           link = λ is. absurd (subst (Writes job line) is w);
+          closed = λ is. absurd (subst (Writes job line) is w);
           cause = written_cause line ended w unread;
           known = written_known line ended w;
           bound = bound;

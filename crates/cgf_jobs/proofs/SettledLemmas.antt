@@ -9,6 +9,7 @@ use Rattle.file_writer.specs.declared.writer.Writer.{Writer}
 use Rattle.cgf_journal.specs.Format.{StandsFor}
 use Rattle.gate_journal.specs.Format.{Starts}
 use Rattle.gate_journal.specs.Moments.{Told}
+use Rattle.gateway_book.specs.Answered.{no_caller}
 use Rattle.gateway_book.specs.Book.{area_of, header_of, value_of}
 use Rattle.gateway_book.specs.Comes.{LeavesFit}
 use Rattle.gateway_book.specs.FitHistory.{StandsFitFor}
@@ -22,10 +23,11 @@ use Rattle.gw_base.specs.History.{is_close_due}
 use Rattle.gw_base.specs.Owes.{Begins}
 use Rattle.gw_base.specs.declared.history.HistoryEntry.{HistoryEntry}
 use Rattle.net_link.specs.Making.{LinksState}
+use Rattle.node_session.specs.Settling.{IsSettled}
 use Rattle.replay_world.specs.Settled.{AreShut}
 use Rattle.replay_world.specs.Setup.{Setup}
 use Rattle.cgf_jobs.specs.ServeSteps.{HasLine, HasNoLine, HasServedAt, HasSettledAll, NeverFalls, RefusesAsForeign, StopsServing, status_by}
-use Rattle.cgf_jobs.specs.Served.{GoesOnIn, HasServed, LosesNothing, files_at, header_for, served_line}
+use Rattle.cgf_jobs.specs.Served.{GoesOnIn, HasServed, LeavesClosed, LosesNothing, SettlesStill, files_at, header_for, moment_of, served_line}
 use Rattle.cgf_jobs.specs.declared.serving.Serving.{Serving}
 use Rattle.cgf_jobs.specs.declared.settling.Service.{Service}
 use Rattle.cgf_jobs.specs.declared.status.Status.{Status}
@@ -33,7 +35,7 @@ use Rattle.cgf_jobs.specs.declared.status.Status.TheVariants as status
 use Rattle.cgf_jobs.specs.declared.status.StoreFault.TheVariants as fault
 use Rattle.cgf_jobs.proofs.GrownLemmas.{opened_is_fresh}
 use Rattle.cgf_jobs.proofs.KeptLemmas.{goes_on_unsent, replies_rest, told_lists}
-use Rattle.cgf_jobs.proofs.ServedLemmas.{FilesGrow, ItemsStay, has_served}
+use Rattle.cgf_jobs.proofs.ServedLemmas.{FilesGrow, ItemsStay, firm_begins, has_served, leaves_closed}
 use Rattle.cgf_jobs.proofs.ServiceLemmas.{ReplyLater, StaysInTurn, begins_self, begins_then}
 
 -- ---- it wasn't opened
@@ -50,6 +52,20 @@ module _ {A F : Type 0} (tells : areas.Ghosts A) (files : shelves.Ghosts F) (of 
       by_fault of_book.Device refused = inl (refused.cause refl)
       by_fault (of_book.NotOurs at) refused = λ told. (refused.place told at refl, refused.unwritten told (λ is. cc is))
       by_fault of_book.NoMemory refused = tt
+
+  -- it doesn't end as `Link`
+  pub not_link : {X : Type 0} (why : BookFault) (ended : Status) → ended ≡ status_by why
+      → ◌≡◌ {A = Result X Status} (Err ended) (Err status.Link) → ⊥
+  not_link {X = X} why ended is link = by_fault why (sym is ∙ ap ended_in link)
+    where
+      ended_in : Result X Status → Status
+      ended_in (Ok x) = ended
+      ended_in (Err e) = e
+
+      by_fault : (w : BookFault) → status_by w ≡ status.Link → ⊥
+      by_fault of_book.Device e = cc e
+      by_fault (of_book.NotOurs at) e = cc e
+      by_fault of_book.NoMemory e = cc e
 
   -- what a crash leaves of an area whose opening failed stands as it did, or starts, where it was to be made anew
   pub unopened_keeps : (why : BookFault) (area' : A) → AreaLaws tells
@@ -132,6 +148,28 @@ module _ {A F : Type 0} (tells : areas.Ghosts A) (files : shelves.Ghosts F) (of 
       (λ (s : StandsFitFor (header_for tells area of) (tells.octets area) (opens.found told).0). absurd (ours (tells.octets area) (opens.found told).0 at s foreign))
       (λ s. absurd (others (tells.octets area) at foreign s.0)) (opens.found told).1
 
+  module _ (laws : AreaLaws tells) (shuts : (h : List HistoryEntry) → is_close_due h ≡ false → AreShut (items_of h))
+      (in_turn : StaysInTurn) (later_reply : ReplyLater) (leaves : LeavesFit book'') where
+    closes : Told tells → IsSettled book' book'' (moment_of service.last) no_caller
+        → LeavesClosed tells of area (area_of book'') links links' (value_of book'').firm
+    closes told settled = leaves_closed tells files of told laws shuts in_turn later_reply area book book' book'' writer writer' links links' clock clock'
+        service open_time sized opens serves settles.stays.0 settles.later.0 settled leaves
+
+    begins : Told tells → IsSettled book' book'' (moment_of service.last) no_caller → Begins (value_of book').firm (value_of book'').firm
+    begins told settled = firm_begins tells files of told laws shuts in_turn later_reply area book book' book'' writer writer' links links' clock clock'
+        service open_time sized opens serves settles.stays.0 settles.later.0 settled leaves
+
+    -- it was, whatever stopped the service, where the device of the area didn't fail
+    pub still_settled : (¬ (Rose (tells.faults (area_of book')) (tells.faults (area_of book''))) → IsSettled book' book'' (moment_of service.last) no_caller)
+        → (area'' : A) → area'' ≡ area_of book'' → SettlesStill tells of area area'' links links'
+    still_settled settled area'' is_area = subst (λ (a : A). SettlesStill tells of area a links links') (sym is_area) still
+      where
+        still : SettlesStill tells of area (area_of book'') links links'
+        still told = (
+          ((opens.found told).0, (opens.found told).1),
+          λ calm. ((value_of book'').firm, closes told (settled (λ rose. calm (let up = device in omega (arith, up, rose))))),
+        )
+
   module _ (setup : Setup) (told : Told tells) (laws : AreaLaws tells) (stay : ItemsStay) (grow : FilesGrow)
       (shuts : (h : List HistoryEntry) → is_close_due h ≡ false → AreShut (items_of h)) (in_turn : StaysInTurn) (later_reply : ReplyLater) (fresh : is_broken writer ≡ true)
       (by : settings_in writer ≡ files_at of setup) (leaves : LeavesFit book'') where
@@ -141,8 +179,9 @@ module _ {A F : Type 0} (tells : areas.Ghosts A) (files : shelves.Ghosts F) (of 
     by_ok (Err ended) has = tt
     by_ok (Ok x) has = (
       (value_of book'').firm,
-      has_served tells files of setup told laws stay grow shuts in_turn later_reply area shelf book book' book'' writer writer' writer'' links links' clock clock' service open_time (octets x)
-          sized opens fresh on by serves settles.stays.0 settles.later.0 settles.stays.1 (settles.files_stay (told_lists tells told)) has leaves,
+      has_served tells files of setup told stay grow area shelf book book' book'' writer writer' writer'' links links' clock clock' service (octets x)
+          fresh on by serves settles.stays.1 (settles.files_stay (told_lists tells told)) has
+          (closes laws shuts in_turn later_reply leaves told has.settled) (begins laws shuts in_turn later_reply leaves told has.settled),
       has.line_is told,
     )
 

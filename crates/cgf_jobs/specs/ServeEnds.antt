@@ -19,7 +19,7 @@ use Rattle.cgf_jobs.specs.Ending.{HasCause}
 use Rattle.cgf_jobs.specs.Job.{Job}
 use Rattle.cgf_jobs.specs.Kinds.{of_line}
 use Rattle.cgf_jobs.specs.Run.{IsRead, TakesUpTo}
-use Rattle.cgf_jobs.specs.Served.{HasServed, LosesNothing, header_for, served_line}
+use Rattle.cgf_jobs.specs.Served.{HasServed, LosesNothing, SettlesStill, header_for, served_line}
 use Rattle.cgf_jobs.specs.Serving.{address_in}
 use Rattle.cgf_jobs.specs.declared.input_kind.InputKind.{InputKind}
 use Rattle.cgf_jobs.specs.declared.serving.Serving.{Serving}
@@ -114,8 +114,11 @@ module _ {A F : Type 0} (tells : areas.Ghosts A) (files : shelves.Ghosts F) (of 
         disk.Rose (tells.faults area) (tells.faults area') ⊎ disk.Rose (files.faults shelf) (files.faults shelf')
     pub foreign : (at : ℕ) → ended ≡ status.Store (fault.NotOurs at) → Told tells →
         IsNotOurs (header_for tells area of) (tells.octets area) at × (tells.octets area' ≡ tells.octets area)
-    -- At `Link` a link failed, or the clock; at `Read` the source, at `Write` the sink, and at no other end did these.
+    -- At `Link` a link failed, or the clock. The area was the gateway's own, and it settled all the same, unless the
+    -- area's device failed.
     pub link : ended ≡ status.Link → Rose links.faults links'.faults ⊎ Rose clock clock'
+    pub closed : ended ≡ status.Link → SettlesStill tells of area area' links links'
+    -- At `Read` the source failed, at `Write` the sink, and at no other end did these.
     pub cause : HasCause ended job.read_before job.read_after job.written_before job.written_after
     -- It ends in one of these ways, no octet of the settings past the first 16,777,217 is taken, and no network is handed
     -- back.

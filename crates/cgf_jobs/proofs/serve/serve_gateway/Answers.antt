@@ -19,7 +19,8 @@ returns-in-Ok-line-clause-serves g c words =
 pub returns-in-Err-line-clause-serves : goal.returns-in-Err-line-clause-serves
 returns-in-Err-line-clause-serves g c words =
     stopped_serves _ _ _ _ _ _ _ _ _ _ _ _ c.serve_by-line.result.0 c.in-Err-line.status c.in-Ok.ensures.ok.0 c.in-Ok.settings
-    c.in-Ok.ensures.ok.1 c.in-Ok.ensures.ok.2 c.in-Err-line.is c.serve_by-line.ensures.err c.serve_by-line.ensures.foreign
+    c.in-Ok.ensures.ok.1 c.in-Ok.ensures.ok.2 c.in-Err-line.is c.serve_by-line.ensures.err c.serve_by-line.ensures.shut
+    c.serve_by-line.ensures.foreign
     (c.what_stands_is_ours.ensures.ours (g.A.Area.size c.args.area) c.args.serving.ip)
     (c.what_stands_is_ours.ensures.others (g.A.Area.size c.args.area) c.args.serving.ip)
     (c.in-Ok.ensures.cause.1 (λ is. ok_is_err _ _ is)) c.in-Ok.ensures.taken refl c.serve_by-line.ensures.keeps

@@ -24,3 +24,6 @@ returns-in-Err-clause-foreign g c told at foreign = inr (inl refl)
 
 pub returns-in-Err-clause-keeps : goal.returns-in-Err-clause-keeps
 returns-in-Err-clause-keeps g c = untouched_keeps g.A.Area c.args.serving c.args.area (g.L.Links.state c.args.links.now)
+
+pub returns-in-Err-clause-shut : goal.returns-in-Err-clause-shut
+returns-in-Err-clause-shut g c is = absurd (cc is)
