@@ -9,6 +9,7 @@ use Rattle.net_link.specs.Making.{LinksState}
 use Rattle.replay_world.specs.Setup.{Setup}
 use Rattle.cgf_jobs.specs.ServeSteps.{NeverFalls, StopsServing}
 use Rattle.cgf_jobs.specs.Served.{HasFirstFiles, HasServed, files_at, served_line}
+use Rattle.cgf_jobs.specs.Shelved.{KeepsShelf}
 use Rattle.cgf_jobs.specs.declared.serving.Serving.{Serving}
 use Rattle.cgf_jobs.specs.declared.status.Status.{Status}
 use Rattle.cgf_jobs.specs.declared.status.Status.TheVariants as status
@@ -32,6 +33,11 @@ module _ {A F : Type 0} (tells : areas.Ghosts A) (files : shelves.Ghosts F) (of 
       × (octets x ≡ served_line history))
   served_before octets setup (Ok x) same has = (has.0, has_before setup has.0 same has.1, has.2)
   served_before octets setup (Err ended) same has = tt
+
+  pub shelf_before : (setup : Setup) → files.files looked ≡ files.files shelf → KeepsShelf tells files of setup area area' looked shelf'
+      → KeepsShelf tells files of setup area area' shelf shelf'
+  shelf_before setup same keeps told tells_files start holds first = keeps told tells_files start holds
+      (subst (λ (sealed : List SealedFile). HasFirstFiles (files_at of setup) start sealed) (sym same) first)
 
   module _ (clock clock' : ℕ) where
     stops_before : (ended : Status) → files.faults looked ≡ files.faults shelf

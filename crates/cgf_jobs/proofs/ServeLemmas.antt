@@ -1,5 +1,5 @@
 -- What `serve` does, by what it read, how the gateway served, and what was written.
-use Rattle.std.proofs.Common.{◌≡◌, ◌⊎◌, ⊎_elim, inl, inr, ℕ, ◌+◌, Bool, true, false, true≢false, List, take, Option, None, Some, Result, Ok, Err, IfErr, IfOk, OnOk, refl, sym, ap, subst, ◌∙◌}
+use Rattle.std.proofs.Common.{◌≡◌, ◌⊎◌, ⊎_elim, inl, inr, ℕ, ◌+◌, Bool, true, false, true≢false, List, [], take, Option, None, Some, Result, Ok, Err, IfErr, IfOk, OnOk, refl, sym, ap, subst, ◌∙◌}
 use Rattle.std.specs.Io.KnownBytes.{Appends}
 use Rattle.area_disk.specs.declared.area.Area as areas
 use Rattle.cdr_shelf.specs.declared.shelf.Shelf as shelves
@@ -23,6 +23,7 @@ use Rattle.cgf_jobs.specs.ServeEnds.{EndsBy, IsCalm, IsGatewayEnd, IsRefusedAt, 
 use Rattle.cgf_jobs.specs.ServeSteps.{AreOf, CausesRead, IsSetBy, RefusesAsForeign, RefusesSettings, RefusesText, StopsServing, WritesLine}
 use Rattle.cgf_jobs.specs.Served.{HasServed, LosesNothing, SettlesStill, header_for, served_line}
 use Rattle.cgf_jobs.specs.Serving.{address_in}
+use Rattle.cgf_jobs.specs.Shelved.{KeepsShelf}
 use Rattle.cgf_jobs.specs.declared.input_kind.InputKind.{InputKind}
 use Rattle.cgf_jobs.specs.declared.serve.FileSettings.{FileSettings}
 use Rattle.cgf_jobs.specs.declared.serving.Serving.{Serving}
@@ -122,13 +123,15 @@ module _ {A F : Type 0} (tells : areas.Ghosts A) (files : shelves.Ghosts F) (of 
   pub refused_serves : {X : Type 0} (ended : Status) → RefusesSettings job.left job.rest ended
       → CausesRead {X = X} job.read_before job.read_after (Err ended) → TakesUpTo (most_text + 1) job.left job.rest
       → job.written_after ≡ job.written_before → LosesNothing tells of area area' links links'
+      → ((setup : Setup) → KeepsShelf tells files of setup area area' shelf shelf')
       → Serves tells files of job area area' shelf shelf' links links' clock clock' ended None
-  refused_serves ended refuses causes bound same keeps =
+  refused_serves ended refuses causes bound same keeps filed =
       let r = refuses_by job ended refuses causes in
       record {
         done = λ is. absurd (subst (Refuses job) is r);
         front = λ is. absurd (subst (Refuses job) is r);
         keeps = keeps;
+        shelved = λ text lines left says. filed (setup_of lines);
         refused = refused_at ended r;
         device = λ is. absurd (subst (Refuses job) is r);
         foreign = λ at is told. absurd (subst (Refuses job) is r);
@@ -184,17 +187,30 @@ module _ {A F : Type 0} (tells : areas.Ghosts A) (files : shelves.Ghosts F) (of 
       sym (sym (ap (λ (t : List ℕ). script_in kind.Serve t) (read_front (most_text + 1) left text job.rest
       (subst (λ (o : Option (List ℕ)). IsRead (most_text + 1) o job.rest text) is read))) ∙ set)
 
+  abbrev lines_in : Result (List Line) Refusal → List Line
+  lines_in (Ok lines) = lines
+  lines_in (Err refusal) = []
+
+  -- the settings that were read are those of what was left
+  shelved_by : (text : List ℕ) (by : FileSettings) → IsSetBy text by → IsRead (most_text + 1) job.left job.rest text
+      → ((setup : Setup) → AreOf setup by → KeepsShelf tells files of setup area area' shelf shelf')
+      → (left : List ℕ) (lines : List Line) → job.left ≡ Some left → script_in kind.Serve (take (most_text + 1) left) ≡ Ok lines
+      → KeepsShelf tells files of (setup_of lines) area area' shelf shelf'
+  shelved_by text by set read filed left lines is says = subst (λ (l : List Line). KeepsShelf tells files of (setup_of l) area area' shelf shelf')
+      (ap lines_in (same_script text left set.0 set.1 read is ∙ says)) (filed (setup_of set.0) set.2)
+
   pub stopped_serves : {X : Type 0} (result : Result X Status) (ended : Status) (text : List ℕ) (by : FileSettings)
       → IsRead (most_text + 1) job.left job.rest text → IsSetBy text by → result ≡ Err ended
       → IfErr result (λ e. Stops e) → (result ≡ Err status.Link → SettlesStill tells of area area' links links')
       → (Told tells → RefusesAsForeign tells of area result) → Ours → Others
       → job.read_after ≡ job.read_before → TakesUpTo (most_text + 1) job.left job.rest → job.written_after ≡ job.written_before
-      → LosesNothing tells of area area' links links'
+      → LosesNothing tells of area area' links links' → ((setup : Setup) → AreOf setup by → KeepsShelf tells files of setup area area' shelf shelf')
       → Serves tells files of job area area' shelf shelf' links links' clock clock' ended None
-  stopped_serves {X = X} result ended text by read set is_err stops settles foreign_so ours others unread bound same keeps = record {
+  stopped_serves {X = X} result ended text by read set is_err stops settles foreign_so ours others unread bound same keeps filed = record {
     done = λ is. absurd (subst (λ (e : Status). Stops e) is s);
     front = λ is. absurd (subst (λ (e : Status). Stops e) is s);
     keeps = keeps;
+    shelved = shelved_by text by set read filed;
     refused = λ place why is. absurd (subst (λ (e : Status). Stops e) is s);
     device = λ is. subst (λ (e : Status). Stops e) is s;
     foreign = λ at is told. (subst (λ (e : Status). Stops e) is s) told;
@@ -295,14 +311,15 @@ module _ {A F : Type 0} (tells : areas.Ghosts A) (files : shelves.Ghosts F) (of 
         none_of (inr (inr e)) = true≢false (ap is_ok_of e)
 
     pub written_serves : job.read_after ≡ job.read_before → TakesUpTo (most_text + 1) job.left job.rest
-        → LosesNothing tells of area area' links links'
+        → LosesNothing tells of area area' links links' → ((setup : Setup) → AreOf setup by → KeepsShelf tells files of setup area area' shelf shelf')
         → Serves tells files of job area area' shelf shelf' links links' clock clock' ended None
-    written_serves unread bound keeps =
+    written_serves unread bound keeps filed =
         let w = writes_by job line ended writes in
         record {
           done = λ is. (served_by (λ l. Appends job.before job.after l) (subst (Writes job line) is w).0, turns);
           front = λ is. served_by (λ l. AppendsFront job.before job.after l) (subst (Writes job line) is w).0;
           keeps = keeps;
+          shelved = shelved_by text by set read filed;
           refused = λ place why is. absurd (subst (Writes job line) is w);
           device = λ is. absurd (subst (Writes job line) is w);
           foreign = λ at is told. absurd (subst (Writes job line) is w);

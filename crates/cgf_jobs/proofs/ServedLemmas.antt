@@ -1,5 +1,5 @@
 -- What a gateway hands back that was opened, served and was settled.
-use Rattle.std.proofs.Common.{◌≡◌, ℕ, ◌<◌, ◌≤◌, Bool, true, false, if◌then◌else◌, List, [], ◌++◌, length, sym, ap, subst, ◌∙◌, true≢false, arith}
+use Rattle.std.proofs.Common.{◌≡◌, ℕ, ◌+◌, ◌-◌, ◌<◌, ◌≤◌, max, Bool, true, false, if◌then◌else◌, List, [], ◌++◌, length, take, refl, sym, ap, subst, ◌∙◌, true≢false, arith}
 use Rattle.std.specs.Prelude.{IsTrue}
 use Rattle.std.proofs.lemmas.List.{append-nil}
 use Rattle.area_disk.specs.AreaLaws.{AreaLaws}
@@ -8,7 +8,7 @@ use Rattle.cdr_shelf.specs.declared.shelf.Shelf as shelves
 use Rattle.file_writer.specs.Files.{later_files, stream_files}
 use Rattle.file_writer.specs.Holding.{IsBegun}
 use Rattle.file_writer.specs.Streams.{Settings, closed_of, stream_count, stream_division}
-use Rattle.file_writer.specs.Writer.{is_broken, settings_in, shelf_of}
+use Rattle.file_writer.specs.Writer.{is_broken, sealed_in, settings_in, shelf_of, taken_of}
 use Rattle.file_writer.specs.declared.writer.Writer.{Writer}
 use Rattle.gate_journal.specs.Moments.{Told}
 use Rattle.gateway_book.specs.Answered.{no_caller}
@@ -90,6 +90,20 @@ first_holds {F = F} files stay files_grow settings start history shelf writer fr
     begun : HasFirstFiles settings history (files.files shelf)
     begun = subst (λ (items : List Item). IsBegun settings writing.none_closed writing.none_stood items (files.files shelf)) (sym items_front.1)
         (begun_on files_grow settings (items_of start) items_front.0 (files.files shelf) first)
+
+-- Whether it has to recover or not, a writer that holds the files of items has the first ones of them.
+pub first_of_all : {F : Type 0} (files : shelves.Ghosts F) (writer : Writer F files) (settings : Settings) (history : List HistoryEntry)
+    → settings_in writer ≡ settings → writing.HoldsFilesOf (items_of history) writer
+    → HasFirstFiles settings history (files.files (shelf_of writer))
+first_of_all files writer settings history set holds =
+    subst (λ (s : Settings). HasFirstFiles s history (files.files (shelf_of writer))) set (by (is_broken writer) refl)
+  where
+    by : (b : Bool) → is_broken writer ≡ b → HasFirstFiles (settings_in writer) history (files.files (shelf_of writer))
+    by true is = holds.begun is
+    by false is = λ s lt. (
+      max (sealed_in writer s) (writing.none_closed s + closed_of (settings_in writer) s (take (taken_of writer) (items_of history))) - writing.none_closed s,
+      holds.held is s lt,
+    )
 
 -- It was settled: its journal.
 module _ {A F : Type 0} (tells : areas.Ghosts A) (files : shelves.Ghosts F) (of : Serving) (told : Told tells)

@@ -1,5 +1,6 @@
 -- How a gateway that was to serve ends: it wasn't opened, or it was settled.
 use Rattle.std.proofs.Common.{◌≡◌, ◌⊎◌, ⊎_elim, inl, inr, ℕ, ◌≤◌, true, false, List, [], ◌++◌, Result, Ok, Err, IfErr, IfOk, refl, sym, ap, subst, ◌∙◌, arith}
+use Rattle.std.specs.Prelude.{IsTrue}
 use Rattle.area_disk.specs.AreaLaws.{AreaLaws}
 use Rattle.area_disk.specs.Disk.{Rose}
 use Rattle.area_disk.specs.declared.area.Area as areas
@@ -27,15 +28,16 @@ use Rattle.node_session.specs.Settling.{IsSettled}
 use Rattle.replay_world.specs.Settled.{AreShut}
 use Rattle.replay_world.specs.Setup.{Setup}
 use Rattle.cgf_jobs.specs.ServeSteps.{HasLine, HasNoLine, HasServedAt, HasSettledAll, NeverFalls, RefusesAsForeign, StopsServing, status_by}
-use Rattle.cgf_jobs.specs.Served.{GoesOnIn, HasServed, LeavesClosed, LosesNothing, SettlesStill, files_at, header_for, moment_of, served_line}
+use Rattle.cgf_jobs.specs.Served.{GoesOnIn, HasFirstFiles, HasServed, HoldsHistory, LeavesClosed, LosesNothing, SettlesStill, files_at, header_for, moment_of, served_line}
+use Rattle.cgf_jobs.specs.Shelved.{IsFiledIn, KeepsShelf}
 use Rattle.cgf_jobs.specs.declared.serving.Serving.{Serving}
 use Rattle.cgf_jobs.specs.declared.settling.Service.{Service}
 use Rattle.cgf_jobs.specs.declared.status.Status.{Status}
 use Rattle.cgf_jobs.specs.declared.status.Status.TheVariants as status
 use Rattle.cgf_jobs.specs.declared.status.StoreFault.TheVariants as fault
 use Rattle.cgf_jobs.proofs.GrownLemmas.{opened_is_fresh}
-use Rattle.cgf_jobs.proofs.KeptLemmas.{goes_on_unsent, replies_rest, told_lists}
-use Rattle.cgf_jobs.proofs.ServedLemmas.{FilesGrow, ItemsStay, firm_begins, has_served, leaves_closed}
+use Rattle.cgf_jobs.proofs.KeptLemmas.{filed_still, goes_on_unsent, replies_rest, told_lists}
+use Rattle.cgf_jobs.proofs.ServedLemmas.{FilesGrow, ItemsStay, firm_begins, first_holds, first_of_all, has_served, items_begin, leaves_closed}
 use Rattle.cgf_jobs.proofs.ServiceLemmas.{ReplyLater, StaysInTurn, begins_self, begins_then}
 
 -- ---- it wasn't opened
@@ -68,6 +70,23 @@ module _ {A F : Type 0} (tells : areas.Ghosts A) (files : shelves.Ghosts F) (of 
       by_fault of_book.NoMemory e = cc e
 
   -- what a crash leaves of an area whose opening failed stands as it did, or starts, where it was to be made anew
+  unopened_left : (why : BookFault) (area' : A)
+      → (Told tells → (h : List HistoryEntry) → StandsFitFor (header_for tells area of) (tells.octets area) h → FindsHistory {tells = tells} area (Err (why, area')) h)
+      → (Told tells → Starts (header_for tells area of) (tells.octets area) → IsMadeAnew {tells = tells} area (Err (why, area')) (header_for tells area of))
+      → Told tells → (start : List HistoryEntry) → HoldsHistory tells (header_for tells area of) area start
+      → (c : List ℕ) → tells.may_leave area' c → StandsOrStarts (header_for tells area of) c start
+  unopened_left why area' reads anew told start holds c may = left holds.now
+    where
+      left : StandsOrStarts (header_for tells area of) (tells.octets area) start → StandsOrStarts (header_for tells area of) c start
+      left (inl stands) = holds.crash c ((reads told start stands).moments.now c may)
+      left (inr starts) = ⊎_elim
+          (λ (old : tells.may_leave area c). holds.crash c old)
+          (λ (made : Starts (header_for tells area of) c ⊎ StandsFor (header_for tells area of) c []). ⊎_elim
+          (λ (s : Starts (header_for tells area of) c). inr (s, starts.1))
+          (λ (s : StandsFor (header_for tells area of) c []). inl (subst (λ (h : List HistoryEntry). StandsFitFor (header_for tells area of) c h) (sym starts.1)
+          (record { stands = s; fit = tt }))) made)
+          ((anew told starts.0).moments.now c may)
+
   pub unopened_keeps : (why : BookFault) (area' : A) → AreaLaws tells
       → (Told tells → (h : List HistoryEntry) → StandsFitFor (header_for tells area of) (tells.octets area) h → FindsHistory {tells = tells} area (Err (why, area')) h)
       → (Told tells → Starts (header_for tells area of) (tells.octets area) → IsMadeAnew {tells = tells} area (Err (why, area')) (header_for tells area of))
@@ -77,19 +96,20 @@ module _ {A F : Type 0} (tells : areas.Ghosts A) (files : shelves.Ghosts F) (of 
     crash = goes_on;
   }
     where
-      left : (c : List ℕ) → tells.may_leave area' c → StandsOrStarts (header_for tells area of) (tells.octets area) start
-          → StandsOrStarts (header_for tells area of) c start
-      left c may (inl stands) = holds.crash c ((reads told start stands).moments.now c may)
-      left c may (inr starts) = ⊎_elim
-          (λ (old : tells.may_leave area c). holds.crash c old)
-          (λ (made : Starts (header_for tells area of) c ⊎ StandsFor (header_for tells area of) c []). ⊎_elim
-          (λ (s : Starts (header_for tells area of) c). inr (s, starts.1))
-          (λ (s : StandsFor (header_for tells area of) c []). inl (subst (λ (h : List HistoryEntry). StandsFitFor (header_for tells area of) c h) (sym starts.1)
-          (record { stands = s; fit = tt }))) made)
-          ((anew told starts.0).moments.now c may)
-
       goes_on : (c : List ℕ) → tells.may_leave area' c → GoesOnIn tells of area area' links links start c
-      goes_on c may = goes_on_unsent tells of area area' links start c (left c may holds.now)
+      goes_on c may = goes_on_unsent tells of area area' links start c (unopened_left why area' reads anew told start holds c may)
+
+  pub unopened_shelf : (why : BookFault) (area' : A) (setup : Setup) → AreaLaws tells
+      → (Told tells → (h : List HistoryEntry) → StandsFitFor (header_for tells area of) (tells.octets area) h → FindsHistory {tells = tells} area (Err (why, area')) h)
+      → (Told tells → Starts (header_for tells area of) (tells.octets area) → IsMadeAnew {tells = tells} area (Err (why, area')) (header_for tells area of))
+      → KeepsShelf tells files of setup area area' shelf shelf
+  unopened_shelf why area' setup laws reads anew told tells_files start holds first = (
+    filed (tells.octets area') (laws.holds area'),
+    filed,
+  )
+    where
+      filed : (c : List ℕ) → tells.may_leave area' c → IsFiledIn tells files of setup area shelf start c
+      filed c may = filed_still tells files of setup area shelf shelf refl start first c (unopened_left why area' reads anew told start holds c may)
 
 -- ---- it was settled
 
@@ -209,9 +229,19 @@ module _ {A F : Type 0} (tells : areas.Ghosts A) (files : shelves.Ghosts F) (of 
     found_is told start (inr starts) =
         ap (λ (v : BookValue). v.firm) (anew told starts.0).value ∙ (opened_is_fresh (tells.size area) []).firm ∙ sym starts.1
 
-    goes_on_in : Told tells → (start : List HistoryEntry) → StandsOrStarts (header_for tells area of) (tells.octets area) start
-        → (c : List ℕ) → tells.may_leave (area_of book'') c → GoesOnIn tells of area (area_of book'') links links' start c
-    goes_on_in told start found c may = ⊎_elim
+    -- what was found begins what was firm once it had served
+    served_front : Told tells → (start : List HistoryEntry) → StandsOrStarts (header_for tells area of) (tells.octets area) start
+        → Begins start (value_of book').firm
+    served_front told start found = subst (λ (h : List HistoryEntry). Begins h (value_of book').firm) (found_is told start found)
+        (serves.goes_on (told_lists tells told)).goes.begins
+
+    -- what any crash leaves stands for a history that begins with what is firm, and with what was firm before the settling
+    abbrev LeftBehind : List ℕ → Type 0
+    LeftBehind c = (history : List HistoryEntry) × StandsFitFor (header_for tells area of) c history
+        × Begins (value_of book'').firm history × Begins (value_of book').firm history
+
+    left_behind : Told tells → (c : List ℕ) → tells.may_leave (area_of book'') c → LeftBehind c
+    left_behind told c may = ⊎_elim
         (λ (s : StandsFitFor (header_of book'') c (value_of book'').firm). stands_for (value_of book'').firm (begins_self (value_of book'').firm) s)
         (λ (s : StandsFitFor (header_of book'') c ((value_of book'').firm ++ (value_of book'').rest)).
         stands_for ((value_of book'').firm ++ (value_of book'').rest) ((value_of book'').rest, refl) s)
@@ -220,20 +250,25 @@ module _ {A F : Type 0} (tells : areas.Ghosts A) (files : shelves.Ghosts F) (of 
         named : header_of book'' ≡ header_for tells area of
         named = settles.stays.0.header ∙ serves.stays.name ∙ opens.named
 
-        served : Begins start (value_of book').firm
-        served = subst (λ (h : List HistoryEntry). Begins h (value_of book').firm) (found_is told start found) (serves.goes_on (told_lists tells told)).goes.begins
+        stands_for : (history : List HistoryEntry) → Begins (value_of book'').firm history → StandsFitFor (header_of book'') c history → LeftBehind c
+        stands_for history begins stands = (
+          history,
+          subst (λ (h : List ℕ). StandsFitFor h c history) named stands,
+          begins,
+          begins_then (value_of book').firm (value_of book'').firm history (settles.grows told) begins,
+        )
 
-        stands_for : (history : List HistoryEntry) → Begins (value_of book'').firm history → StandsFitFor (header_of book'') c history
-            → GoesOnIn tells of area (area_of book'') links links' start c
-        stands_for history begins stands =
-            let behind : Begins (value_of book').firm history = begins_then (value_of book').firm (value_of book'').firm history (settles.grows told) begins in
-            record {
-              history = history;
-              stands = inl (subst (λ (h : List ℕ). StandsFitFor h c history) named stands);
-              begins = begins_then start (value_of book').firm history served behind;
-              replies = replies_rest tells files of told area book book' book'' writer writer' links links' clock clock' service open_time sized opens serves
-                  settles.later.0 later_reply history behind;
-            }
+    goes_on_in : Told tells → (start : List HistoryEntry) → StandsOrStarts (header_for tells area of) (tells.octets area) start
+        → (c : List ℕ) → tells.may_leave (area_of book'') c → GoesOnIn tells of area (area_of book'') links links' start c
+    goes_on_in told start found c may =
+        let left = left_behind told c may in
+        record {
+          history = left.0;
+          stands = inl left.1;
+          begins = begins_then start (value_of book').firm left.0 (served_front told start found) left.3;
+          replies = replies_rest tells files of told area book book' book'' writer writer' links links' clock clock' service open_time sized opens serves
+              settles.later.0 later_reply left.0 left.3;
+        }
 
     pub keeps_as : (area'' : A) → area'' ≡ area_of book'' → LosesNothing tells of area area'' links links'
     keeps_as area'' is_area told start holds = record { now = all (tells.octets area'') (laws.holds area''); crash = all }
@@ -241,3 +276,33 @@ module _ {A F : Type 0} (tells : areas.Ghosts A) (files : shelves.Ghosts F) (of 
         all : (c : List ℕ) → tells.may_leave area'' c → GoesOnIn tells of area area'' links links' start c
         all = subst (λ (a : A). (c : List ℕ) → tells.may_leave a c → GoesOnIn tells of area a links links' start c) (sym is_area)
             (goes_on_in told start holds.now)
+
+    -- So it is of the files.
+    module _ (setup : Setup) (stay : ItemsStay) (grow : FilesGrow) (fresh : is_broken writer ≡ true) (by : settings_in writer ≡ files_at of setup) where
+      filed_in : Told tells → IsTrue files.tells_files → (start : List HistoryEntry) → StandsOrStarts (header_for tells area of) (tells.octets area) start
+          → HasFirstFiles (files_at of setup) start (files.files shelf) → (c : List ℕ) → tells.may_leave (area_of book'') c
+          → IsFiledIn tells files of setup area (shelf_of writer'') start c
+      filed_in told tells_files start found first c may =
+          let left = left_behind told c may in
+          let front : Begins start left.0 = begins_then start (value_of book').firm left.0 (served_front told start found) left.3 in
+          record {
+            history = left.0;
+            stands = inl left.1;
+            begins = front;
+            filed = first_of_all files writer'' (files_at of setup) left.0 (settles.stays.1 ∙ serves.kept.settings ∙ by)
+                (settles.files_stay (told_lists tells told) tells_files (items_of left.0) (items_begin stay (value_of book'').firm left.0 left.2)
+                (serves.kept.files (told_lists tells told) tells_files (items_of left.0) (items_begin stay (value_of book').firm left.0 left.3)
+                (first_holds files stay grow (files_at of setup) start left.0 shelf writer fresh on by front first)));
+          }
+
+      pub shelf_as : (area'' : A) (shelf'' : F) → area'' ≡ area_of book'' → shelf'' ≡ shelf_of writer''
+          → KeepsShelf tells files of setup area area'' shelf shelf''
+      shelf_as area'' shelf'' is_area is_shelf =
+          subst (λ (a : A). KeepsShelf tells files of setup area a shelf shelf'') (sym is_area)
+          (subst (λ (f : F). KeepsShelf tells files of setup area (area_of book'') shelf f) (sym is_shelf) all)
+        where
+          all : KeepsShelf tells files of setup area (area_of book'') shelf (shelf_of writer'')
+          all told tells_files start holds first = (
+            filed_in told tells_files start holds.now first (tells.octets (area_of book'')) (laws.holds (area_of book'')),
+            filed_in told tells_files start holds.now first,
+          )

@@ -21,6 +21,7 @@ use Rattle.cgf_jobs.specs.Kinds.{of_line}
 use Rattle.cgf_jobs.specs.Run.{IsRead, TakesUpTo}
 use Rattle.cgf_jobs.specs.Served.{HasServed, LosesNothing, SettlesStill, header_for, served_line}
 use Rattle.cgf_jobs.specs.Serving.{address_in}
+use Rattle.cgf_jobs.specs.Shelved.{KeepsShelf}
 use Rattle.cgf_jobs.specs.declared.input_kind.InputKind.{InputKind}
 use Rattle.cgf_jobs.specs.declared.serving.Serving.{Serving}
 use Rattle.cgf_jobs.specs.declared.status.Status.{Status}
@@ -106,6 +107,10 @@ module _ {A F : Type 0} (tells : areas.Ghosts A) (files : shelves.Ghosts F) (of 
     pub front : ended ≡ status.Write → ServedBy (λ line. AppendsFront job.before job.after line)
     -- However it ends, nothing is lost of the history that its area held, nor of what it answered.
     pub keeps : LosesNothing tells of area area' links links'
+    -- So it is of the files, by the settings that are read: the shelf has the first ones of those of a history that goes on.
+    pub shelved : (text : List ℕ) (lines : List Line) → job.left ≡ Some text →
+        script_in kind.Serve (take (most_text + 1) text) ≡ Ok lines →
+        KeepsShelf tells files of (setup_of lines) area area' shelf shelf'
     -- At `Input` the line is the first of what was read that the grammar of settings refuses.
     pub refused : (place : ℕ) (why : InputKind) → ended ≡ status.Input place why →
         (text : List ℕ) × IsRead (most_text + 1) job.left job.rest text × IsRefusedAt (script_in kind.Serve text) ended

@@ -21,6 +21,7 @@ ghost use Rattle.node_session.specs.Writing.{IsWriterOf};
 ghost use Rattle.cgf_jobs.specs.Served.{HasServed, LosesNothing, SettlesStill, moment_of, served_line};
 ghost use Rattle.cgf_jobs.specs.ServeSteps.{AreOf, FailsBy, HasServedAt, HasSettledAll, NeverFalls, RefusesAsForeign, StopsServing, status_by};
 ghost use Rattle.cgf_jobs.specs.Serving.{IsServingWithin, address_in};
+ghost use Rattle.cgf_jobs.specs.Shelved.{KeepsShelf};
 
 use crate::printing::print_counts;
 use crate::serve::FileSettings;
@@ -83,6 +84,8 @@ where
     ensures turns { OnOk result.0 ((L.state links.new).turns (address_in serving)
         ≡ (L.state links.old).turns (address_in serving) + serving.turns) }
     ensures keeps { LosesNothing A.Area serving area result.1 (L.state links.old) (L.state links.new) }
+    ensures files { (setup : SetupValue) → AreOf setup by →
+        KeepsShelf A.Area F.Shelf serving setup area result.1 shelf result.2 }
     ensures err { IfErr result.0 (StopsServing A.Area F.Shelf serving area result.1 shelf result.2
         (L.state links.old) (L.state links.new) (C.faults clock.old) (C.faults clock.new)) }
     ensures shut { result.0 ≡ Err Status.Link →
@@ -127,6 +130,8 @@ where
     ensures turns { OnOk result.0 ((L.state links.new).turns (address_in serving)
         ≡ (L.state links.old).turns (address_in serving) + serving.turns) }
     ensures keeps { LosesNothing A.Area serving area result.1 (L.state links.old) (L.state links.new) }
+    ensures files { (setup : SetupValue) → AreOf setup by →
+        KeepsShelf A.Area F.Shelf serving setup area result.1 shelf result.2 }
     ensures err { IfErr result.0 (StopsServing A.Area F.Shelf serving area result.1 shelf result.2
         (L.state links.old) (L.state links.new) (C.faults clock.old) (C.faults clock.new)) }
     ensures shut { result.0 ≡ Err Status.Link →
