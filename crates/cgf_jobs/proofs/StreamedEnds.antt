@@ -11,7 +11,7 @@ use Rattle.file_writer.specs.declared.writer.Writer.{Writer}
 use Rattle.cgf_journal.specs.Format.{StandsFor}
 use Rattle.gate_journal.specs.Format.{Starts}
 use Rattle.gate_journal.specs.Moments.{Told}
-use Rattle.gateway_book.specs.Book.{area_of, header_of, value_of}
+use Rattle.gateway_book.specs.Book.{area_of, value_of}
 use Rattle.gateway_book.specs.FitHistory.{StandsFitFor}
 use Rattle.gateway_book.specs.Items.{items_of}
 use Rattle.gateway_book.specs.Opened.{FindsHistory, IsMadeAnew, IsNotOurs, IsOpened, IsRefused, StandsOrStarts}
@@ -33,8 +33,8 @@ use Rattle.cgf_jobs.specs.Job.{Job}
 use Rattle.cgf_jobs.specs.Kinds.{of_frame}
 use Rattle.cgf_jobs.specs.ServeSteps.{status_by}
 use Rattle.cgf_jobs.specs.Served.{HoldsHistory}
-use Rattle.cgf_jobs.specs.StreamEnds.{EndsAsSaid, IsStreamRead, IsUnopened, KeepsAnswers, StandsBehind, Streams, end_by, header_at, most_stream, rest_place, stream_end, stream_settings}
-use Rattle.cgf_jobs.specs.StreamSteps.{CausesStop, HasClosed, HasGoneTo, HasServed, HasSettledStream, IsGoingOn, SettlesAs}
+use Rattle.cgf_jobs.specs.StreamEnds.{EndsAsSaid, IsStreamRead, IsUnopened, KeepsAnswers, Streams, end_by, header_at, most_stream, rest_place, stream_end, stream_settings}
+use Rattle.cgf_jobs.specs.StreamSteps.{CausesStop, HasClosed, HasGoneTo, HasServed, HasSettledStream, IsGoingOn, LeavesBehind, SettlesAs}
 use Rattle.cgf_jobs.specs.declared.connection.Connection.{Connection}
 use Rattle.cgf_jobs.specs.declared.status.Status.{Status}
 use Rattle.cgf_jobs.specs.declared.status.Status.TheVariants as status
@@ -287,7 +287,7 @@ module _ {A F : Type 0} (tells : areas.Ghosts A) (files : shelves.Ghosts F) (of 
     → ¬ (IsNotOurs (header_at tells area of.ip) octets at))
     (others : (octets : List ℕ) (at : ℕ) → IsNotOurs (header_at tells area of.ip) octets at → ¬ (Starts (header_at tells area of.ip) octets)) where
   abbrev Holds : Type 0
-  Holds = Told tells → (octets : List ℕ) → tells.may_leave area' octets → StandsBehind (header_of c.book) (value_of c.book).firm octets
+  Holds = Told tells → (octets : List ℕ) → tells.may_leave area' octets → LeavesBehind tells files c writer shelf' octets
 
   abbrev Closes : Type 0
   Closes = ¬ (disk.Rose (tells.faults (area_of c.book)) (tells.faults area')) → HasClosed tells c area'
@@ -298,8 +298,8 @@ module _ {A F : Type 0} (tells : areas.Ghosts A) (files : shelves.Ghosts F) (of 
       → KeepsAnswers tells files of job area area' shelf shelf' clock clock' ended
       (answered tells files of job area area' shelf shelf' clock clock' book c open_time sized opens node later text sent consumed told gone ended)
   kept later keeps closes text sent consumed told gone ended =
-      answers_kept tells files of job area area' shelf shelf' clock clock' book c open_time sized opens node later text sent consumed told gone ended laws
-      (keeps told) (λ calm. (
+      answers_kept tells files of job area area' shelf shelf' clock clock' book c open_time sized opens node later text sent consumed told gone
+      writer fresh on set stay files_grow laws (keeps told) ended (λ calm. (
         _,
         closed_behind_them tells files of job area area' shelf shelf' clock clock' book c open_time sized opens node later text sent
             consumed told gone laws shuts (closes (still calm)) ended,

@@ -137,6 +137,11 @@ module _ {A F : Type 0} (tells : areas.Ghosts A) (files : shelves.Ghosts F) (of 
   pub record KeepsAnswers (s : HasAnswered) : Type 0 where
     pub now : StandsBehind (header_at tells area of.ip) (value_left s).firm (tells.octets area')
     pub crash : (c : List ℕ) → tells.may_leave area' c → StandsBehind (header_at tells area of.ip) (value_left s).firm c
+    -- Where the shelf had the first ones of the files that the handed-in history closes, it has those of these histories.
+    pub sealed : IsTrue files.tells_files → HasFirstFiles (stream_settings of.ip) s.start (files.files shelf)
+        → HasFirstFiles (stream_settings of.ip) now.history (files.files shelf')
+        × ((c : List ℕ) (left : tells.may_leave area' c) →
+        HasFirstFiles (stream_settings of.ip) (crash c left).history (files.files shelf'))
     pub closed : ¬ (disk.Rose (tells.faults area) (tells.faults area'))
         → (history : List HistoryEntry) × HasClosedBehind s history
 

@@ -1,5 +1,5 @@
 -- Words for the code of a gateway that answers a stream. No contract of a public call cites them.
-use Rattle.std.specs.Prelude.{◌≡◌, ◌≢◌, ◌⊎◌, ℕ, ◌+◌, ◌≤◌, Bool, false, true, List, [], ◌++◌, length, map, Option, Some, None, IsSome, IfErr, IfOk, Result, Ok, Err, ⊤}
+use Rattle.std.specs.Prelude.{◌≡◌, ◌≢◌, ◌⊎◌, ℕ, ◌+◌, ◌≤◌, Bool, false, true, List, [], ◌++◌, length, map, Option, Some, None, IsSome, IsTrue, IfErr, IfOk, Result, Ok, Err, ⊤}
 use Rattle.std.specs.Io.KnownBytes.{Appends, Consumes, IsAtEnd}
 use Rattle.area_disk.specs.Disk.{Rose, last_count}
 use Rattle.area_disk.specs.declared.area.Area as areas
@@ -10,18 +10,23 @@ use Rattle.gate_journal.specs.Moments.{Told}
 use Rattle.gateway_book.specs.Answered.{no_caller}
 use Rattle.gateway_book.specs.Book.{Stays, area_of, header_of, size_of, value_of}
 use Rattle.gateway_book.specs.Comes.{LeavesFit}
+use Rattle.gateway_book.specs.FitHistory.{StandsFitFor}
+use Rattle.gateway_book.specs.Items.{items_of}
 use Rattle.gateway_book.specs.Turning.{tells_lists}
 use Rattle.gateway_book.specs.declared.book.Book.{Book}
 use Rattle.gtpp_stream.specs.Frames.{first_fault, frames, rest_of}
 use Rattle.gtpp_stream.specs.Stream.{Follows, no_stream}
 use Rattle.gw_base.specs.Facts.{WhereTold}
 use Rattle.gw_base.specs.Faults as gw
+use Rattle.gw_base.specs.Owes.{Begins}
 use Rattle.gw_base.specs.Written.{AppendsFront}
 use Rattle.gw_base.specs.declared.address.Addr.{Addr}
+use Rattle.gw_base.specs.declared.history.HistoryEntry.{HistoryEntry}
 use Rattle.node_session.specs.Settling.{HasTakenAll, IsSettled}
-use Rattle.node_session.specs.Writing.{KeepsFiles}
+use Rattle.node_session.specs.Writing.{HoldsFilesOf, KeepsFiles}
 use Rattle.cgf_jobs.specs.Replies.{Tried, after_all, after_message, sent_for, sent_for_all}
-use Rattle.cgf_jobs.specs.StreamEnds.{IsStreamRead, StandsBehind, most_stream, stream_end}
+use Rattle.cgf_jobs.specs.Served.{HasFirstFiles}
+use Rattle.cgf_jobs.specs.StreamEnds.{IsStreamRead, most_stream, stream_end}
 use Rattle.cgf_jobs.specs.declared.connection.Connection.{Connection}
 use Rattle.cgf_jobs.specs.declared.input_kind.InputKind.{InputKind}
 use Rattle.cgf_jobs.specs.declared.status.Status.{Status}
@@ -200,12 +205,20 @@ module _ {A F : Type 0} (tells : areas.Ghosts A) (files : shelves.Ghosts F) wher
   SettlesAs c writer area shelf status.Memory = ⊤
   SettlesAs c writer area shelf _ = ⊥
 
+  -- These octets stand for a history that begins with what was firm. Where the writer held the files of its items, the
+  -- shelf has the first ones of them.
+  pub record LeavesBehind (c : Connection A tells) (writer : Writer F files) (shelf : F) (octets : List ℕ) : Type 0 where
+    pub history : List HistoryEntry
+    pub stands : StandsFitFor (header_of c.book) octets history
+    pub begins : Begins (value_of c.book).firm history
+    pub filed : IsTrue files.tells_files → HoldsFilesOf (items_of history) writer
+        → HasFirstFiles (settings_in writer) history (files.files shelf)
+
   pub record HasSettledStream (c : Connection A tells) (writer : Writer F files) (served : Result Unit Status)
       (ended : Status) (area : A) (shelf : F) : Type 0 where
     pub later : (tells.faults (area_of c.book) ≤ tells.faults area) × (files.faults (shelf_of writer) ≤ files.faults shelf)
     pub size : tells.size area ≡ size_of c.book
-    pub keeps : Told tells → (octets : List ℕ) → tells.may_leave area octets
-        → StandsBehind (header_of c.book) (value_of c.book).firm octets
+    pub keeps : Told tells → (octets : List ℕ) → tells.may_leave area octets → LeavesBehind c writer shelf octets
     pub closed : ¬ (Rose (tells.faults (area_of c.book)) (tells.faults area)) → HasClosed tells c area
     pub ok : served ≡ Ok tt → SettlesAs c writer area shelf ended
     pub err : IfErr served (λ why. ended ≡ why)

@@ -174,6 +174,7 @@ fn settled<A: Area, F: Shelf>(
     requires { IsWriterOf (tells_lists A.Area) (value_of connection.book).firm writer }
     ensures { HasSettledStream A.Area F.Shelf connection writer served result.0 result.1 result.2 }
 {
+    filed_records_stay();
     let Connection {
         mut book,
         deframer: _,
