@@ -29,6 +29,7 @@ use Rattle.cgf_jobs.specs.declared.serve.FileSettings.{FileSettings}
 use Rattle.cgf_jobs.specs.declared.serving.Serving.{Serving}
 use Rattle.cgf_jobs.specs.declared.status.Status.{Status}
 use Rattle.cgf_jobs.specs.declared.status.Status.TheVariants as status
+use Rattle.cgf_jobs.specs.declared.status.StoreFault.{StoreFault}
 use Rattle.cgf_jobs.specs.declared.status.StoreFault.TheVariants as fault
 use Rattle.cgf_jobs.proofs.Ends.{read_front}
 
@@ -133,8 +134,10 @@ module _ {A F : Type 0} (tells : areas.Ghosts A) (files : shelves.Ghosts F) (of 
         keeps = keeps;
         shelved = λ text lines left says. filed (setup_of lines);
         refused = refused_at ended r;
+        accepted = λ is. absurd (⊎_elim (λ (e : ended ≡ status.Link). subst (Refuses job) e r)
+            (λ (e : (why : StoreFault) × (ended ≡ status.Store why)). subst (Refuses job) e.1 r) is);
         device = λ is. absurd (subst (Refuses job) is r);
-        foreign = λ at is told. absurd (subst (Refuses job) is r);
+        foreign = λ at is. absurd (subst (Refuses job) is r);
         link = λ is. absurd (subst (Refuses job) is r);
         closed = λ is. absurd (subst (Refuses job) is r);
         cause = refused_cause ended r same;
@@ -176,7 +179,7 @@ module _ {A F : Type 0} (tells : areas.Ghosts A) (files : shelves.Ghosts F) (of 
       → (h : List HistoryEntry) → StandsOrStarts (header_for tells area of) (tells.octets area) h → (ended ≡ status.Memory) ⊎ (ended ≡ status.Done)
   stopped_calmly ours others status.Link s calm told h stands = absurd (⊎_elim (λ r. calm.link r) (λ r. calm.time r) s)
   stopped_calmly ours others (status.Store fault.Device) s calm told h stands = absurd (⊎_elim (λ r. calm.device r) (λ r. calm.shelf_runs r) s)
-  stopped_calmly ours others (status.Store (fault.NotOurs at)) s calm told h stands = absurd (found_ours ours others h at stands (s told).0)
+  stopped_calmly ours others (status.Store (fault.NotOurs at)) s calm told h stands = absurd (found_ours ours others h at stands (s.3 told).0)
   stopped_calmly ours others status.Memory s calm told h stands = inl refl
   stopped_calmly ours others _ s calm told h stands = absurd s
 
@@ -212,8 +215,9 @@ module _ {A F : Type 0} (tells : areas.Ghosts A) (files : shelves.Ghosts F) (of 
     keeps = keeps;
     shelved = shelved_by text by set read filed;
     refused = λ place why is. absurd (subst (λ (e : Status). Stops e) is s);
+    accepted = λ is. (text, read, (set.0, set.1));
     device = λ is. subst (λ (e : Status). Stops e) is s;
-    foreign = λ at is told. (subst (λ (e : Status). Stops e) is s) told;
+    foreign = λ at is. subst (λ (e : Status). Stops e) is s;
     link = λ is. subst (λ (e : Status). Stops e) is s;
     closed = λ is. settles (is_err ∙ ap (λ (e : Status). Err e) is);
     cause = stopped_cause ended s unread same;
@@ -321,8 +325,10 @@ module _ {A F : Type 0} (tells : areas.Ghosts A) (files : shelves.Ghosts F) (of 
           keeps = keeps;
           shelved = shelved_by text by set read filed;
           refused = λ place why is. absurd (subst (Writes job line) is w);
+          accepted = λ is. absurd (⊎_elim (λ (e : ended ≡ status.Link). subst (Writes job line) e w)
+              (λ (e : (why : StoreFault) × (ended ≡ status.Store why)). subst (Writes job line) e.1 w) is);
           device = λ is. absurd (subst (Writes job line) is w);
-          foreign = λ at is told. absurd (subst (Writes job line) is w);
+          foreign = λ at is. absurd (subst (Writes job line) is w);
           link = λ is. absurd (subst (Writes job line) is w);
           closed = λ is. absurd (subst (Writes job line) is w);
           cause = written_cause line ended w unread;

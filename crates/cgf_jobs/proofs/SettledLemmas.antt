@@ -52,7 +52,12 @@ module _ {A F : Type 0} (tells : areas.Ghosts A) (files : shelves.Ghosts F) (of 
       by_fault : (w : BookFault) → IsRefused tells area (header_for tells area of) (w, area')
           → StopsServing tells files of area area' shelf shelf links links clock clock (status_by w)
       by_fault of_book.Device refused = inl (refused.cause refl)
-      by_fault (of_book.NotOurs at) refused = λ told. (refused.place told at refl, refused.unwritten told (λ is. cc is))
+      by_fault (of_book.NotOurs at) refused = (
+        refl,
+        refl,
+        refl,
+        λ told. (refused.place told at refl, refused.unwritten told (λ is. cc is)),
+      )
       by_fault of_book.NoMemory refused = tt
 
   -- it doesn't end as `Link`

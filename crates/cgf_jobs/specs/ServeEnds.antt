@@ -26,6 +26,7 @@ use Rattle.cgf_jobs.specs.declared.input_kind.InputKind.{InputKind}
 use Rattle.cgf_jobs.specs.declared.serving.Serving.{Serving}
 use Rattle.cgf_jobs.specs.declared.status.Status.{Status}
 use Rattle.cgf_jobs.specs.declared.status.Status.TheVariants as status
+use Rattle.cgf_jobs.specs.declared.status.StoreFault.{StoreFault}
 use Rattle.cgf_jobs.specs.declared.status.StoreFault.TheVariants as fault
 
 -- what the settings say decides whether the gateway serves: the first line that the grammar refuses is named
@@ -114,11 +115,17 @@ module _ {A F : Type 0} (tells : areas.Ghosts A) (files : shelves.Ghosts F) (of 
     -- At `Input` the line is the first of what was read that the grammar of settings refuses.
     pub refused : (place : ℕ) (why : InputKind) → ended ≡ status.Input place why →
         (text : List ℕ) × IsRead (most_text + 1) job.left job.rest text × IsRefusedAt (script_in kind.Serve text) ended
-    -- At `Store` a device failed; or the area is another's, at the place that shows it, and stays as it was.
+    -- At `Store` and `Link` the settings were read, and the grammar takes them.
+    pub accepted : (ended ≡ status.Link) ⊎ ((why : StoreFault) × (ended ≡ status.Store why)) →
+        (text : List ℕ) × IsRead (most_text + 1) job.left job.rest text
+        × ((lines : List Line) × (script_in kind.Serve text ≡ Ok lines))
+    -- At `Store` a device failed; or the area is another's, at the place that shows it, and stays as it was, as the files
+    -- do, and no link and no clock was used.
     pub device : ended ≡ status.Store fault.Device →
         disk.Rose (tells.faults area) (tells.faults area') ⊎ disk.Rose (files.faults shelf) (files.faults shelf')
-    pub foreign : (at : ℕ) → ended ≡ status.Store (fault.NotOurs at) → Told tells →
-        IsNotOurs (header_for tells area of) (tells.octets area) at × (tells.octets area' ≡ tells.octets area)
+    pub foreign : (at : ℕ) → ended ≡ status.Store (fault.NotOurs at) → (links' ≡ links) × (clock' ≡ clock)
+        × (files.files shelf' ≡ files.files shelf) × (Told tells →
+        IsNotOurs (header_for tells area of) (tells.octets area) at × (tells.octets area' ≡ tells.octets area))
     -- At `Link` a link failed, or the clock. The area was the gateway's own, and it settled all the same, unless the
     -- area's device failed.
     pub link : ended ≡ status.Link → Rose links.faults links'.faults ⊎ Rose clock clock'

@@ -135,8 +135,9 @@ module _ {A F : Type 0} (tells : areas.Ghosts A) (files : shelves.Ghosts F) (of 
   abbrev pub StopsServing : Status → Type 0
   StopsServing (status.Store fault.Device) =
       disk.Rose (tells.faults area) (tells.faults area') ⊎ disk.Rose (files.faults shelf) (files.faults shelf')
-  StopsServing (status.Store (fault.NotOurs at)) = Told tells →
-      IsNotOurs (header_for tells area of) (tells.octets area) at × (tells.octets area' ≡ tells.octets area)
+  StopsServing (status.Store (fault.NotOurs at)) = (links' ≡ links) × (clock' ≡ clock)
+      × (files.files shelf' ≡ files.files shelf) × (Told tells →
+      IsNotOurs (header_for tells area of) (tells.octets area) at × (tells.octets area' ≡ tells.octets area))
   StopsServing status.Link = Rose links.faults links'.faults ⊎ Rose clock clock'
   StopsServing status.Memory = ⊤
   StopsServing _ = ⊥
