@@ -321,7 +321,7 @@ module _ {A F : Type 0} (tells : areas.Ghosts A) (files : shelves.Ghosts F) (of 
         let w = writes_by job line ended writes in
         record {
           done = λ is. (served_by (λ l. Appends job.before job.after l) (subst (Writes job line) is w).0, turns);
-          front = λ is. served_by (λ l. AppendsFront job.before job.after l) (subst (Writes job line) is w).0;
+          front = λ is. (served_by (λ l. AppendsFront job.before job.after l) (subst (Writes job line) is w).0, turns);
           keeps = keeps;
           shelved = shelved_by text by set read filed;
           refused = λ place why is. absurd (subst (Writes job line) is w);

@@ -104,8 +104,9 @@ module _ {A F : Type 0} (tells : areas.Ghosts A) (files : shelves.Ghosts F) (of 
     -- At `Done` the gateway took so many turns of its link, and the counts of its history are written, and nothing else.
     pub done : ended ≡ status.Done → ServedBy (λ line. Appends job.before job.after line)
         × (links'.turns (address_in of) ≡ links.turns (address_in of) + of.turns)
-    -- At `Write` a front of these is written.
+    -- At `Write` it did too, and a front of these is written.
     pub front : ended ≡ status.Write → ServedBy (λ line. AppendsFront job.before job.after line)
+        × (links'.turns (address_in of) ≡ links.turns (address_in of) + of.turns)
     -- However it ends, nothing is lost of the history that its area held, nor of what it answered.
     pub keeps : LosesNothing tells of area area' links links'
     -- So it is of the files, by the settings that are read: the shelf has the first ones of those of a history that goes on.
