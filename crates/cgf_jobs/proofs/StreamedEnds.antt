@@ -43,7 +43,7 @@ use Rattle.cgf_jobs.specs.declared.streaming.Streaming.{Streaming}
 use Rattle.cgf_jobs.proofs.PieceLemmas.{ok_not_err}
 use Rattle.cgf_jobs.proofs.ServedLemmas.{FilesGrow, ItemsStay}
 use Rattle.cgf_jobs.proofs.StreamLemmas.{all_gone}
-use Rattle.cgf_jobs.proofs.StreamedLemmas.{answered, answered_all, answers_kept, closed_behind_them, settled_behind, written_all, written_front}
+use Rattle.cgf_jobs.proofs.StreamedLemmas.{answered, answered_all, answers_kept, closed_behind_them, cut_in_last, settled_behind, written_all, written_front}
 use Rattle.cgf_jobs.proofs.Streams.{consumes_none}
 
 abbrev Entries : Type 0
@@ -479,10 +479,13 @@ module _ {A F : Type 0} (tells : areas.Ghosts A) (files : shelves.Ghosts F) (of 
       decided = λ is. absurd (cc is);
       front = λ told is. (
         answered tells files of job area area' shelf shelf' clock clock' book c open_time sized opens node later served.text served.sent served.consumed told
-            served.err.0 status.Write,
+            (served.cut refl).gone status.Write,
         written_front tells files of job area area' shelf shelf' clock clock' book c open_time sized opens node later served.text served.sent served.consumed told
-            served.err.0 status.Write (served.front refl),
-        kept later keeps closes served.text served.sent served.consumed told served.err.0 status.Write,
+            (served.cut refl).gone status.Write (served.front refl),
+        cut_in_last tells files of job area area' shelf shelf' clock clock' book c open_time sized opens node later served.text served.sent served.consumed told
+            (served.cut refl).gone status.Write (served.cut refl).earlier (served.cut refl).more ((served.cut refl).last told) (served.cut refl).count
+            (served.cut refl).within (served.cut refl).written,
+        kept later keeps closes served.text served.sent served.consumed told (served.cut refl).gone status.Write,
       );
       first = λ told no. absurd (no refl);
       behind = λ is. not_behind status.Write (λ e. cc e) (λ e. cc e) is;

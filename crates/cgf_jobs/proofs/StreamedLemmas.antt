@@ -1,5 +1,5 @@
 -- What a gateway leaves that answered a stream: its replies, its journal and its files.
-use Rattle.std.proofs.Common.{◌≡◌, ℕ, ◌+◌, ◌<◌, ◌≤◌, ◌⊎◌, ⊎_elim, inl, inr, Bool, true, false, if◌then◌else◌, List, [], ◌∷◌, ◌++◌, length, Option, Some, None, Result, Ok, Err, IfErr, refl, sym, ap, subst, ◌∙◌, append-nil, arith}
+use Rattle.std.proofs.Common.{◌≡◌, ℕ, ◌+◌, ◌<◌, ◌≤◌, ◌⊎◌, ⊎_elim, inl, inr, Bool, true, false, if◌then◌else◌, List, [], ◌∷◌, ◌++◌, length, take, Option, Some, None, Result, Ok, Err, IfErr, refl, sym, ap, subst, ◌∙◌, append-nil, arith}
 use Rattle.std.specs.Prelude.{IsTrue}
 use Rattle.std.specs.Io.KnownBytes.{Appends, Consumes}
 use Rattle.area_disk.specs.AreaLaws.{AreaLaws}
@@ -34,10 +34,10 @@ use Rattle.node_session.specs.Settling.{Grows, HasTakenAll, IsSettled, closed_be
 use Rattle.node_session.specs.Writing as writing
 use Rattle.replay_world.specs.Settled.{AreShut}
 use Rattle.cgf_jobs.specs.Job.{Job}
-use Rattle.cgf_jobs.specs.Replies.{Tried, after_all, after_message, sent_for_all}
+use Rattle.cgf_jobs.specs.Replies.{Tried, after_all, after_message, sent_for, sent_for_all}
 use Rattle.cgf_jobs.specs.Served.{HasAllFiles, HasFirstFiles}
-use Rattle.cgf_jobs.specs.StreamEnds.{HasAnswered, HasAnsweredAll, HasClosedBehind, HasSettledBehind, IsStreamRead, KeepsAnswers, StandsBehind, header_at, octets_sent, stream_end, stream_settings}
-use Rattle.cgf_jobs.specs.StreamSteps.{AnswersAll, HasClosed, HasEnded, HasGoneTo, HasSettledStream, LeavesBehind, SettlesAs}
+use Rattle.cgf_jobs.specs.StreamEnds.{HasAnswered, HasAnsweredAll, HasClosedBehind, HasSettledBehind, IsCutInLast, IsStreamRead, KeepsAnswers, StandsBehind, header_at, octets_sent, stream_end, stream_settings}
+use Rattle.cgf_jobs.specs.StreamSteps.{AnswersAll, HasClosed, HasEnded, HasGoneTo, HasSettledStream, IsLastOf, LeavesBehind, SettlesAs}
 use Rattle.cgf_jobs.specs.declared.connection.Connection.{Connection}
 use Rattle.cgf_jobs.specs.declared.status.Status.{Status}
 use Rattle.cgf_jobs.specs.declared.status.Status.TheVariants as status
@@ -167,6 +167,29 @@ module _ {A F : Type 0} (tells : areas.Ghosts A) (files : shelves.Ghosts F) (of 
   pub written_front : (ended : Status) → AppendsFront job.before job.after sent
       → AppendsFront job.before job.after (octets_sent tells files of job area area' shelf shelf' clock clock' ended (answered ended))
   written_front ended written = subst (λ (l : List ℕ). AppendsFront job.before job.after l) sent_are written
+
+  -- the reply to the last of them was cut
+  pub cut_in_last : (ended : Status) (earlier more : List ℕ) → IsLastOf tells c.node book of_all.tried earlier more → (count : ℕ)
+      → count ≤ length more → Appends job.before job.after (earlier ++ take count more)
+      → IsCutInLast tells files of job area area' shelf shelf' clock clock' ended (answered ended)
+  cut_in_last ended earlier more l count within written = record {
+    first = l.first;
+    last = l.last;
+    tried_are = l.tried_are;
+    count = count;
+    within = subst (λ (reply : List ℕ). count ≤ length reply) more_is within;
+    written = subst (λ (octets : List ℕ). Appends job.before job.after octets) both_are written;
+  }
+    where
+      earlier_are : earlier ≡ sent_for_all (tells.size area) of.node (opened (tells.size area) start) l.first
+      earlier_are = l.sent_are ∙ (λ i. sent_for_all (sized i) (node i) (value i) l.first)
+
+      more_is : more ≡ sent_for (tells.size area) of.node (after_all (tells.size area) of.node (opened (tells.size area) start) l.first) l.last
+      more_is = l.more_is ∙ (λ i. sent_for (sized i) (node i) (after_all (sized i) (node i) (value i) l.first) l.last)
+
+      both_are : earlier ++ take count more ≡ sent_for_all (tells.size area) of.node (opened (tells.size area) start) l.first ++ take count
+          (sent_for (tells.size area) of.node (after_all (tells.size area) of.node (opened (tells.size area) start) l.first) l.last)
+      both_are = λ i. earlier_are i ++ take count (more_is i)
 
   -- what was found begins what was firm then
   left_front : Begins start left.firm

@@ -1,5 +1,5 @@
 -- How `stream` ends, and why, and what it leaves.
-use Rattle.std.specs.Prelude.{◌≡◌, ◌≢◌, ◌⊎◌, ℕ, ◌+◌, ◌-◌, ◌≤◌, ◌^◌, nat_lt, Bool, true, false, if◌then◌else◌, IsTrue, List, [], ◌∷◌, ◌++◌, length, map, Option, Some, None}
+use Rattle.std.specs.Prelude.{◌≡◌, ◌≢◌, ◌⊎◌, ℕ, ◌+◌, ◌-◌, ◌≤◌, ◌^◌, nat_lt, Bool, true, false, if◌then◌else◌, IsTrue, List, [], ◌∷◌, ◌++◌, length, map, take, Option, Some, None}
 use Rattle.std.specs.Io.KnownBytes.{Appends, Consumes, IsAtEnd}
 use Rattle.area_disk.specs.Disk as disk
 use Rattle.area_disk.specs.declared.area.Area as areas
@@ -25,7 +25,7 @@ use Rattle.file_writer.specs.Streams.{Settings}
 use Rattle.cgf_jobs.specs.Ending.{HasCause}
 use Rattle.cgf_jobs.specs.Job.{Job}
 use Rattle.cgf_jobs.specs.Kinds.{of_frame}
-use Rattle.cgf_jobs.specs.Replies.{Tried, after_all, message_of, replies, sent_for_all}
+use Rattle.cgf_jobs.specs.Replies.{Tried, after_all, message_of, replies, sent_for, sent_for_all}
 use Rattle.cgf_jobs.specs.Run.{TakesUpTo, is_reported}
 use Rattle.cgf_jobs.specs.ServeEnds.{IsGatewayEnd, may_have_opened}
 use Rattle.cgf_jobs.specs.Served.{HasAllFiles, HasFirstFiles, HoldsHistory}
@@ -162,6 +162,18 @@ module _ {A F : Type 0} (tells : areas.Ghosts A) (files : shelves.Ghosts F) (of 
     pub read : IsStreamRead job.left job.rest s.text
     pub decided : ended ≡ stream_end s.text
 
+  -- The reply to the last message that was answered was cut: what was written are those to the messages before it, whole,
+  -- and a front of its own.
+  pub record IsCutInLast (s : HasAnswered) : Type 0 where
+    pub first : List Tried
+    pub last : Tried
+    pub tried_are : s.tried ≡ first ++ last ∷ []
+    pub count : ℕ
+    pub within : count ≤ length
+        (sent_for (tells.size area) of.node (after_all (tells.size area) of.node (opening s.start) first) last)
+    pub written : Appends job.before job.after (sent_for_all (tells.size area) of.node (opening s.start) first ++ take count
+        (sent_for (tells.size area) of.node (after_all (tells.size area) of.node (opening s.start) first) last))
+
   -- The gateway was settled behind them. Where the shelf had the first ones of the files that the handed-in history closes,
   -- it has just those that this one closes.
   pub record HasSettledBehind (s : HasAnswered) (history : List HistoryEntry) : Type 0 where
@@ -192,10 +204,11 @@ module _ {A F : Type 0} (tells : areas.Ghosts A) (files : shelves.Ghosts F) (of 
     -- So it is of any area, whether it tells what it holds or not.
     pub decided : is_reported ended ≡ true →
         (text : List ℕ) × IsStreamRead job.left job.rest text × (ended ≡ stream_end text)
-    -- At `Write` a front of the replies is written, and at every other end whole ones of the first messages, and nothing
-    -- else; or the gateway wasn't opened. However it ends, nothing is lost of what was answered, and the gateway settles.
+    -- At `Write` a front of the replies is written, which ends in that to the last message that was answered; at every
+    -- other end whole ones of the first messages, and nothing else; or the gateway wasn't opened. However it ends, nothing
+    -- is lost of what was answered, and the gateway settles.
     pub front : Told tells → ended ≡ status.Write →
-        (s : HasAnswered) × AppendsFront job.before job.after (octets_sent s) × KeepsAnswers s
+        (s : HasAnswered) × AppendsFront job.before job.after (octets_sent s) × IsCutInLast s × KeepsAnswers s
     pub first : Told tells → ended ≢ status.Write →
         IsUnopened ⊎ ((s : HasAnswered) × Appends job.before job.after (octets_sent s) × KeepsAnswers s)
     -- At `Memory`, and at `Store` without a place, nothing was read, or the stream had ended well.

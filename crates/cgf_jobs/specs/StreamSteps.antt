@@ -1,5 +1,5 @@
 -- Words for the code of a gateway that answers a stream. No contract of a public call cites them.
-use Rattle.std.specs.Prelude.{◌≡◌, ◌≢◌, ◌⊎◌, ℕ, ◌+◌, ◌≤◌, Bool, false, true, List, [], ◌++◌, length, map, Option, Some, None, IsSome, IsTrue, IfErr, IfOk, Result, Ok, Err, ⊤}
+use Rattle.std.specs.Prelude.{◌≡◌, ◌≢◌, ◌⊎◌, ℕ, ◌+◌, ◌≤◌, Bool, false, true, List, [], ◌++◌, ◌∷◌, length, map, take, Option, Some, None, IsSome, IsTrue, IfErr, IfOk, Result, Ok, Err, ⊤}
 use Rattle.std.specs.Io.KnownBytes.{Appends, Consumes, IsAtEnd}
 use Rattle.area_disk.specs.Disk.{Rose, last_count}
 use Rattle.area_disk.specs.declared.area.Area as areas
@@ -80,6 +80,14 @@ module _ {A : Type 0} (tells : areas.Ghosts A) where
     pub cuts : ((after_all (size_of opened) from (value_of opened) tried).cuts + tells.faults (area_of opened)
         ≤ opened.cuts + faults) ⊎ (last_count ≤ faults)
 
+  -- Of the messages that a gateway answered that was opened so, this is to be sent for the last, and this for those before.
+  pub record IsLastOf (from : Addr) (opened : Book A tells) (tried : List Tried) (sent more : List ℕ) : Type 0 where
+    pub first : List Tried
+    pub last : Tried
+    pub tried_are : tried ≡ first ++ last ∷ []
+    pub sent_are : sent ≡ sent_for_all (size_of opened) from (value_of opened) first
+    pub more_is : more ≡ sent_for (size_of opened) from (after_all (size_of opened) from (value_of opened) first) last
+
   -- No message stands, and the numbers of a connection say what came: so many octets in all, and so many up to the end of
   -- the last whole message.
   pub record IsSteady (c : Connection A tells) : Type 0 where
@@ -139,9 +147,21 @@ module _ {A : Type 0} (tells : areas.Ghosts A) where
       (s : HasGoneTo opened given sent c) × (s.unanswered ≡ []) × (stream_end given ≡ status.Input place kind) × (after ≡ before)
       × IsSome (first_fault (rest_of given))
   StopsIn opened given sent c before after status.Write =
-      (more : List ℕ) × HasGoneTo opened given (sent ++ more) c × AppendsFront before after more
+      (more : List ℕ) × (s : HasGoneTo opened given (sent ++ more) c) × AppendsFront before after more
+      × ((told : Told tells) → IsLastOf c.node opened (s.answers told).0.tried sent more)
   StopsIn opened given sent c before after status.Link = HasGoneTo opened given sent c × (after ≡ before)
   StopsIn opened given sent c before after _ = ⊥
+
+  -- The reply to the last message was cut: those to the others were written, and a front of it.
+  pub record IsCutIn (opened : Book A tells) (c : Connection A tells) (text sent : List ℕ) (before after : Option (List ℕ))
+      : Type 0 where
+    pub gone : HasGoneTo opened text sent c
+    pub earlier : List ℕ
+    pub more : List ℕ
+    pub last : (told : Told tells) → IsLastOf c.node opened (gone.answers told).0.tried earlier more
+    pub count : ℕ
+    pub within : count ≤ length more
+    pub written : Appends before after (earlier ++ take count more)
 
   -- How the serving of a stream ended, of which this was left and is left now.
   pub record HasServed (opened : Book A tells) (c : Connection A tells) (left rest before after : Option (List ℕ))
@@ -156,6 +176,7 @@ module _ {A : Type 0} (tells : areas.Ghosts A) where
     pub refused : IfErr result (λ ended. (place : ℕ) (kind : InputKind) → ended ≡ status.Input place kind →
         (s : HasGoneTo opened text sent c) × (s.unanswered ≡ []) × (stream_end text ≡ ended) × IsStreamRead left rest text)
     pub front : IfErr result (λ ended. ended ≡ status.Write → AppendsFront before after sent)
+    pub cut : IfErr result (λ ended. ended ≡ status.Write → IsCutIn opened c text sent before after)
     pub whole : IfErr result (λ ended. ended ≢ status.Write → Appends before after sent)
 
   -- A gateway was closed behind a stream, and its area was handed back: all of its history is firm.
