@@ -63,11 +63,13 @@ untouched_keeps tells of area links told start holds = record {
   crash = λ c may. goes_on_unsent tells of area area links start c (holds.crash c may);
 }
 
-module _ {A F : Type 0} (tells : areas.Ghosts A) (files : shelves.Ghosts F) (of : Serving) (setup : Setup) (area : A) (shelf shelf' : F)
+module _ {A F : Type 0} (tells : areas.Ghosts A) (files : shelves.Ghosts F) (of : Serving) (setup : Setup) (area : A)
+    (shelf shelf' : F)
     (same : files.files shelf' ≡ files.files shelf) where
   -- a shelf that has the files that it had has the first ones of those of a history that stands still
   pub filed_still : (start : List HistoryEntry) → HasFirstFiles (files_at of setup) start (files.files shelf)
-      → (octets : List ℕ) → StandsOrStarts (header_for tells area of) octets start → IsFiledIn tells files of setup area shelf' start octets
+      → (octets : List ℕ) → StandsOrStarts (header_for tells area of) octets start → IsFiledIn tells files of setup
+      area shelf' start octets
   filed_still start first octets stands = record {
     history = start;
     stands = stands;

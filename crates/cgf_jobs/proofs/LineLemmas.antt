@@ -65,14 +65,17 @@ module _ {A : Type 0} (tells : areas.Ghosts A) where
   }
 
   -- A gateway was settled unless the device of its area failed, whether it has a line or not.
-  pub settled_calmly : {R : Type 0} (service : Service) (book a b : Book A tells) (now : ℕ) (counts : Result R SettleFault)
+  pub settled_calmly : {R : Type 0} (service : Service) (book a b : Book A tells) (now : ℕ)
+      (counts : Result R SettleFault)
       → now ≡ moment_of service.last → (counts ≢ Err settle.Area → IsSettled book a now no_caller)
       → (counts ≡ Err settle.Area → Rose (tells.faults (area_of book)) (tells.faults (area_of a)))
       → (Told tells → value_of b ≡ value_of a) → is_closed b.trail ≡ is_closed a.trail
-      → tells.faults (area_of a) ≤ tells.faults (area_of b) → ¬ (Rose (tells.faults (area_of book)) (tells.faults (area_of b)))
+      → tells.faults (area_of a) ≤ tells.faults (area_of b) → ¬
+      (Rose (tells.faults (area_of book)) (tells.faults (area_of b)))
       → IsSettled book b (moment_of service.last) no_caller
   settled_calmly service book a b now counts moment closes failed value broken later calm =
-      settled_as service book a b now moment value broken (closes (λ is. calm (let rose = failed is in omega (arith, rose, later))))
+      settled_as service book a b now moment value broken
+      (closes (λ is. calm (let rose = failed is in omega (arith, rose, later))))
 
 module _ {A F : Type 0} (tells : areas.Ghosts A) (files : shelves.Ghosts F) where
   fails_as : (service : Service) (book a b : Book A tells) (writer w : Writer F files) → tells.faults (area_of book) ≤ tells.faults (area_of a)

@@ -23,7 +23,8 @@ module _ {A F : Type 0} (tells : areas.Ghosts A) (files : shelves.Ghosts F) (of 
   has_before setup history same has = record {
     closed = has.closed;
     sealed = λ told first. has.sealed told
-        (subst (λ (sealed : List SealedFile). HasFirstFiles (files_at of setup) has.closed.start sealed) (sym same) first);
+        (subst (λ (sealed : List SealedFile). HasFirstFiles (files_at of setup) has.closed.start sealed) (sym same)
+        first);
   }
 
   pub served_before : {X : Type 0} (octets : X → List ℕ) (setup : Setup) (result : Result X Status) → files.files looked ≡ files.files shelf
@@ -34,7 +35,8 @@ module _ {A F : Type 0} (tells : areas.Ghosts A) (files : shelves.Ghosts F) (of 
   served_before octets setup (Ok x) same has = (has.0, has_before setup has.0 same has.1, has.2)
   served_before octets setup (Err ended) same has = tt
 
-  pub shelf_before : (setup : Setup) → files.files looked ≡ files.files shelf → KeepsShelf tells files of setup area area' looked shelf'
+  pub shelf_before : (setup : Setup) → files.files looked ≡ files.files shelf → KeepsShelf tells files of setup area
+      area' looked shelf'
       → KeepsShelf tells files of setup area area' shelf shelf'
   shelf_before setup same keeps told tells_files start holds first = keeps told tells_files start holds
       (subst (λ (sealed : List SealedFile). HasFirstFiles (files_at of setup) start sealed) (sym same) first)
@@ -44,7 +46,8 @@ module _ {A F : Type 0} (tells : areas.Ghosts A) (files : shelves.Ghosts F) (of 
         → StopsServing tells files of area area' looked shelf' links links' clock clock' ended
         → StopsServing tells files of area area' shelf shelf' links links' clock clock' ended
     stops_before status.Link kept same stops = stops
-    stops_before (status.Store fault.Device) kept same stops = ⊎_elim (λ (r : Rose (tells.faults area) (tells.faults area')). inl r)
+    stops_before (status.Store fault.Device) kept same stops = ⊎_elim
+        (λ (r : Rose (tells.faults area) (tells.faults area')). inl r)
         (λ (r : Rose (files.faults looked) (files.faults shelf')). inr (subst (λ (n : ℕ). Rose n (files.faults shelf')) same r)) stops
     stops_before (status.Store (fault.NotOurs at)) kept same stops = (stops.0, stops.1, stops.2 ∙ kept, stops.3)
     stops_before status.Memory kept same stops = tt

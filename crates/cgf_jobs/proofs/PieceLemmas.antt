@@ -94,14 +94,17 @@ module _ {A : Type 0} (tells : areas.Ghosts A) where
       by (inr x) = inr (omega (arith, x, le))
 
   -- the same from an address that is equal
-  abbrev answers_from : (a b : Addr) → a ≡ b → (opened : Book A tells) (messages : List (List ℕ)) (sent : List ℕ) (book : Book A tells)
+  abbrev answers_from : (a b : Addr) → a ≡ b → (opened : Book A tells) (messages : List (List ℕ)) (sent : List ℕ)
+      (book : Book A tells)
       → AllAnswered a opened messages sent book → AllAnswered b opened messages sent book
   answers_from a b is opened messages sent book all = (
     record {
       tried = all.0.tried;
       octets_are = all.0.octets_are;
-      sent_are = subst (λ (x : Addr). sent ≡ sent_for_all (size_of opened) x (value_of opened) all.0.tried) is all.0.sent_are;
-      cuts = subst (λ (x : Addr). ((after_all (size_of opened) x (value_of opened) all.0.tried).cuts + tells.faults (area_of opened)
+      sent_are = subst (λ (x : Addr). sent ≡ sent_for_all (size_of opened) x (value_of opened) all.0.tried) is
+          all.0.sent_are;
+      cuts = subst (λ (x : Addr). ((after_all (size_of opened) x (value_of opened) all.0.tried).cuts + tells.faults
+          (area_of opened)
           ≤ opened.cuts + tells.faults (area_of book)) ⊎ (last_count ≤ tells.faults (area_of book))) is all.0.cuts;
     },
     subst (λ (x : Addr). value_of book ≡ after_all (size_of opened) x (value_of opened) all.0.tried) is all.1,
@@ -229,7 +232,8 @@ module _ {A : Type 0} (tells : areas.Ghosts A) where
 
         abbrev with_one : (more : List ℕ) → (Told tells → Answers tells o.node d.octets o.book n.book more) → Told tells
             → AllAnswered n.node opened (messages ++ d.octets ∷ []) (sent ++ more) n.book
-        with_one more one told = answers_from o.node n.node (sym node) opened (messages ++ d.octets ∷ []) (sent ++ more) n.book
+        with_one more one told = answers_from o.node n.node (sym node) opened (messages ++ d.octets ∷ [])
+            (sent ++ more) n.book
             (answers_more o.node opened o.book n.book messages d.octets sent more sized all_cuts (goes.answers told) (one told))
 
         pub goes_whole : (more : List ℕ) → HasAnsweredOne tells (pushed o d used) n more
@@ -280,14 +284,16 @@ module _ {A : Type 0} (tells : areas.Ghosts A) where
           cuts = all_cuts;
         }
 
-        last_one : (more : List ℕ) (one : Told tells → Answers tells o.node d.octets o.book n.book more) (told : Told tells)
+        last_one : (more : List ℕ) (one : Told tells → Answers tells o.node d.octets o.book n.book more)
+            (told : Told tells)
             → IsLastOf tells n.node opened ((gone_with more one).answers told).0.tried sent more
         unfolding answers_more
         last_one more one told = record {
           first = (goes.answers told).0.tried;
           last = (one told).tried;
           tried_are = refl;
-          sent_are = (goes.answers told).0.sent_are ∙ (λ i. sent_for_all (size_of opened) (sym node i) (value_of opened) (goes.answers told).0.tried);
+          sent_are = (goes.answers told).0.sent_are ∙ (λ i. sent_for_all (size_of opened) (sym node i)
+              (value_of opened) (goes.answers told).0.tried);
           more_is = (one told).sent_is ∙ (λ i. sent_for (sized i) o.node ((goes.answers told).1 i) (one told).tried)
               ∙ (λ i. sent_for (size_of opened) (sym node i)
               (after_all (size_of opened) (sym node i) (value_of opened) (goes.answers told).0.tried) (one told).tried);
@@ -296,7 +302,8 @@ module _ {A : Type 0} (tells : areas.Ghosts A) where
         pub stops_whole : (before after : Option (List ℕ)) (ended : Status) → StopsAtMessage tells (pushed o d used) n before after ended
             → StopsIn tells opened (given ++ piece) sent n before after ended
         stops_whole before after status.Link same = (gone_before (ap (λ (b : Book A tells). value_of b) same.1), same.0)
-        stops_whole before after status.Write stops = (stops.0, gone_with stops.0 stops.1, stops.2, last_one stops.0 stops.1)
+        stops_whole before after status.Write stops = (stops.0, gone_with stops.0 stops.1, stops.2, last_one stops.0
+            stops.1)
         stops_whole before after _ stops = absurd stops
 
     -- The next message begins with an octet that can't begin one.

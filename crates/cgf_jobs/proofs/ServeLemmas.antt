@@ -179,7 +179,8 @@ module _ {A F : Type 0} (tells : areas.Ghosts A) (files : shelves.Ghosts F) (of 
       → (h : List HistoryEntry) → StandsOrStarts (header_for tells area of) (tells.octets area) h → (ended ≡ status.Memory) ⊎ (ended ≡ status.Done)
   stopped_calmly ours others status.Link s calm told h stands = absurd (⊎_elim (λ r. calm.link r) (λ r. calm.time r) s)
   stopped_calmly ours others (status.Store fault.Device) s calm told h stands = absurd (⊎_elim (λ r. calm.device r) (λ r. calm.shelf_runs r) s)
-  stopped_calmly ours others (status.Store (fault.NotOurs at)) s calm told h stands = absurd (found_ours ours others h at stands (s.3 told).0)
+  stopped_calmly ours others (status.Store (fault.NotOurs at)) s calm told h stands = absurd
+      (found_ours ours others h at stands (s.3 told).0)
   stopped_calmly ours others status.Memory s calm told h stands = inl refl
   stopped_calmly ours others _ s calm told h stands = absurd s
 
@@ -197,9 +198,11 @@ module _ {A F : Type 0} (tells : areas.Ghosts A) (files : shelves.Ghosts F) (of 
   -- the settings that were read are those of what was left
   shelved_by : (text : List ℕ) (by : FileSettings) → IsSetBy text by → IsRead (most_text + 1) job.left job.rest text
       → ((setup : Setup) → AreOf setup by → KeepsShelf tells files of setup area area' shelf shelf')
-      → (left : List ℕ) (lines : List Line) → job.left ≡ Some left → script_in kind.Serve (take (most_text + 1) left) ≡ Ok lines
+      → (left : List ℕ) (lines : List Line) → job.left ≡ Some left → script_in kind.Serve (take (most_text + 1) left) ≡
+      Ok lines
       → KeepsShelf tells files of (setup_of lines) area area' shelf shelf'
-  shelved_by text by set read filed left lines is says = subst (λ (l : List Line). KeepsShelf tells files of (setup_of l) area area' shelf shelf')
+  shelved_by text by set read filed left lines is says = subst
+      (λ (l : List Line). KeepsShelf tells files of (setup_of l) area area' shelf shelf')
       (ap lines_in (same_script text left set.0 set.1 read is ∙ says)) (filed (setup_of set.0) set.2)
 
   pub stopped_serves : {X : Type 0} (result : Result X Status) (ended : Status) (text : List ℕ) (by : FileSettings)
@@ -207,9 +210,11 @@ module _ {A F : Type 0} (tells : areas.Ghosts A) (files : shelves.Ghosts F) (of 
       → IfErr result (λ e. Stops e) → (result ≡ Err status.Link → SettlesStill tells of area area' links links')
       → (Told tells → RefusesAsForeign tells of area result) → Ours → Others
       → job.read_after ≡ job.read_before → TakesUpTo (most_text + 1) job.left job.rest → job.written_after ≡ job.written_before
-      → LosesNothing tells of area area' links links' → ((setup : Setup) → AreOf setup by → KeepsShelf tells files of setup area area' shelf shelf')
+      → LosesNothing tells of area area' links links' → ((setup : Setup) → AreOf setup by → KeepsShelf tells files of
+      setup area area' shelf shelf')
       → Serves tells files of job area area' shelf shelf' links links' clock clock' ended None
-  stopped_serves {X = X} result ended text by read set is_err stops settles foreign_so ours others unread bound same keeps filed = record {
+  stopped_serves {X = X} result ended text by read set is_err stops settles foreign_so ours others unread bound same
+      keeps filed = record {
     done = λ is. absurd (subst (λ (e : Status). Stops e) is s);
     front = λ is. absurd (subst (λ (e : Status). Stops e) is s);
     keeps = keeps;
@@ -315,7 +320,8 @@ module _ {A F : Type 0} (tells : areas.Ghosts A) (files : shelves.Ghosts F) (of 
         none_of (inr (inr e)) = true≢false (ap is_ok_of e)
 
     pub written_serves : job.read_after ≡ job.read_before → TakesUpTo (most_text + 1) job.left job.rest
-        → LosesNothing tells of area area' links links' → ((setup : Setup) → AreOf setup by → KeepsShelf tells files of setup area area' shelf shelf')
+        → LosesNothing tells of area area' links links' → ((setup : Setup) → AreOf setup by → KeepsShelf tells files of
+        setup area area' shelf shelf')
         → Serves tells files of job area area' shelf shelf' links links' clock clock' ended None
     written_serves unread bound keeps filed =
         let w = writes_by job line ended writes in

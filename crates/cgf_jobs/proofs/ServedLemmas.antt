@@ -74,10 +74,14 @@ FilesGrow = (settings : Settings) (s : ℕ) (items more : List Item) → stream_
 pub items_begin : ItemsStay → (h g : List HistoryEntry) → Begins h g → writing.Begins (items_of h) (items_of g)
 items_begin stay h g b = (along items_by h b.0, ap (λ (l : List HistoryEntry). items_of l) b.1 ∙ stay h b.0)
 
--- A writer that has to recover holds the first ones of the files of a history, where its shelf has those of a front of it.
-pub first_holds : {F : Type 0} (files : shelves.Ghosts F) → ItemsStay → FilesGrow → (settings : Settings) (start history : List HistoryEntry)
-    (shelf : F) (writer : Writer F files) → is_broken writer ≡ true → shelf_of writer ≡ shelf → settings_in writer ≡ settings
-    → Begins start history → HasFirstFiles settings start (files.files shelf) → writing.HoldsFilesOf (items_of history) writer
+-- A writer that has to recover holds the first ones of the files of a history, where its shelf has those of a front of
+-- it.
+pub first_holds : {F : Type 0} (files : shelves.Ghosts F) → ItemsStay → FilesGrow → (settings : Settings)
+    (start history : List HistoryEntry)
+    (shelf : F) (writer : Writer F files) → is_broken writer ≡ true → shelf_of writer ≡ shelf → settings_in writer ≡
+    settings
+    → Begins start history → HasFirstFiles settings start (files.files shelf) → writing.HoldsFilesOf (items_of history)
+    writer
 first_holds {F = F} files stay files_grow settings start history shelf writer fresh on by front first = record {
   begun = λ broken. subst (λ (s : Settings). HasFirstFiles s history (files.files (shelf_of writer))) (sym by)
       (subst (λ (f : F). HasFirstFiles settings history (files.files f)) (sym on) begun);
@@ -88,11 +92,13 @@ first_holds {F = F} files stay files_grow settings start history shelf writer fr
     items_front = items_begin stay start history front
 
     begun : HasFirstFiles settings history (files.files shelf)
-    begun = subst (λ (items : List Item). IsBegun settings writing.none_closed writing.none_stood items (files.files shelf)) (sym items_front.1)
+    begun = subst (λ (items : List Item). IsBegun settings writing.none_closed writing.none_stood items
+        (files.files shelf)) (sym items_front.1)
         (begun_on files_grow settings (items_of start) items_front.0 (files.files shelf) first)
 
 -- Whether it has to recover or not, a writer that holds the files of items has the first ones of them.
-pub first_of_all : {F : Type 0} (files : shelves.Ghosts F) (writer : Writer F files) (settings : Settings) (history : List HistoryEntry)
+pub first_of_all : {F : Type 0} (files : shelves.Ghosts F) (writer : Writer F files) (settings : Settings)
+    (history : List HistoryEntry)
     → settings_in writer ≡ settings → writing.HoldsFilesOf (items_of history) writer
     → HasFirstFiles settings history (files.files (shelf_of writer))
 first_of_all files writer settings history set holds =
@@ -101,13 +107,15 @@ first_of_all files writer settings history set holds =
     by : (b : Bool) → is_broken writer ≡ b → HasFirstFiles (settings_in writer) history (files.files (shelf_of writer))
     by true is = holds.begun is
     by false is = λ s lt. (
-      max (sealed_in writer s) (writing.none_closed s + closed_of (settings_in writer) s (take (taken_of writer) (items_of history))) - writing.none_closed s,
+      max (sealed_in writer s) (writing.none_closed s + closed_of (settings_in writer) s
+      (take (taken_of writer) (items_of history))) - writing.none_closed s,
       holds.held is s lt,
     )
 
 -- It was settled: its journal.
 module _ {A F : Type 0} (tells : areas.Ghosts A) (files : shelves.Ghosts F) (of : Serving) (told : Told tells)
-    (laws : AreaLaws tells) (shuts : (h : List HistoryEntry) → is_close_due h ≡ false → AreShut (items_of h)) (in_turn : StaysInTurn)
+    (laws : AreaLaws tells) (shuts : (h : List HistoryEntry) → is_close_due h ≡ false → AreShut (items_of h))
+    (in_turn : StaysInTurn)
     (later_reply : ReplyLater) (area : A) (book book' book'' : Book A tells) (writer writer' : Writer F files)
     (links links' : LinksState) (clock clock' : ℕ) (service : Service) (open_time : ℕ)
     (sized : tells.size (area_of book) ≡ tells.size area) (opens : IsOpened (header_for tells area of) area open_time book)
@@ -131,7 +139,8 @@ module _ {A F : Type 0} (tells : areas.Ghosts A) (files : shelves.Ghosts F) (of 
 
   -- after any crash, and by a read
   leaves_whole : (c : List ℕ) → tells.may_leave (area_of book'') c → StandsFitFor (header_for tells area of) c history
-  leaves_whole c may = subst (λ (h : List ℕ). StandsFitFor h c history) header_is (leaves.whole told settled.goes_on c may)
+  leaves_whole c may = subst (λ (h : List ℕ). StandsFitFor h c history) header_is
+      (leaves.whole told settled.goes_on c may)
 
   until_last : GoesOnUntil (links'.received (address_in of)) (facts_of book) (facts_of book') service.last
   until_last = serves.goes_on lists
@@ -141,11 +150,14 @@ module _ {A F : Type 0} (tells : areas.Ghosts A) (files : shelves.Ghosts F) (of 
 
   has_grown : HasGrown (tells.size area) (links'.received (address_in of)) start history
   has_grown = grow.grown (tells.size area) (links'.received (address_in of)) start (value_of book).rest (facts_of book) (facts_of book')
-      is_fresh.firm list_is sized is_fresh.rest service.last until_last in_turn settled.drops history (settled.firm told)
+      is_fresh.firm list_is sized is_fresh.rest service.last until_last in_turn settled.drops history
+      (settled.firm told)
 
   pub firm_begins : Begins (value_of book').firm history
-  firm_begins = grow.firm_begins (tells.size area) (links'.received (address_in of)) start (value_of book).rest (facts_of book) (facts_of book')
-      is_fresh.firm list_is sized is_fresh.rest service.last until_last settled.drops (moment_of service.last) history (settled.firm told)
+  firm_begins = grow.firm_begins (tells.size area) (links'.received (address_in of)) start (value_of book).rest
+      (facts_of book) (facts_of book')
+      is_fresh.firm list_is sized is_fresh.rest service.last until_last settled.drops (moment_of service.last) history
+      (settled.firm told)
 
   replies : HasReplied (tells.size area) history (tells.faults area) (tells.faults (area_of book'')) (address_in of) links links'
   replies = replies_rest tells files of told area book book' book'' writer writer' links links' clock clock' service open_time sized opens serves later
@@ -164,9 +176,11 @@ module _ {A F : Type 0} (tells : areas.Ghosts A) (files : shelves.Ghosts F) (of 
   }
 
 -- And its files.
-module _ {A F : Type 0} (tells : areas.Ghosts A) (files : shelves.Ghosts F) (of : Serving) (setup : Setup) (told : Told tells)
+module _ {A F : Type 0} (tells : areas.Ghosts A) (files : shelves.Ghosts F) (of : Serving) (setup : Setup)
+    (told : Told tells)
     (stay : ItemsStay) (files_grow : FilesGrow) (area : A) (shelf : F) (book book' book'' : Book A tells)
-    (writer writer' writer'' : Writer F files) (links links' : LinksState) (clock clock' : ℕ) (service : Service) (line : List ℕ)
+    (writer writer' writer'' : Writer F files) (links links' : LinksState) (clock clock' : ℕ) (service : Service)
+    (line : List ℕ)
     (fresh : is_broken writer ≡ true) (on : shelf_of writer ≡ shelf) (by : settings_in writer ≡ files_at of setup)
     (serves : HasServedAt tells files of book book' writer writer' links links' clock clock' service)
     (set : settings_in writer'' ≡ settings_in writer')
@@ -182,7 +196,8 @@ module _ {A F : Type 0} (tells : areas.Ghosts A) (files : shelves.Ghosts F) (of 
 
   sealed : IsTrue files.tells_files → HasFirstFiles (files_at of setup) closed.start (files.files shelf)
       → HasAllFiles (files_at of setup) whole (files.files (shelf_of writer''))
-  sealed tells_files first = subst (λ (settings : Settings). HasAllFiles settings whole (files.files (shelf_of writer''))) settings_are
+  sealed tells_files first = subst (λ (settings : Settings). HasAllFiles settings whole
+      (files.files (shelf_of writer''))) settings_are
       (all_sealed files writer'' (items_of whole) (has.taken told).ready (has.taken told).count holds counted)
     where
       front : Begins closed.start whole
@@ -190,13 +205,17 @@ module _ {A F : Type 0} (tells : areas.Ghosts A) (files : shelves.Ghosts F) (of 
 
       holds : writing.HoldsFilesOf (items_of whole) writer''
       holds = keeps tells_files (items_of whole) ([], sym (append-nil (items_of whole)))
-          (serves.kept.files (told_lists tells told) tells_files (items_of whole) (items_begin stay (value_of book').firm whole begins)
-          (first_holds files stay files_grow (files_at of setup) closed.start whole shelf writer fresh on by front first))
+          (serves.kept.files (told_lists tells told) tells_files (items_of whole)
+          (items_begin stay (value_of book').firm whole begins)
+          (first_holds files stay files_grow (files_at of setup) closed.start whole shelf writer fresh on by front
+          first))
 
       counted : (s : ℕ) → s < stream_count
-          → length (stream_files (settings_in writer'') s (items_of whole)) ≤ closed_of (settings_in writer'') s (items_of whole)
+          → length (stream_files (settings_in writer'') s (items_of whole)) ≤ closed_of (settings_in writer'') s
+          (items_of whole)
       counted s lt =
-          let same = length-files_from (settings_in writer'').file s 1 (stream_division (settings_in writer'') s (items_of whole)).closed in
+          let same = length-files_from (settings_in writer'').file s 1
+              (stream_division (settings_in writer'') s (items_of whole)).closed in
           omega (arith, same)
 
   pub has_served : HasServed tells files of setup area (area_of book'') shelf (shelf_of writer'') links links' whole

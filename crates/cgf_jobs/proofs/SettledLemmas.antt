@@ -76,13 +76,16 @@ module _ {A F : Type 0} (tells : areas.Ghosts A) (files : shelves.Ghosts F) (of 
 
   -- what a crash leaves of an area whose opening failed stands as it did, or starts, where it was to be made anew
   unopened_left : (why : BookFault) (area' : A)
-      → (Told tells → (h : List HistoryEntry) → StandsFitFor (header_for tells area of) (tells.octets area) h → FindsHistory {tells = tells} area (Err (why, area')) h)
-      → (Told tells → Starts (header_for tells area of) (tells.octets area) → IsMadeAnew {tells = tells} area (Err (why, area')) (header_for tells area of))
+      → (Told tells → (h : List HistoryEntry) → StandsFitFor (header_for tells area of) (tells.octets area) h →
+      FindsHistory {tells = tells} area (Err (why, area')) h)
+      → (Told tells → Starts (header_for tells area of) (tells.octets area) → IsMadeAnew {tells = tells} area
+      (Err (why, area')) (header_for tells area of))
       → Told tells → (start : List HistoryEntry) → HoldsHistory tells (header_for tells area of) area start
       → (c : List ℕ) → tells.may_leave area' c → StandsOrStarts (header_for tells area of) c start
   unopened_left why area' reads anew told start holds c may = left holds.now
     where
-      left : StandsOrStarts (header_for tells area of) (tells.octets area) start → StandsOrStarts (header_for tells area of) c start
+      left : StandsOrStarts (header_for tells area of) (tells.octets area) start → StandsOrStarts
+          (header_for tells area of) c start
       left (inl stands) = holds.crash c ((reads told start stands).moments.now c may)
       left (inr starts) = ⊎_elim
           (λ (old : tells.may_leave area c). holds.crash c old)
@@ -93,8 +96,10 @@ module _ {A F : Type 0} (tells : areas.Ghosts A) (files : shelves.Ghosts F) (of 
           ((anew told starts.0).moments.now c may)
 
   pub unopened_keeps : (why : BookFault) (area' : A) → AreaLaws tells
-      → (Told tells → (h : List HistoryEntry) → StandsFitFor (header_for tells area of) (tells.octets area) h → FindsHistory {tells = tells} area (Err (why, area')) h)
-      → (Told tells → Starts (header_for tells area of) (tells.octets area) → IsMadeAnew {tells = tells} area (Err (why, area')) (header_for tells area of))
+      → (Told tells → (h : List HistoryEntry) → StandsFitFor (header_for tells area of) (tells.octets area) h →
+      FindsHistory {tells = tells} area (Err (why, area')) h)
+      → (Told tells → Starts (header_for tells area of) (tells.octets area) → IsMadeAnew {tells = tells} area
+      (Err (why, area')) (header_for tells area of))
       → LosesNothing tells of area area' links links
   unopened_keeps why area' laws reads anew told start holds = record {
     now = goes_on (tells.octets area') (laws.holds area');
@@ -102,11 +107,14 @@ module _ {A F : Type 0} (tells : areas.Ghosts A) (files : shelves.Ghosts F) (of 
   }
     where
       goes_on : (c : List ℕ) → tells.may_leave area' c → GoesOnIn tells of area area' links links start c
-      goes_on c may = goes_on_unsent tells of area area' links start c (unopened_left why area' reads anew told start holds c may)
+      goes_on c may = goes_on_unsent tells of area area' links start c
+          (unopened_left why area' reads anew told start holds c may)
 
   pub unopened_shelf : (why : BookFault) (area' : A) (setup : Setup) → AreaLaws tells
-      → (Told tells → (h : List HistoryEntry) → StandsFitFor (header_for tells area of) (tells.octets area) h → FindsHistory {tells = tells} area (Err (why, area')) h)
-      → (Told tells → Starts (header_for tells area of) (tells.octets area) → IsMadeAnew {tells = tells} area (Err (why, area')) (header_for tells area of))
+      → (Told tells → (h : List HistoryEntry) → StandsFitFor (header_for tells area of) (tells.octets area) h →
+      FindsHistory {tells = tells} area (Err (why, area')) h)
+      → (Told tells → Starts (header_for tells area of) (tells.octets area) → IsMadeAnew {tells = tells} area
+      (Err (why, area')) (header_for tells area of))
       → KeepsShelf tells files of setup area area' shelf shelf
   unopened_shelf why area' setup laws reads anew told tells_files start holds first = (
     filed (tells.octets area') (laws.holds area'),
@@ -114,7 +122,8 @@ module _ {A F : Type 0} (tells : areas.Ghosts A) (files : shelves.Ghosts F) (of 
   )
     where
       filed : (c : List ℕ) → tells.may_leave area' c → IsFiledIn tells files of setup area shelf start c
-      filed c may = filed_still tells files of setup area shelf shelf refl start first c (unopened_left why area' reads anew told start holds c may)
+      filed c may = filed_still tells files of setup area shelf shelf refl start first c
+          (unopened_left why area' reads anew told start holds c may)
 
 -- ---- it was settled
 
@@ -177,22 +186,28 @@ module _ {A F : Type 0} (tells : areas.Ghosts A) (files : shelves.Ghosts F) (of 
       (in_turn : StaysInTurn) (later_reply : ReplyLater) (leaves : LeavesFit book'') where
     closes : Told tells → IsSettled book' book'' (moment_of service.last) no_caller
         → LeavesClosed tells of area (area_of book'') links links' (value_of book'').firm
-    closes told settled = leaves_closed tells files of told laws shuts in_turn later_reply area book book' book'' writer writer' links links' clock clock'
+    closes told settled = leaves_closed tells files of told laws shuts in_turn later_reply area book book' book''
+        writer writer' links links' clock clock'
         service open_time sized opens serves settles.stays.0 settles.later.0 settled leaves
 
-    begins : Told tells → IsSettled book' book'' (moment_of service.last) no_caller → Begins (value_of book').firm (value_of book'').firm
-    begins told settled = firm_begins tells files of told laws shuts in_turn later_reply area book book' book'' writer writer' links links' clock clock'
+    begins : Told tells → IsSettled book' book'' (moment_of service.last) no_caller → Begins (value_of book').firm
+        (value_of book'').firm
+    begins told settled = firm_begins tells files of told laws shuts in_turn later_reply area book book' book'' writer
+        writer' links links' clock clock'
         service open_time sized opens serves settles.stays.0 settles.later.0 settled leaves
 
     -- it was, whatever stopped the service, where the device of the area didn't fail
-    pub still_settled : (¬ (Rose (tells.faults (area_of book')) (tells.faults (area_of book''))) → IsSettled book' book'' (moment_of service.last) no_caller)
+    pub still_settled : (¬ (Rose (tells.faults (area_of book')) (tells.faults (area_of book''))) → IsSettled book'
+        book'' (moment_of service.last) no_caller)
         → (area'' : A) → area'' ≡ area_of book'' → SettlesStill tells of area area'' links links'
-    still_settled settled area'' is_area = subst (λ (a : A). SettlesStill tells of area a links links') (sym is_area) still
+    still_settled settled area'' is_area = subst (λ (a : A). SettlesStill tells of area a links links') (sym is_area)
+        still
       where
         still : SettlesStill tells of area (area_of book'') links links'
         still told = (
           ((opens.found told).0, (opens.found told).1),
-          λ calm. ((value_of book'').firm, closes told (settled (λ rose. calm (let up = device in omega (arith, up, rose))))),
+          λ calm. ((value_of book'').firm, closes told (settled
+          (λ rose. calm (let up = device in omega (arith, up, rose))))),
         )
 
   module _ (setup : Setup) (told : Told tells) (laws : AreaLaws tells) (stay : ItemsStay) (grow : FilesGrow)
@@ -204,9 +219,11 @@ module _ {A F : Type 0} (tells : areas.Ghosts A) (files : shelves.Ghosts F) (of 
     by_ok (Err ended) has = tt
     by_ok (Ok x) has = (
       (value_of book'').firm,
-      has_served tells files of setup told stay grow area shelf book book' book'' writer writer' writer'' links links' clock clock' service (octets x)
+      has_served tells files of setup told stay grow area shelf book book' book'' writer writer' writer'' links links'
+      clock clock' service (octets x)
           fresh on by serves settles.stays.1 (settles.files_stay (told_lists tells told)) has
-          (closes laws shuts in_turn later_reply leaves told has.settled) (begins laws shuts in_turn later_reply leaves told has.settled),
+          (closes laws shuts in_turn later_reply leaves told has.settled)
+          (begins laws shuts in_turn later_reply leaves told has.settled),
       has.line_is told,
     )
 
@@ -235,12 +252,15 @@ module _ {A F : Type 0} (tells : areas.Ghosts A) (files : shelves.Ghosts F) (of 
         ap (λ (v : BookValue). v.firm) (anew told starts.0).value ∙ (opened_is_fresh (tells.size area) []).firm ∙ sym starts.1
 
     -- what was found begins what was firm once it had served
-    served_front : Told tells → (start : List HistoryEntry) → StandsOrStarts (header_for tells area of) (tells.octets area) start
+    served_front : Told tells → (start : List HistoryEntry) → StandsOrStarts (header_for tells area of)
+        (tells.octets area) start
         → Begins start (value_of book').firm
-    served_front told start found = subst (λ (h : List HistoryEntry). Begins h (value_of book').firm) (found_is told start found)
+    served_front told start found = subst (λ (h : List HistoryEntry). Begins h (value_of book').firm)
+        (found_is told start found)
         (serves.goes_on (told_lists tells told)).goes.begins
 
-    -- what any crash leaves stands for a history that begins with what is firm, and with what was firm before the settling
+    -- what any crash leaves stands for a history that begins with what is firm, and with what was firm before the
+    -- settling
     abbrev LeftBehind : List ℕ → Type 0
     LeftBehind c = (history : List HistoryEntry) × StandsFitFor (header_for tells area of) c history
         × Begins (value_of book'').firm history × Begins (value_of book').firm history
@@ -255,7 +275,8 @@ module _ {A F : Type 0} (tells : areas.Ghosts A) (files : shelves.Ghosts F) (of 
         named : header_of book'' ≡ header_for tells area of
         named = settles.stays.0.header ∙ serves.stays.name ∙ opens.named
 
-        stands_for : (history : List HistoryEntry) → Begins (value_of book'').firm history → StandsFitFor (header_of book'') c history → LeftBehind c
+        stands_for : (history : List HistoryEntry) → Begins (value_of book'').firm history → StandsFitFor
+            (header_of book'') c history → LeftBehind c
         stands_for history begins stands = (
           history,
           subst (λ (h : List ℕ). StandsFitFor h c history) named stands,
@@ -263,15 +284,18 @@ module _ {A F : Type 0} (tells : areas.Ghosts A) (files : shelves.Ghosts F) (of 
           begins_then (value_of book').firm (value_of book'').firm history (settles.grows told) begins,
         )
 
-    goes_on_in : Told tells → (start : List HistoryEntry) → StandsOrStarts (header_for tells area of) (tells.octets area) start
-        → (c : List ℕ) → tells.may_leave (area_of book'') c → GoesOnIn tells of area (area_of book'') links links' start c
+    goes_on_in : Told tells → (start : List HistoryEntry) → StandsOrStarts (header_for tells area of)
+        (tells.octets area) start
+        → (c : List ℕ) → tells.may_leave (area_of book'') c → GoesOnIn tells of area (area_of book'') links links'
+        start c
     goes_on_in told start found c may =
         let left = left_behind told c may in
         record {
           history = left.0;
           stands = inl left.1;
           begins = begins_then start (value_of book').firm left.0 (served_front told start found) left.3;
-          replies = replies_rest tells files of told area book book' book'' writer writer' links links' clock clock' service open_time sized opens serves
+          replies = replies_rest tells files of told area book book' book'' writer writer' links links' clock clock'
+              service open_time sized opens serves
               settles.later.0 later_reply left.0 left.3;
         }
 
@@ -283,20 +307,26 @@ module _ {A F : Type 0} (tells : areas.Ghosts A) (files : shelves.Ghosts F) (of 
             (goes_on_in told start holds.now)
 
     -- So it is of the files.
-    module _ (setup : Setup) (stay : ItemsStay) (grow : FilesGrow) (fresh : is_broken writer ≡ true) (by : settings_in writer ≡ files_at of setup) where
-      filed_in : Told tells → IsTrue files.tells_files → (start : List HistoryEntry) → StandsOrStarts (header_for tells area of) (tells.octets area) start
-          → HasFirstFiles (files_at of setup) start (files.files shelf) → (c : List ℕ) → tells.may_leave (area_of book'') c
+    module _ (setup : Setup) (stay : ItemsStay) (grow : FilesGrow) (fresh : is_broken writer ≡ true)
+        (by : settings_in writer ≡ files_at of setup) where
+      filed_in : Told tells → IsTrue files.tells_files → (start : List HistoryEntry) → StandsOrStarts
+          (header_for tells area of) (tells.octets area) start
+          → HasFirstFiles (files_at of setup) start (files.files shelf) → (c : List ℕ) → tells.may_leave
+          (area_of book'') c
           → IsFiledIn tells files of setup area (shelf_of writer'') start c
       filed_in told tells_files start found first c may =
           let left = left_behind told c may in
-          let front : Begins start left.0 = begins_then start (value_of book').firm left.0 (served_front told start found) left.3 in
+          let front : Begins start left.0 = begins_then start (value_of book').firm left.0
+              (served_front told start found) left.3 in
           record {
             history = left.0;
             stands = inl left.1;
             begins = front;
             filed = first_of_all files writer'' (files_at of setup) left.0 (settles.stays.1 ∙ serves.kept.settings ∙ by)
-                (settles.files_stay (told_lists tells told) tells_files (items_of left.0) (items_begin stay (value_of book'').firm left.0 left.2)
-                (serves.kept.files (told_lists tells told) tells_files (items_of left.0) (items_begin stay (value_of book').firm left.0 left.3)
+                (settles.files_stay (told_lists tells told) tells_files (items_of left.0)
+                (items_begin stay (value_of book'').firm left.0 left.2)
+                (serves.kept.files (told_lists tells told) tells_files (items_of left.0)
+                (items_begin stay (value_of book').firm left.0 left.3)
                 (first_holds files stay grow (files_at of setup) start left.0 shelf writer fresh on by front first)));
           }
 
@@ -308,6 +338,7 @@ module _ {A F : Type 0} (tells : areas.Ghosts A) (files : shelves.Ghosts F) (of 
         where
           all : KeepsShelf tells files of setup area (area_of book'') shelf (shelf_of writer'')
           all told tells_files start holds first = (
-            filed_in told tells_files start holds.now first (tells.octets (area_of book'')) (laws.holds (area_of book'')),
+            filed_in told tells_files start holds.now first (tells.octets (area_of book''))
+            (laws.holds (area_of book'')),
             filed_in told tells_files start holds.now first,
           )

@@ -135,7 +135,13 @@ module _ {A F : Type 0} (tells : areas.Ghosts A) (files : shelves.Ghosts F) (of 
 
   untouched : {area' : A} → HoldsStill area' → (ended : Status) → Told tells
       → IsUnopened tells files of job area area' shelf shelf clock clock ended
-  untouched keeps ended told = record { unread = refl; unwritten = refl; same_shelf = refl; same_clock = refl; keeps = keeps told }
+  untouched keeps ended told = record {
+    unread = refl;
+    unwritten = refl;
+    same_shelf = refl;
+    same_clock = refl;
+    keeps = keeps told;
+  }
 
   pub stops_memory : (area' : A) → HoldsStill area' → Streams tells files of job area area' shelf shelf clock clock status.Memory None
   stops_memory area' keeps = record {
@@ -287,7 +293,8 @@ module _ {A F : Type 0} (tells : areas.Ghosts A) (files : shelves.Ghosts F) (of 
     → ¬ (IsNotOurs (header_at tells area of.ip) octets at))
     (others : (octets : List ℕ) (at : ℕ) → IsNotOurs (header_at tells area of.ip) octets at → ¬ (Starts (header_at tells area of.ip) octets)) where
   abbrev Holds : Type 0
-  Holds = Told tells → (octets : List ℕ) → tells.may_leave area' octets → LeavesBehind tells files c writer shelf' octets
+  Holds = Told tells → (octets : List ℕ) → tells.may_leave area' octets → LeavesBehind tells files c writer shelf'
+      octets
 
   abbrev Closes : Type 0
   Closes = ¬ (disk.Rose (tells.faults (area_of c.book)) (tells.faults area')) → HasClosed tells c area'
@@ -298,7 +305,8 @@ module _ {A F : Type 0} (tells : areas.Ghosts A) (files : shelves.Ghosts F) (of 
       → KeepsAnswers tells files of job area area' shelf shelf' clock clock' ended
       (answered tells files of job area area' shelf shelf' clock clock' book c open_time sized opens node later text sent consumed told gone ended)
   kept later keeps closes text sent consumed told gone ended =
-      answers_kept tells files of job area area' shelf shelf' clock clock' book c open_time sized opens node later text sent consumed told gone
+      answers_kept tells files of job area area' shelf shelf' clock clock' book c open_time sized opens node later text
+      sent consumed told gone
       writer fresh on set stay files_grow laws (keeps told) ended (λ calm. (
         _,
         closed_behind_them tells files of job area area' shelf shelf' clock clock' book c open_time sized opens node later text sent
@@ -334,7 +342,8 @@ module _ {A F : Type 0} (tells : areas.Ghosts A) (files : shelves.Ghosts F) (of 
       (goes : IsGoingOn tells book text sent c) (says : stream_end text ≡ status.Done) (read : IsStreamRead job.left job.rest text)
       (written : Appends job.before job.after sent)
       (later : tells.faults (area_of c.book) ≤ tells.faults area') (files_later : files.faults (shelf_of writer) ≤ files.faults shelf')
-      (keeps : Holds) (closes : Closes) (stood : (job.read_after ≡ job.read_before) × (job.written_after ≡ job.written_before))
+      (keeps : Holds) (closes : Closes) (stood : (job.read_after ≡ job.read_before) ×
+      (job.written_after ≡ job.written_before))
       (ticked : clock' ≡ clock) where
     abbrev gone : HasGoneTo tells book text sent c
     gone = (all_gone tells book text sent c goes).0
@@ -482,8 +491,10 @@ module _ {A F : Type 0} (tells : areas.Ghosts A) (files : shelves.Ghosts F) (of 
             (served.cut refl).gone status.Write,
         written_front tells files of job area area' shelf shelf' clock clock' book c open_time sized opens node later served.text served.sent served.consumed told
             (served.cut refl).gone status.Write (served.front refl),
-        cut_in_last tells files of job area area' shelf shelf' clock clock' book c open_time sized opens node later served.text served.sent served.consumed told
-            (served.cut refl).gone status.Write (served.cut refl).earlier (served.cut refl).more ((served.cut refl).last told) (served.cut refl).count
+        cut_in_last tells files of job area area' shelf shelf' clock clock' book c open_time sized opens node later
+        served.text served.sent served.consumed told
+            (served.cut refl).gone status.Write (served.cut refl).earlier (served.cut refl).more
+            ((served.cut refl).last told) (served.cut refl).count
             (served.cut refl).within (served.cut refl).written,
         kept later keeps closes served.text served.sent served.consumed told (served.cut refl).gone status.Write,
       );
@@ -530,7 +541,8 @@ module _ {A F : Type 0} (tells : areas.Ghosts A) (files : shelves.Ghosts F) (of 
   ends_streams (Ok done) ended served causes settles =
       let ok = served.ok refl in
       ends_well served.text served.sent served.consumed served.bounded ok.0 ok.1 ok.2 ok.3 settles.later.0 settles.later.1 settles.keeps settles.closed
-      (causes.source_stood (ok_not_err tt status.Read), causes.sink_stood (ok_not_err tt status.Write)) (causes.clock_stood (ok_not_err tt status.Link))
+      (causes.source_stood (ok_not_err tt status.Read), causes.sink_stood (ok_not_err tt status.Write))
+      (causes.clock_stood (ok_not_err tt status.Link))
       ended (settles.ok refl)
   ends_streams (Err why) ended served causes settles =
       subst (λ (s : Status). Ends s) (sym settles.err) (ends_badly settles.later.0 settles.keeps settles.closed why served causes)

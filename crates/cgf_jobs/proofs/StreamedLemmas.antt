@@ -169,7 +169,8 @@ module _ {A F : Type 0} (tells : areas.Ghosts A) (files : shelves.Ghosts F) (of 
   written_front ended written = subst (λ (l : List ℕ). AppendsFront job.before job.after l) sent_are written
 
   -- the reply to the last of them was cut
-  pub cut_in_last : (ended : Status) (earlier more : List ℕ) → IsLastOf tells c.node book of_all.tried earlier more → (count : ℕ)
+  pub cut_in_last : (ended : Status) (earlier more : List ℕ) → IsLastOf tells c.node book of_all.tried earlier more →
+      (count : ℕ)
       → count ≤ length more → Appends job.before job.after (earlier ++ take count more)
       → IsCutInLast tells files of job area area' shelf shelf' clock clock' ended (answered ended)
   cut_in_last ended earlier more l count within written = record {
@@ -184,11 +185,14 @@ module _ {A F : Type 0} (tells : areas.Ghosts A) (files : shelves.Ghosts F) (of 
       earlier_are : earlier ≡ sent_for_all (tells.size area) of.node (opened (tells.size area) start) l.first
       earlier_are = l.sent_are ∙ (λ i. sent_for_all (sized i) (node i) (value i) l.first)
 
-      more_is : more ≡ sent_for (tells.size area) of.node (after_all (tells.size area) of.node (opened (tells.size area) start) l.first) l.last
+      more_is : more ≡ sent_for (tells.size area) of.node
+          (after_all (tells.size area) of.node (opened (tells.size area) start) l.first) l.last
       more_is = l.more_is ∙ (λ i. sent_for (sized i) (node i) (after_all (sized i) (node i) (value i) l.first) l.last)
 
-      both_are : earlier ++ take count more ≡ sent_for_all (tells.size area) of.node (opened (tells.size area) start) l.first ++ take count
-          (sent_for (tells.size area) of.node (after_all (tells.size area) of.node (opened (tells.size area) start) l.first) l.last)
+      both_are : earlier ++ take count more ≡ sent_for_all (tells.size area) of.node (opened (tells.size area) start)
+          l.first ++ take count
+          (sent_for (tells.size area) of.node (after_all (tells.size area) of.node (opened (tells.size area) start)
+          l.first) l.last)
       both_are = λ i. earlier_are i ++ take count (more_is i)
 
   -- what was found begins what was firm then
@@ -198,15 +202,18 @@ module _ {A F : Type 0} (tells : areas.Ghosts A) (files : shelves.Ghosts F) (of 
 
   -- What was firm is kept, and its files.
   module _ (writer : Writer F files) (fresh : is_broken writer ≡ true) (on : shelf_of writer ≡ shelf)
-      (by : settings_in writer ≡ stream_settings of.ip) (stay : ItemsStay) (files_grow : FilesGrow) (laws : AreaLaws tells)
+      (by : settings_in writer ≡ stream_settings of.ip) (stay : ItemsStay) (files_grow : FilesGrow)
+      (laws : AreaLaws tells)
       (keeps : (octets : List ℕ) → tells.may_leave area' octets → LeavesBehind tells files c writer shelf' octets) where
     named : header_of c.book ≡ header_at tells area of.ip
     named = gone.stays.header ∙ opens.named
 
-    abbrev stands_at : (octets : List ℕ) → tells.may_leave area' octets → StandsBehind (header_at tells area of.ip) left.firm octets
+    abbrev stands_at : (octets : List ℕ) → tells.may_leave area' octets → StandsBehind (header_at tells area of.ip)
+        left.firm octets
     stands_at octets may = record {
       history = (keeps octets may).history;
-      stands = subst (λ (name : List ℕ). StandsFitFor name octets (keeps octets may).history) named (keeps octets may).stands;
+      stands = subst (λ (name : List ℕ). StandsFitFor name octets (keeps octets may).history) named
+          (keeps octets may).stands;
       begins = subst (λ (v : BookValue). Begins v.firm (keeps octets may).history) value_gone (keeps octets may).begins;
     }
 
@@ -216,7 +223,8 @@ module _ {A F : Type 0} (tells : areas.Ghosts A) (files : shelves.Ghosts F) (of 
     filed_at tells_files first octets may =
         subst (λ (settings : Settings). HasFirstFiles settings (keeps octets may).history (files.files shelf')) by
         ((keeps octets may).filed tells_files
-        (first_holds files stay files_grow (stream_settings of.ip) start (keeps octets may).history shelf writer fresh on by
+        (first_holds files stay files_grow (stream_settings of.ip) start (keeps octets may).history shelf writer fresh
+        on by
         (begins_then start left.firm (keeps octets may).history left_front (stands_at octets may).begins) first))
 
     pub answers_kept : (ended : Status)
@@ -309,7 +317,8 @@ module _ {A F : Type 0} (tells : areas.Ghosts A) (files : shelves.Ghosts F) (of 
       holds : writing.HoldsFilesOf (items_of whole) e.after
       holds = e.files_stay (told_lists tells told) tells_files (items_of whole) ([], sym (append-nil (items_of whole)))
           (first_holds files stay files_grow (stream_settings of.ip) begun whole shelf writer fresh on by
-          (front tells files of job area area' shelf shelf' clock clock' book c open_time sized opens node later text sent consumed told gone laws shuts e.closed)
+          (front tells files of job area area' shelf shelf' clock clock' book c open_time sized opens node later text
+          sent consumed told gone laws shuts e.closed)
           first)
 
       counted : (s : ℕ) → s < stream_count
@@ -332,8 +341,10 @@ module _ {A F : Type 0} (tells : areas.Ghosts A) (files : shelves.Ghosts F) (c :
     (stays : Stays c.book book × (settings_in after ≡ settings_in writer))
     (later : (tells.faults (area_of c.book) ≤ tells.faults (area_of book)) × (files.faults (shelf_of writer) ≤ files.faults (shelf_of after)))
     (grows : Grows c.book book) (leaves : LeavesFit book) (now : ℕ)
-    (closes : ¬ (disk.Rose (tells.faults (area_of c.book)) (tells.faults (area_of book))) → IsSettled c.book book now no_caller)
-    (stay : ItemsStay) (files_stay : WhereTold (tells_lists tells) (writing.KeepsFiles files (value_of book).firm writer after)) where
+    (closes : ¬ (disk.Rose (tells.faults (area_of c.book)) (tells.faults (area_of book))) → IsSettled c.book book now
+    no_caller)
+    (stay : ItemsStay) (files_stay : WhereTold (tells_lists tells)
+    (writing.KeepsFiles files (value_of book).firm writer after)) where
   -- what was firm before the settling stands in what a crash leaves behind it
   holds : Told tells → (octets : List ℕ) → tells.may_leave area octets → LeavesBehind tells files c writer shelf octets
   holds told octets may = ⊎_elim
@@ -348,9 +359,11 @@ module _ {A F : Type 0} (tells : areas.Ghosts A) (files : shelves.Ghosts F) (c :
         history = history;
         stands = subst (λ (name : List ℕ). StandsFitFor name octets history) stays.0.header stands;
         begins = begins_then (value_of c.book).firm (value_of book).firm history (grows told) begins;
-        filed = λ tells_files held. subst (λ (f : F). HasFirstFiles (settings_in writer) history (files.files f)) (sym is_shelf)
+        filed = λ tells_files held. subst (λ (f : F). HasFirstFiles (settings_in writer) history (files.files f))
+            (sym is_shelf)
             (first_of_all files after (settings_in writer) history stays.1
-            (files_stay (told_lists tells told) tells_files (items_of history) (items_begin stay (value_of book).firm history begins) held));
+            (files_stay (told_lists tells told) tells_files (items_of history)
+            (items_begin stay (value_of book).firm history begins) held));
       }
 
   abbrev closed_by : IsSettled c.book book now no_caller → HasClosed tells c area

@@ -109,7 +109,7 @@ module _ {A F : Type 0} (tells : areas.Ghosts A) (files : shelves.Ghosts F) (of 
         × (links'.turns (address_in of) ≡ links.turns (address_in of) + of.turns)
     -- However it ends, nothing is lost of the history that its area held, nor of what it answered.
     pub keeps : LosesNothing tells of area area' links links'
-    -- So it is of the files, by the settings that are read: the shelf has the first ones of those of a history that goes on.
+    -- So it is of the files, by the settings that are read: the shelf has the first ones of a history that goes on.
     pub shelved : (text : List ℕ) (lines : List Line) → job.left ≡ Some text →
         script_in kind.Serve (take (most_text + 1) text) ≡ Ok lines →
         KeepsShelf tells files of (setup_of lines) area area' shelf shelf'
@@ -120,8 +120,8 @@ module _ {A F : Type 0} (tells : areas.Ghosts A) (files : shelves.Ghosts F) (of 
     pub accepted : (ended ≡ status.Link) ⊎ ((why : StoreFault) × (ended ≡ status.Store why)) →
         (text : List ℕ) × IsRead (most_text + 1) job.left job.rest text
         × ((lines : List Line) × (script_in kind.Serve text ≡ Ok lines))
-    -- At `Store` a device failed; or the area is another's, at the place that shows it, and stays as it was, as the files
-    -- do, and no link and no clock was used.
+    -- At `Store` a device failed; or the area is another's, at the place that shows it. Then it stays as it was, as the
+    -- files and the links do, and the clock didn't fail.
     pub device : ended ≡ status.Store fault.Device →
         disk.Rose (tells.faults area) (tells.faults area') ⊎ disk.Rose (files.faults shelf) (files.faults shelf')
     pub foreign : (at : ℕ) → ended ≡ status.Store (fault.NotOurs at) → (links' ≡ links) × (clock' ≡ clock)
@@ -133,8 +133,7 @@ module _ {A F : Type 0} (tells : areas.Ghosts A) (files : shelves.Ghosts F) (of 
     pub closed : ended ≡ status.Link → SettlesStill tells of area area' links links'
     -- At `Read` the source failed, at `Write` the sink, and at no other end did these.
     pub cause : HasCause ended job.read_before job.read_after job.written_before job.written_after
-    -- It ends in one of these ways, no octet of the settings past the first 16,777,217 is taken, and no network is handed
-    -- back.
+    -- It ends in one of these ways, takes no octet of settings past the first 16,777,217, and hands no network back.
     pub known : IsGatewayEnd ended
     pub bound : TakesUpTo (most_text + 1) job.left job.rest
     pub none : played ≡ None

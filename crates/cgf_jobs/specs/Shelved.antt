@@ -20,8 +20,8 @@ module _ {A F : Type 0} (tells : areas.Ghosts A) (files : shelves.Ghosts F) (of 
     pub begins : Begins start history
     pub filed : HasFirstFiles (files_at of setup) history (files.files shelf')
 
-module _ {A F : Type 0} (tells : areas.Ghosts A) (files : shelves.Ghosts F) (of : Serving) (setup : Setup) (area area' : A)
-    (shelf shelf' : F) where
+module _ {A F : Type 0} (tells : areas.Ghosts A) (files : shelves.Ghosts F) (of : Serving) (setup : Setup)
+    (area area' : A) (shelf shelf' : F) where
   -- Where the shelf had the first ones of the files of the history that the area held, it has those of one that goes on
   -- in the area that is handed back, and in what any crash leaves of it.
   abbrev pub KeepsShelf : Type 0

@@ -137,7 +137,7 @@ module _ {A F : Type 0} (tells : areas.Ghosts A) (files : shelves.Ghosts F) (of 
   pub record KeepsAnswers (s : HasAnswered) : Type 0 where
     pub now : StandsBehind (header_at tells area of.ip) (value_left s).firm (tells.octets area')
     pub crash : (c : List ℕ) → tells.may_leave area' c → StandsBehind (header_at tells area of.ip) (value_left s).firm c
-    -- Where the shelf had the first ones of the files that the handed-in history closes, it has those of these histories.
+    -- Where the shelf had the first ones of the files of the handed-in history, it has those of these histories.
     pub sealed : IsTrue files.tells_files → HasFirstFiles (stream_settings of.ip) s.start (files.files shelf)
         → HasFirstFiles (stream_settings of.ip) now.history (files.files shelf')
         × ((c : List ℕ) (left : tells.may_leave area' c) →
@@ -145,7 +145,7 @@ module _ {A F : Type 0} (tells : areas.Ghosts A) (files : shelves.Ghosts F) (of 
     pub closed : ¬ (disk.Rose (tells.faults area) (tells.faults area'))
         → (history : List HistoryEntry) × HasClosedBehind s history
 
-  -- The gateway wasn't opened: nothing was read or written, the clock never failed, the shelf is as it was, and the area
+  -- The gateway wasn't opened: nothing was read or written, the clock didn't fail, the shelf is as it was, and the area
   -- holds the history that it held.
   pub record IsUnopened : Type 0 where
     pub unread : job.rest ≡ job.left
@@ -162,8 +162,8 @@ module _ {A F : Type 0} (tells : areas.Ghosts A) (files : shelves.Ghosts F) (of 
     pub read : IsStreamRead job.left job.rest s.text
     pub decided : ended ≡ stream_end s.text
 
-  -- The reply to the last message that was answered was cut: what was written are those to the messages before it, whole,
-  -- and a front of its own.
+  -- The reply to the last message that was answered was cut: those to the messages before it were written, whole, and a
+  -- front of its own.
   pub record IsCutInLast (s : HasAnswered) : Type 0 where
     pub first : List Tried
     pub last : Tried
@@ -171,7 +171,8 @@ module _ {A F : Type 0} (tells : areas.Ghosts A) (files : shelves.Ghosts F) (of 
     pub count : ℕ
     pub within : count ≤ length
         (sent_for (tells.size area) of.node (after_all (tells.size area) of.node (opening s.start) first) last)
-    pub written : Appends job.before job.after (sent_for_all (tells.size area) of.node (opening s.start) first ++ take count
+    pub written : Appends job.before job.after (sent_for_all (tells.size area) of.node (opening s.start) first
+        ++ take count
         (sent_for (tells.size area) of.node (after_all (tells.size area) of.node (opening s.start) first) last))
 
   -- The gateway was settled behind them. Where the shelf had the first ones of the files that the handed-in history closes,
@@ -205,8 +206,8 @@ module _ {A F : Type 0} (tells : areas.Ghosts A) (files : shelves.Ghosts F) (of 
     pub decided : is_reported ended ≡ true →
         (text : List ℕ) × IsStreamRead job.left job.rest text × (ended ≡ stream_end text)
     -- At `Write` a front of the replies is written, which ends in that to the last message that was answered; at every
-    -- other end whole ones of the first messages, and nothing else; or the gateway wasn't opened. However it ends, nothing
-    -- is lost of what was answered, and the gateway settles.
+    -- other end whole ones of the first messages, and nothing else; or the gateway wasn't opened. However it ends,
+    -- nothing is lost of what was answered, and the gateway settles.
     pub front : Told tells → ended ≡ status.Write →
         (s : HasAnswered) × AppendsFront job.before job.after (octets_sent s) × IsCutInLast s × KeepsAnswers s
     pub first : Told tells → ended ≢ status.Write →
@@ -214,13 +215,13 @@ module _ {A F : Type 0} (tells : areas.Ghosts A) (files : shelves.Ghosts F) (of 
     -- At `Memory`, and at `Store` without a place, nothing was read, or the stream had ended well.
     pub behind : (ended ≡ status.Memory) ⊎ (ended ≡ status.Store fault.Device) →
         (job.rest ≡ job.left) ⊎ ((text : List ℕ) × IsStreamRead job.left job.rest text × (stream_end text ≡ status.Done))
-    -- At `Store` a device failed; or the area is another's, at the place that shows it, and stays as it was, as the shelf
-    -- does, and nothing was read or written.
+    -- At `Store` a device failed; or the area is another's, at the place that shows it. Then it stays as it was, as the
+    -- shelf does, and nothing was read or written.
     pub device : ended ≡ status.Store fault.Device →
         disk.Rose (tells.faults area) (tells.faults area') ⊎ disk.Rose (files.faults shelf) (files.faults shelf')
     pub foreign : (at : ℕ) → ended ≡ status.Store (fault.NotOurs at) → (job.rest ≡ job.left) × (job.after ≡ job.before)
-        × (shelf' ≡ shelf) × (clock' ≡ clock) × (Told tells → IsNotOurs (header_at tells area of.ip) (tells.octets area) at
-        × (tells.octets area' ≡ tells.octets area))
+        × (shelf' ≡ shelf) × (clock' ≡ clock) × (Told tells →
+        IsNotOurs (header_at tells area of.ip) (tells.octets area) at × (tells.octets area' ≡ tells.octets area))
     -- At `Link` the clock failed; at `Read` the source, at `Write` the sink, and at no other end did these.
     pub link : ended ≡ status.Link → Rose clock clock'
     pub time : ended ≢ status.Link → clock' ≡ clock

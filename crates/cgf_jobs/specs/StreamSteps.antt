@@ -80,7 +80,8 @@ module _ {A : Type 0} (tells : areas.Ghosts A) where
     pub cuts : ((after_all (size_of opened) from (value_of opened) tried).cuts + tells.faults (area_of opened)
         ≤ opened.cuts + faults) ⊎ (last_count ≤ faults)
 
-  -- Of the messages that a gateway answered that was opened so, this is to be sent for the last, and this for those before.
+  -- Of the messages that were answered since the gateway was opened, this is to be sent for the last, and this for the
+  -- others.
   pub record IsLastOf (from : Addr) (opened : Book A tells) (tried : List Tried) (sent more : List ℕ) : Type 0 where
     pub first : List Tried
     pub last : Tried
@@ -153,8 +154,8 @@ module _ {A : Type 0} (tells : areas.Ghosts A) where
   StopsIn opened given sent c before after _ = ⊥
 
   -- The reply to the last message was cut: those to the others were written, and a front of it.
-  pub record IsCutIn (opened : Book A tells) (c : Connection A tells) (text sent : List ℕ) (before after : Option (List ℕ))
-      : Type 0 where
+  pub record IsCutIn (opened : Book A tells) (c : Connection A tells) (text sent : List ℕ)
+      (before after : Option (List ℕ)) : Type 0 where
     pub gone : HasGoneTo opened text sent c
     pub earlier : List ℕ
     pub more : List ℕ
@@ -228,7 +229,8 @@ module _ {A F : Type 0} (tells : areas.Ghosts A) (files : shelves.Ghosts F) wher
 
   -- These octets stand for a history that begins with what was firm. Where the writer held the files of its items, the
   -- shelf has the first ones of them.
-  pub record LeavesBehind (c : Connection A tells) (writer : Writer F files) (shelf : F) (octets : List ℕ) : Type 0 where
+  pub record LeavesBehind (c : Connection A tells) (writer : Writer F files) (shelf : F) (octets : List ℕ)
+      : Type 0 where
     pub history : List HistoryEntry
     pub stands : StandsFitFor (header_of c.book) octets history
     pub begins : Begins (value_of c.book).firm history

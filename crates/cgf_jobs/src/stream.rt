@@ -40,8 +40,8 @@ const MOST_STREAM: u64 = 1_099_511_627_776;
 
 /// Opens a gateway on an area and a shelf, answers the messages of a source, one after the other, and settles: its
 /// settings are the defaults, and each message counts as sent from the node's address. Each reply is written once it is
-/// firm. The gateway settles whatever ended the serving, and seals its files then, unless its shelf fails or memory runs
-/// out.
+/// firm. The gateway settles whatever ended the serving, and seals its files then, unless its shelf fails or memory
+/// runs out.
 pub fn stream_gateway<S: Source, K: Sink, A: Area, F: Shelf, C: gw_base::Clock>(
     alloc: Global,
     streaming: Streaming,

@@ -148,8 +148,8 @@ where
         (job_of S.Source K.Sink (map string_bytes words.now) source.old source.new sink.old sink.new)
         result.status result.played }
     // Words that are none of the forms end as `Words`, and no others do, unless there is no memory to parse them. Nothing
-    // is read of them, nor where the command has no input. But for a stream, nothing is written but at `Done`, at `Write`,
-    // and at a line that can't be run.
+    // is read of them, nor where the command has no input. But for a stream, nothing is written but at `Done`, at
+    // `Write`, and at a line that can't be run.
     ensures words { is_over_files (map string_bytes words.now) ≡ true →
         WordsDecide (command_of (map string_bytes words.now)) result.status source.old source.new }
     ensures untouched { streaming_of (map string_bytes words.now) ≡ None → may_have_written result.status ≡ false →

@@ -15,7 +15,8 @@ returns-in-Ok-line-clause-serves g c words =
     written_serves _ _ _ _ _ _ _ _ _ _ _ _ (λ line. line.items) c.serve_by-line.result.0 c.in-Ok-line.line c.deref.result.now c.written.result
     c.in-Ok.ensures.ok.0 c.in-Ok.settings c.in-Ok-line.is c.deref.ensures.value c.in-Ok.ensures.ok.1 c.in-Ok.ensures.ok.2 c.written.ensures
     c.serve_by-line.ensures.ok c.serve_by-line.ensures.turns c.serve_by-line.ensures.foreign
-    (c.in-Ok.ensures.cause.1 (λ is. ok_is_err _ _ is)) c.in-Ok.ensures.taken c.serve_by-line.ensures.keeps c.serve_by-line.ensures.files
+    (c.in-Ok.ensures.cause.1 (λ is. ok_is_err _ _ is)) c.in-Ok.ensures.taken c.serve_by-line.ensures.keeps
+    c.serve_by-line.ensures.files
 
 pub returns-in-Err-line-clause-serves : goal.returns-in-Err-line-clause-serves
 returns-in-Err-line-clause-serves g c words =
@@ -24,4 +25,5 @@ returns-in-Err-line-clause-serves g c words =
     c.serve_by-line.ensures.foreign
     (c.what_stands_is_ours.ensures.ours (g.A.Area.size c.args.area) c.args.serving.ip)
     (c.what_stands_is_ours.ensures.others (g.A.Area.size c.args.area) c.args.serving.ip)
-    (c.in-Ok.ensures.cause.1 (λ is. ok_is_err _ _ is)) c.in-Ok.ensures.taken refl c.serve_by-line.ensures.keeps c.serve_by-line.ensures.files
+    (c.in-Ok.ensures.cause.1 (λ is. ok_is_err _ _ is)) c.in-Ok.ensures.taken refl c.serve_by-line.ensures.keeps
+    c.serve_by-line.ensures.files

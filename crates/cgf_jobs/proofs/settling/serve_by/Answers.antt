@@ -11,7 +11,8 @@ pub returns-in-Ok-clause-err : goal.returns-in-Ok-clause-err
 returns-in-Ok-clause-err g c =
     stopped_before g.A.Area g.F.Shelf c.args.serving c.args.area c.serve_on.result.1 c.args.shelf _ c.serve_on.result.2
     (g.L.Links.state c.args.links.now) (g.L.Links.state c.serve_on.new.links) (g.C.Clock.faults c.args.clock.now)
-    (g.C.Clock.faults c.serve_on.new.clock) c.serve_on.result.0 c.in-Ok.ensures.files c.in-Ok.ensures.cause.ok c.serve_on.ensures.err
+    (g.C.Clock.faults c.serve_on.new.clock) c.serve_on.result.0 c.in-Ok.ensures.files c.in-Ok.ensures.cause.ok
+    c.serve_on.ensures.err
 
 pub returns-in-Ok-clause-later : goal.returns-in-Ok-clause-later
 returns-in-Ok-clause-later g c = never_fell_before _ _ _ _ _ _ _ _ _ _ _ _ c.in-Ok.ensures.cause.ok c.serve_on.ensures.later
@@ -31,7 +32,8 @@ returns-in-Err-clause-shut g c is = absurd (cc is)
 pub returns-in-Ok-clause-files : goal.returns-in-Ok-clause-files
 returns-in-Ok-clause-files g c setup are =
     shelf_before g.A.Area g.F.Shelf c.args.serving c.args.area c.serve_on.result.1 c.args.shelf _ c.serve_on.result.2
-    (g.L.Links.state c.args.links.now) (g.L.Links.state c.serve_on.new.links) setup c.in-Ok.ensures.files (c.serve_on.ensures.files setup are)
+    (g.L.Links.state c.args.links.now) (g.L.Links.state c.serve_on.new.links) setup c.in-Ok.ensures.files
+    (c.serve_on.ensures.files setup are)
 
 pub returns-in-Err-clause-files : goal.returns-in-Err-clause-files
 returns-in-Err-clause-files g c setup are =

@@ -11,36 +11,50 @@ returns-in-Ok-clause-line g c =
 
 pub returns-in-Ok-clause-closed : goal.returns-in-Ok-clause-closed
 returns-in-Ok-clause-closed g c =
-    settled_calmly g.A.Area c.args.service c.args.book.now c.settle-settled.new.book c.line_of.new.book c.moment_of.result c.settle-settled.result
-    c.moment_of.ensures c.settle-settled.ensures.closed c.settle-settled.ensures.faults.area c.line_of.ensures.same.0.value
+    settled_calmly g.A.Area c.args.service c.args.book.now c.settle-settled.new.book c.line_of.new.book
+    c.moment_of.result c.settle-settled.result
+    c.moment_of.ensures c.settle-settled.ensures.closed c.settle-settled.ensures.faults.area
+    c.line_of.ensures.same.0.value
     c.line_of.ensures.same.0.broken c.line_of.ensures.same.1
 
 pub returns-in-Some-Link-clause-closed : goal.returns-in-Some-Link-clause-closed
 returns-in-Some-Link-clause-closed g c =
-    settled_calmly g.A.Area c.args.service c.args.book.now c.settle-settled.new.book c.settle-settled.new.book c.moment_of.result c.settle-settled.result
-    c.moment_of.ensures c.settle-settled.ensures.closed c.settle-settled.ensures.faults.area (λ told. refl) refl (omega arith)
+    settled_calmly g.A.Area c.args.service c.args.book.now c.settle-settled.new.book c.settle-settled.new.book
+    c.moment_of.result c.settle-settled.result
+    c.moment_of.ensures c.settle-settled.ensures.closed c.settle-settled.ensures.faults.area (λ told. refl) refl
+    (omega arith)
 
 pub returns-in-Some-Clock-clause-closed : goal.returns-in-Some-Clock-clause-closed
 returns-in-Some-Clock-clause-closed g c =
-    settled_calmly g.A.Area c.args.service c.args.book.now c.settle-settled.new.book c.settle-settled.new.book c.moment_of.result c.settle-settled.result
-    c.moment_of.ensures c.settle-settled.ensures.closed c.settle-settled.ensures.faults.area (λ told. refl) refl (omega arith)
+    settled_calmly g.A.Area c.args.service c.args.book.now c.settle-settled.new.book c.settle-settled.new.book
+    c.moment_of.result c.settle-settled.result
+    c.moment_of.ensures c.settle-settled.ensures.closed c.settle-settled.ensures.faults.area (λ told. refl) refl
+    (omega arith)
 
 pub returns-in-Some-NoMemory-clause-closed : goal.returns-in-Some-NoMemory-clause-closed
 returns-in-Some-NoMemory-clause-closed g c =
-    settled_calmly g.A.Area c.args.service c.args.book.now c.settle-settled.new.book c.settle-settled.new.book c.moment_of.result c.settle-settled.result
-    c.moment_of.ensures c.settle-settled.ensures.closed c.settle-settled.ensures.faults.area (λ told. refl) refl (omega arith)
+    settled_calmly g.A.Area c.args.service c.args.book.now c.settle-settled.new.book c.settle-settled.new.book
+    c.moment_of.result c.settle-settled.result
+    c.moment_of.ensures c.settle-settled.ensures.closed c.settle-settled.ensures.faults.area (λ told. refl) refl
+    (omega arith)
 
 pub returns-in-Err-NoMemory-clause-closed : goal.returns-in-Err-NoMemory-clause-closed
 returns-in-Err-NoMemory-clause-closed g c =
-    settled_calmly g.A.Area c.args.service c.args.book.now c.settle-settled.new.book c.settle-settled.new.book c.moment_of.result c.settle-settled.result
-    c.moment_of.ensures c.settle-settled.ensures.closed c.settle-settled.ensures.faults.area (λ told. refl) refl (omega arith)
+    settled_calmly g.A.Area c.args.service c.args.book.now c.settle-settled.new.book c.settle-settled.new.book
+    c.moment_of.result c.settle-settled.result
+    c.moment_of.ensures c.settle-settled.ensures.closed c.settle-settled.ensures.faults.area (λ told. refl) refl
+    (omega arith)
 
 pub returns-in-Err-Area-clause-closed : goal.returns-in-Err-Area-clause-closed
 returns-in-Err-Area-clause-closed g c =
-    settled_calmly g.A.Area c.args.service c.args.book.now c.settle-settled.new.book c.settle-settled.new.book c.moment_of.result c.settle-settled.result
-    c.moment_of.ensures c.settle-settled.ensures.closed c.settle-settled.ensures.faults.area (λ told. refl) refl (omega arith)
+    settled_calmly g.A.Area c.args.service c.args.book.now c.settle-settled.new.book c.settle-settled.new.book
+    c.moment_of.result c.settle-settled.result
+    c.moment_of.ensures c.settle-settled.ensures.closed c.settle-settled.ensures.faults.area (λ told. refl) refl
+    (omega arith)
 
 pub returns-in-Err-Shelf-clause-closed : goal.returns-in-Err-Shelf-clause-closed
 returns-in-Err-Shelf-clause-closed g c =
-    settled_calmly g.A.Area c.args.service c.args.book.now c.settle-settled.new.book c.settle-settled.new.book c.moment_of.result c.settle-settled.result
-    c.moment_of.ensures c.settle-settled.ensures.closed c.settle-settled.ensures.faults.area (λ told. refl) refl (omega arith)
+    settled_calmly g.A.Area c.args.service c.args.book.now c.settle-settled.new.book c.settle-settled.new.book
+    c.moment_of.result c.settle-settled.result
+    c.moment_of.ensures c.settle-settled.ensures.closed c.settle-settled.ensures.faults.area (λ told. refl) refl
+    (omega arith)
