@@ -180,7 +180,7 @@ module _ {A F : Type 0} (tells : areas.Ghosts A) (files : shelves.Ghosts F) (of 
   stopped_calmly ours others status.Link s calm told h stands = absurd (⊎_elim (λ r. calm.link r) (λ r. calm.time r) s)
   stopped_calmly ours others (status.Store fault.Device) s calm told h stands = absurd (⊎_elim (λ r. calm.device r) (λ r. calm.shelf_runs r) s)
   stopped_calmly ours others (status.Store (fault.NotOurs at)) s calm told h stands = absurd
-      (found_ours ours others h at stands (s.3 told).0)
+      (found_ours ours others h at stands (s.4 told).0)
   stopped_calmly ours others status.Memory s calm told h stands = inl refl
   stopped_calmly ours others _ s calm told h stands = absurd s
 

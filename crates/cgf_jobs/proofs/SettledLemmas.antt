@@ -53,6 +53,7 @@ module _ {A F : Type 0} (tells : areas.Ghosts A) (files : shelves.Ghosts F) (of 
           → StopsServing tells files of area area' shelf shelf links links clock clock (status_by w)
       by_fault of_book.Device refused = inl (refused.cause refl)
       by_fault (of_book.NotOurs at) refused = (
+        record { made = λ a is. is; turns = λ a. refl; received = λ a. refl; sent = λ a. refl },
         refl,
         refl,
         refl,

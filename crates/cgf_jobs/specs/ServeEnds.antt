@@ -9,7 +9,7 @@ use Rattle.gateway_book.specs.Opened.{IsNotOurs, StandsOrStarts}
 use Rattle.gw_base.specs.Faults.{Rose}
 use Rattle.gw_base.specs.Written.{AppendsFront}
 use Rattle.gw_base.specs.declared.history.HistoryEntry.{HistoryEntry}
-use Rattle.net_link.specs.Making.{LinksState}
+use Rattle.net_link.specs.Making.{Keeps, LinksState}
 use Rattle.replay_world.specs.Setup.{setup_of}
 use Rattle.replay_world.specs.declared.replay.Played.{Played}
 use Rattle.world_script.specs.Script.{Refusal, most_text, script_in}
@@ -124,8 +124,8 @@ module _ {A F : Type 0} (tells : areas.Ghosts A) (files : shelves.Ghosts F) (of 
     -- files and the links do, and the clock didn't fail.
     pub device : ended ≡ status.Store fault.Device →
         disk.Rose (tells.faults area) (tells.faults area') ⊎ disk.Rose (files.faults shelf) (files.faults shelf')
-    pub foreign : (at : ℕ) → ended ≡ status.Store (fault.NotOurs at) → (links' ≡ links) × (clock' ≡ clock)
-        × (files.files shelf' ≡ files.files shelf) × (Told tells →
+    pub foreign : (at : ℕ) → ended ≡ status.Store (fault.NotOurs at) → Keeps links links'
+        × (links'.faults ≡ links.faults) × (clock' ≡ clock) × (files.files shelf' ≡ files.files shelf) × (Told tells →
         IsNotOurs (header_for tells area of) (tells.octets area) at × (tells.octets area' ≡ tells.octets area))
     -- At `Link` a link failed, or the clock. The area was the gateway's own, and it settled all the same, unless the
     -- area's device failed.

@@ -17,7 +17,7 @@ use Rattle.gateway_book.specs.declared.outcome.BookFault.TheVariants as of_book
 use Rattle.gw_base.specs.Facts.{WhereTold}
 use Rattle.gw_base.specs.Faults.{Rose}
 use Rattle.gw_base.specs.Written.{AppendsFront}
-use Rattle.net_link.specs.Making.{LinksState}
+use Rattle.net_link.specs.Making.{Keeps, LinksState}
 use Rattle.node_session.specs.Settling.{Grows, HasTakenAll, IsSettled}
 use Rattle.node_session.specs.Writing.{KeepsFiles}
 use Rattle.replay_world.specs.Settings.{AreSet, AreSound}
@@ -135,8 +135,8 @@ module _ {A F : Type 0} (tells : areas.Ghosts A) (files : shelves.Ghosts F) (of 
   abbrev pub StopsServing : Status → Type 0
   StopsServing (status.Store fault.Device) =
       disk.Rose (tells.faults area) (tells.faults area') ⊎ disk.Rose (files.faults shelf) (files.faults shelf')
-  StopsServing (status.Store (fault.NotOurs at)) = (links' ≡ links) × (clock' ≡ clock)
-      × (files.files shelf' ≡ files.files shelf) × (Told tells →
+  StopsServing (status.Store (fault.NotOurs at)) = Keeps links links' × (links'.faults ≡ links.faults)
+      × (clock' ≡ clock) × (files.files shelf' ≡ files.files shelf) × (Told tells →
       IsNotOurs (header_for tells area of) (tells.octets area) at × (tells.octets area' ≡ tells.octets area))
   StopsServing status.Link = Rose links.faults links'.faults ⊎ Rose clock clock'
   StopsServing status.Memory = ⊤
