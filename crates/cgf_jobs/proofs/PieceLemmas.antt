@@ -302,8 +302,12 @@ module _ {A : Type 0} (tells : areas.Ghosts A) where
         pub stops_whole : (before after : Option (List ℕ)) (ended : Status) → StopsAtMessage tells (pushed o d used) n before after ended
             → StopsIn tells opened (given ++ piece) sent n before after ended
         stops_whole before after status.Link same = (gone_before (ap (λ (b : Book A tells). value_of b) same.1), same.0)
-        stops_whole before after status.Write stops = (stops.0, gone_with stops.0 stops.1, stops.2, last_one stops.0
-            stops.1)
+        stops_whole before after status.Write stops = (
+          stops.0,
+          gone_with stops.0 stops.1,
+          stops.2,
+          last_one stops.0 stops.1,
+        )
         stops_whole before after _ stops = absurd stops
 
     -- The next message begins with an octet that can't begin one.

@@ -215,25 +215,25 @@ module _ {A F : Type 0} (tells : areas.Ghosts A) (files : shelves.Ghosts F) (of 
       → Serves tells files of job area area' shelf shelf' links links' clock clock' ended None
   stopped_serves {X = X} result ended text by read set is_err stops settles foreign_so ours others unread bound same
       keeps filed = record {
-    done = λ is. absurd (subst (λ (e : Status). Stops e) is s);
-    front = λ is. absurd (subst (λ (e : Status). Stops e) is s);
-    keeps = keeps;
-    shelved = shelved_by text by set read filed;
-    refused = λ place why is. absurd (subst (λ (e : Status). Stops e) is s);
-    accepted = λ is. (text, read, (set.0, set.1));
-    device = λ is. subst (λ (e : Status). Stops e) is s;
-    foreign = λ at is. subst (λ (e : Status). Stops e) is s;
-    link = λ is. subst (λ (e : Status). Stops e) is s;
-    closed = λ is. settles (is_err ∙ ap (λ (e : Status). Err e) is);
-    cause = stopped_cause ended s unread same;
-    known = stopped_known ended s;
-    bound = bound;
-    none = refl;
-    complete = λ calm told left is.
-        subst (λ (r : Result (List Line) Refusal). EndsBy tells files of job area area' shelf shelf' links links' clock clock' ended r)
-        (same_script text left set.0 set.1 read is)
-        (λ h stands. stopped_calmly ours others ended s calm told h stands, λ at not_ours. by_foreign calm at (foreign told at not_ours));
-  }
+        done = λ is. absurd (subst (λ (e : Status). Stops e) is s);
+        front = λ is. absurd (subst (λ (e : Status). Stops e) is s);
+        keeps = keeps;
+        shelved = shelved_by text by set read filed;
+        refused = λ place why is. absurd (subst (λ (e : Status). Stops e) is s);
+        accepted = λ is. (text, read, (set.0, set.1));
+        device = λ is. subst (λ (e : Status). Stops e) is s;
+        foreign = λ at is. subst (λ (e : Status). Stops e) is s;
+        link = λ is. subst (λ (e : Status). Stops e) is s;
+        closed = λ is. settles (is_err ∙ ap (λ (e : Status). Err e) is);
+        cause = stopped_cause ended s unread same;
+        known = stopped_known ended s;
+        bound = bound;
+        none = refl;
+        complete = λ calm told left is.
+            subst (λ (r : Result (List Line) Refusal). EndsBy tells files of job area area' shelf shelf' links links' clock clock' ended r)
+            (same_script text left set.0 set.1 read is)
+            (λ h stands. stopped_calmly ours others ended s calm told h stands, λ at not_ours. by_foreign calm at (foreign told at not_ours));
+      }
     where
       s : Stops ended
       s = subst (λ (r : Result X Status). IfErr r (λ e. Stops e)) is_err stops

@@ -108,7 +108,7 @@ first_of_all files writer settings history set holds =
     by true is = holds.begun is
     by false is = λ s lt. (
       max (sealed_in writer s) (writing.none_closed s + closed_of (settings_in writer) s
-      (take (taken_of writer) (items_of history))) - writing.none_closed s,
+          (take (taken_of writer) (items_of history))) - writing.none_closed s,
       holds.held is s lt,
     )
 
@@ -215,7 +215,7 @@ module _ {A F : Type 0} (tells : areas.Ghosts A) (files : shelves.Ghosts F) (of 
           (items_of whole)
       counted s lt =
           let same = length-files_from (settings_in writer'').file s 1
-              (stream_division (settings_in writer'') s (items_of whole)).closed in
+          (stream_division (settings_in writer'') s (items_of whole)).closed in
           omega (arith, same)
 
   pub has_served : HasServed tells files of setup area (area_of book'') shelf (shelf_of writer'') links links' whole

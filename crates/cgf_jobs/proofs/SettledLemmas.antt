@@ -207,8 +207,10 @@ module _ {A F : Type 0} (tells : areas.Ghosts A) (files : shelves.Ghosts F) (of 
         still : SettlesStill tells of area (area_of book'') links links'
         still told = (
           ((opens.found told).0, (opens.found told).1),
-          λ calm. ((value_of book'').firm, closes told (settled
-          (λ rose. calm (let up = device in omega (arith, up, rose))))),
+          λ calm. (
+            (value_of book'').firm,
+            closes told (settled (λ rose. calm (let up = device in omega (arith, up, rose)))),
+          ),
         )
 
   module _ (setup : Setup) (told : Told tells) (laws : AreaLaws tells) (stay : ItemsStay) (grow : FilesGrow)
@@ -221,7 +223,7 @@ module _ {A F : Type 0} (tells : areas.Ghosts A) (files : shelves.Ghosts F) (of 
     by_ok (Ok x) has = (
       (value_of book'').firm,
       has_served tells files of setup told stay grow area shelf book book' book'' writer writer' writer'' links links'
-      clock clock' service (octets x)
+          clock clock' service (octets x)
           fresh on by serves settles.stays.1 (settles.files_stay (told_lists tells told)) has
           (closes laws shuts in_turn later_reply leaves told has.settled)
           (begins laws shuts in_turn later_reply leaves told has.settled),
@@ -318,7 +320,7 @@ module _ {A F : Type 0} (tells : areas.Ghosts A) (files : shelves.Ghosts F) (of 
       filed_in told tells_files start found first c may =
           let left = left_behind told c may in
           let front : Begins start left.0 = begins_then start (value_of book').firm left.0
-              (served_front told start found) left.3 in
+          (served_front told start found) left.3 in
           record {
             history = left.0;
             stands = inl left.1;
@@ -340,6 +342,6 @@ module _ {A F : Type 0} (tells : areas.Ghosts A) (files : shelves.Ghosts F) (of 
           all : KeepsShelf tells files of setup area (area_of book'') shelf (shelf_of writer'')
           all told tells_files start holds first = (
             filed_in told tells_files start holds.now first (tells.octets (area_of book''))
-            (laws.holds (area_of book'')),
+                (laws.holds (area_of book'')),
             filed_in told tells_files start holds.now first,
           )

@@ -492,7 +492,7 @@ module _ {A F : Type 0} (tells : areas.Ghosts A) (files : shelves.Ghosts F) (of 
         written_front tells files of job area area' shelf shelf' clock clock' book c open_time sized opens node later served.text served.sent served.consumed told
             (served.cut refl).gone status.Write (served.front refl),
         cut_in_last tells files of job area area' shelf shelf' clock clock' book c open_time sized opens node later
-        served.text served.sent served.consumed told
+            served.text served.sent served.consumed told
             (served.cut refl).gone status.Write (served.cut refl).earlier (served.cut refl).more
             ((served.cut refl).last told) (served.cut refl).count
             (served.cut refl).within (served.cut refl).written,
