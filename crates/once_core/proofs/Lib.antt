@@ -1,4 +1,5 @@
 -- Steps of proofs.
+pub mod CaseLemmas
 pub mod ListLemmas
 pub mod EachLemmas
 pub mod EpochLemmas
@@ -26,10 +27,10 @@ pub mod DeedLemmas
 pub mod NodeLemmas
 pub mod MeaningLemmas
 pub mod WaitingLemmas
+pub mod PartLemmas
 pub mod PlayLemmas
 pub mod CommitPlays
 pub mod ReplyPlays
-pub mod RequestPlays
 pub mod PathPlays
 pub mod DeliverPlays
 pub mod RedirectPlays
@@ -42,7 +43,6 @@ pub mod SendingPlays
 pub mod FollowLemmas
 pub mod FollowSentLemmas
 pub mod FollowKnownLemmas
-pub mod TickPlays
 pub mod HearPlays
 pub mod WorldPlays
 pub mod TurnPlays
