@@ -1,5 +1,7 @@
 -- Steps of proofs.
 pub mod ListLemmas
+pub mod CaseLemmas
+pub mod TurnLemmas
 pub mod EachLemmas
 pub mod EpochLemmas
 pub mod FiledLemmas
@@ -56,6 +58,7 @@ pub mod NearestLemmas
 pub mod MeantLemmas
 pub mod DueLemmas
 pub mod TimelyLemmas
+pub mod PartLemmas
 pub mod PartingLemmas
 pub mod HistoryKeptLemmas
 pub mod NodeTurnLemmas
