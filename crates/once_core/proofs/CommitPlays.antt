@@ -1,10 +1,10 @@
 -- The parts of a gateway's moves, which are commits, openings again, stops, openings and marks, are happenings.
 pub use Rattle.once_core.proofs.PartLemmas.{noted, whole_book}
-use Rattle.std.proofs.Common.{◌≡◌, ℕ, ◌-◌, nat_le, not, Bool, true, false, List, [], ◌∷◌, ◌++◌, length, map, filter, Contains, refl, sym, ap, subst, ◌∙◌, arith}
+use Rattle.std.proofs.Common.{◌≡◌, ℕ, ◌-◌, nat_le, not, Bool, true, false, List, [], ◌∷◌, ◌++◌, length, map, filter, Contains, refl, sym, ap, subst, ◌∙◌, arith, if◌then◌else◌}
 use Rattle.std.proofs.lemmas.List.{take_all}
 use Rattle.std.proofs.lemmas.Bool.{both_ways, not-true}
 use Rattle.gw_base.specs.declared.history.HistoryEntry.{HistoryEntry}
-use Rattle.gateway_book.specs.Value.{BookValue}
+use Rattle.gateway_book.specs.Value.{BookValue, history_of}
 use Rattle.gw_base.specs.declared.history.HistoryAct.{HistoryAct}
 use Rattle.gateway_book.specs.Answered.{entry_by, no_caller}
 use Rattle.once_core.specs.Gateway.{Gateway, cut, giving_up, is_reached, settling, still, Moved}
@@ -20,9 +20,10 @@ use Rattle.once_core.proofs.ListLemmas.{filtered}
 use Rattle.once_core.proofs.MeaningLemmas.{GatewaySaid, ReadsBack, Said, failing_means, failing_said, said_by_gateway}
 use Rattle.once_core.proofs.PlayLemmas.{Plays, Rightly, Stands, still_plays, followed_plays, idle_plays, none_waits, post_plays, settled_plays, stands_after}
 use Rattle.once_core.proofs.WaitingLemmas.{letters_passing, of_map, passed, sent_letters}
-use Rattle.once_core.proofs.PartLemmas.{PartsKeep, cut_book, torn_book}
+use Rattle.once_core.proofs.PartLemmas.{PartsKeep, cut_book, torn_book, standing}
 use Rattle.once_core.specs.World.{World}
-use Rattle.once_core.proofs.StopLemmas.{history_is}
+use Rattle.once_core.proofs.StopLemmas.{history_is, crash_to_all, crash_to_firm}
+use Rattle.once_core.proofs.CaseLemmas.{by_bool}
 
 pub not_reached : (book : BookValue) (ws : List Waiting) (w : Waiting) → Contains (filter (λ v. not (is_reached book v)) ws) w → is_reached book w ≡ false
 not_reached book ws w is = not-true (is_reached book w) (passed (λ v. not (is_reached book v)) ws w is)
@@ -46,6 +47,20 @@ settled_said g said m is =
     let there = of_map (λ (w : Waiting). w.message) (filter (is_reached g.book) g.waiting) m is in
     let is_said = said there.0 (filtered (is_reached g.book) g.waiting there.0 there.1) in
     subst Said there.2 (said_by_gateway there.0.message is_said.0 is_said.1)
+
+-- whether the gateway is down, and how often it redirected, is nothing there
+relabelled_plays : {gateway : ℕ} {scene : Scene} {moved : Moved} (is_down : Bool) (redirects : ℕ) → Plays gateway scene moved
+    → Plays gateway scene (record { gateway = record moved.gateway { is_down = is_down; redirects = redirects }; sends = moved.sends })
+relabelled_plays is_down redirects plays = record {
+  later = plays.later;
+  after = plays.after;
+  is = plays.is;
+  goes = plays.goes;
+  post = plays.post;
+  sends = plays.sends;
+  said = plays.said;
+  rightly = record { fronts = plays.rightly.fronts; said = plays.rightly.said; broken = plays.rightly.broken };
+}
 
 module _ {gateway : ℕ} {scene : Scene} {g : Gateway} (stands : Stands gateway scene g) where
   -- all becomes firm
@@ -106,19 +121,17 @@ module _ {gateway : ℕ} {scene : Scene} {g : Gateway} (stands : Stands gateway 
       let count : ℕ = keep - length g.book.firm in
       post_plays gateway scene (keeping count (scene.posts gateway)) (Keeps gateway count) (cut keep g) refl (ap (keeping count) stands.post) (none_waits refl)
 
--- whether the gateway is down, and how often it redirected, is nothing there
-relabelled_plays : {gateway : ℕ} {scene : Scene} {moved : Moved} (is_down : Bool) (redirects : ℕ) → Plays gateway scene moved
-    → Plays gateway scene (record { gateway = record moved.gateway { is_down = is_down; redirects = redirects }; sends = moved.sends })
-relabelled_plays is_down redirects plays = record {
-  later = plays.later;
-  after = plays.after;
-  is = plays.is;
-  goes = plays.goes;
-  post = plays.post;
-  sends = plays.sends;
-  said = plays.said;
-  rightly = record { fronts = plays.rightly.fronts; said = plays.rightly.said; broken = plays.rightly.broken };
-}
+-- what a journal holds becomes firm
+stood_plays : {gateway : ℕ} {scene : Scene} {g : Gateway} → Stands gateway scene g → Plays gateway scene (still (standing (history_of g.book)))
+stood_plays {gateway} {scene} {g} stands =
+    by_bool (λ (b : Bool). Plays gateway scene (still (standing (if b then g.book.firm else g.book.firm ++ g.book.rest)))) g.book.is_broken
+    (λ broken. held 0 (crash_to_firm g)) (λ sound. held (length (g.book.firm ++ g.book.rest)) (crash_to_all g))
+  where
+    held : (count : ℕ) {h : List HistoryEntry} → history_of (cut count g).book ≡ h → Plays gateway scene (still (standing h))
+    held count is =
+        let cuts = cut_plays stands count in
+        subst (λ (h : List HistoryEntry). Plays gateway scene (still (standing h))) is
+        (relabelled_plays false 0 (followed_plays (λ a. settling (record a { book = whole_book a.book 0 false })) cuts (firm_plays (stands_after cuts) 0)))
 
 -- the messages of a world are in a scene
 abbrev pub HasLetters : World → Scene → Type 0
@@ -139,5 +152,5 @@ parts_play back w place = record {
   torn = λ g cuts scene stands there. torn_plays stands back cuts;
   notes = λ g note now sound due scene stands there. noted_plays stands sound now (act_noted note) (Notes place note now no_caller) refl;
   cuts = λ g keep scene stands there. cut_plays stands keep;
-  relabels = λ g moved is_down redirects plays scene stands there. relabelled_plays is_down redirects (plays scene stands there);
+  stands = λ g scene stands there. stood_plays stands;
 }

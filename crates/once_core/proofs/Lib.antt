@@ -1,6 +1,7 @@
 -- Steps of proofs.
 pub mod CaseLemmas
 pub mod ListLemmas
+pub mod TurnLemmas
 pub mod EachLemmas
 pub mod EpochLemmas
 pub mod FiledLemmas

@@ -1,5 +1,5 @@
 -- What the parts of a gateway's moves keep, each move keeps; and what the moves and the calls of nodes keep, each turn keeps.
-use Rattle.std.proofs.Common.{Bool, Contains, List, None, Option, Some, [], ap, append-nil, arith, false, length, not, refl, slice_get, subst, suc, sym, take, true, true≢false, ℕ, ◌&&◌, ◌++◌, ◌-◌, ◌||◌, ◌∙◌, ◌≡◌, ◌≤◌, if◌then◌else◌}
+use Rattle.std.proofs.Common.{Bool, Contains, List, None, Option, Some, [], ap, append-nil, arith, false, length, not, refl, slice_get, subst, suc, sym, take, true, true≢false, ℕ, ◌&&◌, ◌++◌, ◌-◌, ◌||◌, ◌∙◌, ◌≡◌, ◌≤◌}
 use Rattle.std.specs.Prelude.{option_map}
 use Rattle.std.proofs.lemmas.Bool.{and_parts, false≢true, leb-false, not-false, both_ways}
 use Rattle.std.specs.Option.{option_map_or, option_or}
@@ -26,7 +26,7 @@ use Rattle.once_core.proofs.CaseLemmas.{by_bool, by_option, if_both, if_known, m
 use Rattle.once_core.specs.declared.event.Event.TheVariants as event
 use Rattle.once_core.specs.Beginning.{first_gateway}
 use Rattle.once_core.proofs.ListLemmas.{get_contains}
-use Rattle.once_core.proofs.StopLemmas.{history_is, crash_to_all, crash_to_firm}
+use Rattle.once_core.proofs.StopLemmas.{history_is}
 use Rattle.once_core.specs.Expired.{is_expired, starts_in}
 use Rattle.once_core.proofs.StepLemmas.{refusing_none}
 
@@ -62,8 +62,7 @@ pub record PartsKeep (Q : Gateway → Moved → Type 0) : Type 0 where
   pub notes : (g : Gateway) (note : Note) (now : ℕ) → g.book.is_broken ≡ false
       → (is_mark (act_noted note) ≡ true → is_close_due (history_of g.book) ≡ true) → Q g (still (noted now (act_noted note) g))
   pub cuts : (g : Gateway) (keep : ℕ) → Q g (still (cut keep g))
-  pub relabels : (g : Gateway) (moved : Moved) (is_down : Bool) (redirects : ℕ) → Q g moved
-      → Q g (record { gateway = record moved.gateway { is_down = is_down; redirects = redirects }; sends = moved.sends })
+  pub stands : (g : Gateway) → Q g (still (standing (history_of g.book)))
 
 pub book_is : (book : BookValue) (g : Gateway) → (with_book book g).gateway.book ≡ book
 book_is book g = if_both (λ (m : Moved). m.gateway.book ≡ book) book.is_broken refl refl
@@ -130,27 +129,13 @@ module _ {Q : Gateway → Moved → Type 0} (keep : PartsKeep Q) where
       (if_known (Q a) (is_close_due (history_of a.book)) (λ due. keep.notes a Closes now sound (λ mark. due)) (λ isnt. keep.stays a))
       (keep.stays a))
 
-  -- what a journal holds becomes firm
-  stands : (g : Gateway) → Q g (still (standing (history_of g.book)))
-  stands g =
-      by_bool (λ (b : Bool). Q g (still (standing (if b then g.book.firm else g.book.firm ++ g.book.rest)))) g.book.is_broken
-      (λ broken. held 0 g.book.firm (crash_to_firm g)) (λ sound. held (length (g.book.firm ++ g.book.rest)) (g.book.firm ++ g.book.rest) (crash_to_all g))
-    where
-      firms : Gateway → Moved
-      firms a = settling (record a { book = whole_book a.book 0 false })
-
-      held : (count : ℕ) (h : List HistoryEntry) → history_of (cut count g).book ≡ h → Q g (still (standing h))
-      held count h is =
-          subst (λ (x : List HistoryEntry). Q g (still (standing x))) is
-          (keep.relabels g (followed (still (cut count g)) firms) false 0 (keep.follows g (still (cut count g)) firms (keep.cuts g count) (keep.firm (cut count g) 0)))
-
   opened_keeps : (rules : Rules) (g : Gateway) → Q g (still (opened rules g))
   opened_keeps rules g =
       if_both (λ (v : BookValue). Q g (still (record { book = v; waiting = []; is_down = false; redirects = 0 })))
       (rules.room (history_of (standing_for (history_of g.book))) act.Start)
-      (keep.follows g (still (standing (history_of g.book))) (λ a. still (noted 0 act.Start a)) (stands g)
+      (keep.follows g (still (standing (history_of g.book))) (λ a. still (noted 0 act.Start a)) (keep.stands g)
       (keep.notes (standing (history_of g.book)) Starts 0 refl (λ mark. absurd (false≢true mark))))
-      (stands g)
+      (keep.stands g)
 
   opened_holding_keeps : (rules : Rules) (held : Option ℕ) (g : Gateway) → Q g (still (opened_holding held rules g))
   opened_holding_keeps rules None g = opened_keeps rules g
