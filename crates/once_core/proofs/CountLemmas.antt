@@ -1,5 +1,5 @@
 -- What was filed under a key, by its state.
-use Rattle.std.proofs.Common.{◌≡◌, ℕ, zero, suc, ◌+◌, ◌==◌, ◌&&◌, ◌||◌, Bool, true, false, if◌then◌else◌, List, [], ◌∷◌, ◌++◌, Option, Some, None, option_and_then, refl, sym, ap, subst, ◌∙◌, arith}
+use Rattle.std.proofs.Common.{◌≡◌, ℕ, zero, suc, ◌+◌, ◌==◌, ◌&&◌, ◌||◌, Bool, true, false, if◌then◌else◌, List, [], ◌∷◌, ◌++◌, Option, Some, option_and_then, refl, sym, ap, subst, ◌∙◌, arith}
 use Rattle.std.proofs.lemmas.Bool.{and_parts, and_right, eqb-true}
 use Rattle.std.proofs.lemmas.List.{append-nil}
 use Rattle.std.specs.List.{list_any}
@@ -20,12 +20,14 @@ use Rattle.node_core.specs.declared.copy.Order.TheVariants as order
 use Rattle.gateway_book.specs.Filed.{filed, filed_by, filed_by_act, filed_under, held_packet, packet_of_hold, present_key, released_by, released_records}
 use Rattle.gateway_book.specs.FiledLaws.{along-append}
 use Rattle.gateway_book.specs.Once.{same_key, times_filed}
+use Rattle.gateway_book.specs.declared.filing.FiledRecord.{FiledRecord}
 use Rattle.once_core.specs.Epochs.{RisesBy, StartsRise, epoch_with}
 use Rattle.once_core.specs.Happenings.{Letter, Orders, Request, Sends}
 use Rattle.once_core.specs.Resting.{IsAsked, Rests, RestsBy}
 use Rattle.once_core.proofs.EachLemmas.{by_each, each_also}
 use Rattle.once_core.proofs.EpochLemmas.{epoch_stays, present_epoch}
 use Rattle.once_core.proofs.FiledLemmas.{none_of_packet, times-append, times_of_packet, within}
+use Rattle.once_core.proofs.CaseLemmas.{by_bool, map_known}
 
 -- the starts rise in a history whose entries rest on messages
 pub starts_rise : (letters : List Letter) (gateway : ℕ) (h : List HistoryEntry) → Rests letters gateway h → StartsRise h
@@ -33,14 +35,7 @@ starts_rise letters gateway = each_also (λ before e. RestsBy letters gateway be
   where
     by_act : (h : List HistoryEntry) (a : HistoryAct) → RestsBy letters gateway h a → RisesBy h a
     by_act h (act.Path n port counter) rests = rests
-    by_act h act.Start rests = tt
-    by_act h (act.File n x packet) rests = tt
-    by_act h (act.Hold n x packet) rests = tt
-    by_act h (act.Seal n x) rests = tt
-    by_act h (act.Release n xs) rests = tt
-    by_act h (act.Cancel n xs) rests = tt
-    by_act h act.Tick rests = tt
-    by_act h act.Close rests = tt
+    by_act h _ rests = tt
 
 module _ (letters : List Letter) (gateway : ℕ) (key : PacketKey) where
   -- a request of the key's node in the start of its epoch
@@ -99,12 +94,10 @@ module _ (letters : List Letter) (gateway : ℕ) (key : PacketKey) where
 
   -- the present key of the node is the key, or not
   pub same_here : (h : List HistoryEntry) (n : NodeId) (x : ℕ) → same_key (present_key h n x) key ≡ named h n (x == key.number)
-  same_here h n x = by_test (n.0 == key.node.0) refl
-    where
-      by_test : (same : Bool) → (n.0 == key.node.0) ≡ same
-          → ((same && (epoch_of n.0 h == key.epoch)) && (x == key.number)) ≡ ((epoch_of key.node.0 h == key.epoch) && (same && (x == key.number)))
-      by_test true e = ap (λ (m : ℕ). (epoch_of m h == key.epoch) && (x == key.number)) (eqb-true n.0 key.node.0 e)
-      by_test false e = sym (and_right (epoch_of key.node.0 h == key.epoch) false refl)
+  same_here h n x =
+      by_bool (λ (same : Bool). ((same && (epoch_of n.0 h == key.epoch)) && (x == key.number)) ≡ ((epoch_of key.node.0 h == key.epoch) && (same && (x == key.number))))
+      (n.0 == key.node.0) (λ e. ap (λ (m : ℕ). (epoch_of m h == key.epoch) && (x == key.number)) (eqb-true n.0 key.node.0 e))
+      (λ e. sym (and_right (epoch_of key.node.0 h == key.epoch) false refl))
 
   module _ (index : ℕ) where
     abbrev times : List HistoryEntry → ℕ
@@ -135,35 +128,26 @@ module _ (letters : List Letter) (gateway : ℕ) (key : PacketKey) where
 
     -- ---- one entry more
 
-    held_stays : (h : List HistoryEntry) (e : HistoryEntry) → ((epoch_of key.node.0 h == key.epoch) && names key.node.0 key.number e.act) ≡ false → held_at (h ++ e ∷ []) ≡ held_at h
-    held_stays h e unnamed =
+    held_after : (h : List HistoryEntry) (e : HistoryEntry) (b : Bool) → ((epoch_of key.node.0 h == key.epoch) && names key.node.0 key.number e.act) ≡ b
+        → held_at (h ++ e ∷ []) ≡ option_and_then (λ d. packet_of_hold d.act) (if b then Some e else last_naming key.node.0 key.number (epoch_entries key.node.0 key.epoch h))
+    held_after h e b same =
         ap (λ (o : Option HistoryEntry). option_and_then (λ d. packet_of_hold d.act) o)
-        (key_naming-append key h e ∙ ap (λ (b : Bool). if b then Some e else last_naming key.node.0 key.number (epoch_entries key.node.0 key.epoch h)) unnamed)
-
-    held_begins : (h : List HistoryEntry) (e : HistoryEntry) → ((epoch_of key.node.0 h == key.epoch) && names key.node.0 key.number e.act) ≡ true → held_at (h ++ e ∷ []) ≡ packet_of_hold e.act
-    held_begins h e named =
-        ap (λ (o : Option HistoryEntry). option_and_then (λ d. packet_of_hold d.act) o)
-        (key_naming-append key h e ∙ ap (λ (b : Bool). if b then Some e else last_naming key.node.0 key.number (epoch_entries key.node.0 key.epoch h)) named)
+        (key_naming-append key h e ∙ ap (λ (c : Bool). if c then Some e else last_naming key.node.0 key.number (epoch_entries key.node.0 key.epoch h)) same)
 
     unnamed_step : (h : List HistoryEntry) (e : HistoryEntry) → ((epoch_of key.node.0 h == key.epoch) && names key.node.0 key.number e.act) ≡ false
         → times_filed key index (filed_by h e) ≡ 0 → Counted h (state_of key h) → Counted (h ++ e ∷ []) (state_of key (h ++ e ∷ []))
     unnamed_step h e unnamed none so_far =
         subst (Counted (h ++ e ∷ []))
         (sym (state_of-append key h e ∙ ap (λ (b : Bool). if b then given_state e.act else state_of key h) unnamed))
-        (kept h e (state_of key h) (grown h e ∙ omega (arith, none)) (held_stays h e unnamed) so_far)
+        (kept h e (state_of key h) (grown h e ∙ omega (arith, none)) (held_after h e false unnamed) so_far)
 
     named_step : (h : List HistoryEntry) (e : HistoryEntry) (n : NodeId) (b : Bool)
         → ((epoch_of key.node.0 h == key.epoch) && names key.node.0 key.number e.act) ≡ named h n b
         → (named h n b ≡ true → IsHere h n b → Counted (h ++ e ∷ []) (given_state e.act)) → (named h n b ≡ false → times_filed key index (filed_by h e) ≡ 0)
         → Counted h (state_of key h) → Counted (h ++ e ∷ []) (state_of key (h ++ e ∷ []))
-    named_step h e n b same here elsewhere so_far = by_test (named h n b) refl
-      where
-        by_test : (c : Bool) → named h n b ≡ c → Counted (h ++ e ∷ []) (state_of key (h ++ e ∷ []))
-        by_test true is =
-            subst (Counted (h ++ e ∷ []))
-            (sym (state_of-append key h e ∙ ap (λ (b : Bool). if b then given_state e.act else state_of key h) (same ∙ is)))
-            (here is (is_here h n b is))
-        by_test false isnt = unnamed_step h e (same ∙ isnt) (elsewhere isnt) so_far
+    named_step h e n b same here elsewhere so_far = by_bool (λ c. Counted (h ++ e ∷ []) (state_of key (h ++ e ∷ []))) (named h n b)
+        (λ is. subst (Counted (h ++ e ∷ [])) (sym (state_of-append key h e ∙ ap (λ (c : Bool). if c then given_state e.act else state_of key h) (same ∙ is))) (here is (is_here h n b is)))
+        (λ isnt. unnamed_step h e (same ∙ isnt) (elsewhere isnt) so_far)
 
     -- the state of a number that is named here
     pub fresh_here : (h : List HistoryEntry) (n : NodeId) (x : ℕ) (s : KeyState) → IsHere h n (x == key.number) → present_state n.0 x h ≡ s → Counted h (state_of key h) → Counted h s
@@ -194,11 +178,8 @@ module _ (letters : List Letter) (gateway : ℕ) (key : PacketKey) where
         ∙ ap (λ rs. times_filed key index rs) (append-nil (released_records h moment n x))
 
     released_other : (h : List HistoryEntry) (moment : ℕ) (n : NodeId) (x : ℕ) → named h n (x == key.number) ≡ false → times_filed key index (released_records h moment n x) ≡ 0
-    released_other h moment n x isnt = by_held (held_packet n.0 x h)
-      where
-        by_held : (packet : Option (List ℕ)) → times_filed key index (option_map_or (filed_under (present_key h n x) moment) packet []) ≡ 0
-        by_held None = refl
-        by_held (Some octets) = none_of_packet key index (present_key h n x) moment octets (same_here h n x ∙ isnt)
+    released_other h moment n x isnt = map_known (λ (rs : List FiledRecord). times_filed key index rs ≡ 0) (held_packet n.0 x h) (λ none. refl)
+        (λ octets held. none_of_packet key index (present_key h n x) moment octets (same_here h n x ∙ isnt))
 
     released_this : (h : List HistoryEntry) (moment : ℕ) (n : NodeId) (x : ℕ) (octets : List ℕ) → named h n (x == key.number) ≡ true → IsHere h n (x == key.number)
         → held_at h ≡ Some octets → times_filed key index (released_records h moment n x) ≡ within index octets
@@ -208,26 +189,18 @@ module _ (letters : List Letter) (gateway : ℕ) (key : PacketKey) where
         ∙ times_of_packet key index (present_key h n x) moment octets (same_here h n x ∙ named)
 
     pub any_one : (xs : List ℕ) (x : ℕ) → xs ≡ x ∷ [] → list_any (λ y. y == key.number) xs ≡ (x == key.number)
-    any_one xs x alone = ap (λ (ys : List ℕ). list_any (λ y. y == key.number) ys) alone ∙ or_none (x == key.number)
-      where
-        or_none : (b : Bool) → (b || false) ≡ b
-        or_none true = refl
-        or_none false = refl
+    any_one xs x alone =
+        ap (λ (ys : List ℕ). list_any (λ y. y == key.number) ys) alone ∙ by_bool (λ (b : Bool). (b || false) ≡ b) (x == key.number) (λ e. refl) (λ e. refl)
 
     step_act : (h : List HistoryEntry) (moment : ℕ) (who : Caller) (a : HistoryAct) → StartsRise h → RestsBy letters gateway h a
         → Counted h (state_of key h) → Counted (h ++ entry moment who a ∷ []) (state_of key (h ++ entry moment who a ∷ []))
-    step_act h moment who act.Start rise rests so_far = nothing_here h moment who act.Start refl refl so_far
-    step_act h moment who (act.Path n port counter) rise rests so_far = nothing_here h moment who (act.Path n port counter) refl refl so_far
-    step_act h moment who act.Tick rise rests so_far = nothing_here h moment who act.Tick refl refl so_far
-    step_act h moment who act.Close rise rests so_far = nothing_here h moment who act.Close refl refl so_far
     step_act h moment who (act.File n x packet) rise rests so_far =
         let e = entry moment who (act.File n x packet) in
         named_step h e n (x == key.number) refl
         (λ named is. (
           packet,
           grown h e ∙ (let before : times h ≡ 0 = fresh_here h n x Fresh is rests.0 so_far in
-              let more = times_of_packet key index (present_key h n x) moment packet (same_here h n x ∙ named) in
-              omega (arith, before, more)),
+              omega (arith, before, times_of_packet key index (present_key h n x) moment packet (same_here h n x ∙ named))),
           backed_at h e n x (Sends true packet) rise is rests.1,
         ))
         (λ isnt. none_of_packet key index (present_key h n x) moment packet (same_here h n x ∙ isnt))
@@ -238,7 +211,7 @@ module _ (letters : List Letter) (gateway : ℕ) (key : PacketKey) where
         (λ named is. (
           packet,
           grown h e ∙ (let before : times h ≡ 0 = fresh_here h n x Fresh is rests.0 so_far in omega (arith, before)),
-          held_begins h e named,
+          held_after h e true named,
           backed_at h e n x (Sends false packet) rise is rests.1,
         ))
         (λ isnt. refl)
@@ -274,17 +247,15 @@ module _ (letters : List Letter) (gateway : ℕ) (key : PacketKey) where
         ))
         (λ isnt. one_released h moment n xs x rests.names.alone ∙ released_other h moment n x isnt)
         so_far
+    step_act h moment who a rise rests so_far = nothing_here h moment who a refl refl so_far
 
     -- what was filed under the key in a history whose entries rest on messages
     pub counted : (h : List HistoryEntry) → Rests letters gateway h → Counted h (state_of key h)
     counted =
         by_each (λ before e. RestsBy letters gateway before e.act) (λ h. Counted h (state_of key h))
-        (subst (Counted []) (sym none_yet) refl)
+        (subst (Counted []) (sym (none_yet key.epoch)) refl)
         (λ h e all rests so_far. step_act h e.moment e.caller e.act (starts_rise letters gateway h all) rests so_far)
       where
-        none_yet : state_of key [] ≡ Fresh
-        none_yet = by_epoch key.epoch
-          where
-            by_epoch : (k : ℕ) → state_by (last_naming key.node.0 key.number (epoch_entries key.node.0 k [])) ≡ Fresh
-            by_epoch zero = refl
-            by_epoch (suc k) = refl
+        none_yet : (k : ℕ) → state_by (last_naming key.node.0 key.number (epoch_entries key.node.0 k [])) ≡ Fresh
+        none_yet zero = refl
+        none_yet (suc k) = refl

@@ -17,6 +17,7 @@ use Rattle.once_core.specs.Following.{AnyHasCopyAt, MaySend}
 use Rattle.once_core.specs.Happenings.{Asks, Letter, Meaning, Orders, Sends, Tests}
 use Rattle.once_core.proofs.ListLemmas.{in_cons, in_head, in_none, in_tail}
 use Rattle.once_core.proofs.LogLemmas.{starts_same}
+use Rattle.once_core.proofs.CaseLemmas.{by_bool}
 
 -- ---- lists that grow
 
@@ -26,7 +27,7 @@ record GoesOn {A : Type 0} (R : A → A → Type 0) (ys : List A) (x : A) : Type
   grows : R x later
 
 goes_on : {A : Type 0} (R : A → A → Type 0) (xs ys : List A) → Extends R xs ys → (x : A) → Contains xs x → GoesOn R ys x
-goes_on R [] ys grows x is = absurd (in_none x is)
+goes_on R [] ys grows x is = in_none x is
 goes_on R (first ∷ xs) [] grows x is = absurd grows
 goes_on {A} R (first ∷ xs) (next ∷ ys) grows x is = ⊎_elim
     (λ e. record { later = next; among = in_head next ys; grows = subst (λ (z : A). R z next) e grows.0 })
@@ -55,22 +56,18 @@ same_packet packet = record { number = refl; copies = extends_itself CopyGrows s
 
 -- ---- what may be sent goes on
 
-abbrev command_now : Order → ℕ → Bool → Command
+abbrev pub command_now : Order → ℕ → Bool → Command
 command_now order number answered = record { order = order; number = number; is_answered = answered }
 
 command_on : (copy later : PacketCopy) (order : Order) (number : ℕ) (answered : Bool) → CopyGrows copy later → copy.command ≡ Some (command_now order number answered) →
     (answered_now : Bool) × (later.command ≡ Some (command_now order number answered_now))
 command_on copy later order number answered grows is =
-    by later.command refl (subst (λ (o : Option Command). CommandGrows o later.command) is grows.command)
+    by later.command (subst (λ (o : Option Command). CommandGrows o later.command) is grows.command)
   where
-    by : (there : Option Command) → later.command ≡ there → CommandGrows (Some (command_now order number answered)) there →
-        (answered_now : Bool) × (later.command ≡ Some (command_now order number answered_now))
-    by None e grown = absurd grown
-    by (Some command) e grown =
-        let order_is : command.order ≡ order = grown.0 in
-        let number_is : command.number ≡ number = grown.1 in
-        let same : command ≡ command_now order number command.is_answered = λ i. command_now (order_is i) (number_is i) command.is_answered in
-        (command.is_answered, e ∙ ap (λ (c : Command). Some c) same)
+    by : (there : Option Command) → CommandGrows (Some (command_now order number answered)) there →
+        (answered_now : Bool) × (there ≡ Some (command_now order number answered_now))
+    by None grown = absurd grown
+    by (Some command) grown = (command.is_answered, λ i. Some (command_now (grown.0 i) (grown.1 i) command.is_answered))
 
 record CopyOn (after : List PacketState) (gateway number packet : ℕ) (copy : PacketCopy) : Type 0 where
   now : AnyHasCopyAt after gateway number
@@ -195,11 +192,8 @@ pub starts_halted : (log : List LogEntry) → starts_in (Halted ∷ log) ≡ sta
 starts_halted log = starts_same Halted log refl
 
 pub starts_within : (entry : LogEntry) (log : List LogEntry) → is_within_start entry ≡ true → starts_in (entry ∷ log) ≡ starts_in log
-starts_within (Submitted form) log is = starts_same (Submitted form) log refl
-starts_within (Appointed gateway) log is = starts_same (Appointed gateway) log refl
-starts_within (Ticked sendings) log is = starts_same (Ticked sendings) log refl
-starts_within (Heard port gateway saying) log is = starts_same (Heard port gateway saying) log refl
-starts_within _ log is = absurd (cc)
+starts_within Began log is = absurd (cc)
+starts_within entry log is = starts_same entry log refl
 
 pub before_within : (entry : LogEntry) (log : List LogEntry) → is_within_start entry ≡ true → followed_before (entry ∷ log) ≡ followed_before log
 before_within Began log is = absurd (cc)
@@ -219,17 +213,12 @@ Grows = (entry : LogEntry) (log : List LogEntry) → is_within_start entry ≡ t
 -- within a start the packets of each start grow
 pub packets_grow : Grows → (start : ℕ) (entry : LogEntry) (log : List LogEntry) → is_within_start entry ≡ true →
     Extends PacketGrows (packets_in start log) (packets_in start (entry ∷ log))
-packets_grow grow start entry log is = by (starts_in log == start) refl
-  where
-    present : starts_in log ≡ start → Extends PacketGrows (packets_in start log) (packets_in start (entry ∷ log))
-    present at =
-        let after : packets_in start (entry ∷ log) ≡ states_at start (followed_before log) ++ packets_of (entry ∷ log) =
-        in_present start (entry ∷ log) (starts_within entry log is ∙ at)
-        ∙ ap (λ (ps : List Followed). states_at start ps ++ packets_of (entry ∷ log)) (before_within entry log is) in
-        subst (λ (ps : List PacketState). Extends PacketGrows ps (packets_in start (entry ∷ log))) (sym (in_present start log at))
-        (subst (Extends PacketGrows (states_at start (followed_before log) ++ packets_of log)) (sym after)
-        (extends_behind PacketGrows same_packet (states_at start (followed_before log)) (packets_of log) (packets_of (entry ∷ log)) (grow entry log is)))
-
-    by : (b : Bool) → (starts_in log == start) ≡ b → Extends PacketGrows (packets_in start log) (packets_in start (entry ∷ log))
-    by true e = present (eqb-true (starts_in log) start e)
-    by false e = subst (Extends PacketGrows (packets_in start log)) (sym (other_same start entry log is e)) (extends_itself PacketGrows same_packet (packets_in start log))
+packets_grow grow start entry log is = by_bool (λ b. Extends PacketGrows (packets_in start log) (packets_in start (entry ∷ log))) (starts_in log == start)
+    (λ e.
+    let at = eqb-true (starts_in log) start e in
+    let after = in_present start (entry ∷ log) (starts_within entry log is ∙ at)
+    ∙ ap (λ (ps : List Followed). states_at start ps ++ packets_of (entry ∷ log)) (before_within entry log is) in
+    subst (λ (ps : List PacketState). Extends PacketGrows ps (packets_in start (entry ∷ log))) (sym (in_present start log at))
+    (subst (Extends PacketGrows (states_at start (followed_before log) ++ packets_of log)) (sym after)
+    (extends_behind PacketGrows same_packet (states_at start (followed_before log)) (packets_of log) (packets_of (entry ∷ log)) (grow entry log is))))
+    (λ e. subst (Extends PacketGrows (packets_in start log)) (sym (other_same start entry log is e)) (extends_itself PacketGrows same_packet (packets_in start log)))
