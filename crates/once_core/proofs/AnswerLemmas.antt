@@ -1,6 +1,6 @@
 -- What a gateway records for a timely request rests on it, and its answer tells the state.
-use Rattle.std.proofs.Common.{◌≡◌, ℕ, ◌%◌, ◌==◌, ◌&&◌, ◌||◌, Bool, true, false, cond, if◌then◌else◌, List, [], ◌∷◌, ◌++◌, Some, None, Contains, refl, sym, subst, ◌∙◌}
-use Rattle.std.proofs.lemmas.Bool.{and_parts, and_from, or_left, eqb-true, eq-eqb, false≢true}
+use Rattle.std.proofs.Common.{◌≡◌, ℕ, ◌%◌, ◌==◌, ◌&&◌, ◌||◌, Bool, true, false, cond, List, [], ◌∷◌, ◌++◌, Some, None, Contains, refl, sym, subst}
+use Rattle.std.proofs.lemmas.Bool.{and_parts, and_from, or_left, eqb-true, eq-eqb, false≢true, eqb-false}
 use Rattle.std.proofs.lemmas.Option.{none-some, same_Some}
 use Rattle.gw_base.specs.History.{names, present_state, top_of}
 use Rattle.gw_base.specs.Lists.{once}
@@ -21,11 +21,13 @@ use Rattle.node_core.specs.declared.copy.Order.TheVariants as order
 use Rattle.transfer_cmd.specs.Lists.{is_held, verdict_cause, verdict_of}
 use Rattle.transfer_cmd.specs.Table.{answer_cause, state_given}
 use Rattle.transfer_cmd.specs.declared.decision.Ask.TheVariants as ask
+use Rattle.transfer_cmd.specs.declared.decision.Ask.{Ask}
 use Rattle.once_core.specs.Epochs.{StartsRise}
 use Rattle.once_core.specs.Happenings.{Asks, Letter, Orders, Request, Sends, Tests, about, cause_of, given, is_timely, node_at}
 use Rattle.once_core.specs.Resting.{IsAsked, IsKnown, IsState, RestsBy, Tells}
 use Rattle.once_core.specs.Scenes.{is_telling}
 use Rattle.once_core.proofs.ForwardLemmas.{known_given_now, known_now, state_given_now, state_now}
+use Rattle.once_core.proofs.CaseLemmas.{if_both}
 
 -- what an answer records rests on the request, and what it says tells the state behind it
 pub record IsSound (letters : List Letter) (h : List HistoryEntry) (letter : Letter) (request : Request) (answer : Given) : Type 0 where
@@ -47,16 +49,14 @@ module _ (letters : List Letter) (h : List HistoryEntry) (letter : Letter) (rise
       → names letter.node (about request letter.number) a ≡ true
       → ((now : ℕ) (who : Caller) → Tells (h ++ entry_by h now who a ∷ []) letter request ACCEPTED) → Tells h letter request NO_RESOURCES
       → IsSound letters h letter request (recording may number ACCEPTED a)
-  recorded may request number a rests named told without = by_test (may a)
-    where
-      by_test : (b : Bool) → IsSound letters h letter request (if b then responding number ACCEPTED (Some a) else responding number NO_RESOURCES None)
-      by_test true = record {
+  recorded may request number a rests named told without = if_both (IsSound letters h letter request) (may a)
+      (record {
         rests = λ c e. subst (RestsBy letters letter.gateway h) (same_Some a c e) rests;
         tells = told;
         known = λ telling now who. subst (λ (t : ℕ). IsKnown (h ++ entry_by h now who a ∷ []) letter.node t (about request letter.number)) (sym present)
             (known_given_now h (entry_by h now who a) letter.node (about request letter.number) rise named);
-      }
-      by_test false = silent request number NO_RESOURCES (λ telling. absurd (false≢true telling)) without
+      })
+      (silent request number NO_RESOURCES (λ telling. absurd (false≢true telling)) without)
 
   -- the state now, and after an entry that names a number
   now_is : (number : ℕ) (s : KeyState) → present_state letter.node number h ≡ s → IsState h letter.node letter.start number s
@@ -96,9 +96,7 @@ module _ (letters : List Letter) (h : List HistoryEntry) (letter : Letter) (rise
         (λ filing. absurd (false≢true filing))
     send_table packet Filed is says = silent (Sends true packet) number ALREADY_FULFILLED (λ telling. known_is letter.number Filed is refl) (λ filing. now_is letter.number Filed is)
     send_table packet Sealed is says = silent (Sends true packet) number NOT_FULFILLED (λ telling. absurd (false≢true telling)) (λ filing. absurd (false≢true filing))
-    send_table packet Held is says = silent (Sends true packet) number DUPLICATE_ALREADY_FULFILLED (λ telling. known_is letter.number Held is refl) (λ filing. absurd (false≢true filing))
-    send_table packet Released is says = silent (Sends true packet) number DUPLICATE_ALREADY_FULFILLED (λ telling. known_is letter.number Released is refl) (λ filing. absurd (false≢true filing))
-    send_table packet Cancelled is says = silent (Sends true packet) number DUPLICATE_ALREADY_FULFILLED (λ telling. known_is letter.number Cancelled is refl) (λ filing. absurd (false≢true filing))
+    send_table packet s is says = silent (Sends true packet) number DUPLICATE_ALREADY_FULFILLED (λ telling. known_is letter.number s is refl) (λ filing. absurd (false≢true filing))
 
     possible_table : (packet : List ℕ) (s : KeyState) → present_state letter.node letter.number h ≡ s → letter.says ≡ Asks (Sends false packet)
         → IsSound letters h letter (Sends false packet)
@@ -107,37 +105,23 @@ module _ (letters : List Letter) (h : List HistoryEntry) (letter : Letter) (rise
         recorded may (Sends false packet) number (act.Hold node letter.number packet) (is, asked (Sends false packet) kept says) (names_it letter.number) (λ now who. tt) tt
     possible_table packet Filed is says = silent (Sends false packet) number ALREADY_FULFILLED (λ telling. known_is letter.number Filed is refl) tt
     possible_table packet Sealed is says = silent (Sends false packet) number NOT_FULFILLED (λ telling. absurd (false≢true telling)) tt
-    possible_table packet Held is says = silent (Sends false packet) number DUPLICATE_ALREADY_FULFILLED (λ telling. known_is letter.number Held is refl) tt
-    possible_table packet Released is says = silent (Sends false packet) number DUPLICATE_ALREADY_FULFILLED (λ telling. known_is letter.number Released is refl) tt
-    possible_table packet Cancelled is says = silent (Sends false packet) number DUPLICATE_ALREADY_FULFILLED (λ telling. known_is letter.number Cancelled is refl) tt
-
-    abbrev cause_is : ℕ → ℕ → Bool
-    cause_is a b = a == b
-
-    apart : (a b : ℕ) → (a == b) ≡ false → a ≡ b → ⊥
-    apart a b other e = false≢true (sym other ∙ eq-eqb a b e)
+    possible_table packet s is says = silent (Sends false packet) number DUPLICATE_ALREADY_FULFILLED (λ telling. known_is letter.number s is refl) tt
 
     test_table : (packet : List ℕ) (s : KeyState) → present_state letter.node letter.number h ≡ s → letter.says ≡ Asks Tests
         → IsSound letters h letter Tests (tabled may number (answer_cause ask.Empty s) (recorded_as ask.Empty node letter.number packet (state_given ask.Empty s)))
     test_table packet Fresh is says =
         recorded may Tests number (act.Seal node letter.number) (is, asked Tests kept says) (names_it letter.number)
         (λ now who. let e = entry_by h now who (act.Seal node letter.number) in (
-          λ c. absurd (apart ACCEPTED ALREADY_FULFILLED refl c),
+          λ c. absurd (eqb-false ACCEPTED ALREADY_FULFILLED refl c),
           λ c. then_is e letter.number Sealed (names_it letter.number) Sealed refl (state_given_now h e letter.node letter.number rise (names_it letter.number)),
         ))
-        (λ c. absurd (apart NO_RESOURCES ALREADY_FULFILLED refl c), λ c. absurd (apart NO_RESOURCES ACCEPTED refl c))
+        (λ c. absurd (eqb-false NO_RESOURCES ALREADY_FULFILLED refl c), λ c. absurd (eqb-false NO_RESOURCES ACCEPTED refl c))
     test_table packet Filed is says =
-        silent Tests number ALREADY_FULFILLED (λ telling. known_is letter.number Filed is refl) (λ c. now_is letter.number Filed is, λ c. absurd (apart ALREADY_FULFILLED ACCEPTED refl c))
-    test_table packet Sealed is says = silent Tests number ACCEPTED (λ telling. known_is letter.number Sealed is refl) (λ c. absurd (apart ACCEPTED ALREADY_FULFILLED refl c), λ c. now_is letter.number Sealed is)
-    test_table packet Held is says =
-        silent Tests number DUPLICATE_ALREADY_FULFILLED (λ telling. known_is letter.number Held is refl)
-        (λ c. absurd (apart DUPLICATE_ALREADY_FULFILLED ALREADY_FULFILLED refl c), λ c. absurd (apart DUPLICATE_ALREADY_FULFILLED ACCEPTED refl c))
-    test_table packet Released is says =
-        silent Tests number DUPLICATE_ALREADY_FULFILLED (λ telling. known_is letter.number Released is refl)
-        (λ c. absurd (apart DUPLICATE_ALREADY_FULFILLED ALREADY_FULFILLED refl c), λ c. absurd (apart DUPLICATE_ALREADY_FULFILLED ACCEPTED refl c))
-    test_table packet Cancelled is says =
-        silent Tests number DUPLICATE_ALREADY_FULFILLED (λ telling. known_is letter.number Cancelled is refl)
-        (λ c. absurd (apart DUPLICATE_ALREADY_FULFILLED ALREADY_FULFILLED refl c), λ c. absurd (apart DUPLICATE_ALREADY_FULFILLED ACCEPTED refl c))
+        silent Tests number ALREADY_FULFILLED (λ telling. known_is letter.number Filed is refl) (λ c. now_is letter.number Filed is, λ c. absurd (eqb-false ALREADY_FULFILLED ACCEPTED refl c))
+    test_table packet Sealed is says = silent Tests number ACCEPTED (λ telling. known_is letter.number Sealed is refl) (λ c. absurd (eqb-false ACCEPTED ALREADY_FULFILLED refl c), λ c. now_is letter.number Sealed is)
+    test_table packet s is says =
+        silent Tests number DUPLICATE_ALREADY_FULFILLED (λ telling. known_is letter.number s is refl)
+        (λ c. absurd (eqb-false DUPLICATE_ALREADY_FULFILLED ALREADY_FULFILLED refl c), λ c. absurd (eqb-false DUPLICATE_ALREADY_FULFILLED ACCEPTED refl c))
 
     -- a list of one number
     abbrev one_held : KeyState → ℕ → List ℕ
@@ -168,6 +152,18 @@ module _ (letters : List Letter) (h : List HistoryEntry) (letter : Letter) (rise
     cancel_table named Cancelled is = silent (Orders order.Cancel named) number DUPLICATE_ALREADY_FULFILLED (λ telling. known_is named Cancelled is refl) tt
     cancel_table named _ is = silent (Orders order.Cancel named) number NUMBERS_INCORRECT (λ telling. absurd (false≢true telling)) tt
 
+-- the answer by the number for which that of a request is taken
+abbrev by_ask : (HistoryAct → Bool) → List HistoryEntry → Letter → Ask → List ℕ → ℕ → Given
+by_ask may h letter asked packet m =
+    let s = present_state letter.node m h in
+    tabled may (letter.number % 65536) (answer_cause asked s) (recorded_as asked (node_at letter.node) m packet (state_given asked s))
+
+abbrev by_order : (HistoryAct → Bool) → List HistoryEntry → Letter → Bool → ℕ → Given
+by_order may h letter release m =
+    let s = present_state letter.node m h in
+    let verdict = verdict_of release (s ∷ []) in
+    tabled may (letter.number % 65536) (verdict_cause verdict) (changes verdict release (node_at letter.node) (once (λ x y. x == y) (cond (is_held s) (m ∷ []) [])))
+
 -- the answer to a timely request
 pub answer_is_sound : (letters : List Letter) (h : List HistoryEntry) (letter : Letter) (request : Request) (may : HistoryAct → Bool) → StartsRise h
     → Contains letters letter → letter.says ≡ Asks request → is_timely h letter request ≡ true → IsSound letters h letter request (given h may letter request)
@@ -181,29 +177,17 @@ answer_is_sound letters h letter request may rise kept says timely =
         → nearest (top_of letter.node h) (about asks letter.number % 65536) ≡ about asks letter.number
         → IsSound letters h letter asks (given h may letter asks)
     by_request (Sends true packet) says present meant =
-        subst
-        (λ (m : ℕ). IsSound letters h letter (Sends true packet)
-        (tabled may (letter.number % 65536) (answer_cause ask.Send (present_state letter.node m h)) (recorded_as ask.Send (node_at letter.node) m packet (state_given ask.Send (present_state letter.node m h)))))
-        (sym meant) (send_table letters h letter rise present may (letter.number % 65536) kept packet (present_state letter.node letter.number h) refl says)
+        subst (λ (m : ℕ). IsSound letters h letter (Sends true packet) (by_ask may h letter ask.Send packet m)) (sym meant)
+        (send_table letters h letter rise present may (letter.number % 65536) kept packet (present_state letter.node letter.number h) refl says)
     by_request (Sends false packet) says present meant =
-        subst
-        (λ (m : ℕ). IsSound letters h letter (Sends false packet)
-        (tabled may (letter.number % 65536) (answer_cause ask.Possible (present_state letter.node m h)) (recorded_as ask.Possible (node_at letter.node) m packet (state_given ask.Possible (present_state letter.node m h)))))
-        (sym meant) (possible_table letters h letter rise present may (letter.number % 65536) kept packet (present_state letter.node letter.number h) refl says)
+        subst (λ (m : ℕ). IsSound letters h letter (Sends false packet) (by_ask may h letter ask.Possible packet m)) (sym meant)
+        (possible_table letters h letter rise present may (letter.number % 65536) kept packet (present_state letter.node letter.number h) refl says)
     by_request Tests says present meant =
-        subst
-        (λ (m : ℕ). IsSound letters h letter Tests
-        (tabled may (letter.number % 65536) (answer_cause ask.Empty (present_state letter.node m h)) (recorded_as ask.Empty (node_at letter.node) m [] (state_given ask.Empty (present_state letter.node m h)))))
-        (sym meant) (test_table letters h letter rise present may (letter.number % 65536) kept [] (present_state letter.node letter.number h) refl says)
+        subst (λ (m : ℕ). IsSound letters h letter Tests (by_ask may h letter ask.Empty [] m)) (sym meant)
+        (test_table letters h letter rise present may (letter.number % 65536) kept [] (present_state letter.node letter.number h) refl says)
     by_request (Orders order.Release named) says present meant =
-        subst
-        (λ (m : ℕ). IsSound letters h letter (Orders order.Release named)
-        (tabled may (letter.number % 65536) (verdict_cause (verdict_of true (present_state letter.node m h ∷ [])))
-        (changes (verdict_of true (present_state letter.node m h ∷ [])) true (node_at letter.node) (once (λ x y. x == y) (cond (is_held (present_state letter.node m h)) (m ∷ []) [])))))
-        (sym meant) (release_table letters h letter rise present may (letter.number % 65536) kept named (present_state letter.node named h) refl says)
+        subst (λ (m : ℕ). IsSound letters h letter (Orders order.Release named) (by_order may h letter true m)) (sym meant)
+        (release_table letters h letter rise present may (letter.number % 65536) kept named (present_state letter.node named h) refl says)
     by_request (Orders order.Cancel named) says present meant =
-        subst
-        (λ (m : ℕ). IsSound letters h letter (Orders order.Cancel named)
-        (tabled may (letter.number % 65536) (verdict_cause (verdict_of false (present_state letter.node m h ∷ [])))
-        (changes (verdict_of false (present_state letter.node m h ∷ [])) false (node_at letter.node) (once (λ x y. x == y) (cond (is_held (present_state letter.node m h)) (m ∷ []) [])))))
-        (sym meant) (cancel_table letters h letter rise present may (letter.number % 65536) kept named (present_state letter.node named h) refl)
+        subst (λ (m : ℕ). IsSound letters h letter (Orders order.Cancel named) (by_order may h letter false m)) (sym meant)
+        (cancel_table letters h letter rise present may (letter.number % 65536) kept named (present_state letter.node named h) refl)
