@@ -1,11 +1,9 @@
 -- What a node knows of the packets of each of its starts, once that start is over too, rests on what it heard in it.
-use Rattle.std.proofs.Common.{◌≡◌, ⊎_elim, ℕ, ◌<◌, ◌≤◌, ◌==◌, nat_lt, Bool, true, false, if◌then◌else◌, cond, List, [], ◌∷◌, ◌++◌, map, zip, filter, Option, Some, None, IfSome, Contains, get_or, refl, sym, ap, subst, ◌∙◌, arith}
+use Rattle.std.proofs.Common.{◌≡◌, ⊎_elim, ℕ, ◌<◌, ◌≤◌, ◌==◌, nat_lt, Bool, true, false, if◌then◌else◌, cond, List, [], ◌∷◌, ◌++◌, map, zip, filter, Option, Some, None, Contains, get_or, refl, sym, ap, subst, ◌∙◌, arith}
 use Rattle.std.specs.List.{AllByRecursion, flat_map}
 use Rattle.std.proofs.lemmas.Bool.{eqb-true, ne_eqb}
-use Rattle.std.proofs.lemmas.List.Elements.{Contains-append_cases, Contains-append_left, Contains-append_right}
+use Rattle.std.proofs.lemmas.List.Elements.{Contains-append_cases, Contains-append_left, Contains-append_right, All-nil}
 use Rattle.gtpp_message.specs.Packet.{PacketForm}
-use Rattle.node_core.specs.declared.copy.Command.{Command}
-use Rattle.node_core.specs.declared.copy.PacketCopy.{PacketCopy}
 use Rattle.node_core.specs.declared.fault.SubmitFault.{SubmitFault}
 use Rattle.node_core.specs.declared.port.Port.{Port}
 use Rattle.node_core.specs.declared.sending.Sending.{Sending}
@@ -17,7 +15,6 @@ use Rattle.node_core.specs.Moving.{appointing, moved_at_tick, moved_by}
 use Rattle.node_core.specs.Packets.{PacketState}
 use Rattle.node_core.specs.Peers.{place_of}
 use Rattle.node_core.specs.Reached.{NodeCall, Submit, Tick, Hear, Halt, Start, call_entries, entries_halted, entries_running, log_of, most_submissions, reached, submit_entries}
-use Rattle.node_core.specs.Resting.{IsFulfilled, RestsOn}
 use Rattle.node_core.specs.Submitting.{refusal}
 use Rattle.node_core.specs.Ticks.{due}
 use Rattle.node_core.specs.Value.{logged, node_of}
@@ -30,6 +27,8 @@ use Rattle.once_core.specs.Happenings.{Deed, Letter}
 use Rattle.once_core.proofs.FollowLemmas.{before_within, began_same, halted_same, in_present, other_same, starts_halted, starts_within, states_at}
 use Rattle.once_core.proofs.ListLemmas.{in_none}
 use Rattle.once_core.proofs.LogLemmas.{starts_again}
+use Rattle.once_core.proofs.CaseLemmas.{if_both, by_bool}
+use Rattle.once_core.proofs.DeedLemmas.{rests_along}
 
 -- ---- what was heard stays heard
 
@@ -40,29 +39,14 @@ heard_on start (deed ∷ deeds) more entry is = ⊎_elim
     (λ later. Contains-append_right (entries_of start deed) (heard_in start (deeds ++ more)) entry (heard_on start deeds more entry later))
     (Contains-append_cases (entries_of start deed) (heard_in start deeds) entry is)
 
-rests_on : (entries after : List LogEntry) → ((entry : LogEntry) → Contains entries entry → Contains after entry) → (copy : PacketCopy) → RestsOn entries copy →
-    RestsOn after copy
-rests_on entries after on copy is = record {
-  verdict = λ known.
-      let of = is.verdict known in
-      record { port = of.port; cause = of.cause; numbers = of.numbers; heard = on _ of.heard; named = of.named; tells = of.tells };
-  command = by copy.command is.command;
-}
-  where
-    by : (there : Option Command) → IfSome there (λ (command : Command). command.is_answered ≡ true → IsFulfilled entries copy.gateway command.number) →
-        IfSome there (λ (command : Command). command.is_answered ≡ true → IsFulfilled after copy.gateway command.number)
-    by None rests = tt
-    by (Some command) rests = λ answered.
-        let of = rests answered in
-        record { port = of.port; cause = of.cause; numbers = of.numbers; heard = on _ of.heard; named = of.named; tells = of.tells }
-
 knows_on : (deeds more : List Deed) (start : ℕ) (packets : List PacketState) → Knows deeds start packets → Knows (deeds ++ more) start packets
 knows_on deeds more start packets is = record {
   roles = is.roles;
   plain = is.plain;
   choice = is.choice;
   rests = λ k d lt j c inside.
-      rests_on (heard_in start deeds) (heard_in start (deeds ++ more)) (heard_on start deeds more) (get_or (get_or packets k d).copies j c) (is.rests k d lt j c inside);
+      rests_along (heard_in start deeds) (heard_in start (deeds ++ more)) (λ port gateway cause number numbers heard named. (numbers, heard_on start deeds more _ heard, named))
+      (get_or (get_or packets k d).copies j c) (is.rests k d lt j c inside);
 }
 
 -- ---- the packets of the starts before
@@ -108,20 +92,15 @@ behind [] = record { reached_yet = tt; earlier = λ running. tt }
 behind (log.Began ∷ before) =
     let all = all_now before (behind before) in
     record {
-      reached_yet = each_weaker (UpTo (starts_in before)) (UpTo (starts_in (log.Began ∷ before))) (λ p is. omega (arith, is, starts_again before))
-          (followed_before before ++ following before) all;
-      earlier = λ running. each_weaker (UpTo (starts_in before)) (Below (starts_in (log.Began ∷ before))) (λ p is. omega (arith, is, starts_again before))
-          (followed_before before ++ following before) all;
+      reached_yet = each_weaker _ _ (λ p is. omega (arith, is, starts_again before)) (followed_before before ++ following before) all;
+      earlier = λ running. each_weaker _ _ (λ p is. omega (arith, is, starts_again before)) (followed_before before ++ following before) all;
     }
 behind (log.Halted ∷ before) = record {
   reached_yet = each_weaker (UpTo (starts_in before)) (UpTo (starts_in (log.Halted ∷ before))) (λ p is. omega (arith, is, starts_halted before))
       (followed_before before ++ following before) (all_now before (behind before));
   earlier = λ running. absurd (cc);
 }
-behind (log.Submitted form ∷ before) = within_behind (log.Submitted form) before refl refl (behind before)
-behind (log.Appointed gateway ∷ before) = within_behind (log.Appointed gateway) before refl refl (behind before)
-behind (log.Ticked sendings ∷ before) = within_behind (log.Ticked sendings) before refl refl (behind before)
-behind (log.Heard port gateway saying ∷ before) = within_behind (log.Heard port gateway saying) before refl refl (behind before)
+behind (entry ∷ before) = within_behind entry before refl refl (behind before)
 
 none_at : (start : ℕ) (followed : List Followed) → AllByRecursion (Below start) followed → states_at start followed ≡ []
 none_at start [] below = refl
@@ -149,12 +128,8 @@ outcome setup before call = by (runs before) refl call
     ticks e None sendings = goes_on e (refl, tt)
     ticks e (Some gateway) sendings = goes_on e (refl, (refl, tt))
 
-    limits : runs before ≡ true → (form : PacketForm) (fewer : Bool) → Outcome before (if fewer then log.Submitted form ∷ [] else [])
-    limits e form true = goes_on e (refl, tt)
-    limits e form false = nothing
-
     submits : runs before ≡ true → (form : PacketForm) (fault : Option SubmitFault) → Outcome before (submit_entries (node_of setup before) fault form)
-    submits e form None = limits e form (nat_lt (node_of setup before).submissions most_submissions)
+    submits e form None = if_both (Outcome before) (nat_lt (node_of setup before).submissions most_submissions) (goes_on e (refl, tt)) nothing
     submits e form (Some fault) = nothing
 
     appoints : runs before ≡ true → (to : Option ℕ) (port : Port) (gateway : ℕ) (saying : Saying) → Outcome before (log.Heard port gateway saying ∷ appointing to)
@@ -176,11 +151,9 @@ outcome setup before call = by (runs before) refl call
     by true e (Hear port from octets) = hears e port (place_of (node_of setup before).gateways from.ip) octets
     by true e Halt = halts
     by true e Start = nothing
-    by false e (Submit form) = nothing
-    by false e Tick = nothing
-    by false e (Hear port from octets) = nothing
     by false e Halt = halts
     by false e Start = begins_anew
+    by false e _ = nothing
 
 module _ (node : ℕ) (values : ℕ → List ℕ) (start : ℕ) where
   abbrev Known : List LogEntry → Type 0
@@ -233,25 +206,22 @@ module _ (node : ℕ) (values : ℕ → List ℕ) (start : ℕ) where
   known_after before _ nothing known present = known
   known_after before _ begins_anew known present = subst (Knows (deeds_of node values before) start) (sym (began_same start before)) known
   known_after before _ halts known present = subst (Knows (deeds_of node values before) start) (sym (halted_same start before)) known
-  known_after before entries (goes_on running within) known present = by (starts_in before == start) refl
+  known_after before entries (goes_on running within) known present = by_bool (λ (b : Bool). Known (logged entries before)) (starts_in before == start)
+      (λ e. now (eqb-true (starts_in before) start e)) (λ e. known_others entries before within e known)
     where
       now : starts_in before ≡ start → Known (logged entries before)
       now at =
           subst (Knows (deeds_of node values (logged entries before)) start) (sym (are_present entries before running within at))
           (subst (λ (n : ℕ). Knows (deeds_of node values (logged entries before)) n (packets_of (logged entries before))) (starts_all entries before within ∙ at) present)
 
-      by : (b : Bool) → (starts_in before == start) ≡ b → Known (logged entries before)
-      by true e = now (eqb-true (starts_in before) start e)
-      by false e = known_others entries before within e known
-
 pub all_known : (setup : NodeSetup) (node : ℕ) (values : ℕ → List ℕ) →
     ((calls : List NodeCall) → Knows (deeds_of node values (log_of setup calls)) (starts_in (log_of setup calls)) (reached setup calls).packets) →
     (calls : List NodeCall) (start : ℕ) → Knows (deeds_of node values (log_of setup calls)) start (packets_in start (log_of setup calls))
 all_known setup node values present [] start = record {
   roles = λ gateway number. omega arith;
-  plain = λ k d lt. absurd (omega (arith, lt));
-  choice = λ k d lt. absurd (omega (arith, lt));
-  rests = λ k d lt. absurd (omega (arith, lt));
+  plain = All-nil _;
+  choice = All-nil _;
+  rests = All-nil _;
 }
 all_known setup node values present (call ∷ calls) start =
     known_after node values start (log_of setup calls) (call_entries (node_of setup (log_of setup calls)) call) (outcome setup (log_of setup calls) call)
