@@ -12,7 +12,7 @@ use Rattle.gw_base.specs.declared.cause.TheConstants.{CDR_DECODING_ERROR, NO_RES
 use Rattle.gw_base.specs.declared.history.HistoryAct.{HistoryAct}
 use Rattle.gw_base.specs.declared.history.HistoryEntry.{HistoryEntry}
 use Rattle.gtpp_message.specs.Message.{TransferRequest, TransferResponse, TransferValue, Send, Possible, Cancel, Release}
-use Rattle.gtpp_message.specs.Packet.{Empty, Full}
+use Rattle.gtpp_message.specs.Packet.{Empty}
 use Rattle.gtpp_message.specs.Writing.{written}
 use Rattle.gtpp_message.specs.declared.message_types.TheConstants.{TRANSFER_REQUEST}
 use Rattle.gtpp_message.specs.declared.role.Role.TheVariants as role
@@ -37,6 +37,7 @@ use Rattle.once_core.proofs.MeaningLemmas.{IsAbout, IsWritten, ReadsBack, meanin
 use Rattle.once_core.proofs.PlayLemmas.{Plays, Stands}
 use Rattle.once_core.proofs.ReplyPlays.{answer_plays, noted, noted_rightly}
 use Rattle.once_core.proofs.StopLemmas.{history_is}
+use Rattle.once_core.proofs.CaseLemmas.{if_both}
 
 -- ---- the answer on octets is the answer on what they mean
 
@@ -49,19 +50,17 @@ prepared_request back roles octets number body w values =
 same_answer : (m : world.Message) (o : Observed) (may : HistoryAct → Bool) (node : NodeId) (number : ℕ) (body : TransferValue) → IsAbout m body
     → asked_by o may node number body ≡ answer_of o may node number (request_in (about m) body)
 same_answer m o may node number (Send Empty) is = refl
-same_answer m o may node number (Send (Full form value)) is = refl
 same_answer m o may node number (Possible Empty) is = refl
-same_answer m o may node number (Possible (Full form value)) is = refl
 same_answer m o may node number (Release numbers) is = ap (listed o may node number true) is
 same_answer m o may node number (Cancel numbers) is = ap (listed o may node number false) is
+same_answer m o may node number _ is = refl
 
 about_is : (m : world.Message) (body : TransferValue) → IsAbout m body → did.about (request_in (about m) body) m.number ≡ about m
 about_is m (Send Empty) is = sym is
-about_is m (Send (Full form value)) is = sym is
 about_is m (Possible Empty) is = sym is
-about_is m (Possible (Full form value)) is = sym is
 about_is m (Release numbers) is = refl
 about_is m (Cancel numbers) is = refl
+about_is m _ is = sym is
 
 -- an answer to a request is a response to it
 record IsResponse (number : ℕ) (answer : Given) : Type 0 where
@@ -71,11 +70,7 @@ record IsResponse (number : ℕ) (answer : Given) : Type 0 where
 
 tabled_responds : (may : HistoryAct → Bool) (number cause : ℕ) (a : Option HistoryAct) → IsResponse number (tabled may number cause a)
 tabled_responds may number cause None = record { cause = cause; recorded = None; is = refl }
-tabled_responds may number cause (Some a) = by (may a)
-  where
-    by : (b : Bool) → IsResponse number (if b then responding number cause (Some a) else responding number NO_RESOURCES None)
-    by true = record { cause = cause; recorded = Some a; is = refl }
-    by false = record { cause = NO_RESOURCES; recorded = None; is = refl }
+tabled_responds may number cause (Some a) = if_both (IsResponse number) (may a) (record { cause = cause; recorded = Some a; is = refl }) (record { cause = NO_RESOURCES; recorded = None; is = refl })
 
 asked_responds : (o : Observed) (may : HistoryAct → Bool) (node : NodeId) (number : ℕ) (body : TransferValue) → IsResponse number (asked_by o may node number body)
 asked_responds o may node number (Send packet) = tabled_responds may number _ _
