@@ -61,7 +61,7 @@ module _ {number favourite : ℕ} {up : Bool} {Q : Sending → Type 0} (each : E
       let there = of_flat_map (settling peers number) duplicates s is in settling_due there.0.verdict peers there.0 s there.2
 
   releasing_due : (choice : Option PacketCopy) (peers : List Peer) (duplicates : List PacketCopy) → AllDo (releasing choice peers number duplicates)
-  releasing_due None peers duplicates = all_settling peers duplicates
+  releasing_due None peers duplicates s is = all_settling peers duplicates s is
   releasing_due (Some choice) peers duplicates s is = ⊎_elim (command_due peers Release choice s)
       (λ other.
       let there = of_flat_map (settling_beside choice peers number) duplicates s other in

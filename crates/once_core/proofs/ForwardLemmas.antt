@@ -152,11 +152,13 @@ state_given_now h e node number rise named = record {
       (and_from (epoch_of node h == epoch_of node h) (names node number e.act) (eq-eqb (epoch_of node h) (epoch_of node h) refl) named);
 }
 
+-- a state that isn't fresh is one of a number that is known
+known_of : (h : List HistoryEntry) (node start number : ℕ) (state : KeyState) → is_fresh state ≡ false → IsState h node start number state → IsKnown h node start number
+known_of h node start number state known is = record { epoch = is.epoch; begun = is.begun; state_is = ap is_fresh is.state_is ∙ known }
+
 pub known_now : (h : List HistoryEntry) (node number : ℕ) (state : KeyState) → StartsRise h → present_state node number h ≡ state → is_fresh state ≡ false
     → IsKnown h node (start_of node h) number
-known_now h node number state rise is known = let there = state_now h node number state rise is in
-    record { epoch = there.epoch; begun = there.begun; state_is = ap is_fresh there.state_is ∙ known }
+known_now h node number state rise is known = known_of h node (start_of node h) number state known (state_now h node number state rise is)
 
 pub known_given_now : (h : List HistoryEntry) (e : HistoryEntry) (node number : ℕ) → StartsRise h → names node number e.act ≡ true → IsKnown (h ++ e ∷ []) node (start_of node h) number
-known_given_now h e node number rise named = let there = state_given_now h e node number rise named in
-    record { epoch = there.epoch; begun = there.begun; state_is = ap is_fresh there.state_is ∙ gives_none node number e.act named }
+known_given_now h e node number rise named = known_of (h ++ e ∷ []) node (start_of node h) number (given_state e.act) (gives_none node number e.act named) (state_given_now h e node number rise named)

@@ -43,16 +43,14 @@ Numbered n (packet ∷ packets) (form ∷ forms) = (packet.number ≡ suc n) × 
 numbered_more : (n : ℕ) (packets : List PacketState) (forms : List PacketForm) (packet : PacketState) (form : PacketForm) → Numbered n packets forms
     → packet.number ≡ suc (n + length forms) → Numbered n (packets ++ packet ∷ []) (forms ++ form ∷ [])
 numbered_more n [] [] packet form is e = (omega (arith, e), tt)
-numbered_more n [] (f ∷ forms) packet form is e = absurd is
-numbered_more n (p ∷ packets) [] packet form is e = absurd is
 numbered_more n (p ∷ packets) (f ∷ forms) packet form is e = (is.0, numbered_more (suc n) packets forms packet form is.1 (omega (arith, e)))
+numbered_more n _ _ packet form is e = absurd is
 
 numbered_map : (h : PacketState → PacketState) → ((p : PacketState) → (h p).number ≡ p.number) → (n : ℕ) (packets : List PacketState) (forms : List PacketForm)
     → Numbered n packets forms → Numbered n (map h packets) forms
 numbered_map h same n [] [] is = tt
-numbered_map h same n [] (f ∷ forms) is = absurd is
-numbered_map h same n (p ∷ packets) [] is = absurd is
 numbered_map h same n (p ∷ packets) (f ∷ forms) is = (same p ∙ is.0, numbered_map h same (suc n) packets forms is.1)
+numbered_map h same n _ _ is = absurd is
 
 -- a packet of these, and what it sends
 pub record IsNumbered (n : ℕ) (forms : List PacketForm) (packet : PacketState) : Type 0 where
@@ -74,8 +72,6 @@ numbered_in n (p ∷ packets) (f ∷ forms) packet is there = ⊎_elim
 zipped : (n : ℕ) (packets : List PacketState) (forms : List PacketForm) (pair : PacketState × PacketForm) → Numbered n packets forms → Contains (zip packets forms) pair
     → (place : ℕ) × (pair.0.number ≡ suc (n + place)) × (slice_get forms place ≡ Some pair.1) × Contains packets pair.0
 zipped n [] [] pair is there = absurd (in_none pair there)
-zipped n [] (f ∷ forms) pair is there = absurd is
-zipped n (p ∷ packets) [] pair is there = absurd is
 zipped n (p ∷ packets) (f ∷ forms) pair is there = ⊎_elim
     (λ e.
     let same : p ≡ pair.0 = ap (λ (q : PacketState × PacketForm). q.0) e in
@@ -84,6 +80,7 @@ zipped n (p ∷ packets) (f ∷ forms) pair is there = ⊎_elim
     let rest = zipped (suc n) packets forms pair is.1 later in
     (suc rest.0, omega (arith, rest.1), rest.2, in_tail p pair.0 packets rest.3))
     (in_cons (p, f) pair (zip packets forms) there)
+zipped n _ _ pair is there = absurd is
 
 -- ---- the log
 
@@ -177,7 +174,7 @@ pub all_followed_at : (log : List LogEntry) (f : Followed) → Contains (all_fol
 all_followed_at log f is = ⊎_elim (λ old. (followed_at log f old).form) (λ new. (following_at log f new).0) (Contains-append_cases (followed_before log) (following log) f is)
 
 -- of a node that runs, what it followed before is of earlier starts
-earlier : (log : List LogEntry) (f : Followed) → runs log ≡ true → Contains (followed_before log) f → f.start < starts_in log
+pub earlier : (log : List LogEntry) (f : Followed) → runs log ≡ true → Contains (followed_before log) f → f.start < starts_in log
 earlier [] f running is = absurd (in_none f is)
 earlier (Began ∷ log) f running is = ⊎_elim
     (λ old. omega (arith, (followed_at log f old).start, starts_again log))
