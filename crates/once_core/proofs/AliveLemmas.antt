@@ -25,7 +25,7 @@ use Rattle.node_core.specs.declared.sending.Sending.{Sending}
 use Rattle.node_core.specs.declared.sending.Sending.TheVariants as send
 use Rattle.once_core.proofs.ListLemmas.{in_head, in_none, in_tail}
 use Rattle.once_core.proofs.WaitingLemmas.{of_map}
-use Rattle.once_core.proofs.CaseLemmas.{if_both}
+use Rattle.once_core.proofs.CaseLemmas.{by_option, if_both}
 use Rattle.once_core.proofs.CallLemmas.{Adds, adds, begins_anew, halts, hears, nothing, submits, ticks}
 use Rattle.once_core.proofs.DueLemmas.{all_due, is_probe, probes_are}
 
@@ -75,12 +75,9 @@ probe_up : (paths : PathsOfNode) (s : Sending) → is_probe s ≡ true → IsUp 
 probe_up paths (send.Probe gateway number) is = tt
 probe_up paths _ isnt = absurd (false≢true isnt)
 
-moved_paths : (o : Option ℕ) (node : NodeValue) → (befallen (appointing o) node).paths ≡ node.paths
-moved_paths None node = refl
-moved_paths (Some gateway) node = refl
-
 due_up : (node : NodeValue) → AllUp node.paths (due node)
-due_up node = subst (λ (paths : PathsOfNode). AllUp paths (due node)) (moved_paths (moved_at_tick node) node) (λ s is. ⊎_elim
+due_up node = subst (λ (paths : PathsOfNode). AllUp paths (due node))
+    (by_option (λ (o : Option ℕ). (befallen (appointing o) node).paths ≡ node.paths) (moved_at_tick node) (λ none. refl) (λ gateway is. refl)) (λ s is. ⊎_elim
     (λ probe. probe_up there.paths s (probes_are 0 there.paths there.gateways s probe))
     (all_due there.favourite_place up (IsUp there.paths) there.packets (λ p kept open_yet. record {
       copies = λ peers is_plain alive new. alive;

@@ -64,7 +64,7 @@ quiet_node node values scene log after sends deeds same silent said = record {
 -- ---- appointments
 
 -- what an appointment leaves as it is stays where there is one or none
-appointed : {A : Type 0} (f : List LogEntry → A) (o : Option ℕ) (log : List LogEntry) → ((gateway : ℕ) → f (Appointed gateway ∷ log) ≡ f log) → f (logged (appointing o) log) ≡ f log
+pub appointed : {A : Type 0} (f : List LogEntry → A) (o : Option ℕ) (log : List LogEntry) → ((gateway : ℕ) → f (Appointed gateway ∷ log) ≡ f log) → f (logged (appointing o) log) ≡ f log
 appointed f None log same = refl
 appointed f (Some gateway) log same = same gateway
 

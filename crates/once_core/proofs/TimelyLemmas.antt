@@ -42,7 +42,7 @@ use Rattle.once_core.specs.declared.message.Message.{Message}
 use Rattle.once_core.proofs.DueLemmas.{IsOfOpen, all_of_open, is_probe, one_packet, probes_are, stays_open}
 use Rattle.once_core.proofs.LogLemmas.{gateway_is, size, starts_same}
 use Rattle.once_core.proofs.MeantLemmas.{Numbers, meant}
-use Rattle.once_core.proofs.NodePlays.{NodeRightly, appointed_runs, appointed_starts}
+use Rattle.once_core.proofs.NodePlays.{NodeRightly, appointed_runs, appointed_starts, appointed}
 use Rattle.once_core.proofs.NumberLemmas.{all_keep, ever, values_are}
 use Rattle.once_core.proofs.SentPlays.{OneCopyEach}
 use Rattle.once_core.proofs.TurnPlays.{Laws, it_runs, turn_made}
@@ -52,6 +52,7 @@ use Rattle.once_core.proofs.NodeTurnLemmas.{addresses_length}
 use Rattle.once_core.proofs.LifeWorlds.{values_in}
 use Rattle.once_core.proofs.TurnLemmas.{log_or, log_there}
 use Rattle.once_core.proofs.PartLemmas.{it_runs}
+use Rattle.once_core.proofs.CaseLemmas.{by_option}
 
 -- what the law of requests says
 abbrev pub RequestsSent : Type 0
@@ -78,30 +79,21 @@ module _ (setup : NodeSetup) (calls : List NodeCall) where
   abbrev pub behind : List LogEntry
   behind = Ticked (due node_now) ∷ logged (appointing (moved_at_tick node_now)) log_now
 
-  ticked : (o : Option ℕ) (sendings : List Sending) → logged (appointing o ++ Ticked sendings ∷ []) log_now ≡ Ticked sendings ∷ logged (appointing o) log_now
-  ticked None sendings = refl
-  ticked (Some gateway) sendings = refl
-
-  moved_packets : (o : Option ℕ) (node : NodeValue) → (befallen (appointing o) node).packets ≡ node.packets
-  moved_packets None node = refl
-  moved_packets (Some gateway) node = refl
-
-  appointed_packets : (o : Option ℕ) → packets_of (logged (appointing o) log_now) ≡ packets_of log_now
-  appointed_packets None = refl
-  appointed_packets (Some gateway) = refl
-
   of_open : (s : Sending) → is_probe s ≡ false → Contains (due node_now) s → IsOfOpen (packets_of log_now) s
   of_open s isnt there =
       let node : NodeValue = befallen (appointing (moved_at_tick node_now)) node_now in
       let drawn = all_drawn (probes node.paths node.gateways) node.gateways in
-      subst (λ (ps : List PacketState). IsOfOpen ps s) (moved_packets (moved_at_tick node_now) node_now) (⊎_elim
+      subst (λ (ps : List PacketState). IsOfOpen ps s)
+      (by_option (λ (o : Option ℕ). (befallen (appointing o) node_now).packets ≡ node_now.packets) (moved_at_tick node_now) (λ none. refl) (λ gateway is. refl)) (⊎_elim
       (λ probe. absurd (false≢true (sym isnt ∙ probes_are 0 node.paths node.gateways s probe)))
       (all_of_open node.favourite_place (is_alive node.paths node.favourite_place) node.packets drawn s)
       (Contains-append_cases (probes node.paths node.gateways) (due_for_all node.favourite_place (is_alive node.paths node.favourite_place) drawn node.packets) s there))
 
   module _ (running : runs log_now ≡ true) where
     pub after_is : log_of setup (call.Tick ∷ calls) ≡ behind
-    after_is = ap (λ (b : Bool). logged (if b then tick_entries node_now else []) log_now) running ∙ ticked (moved_at_tick node_now) (due node_now)
+    after_is = ap (λ (b : Bool). logged (if b then tick_entries node_now else []) log_now) running
+        ∙ by_option (λ (o : Option ℕ). logged (appointing o ++ Ticked (due node_now) ∷ []) log_now ≡ Ticked (due node_now) ∷ logged (appointing o) log_now)
+        (moved_at_tick node_now) (λ none. refl) (λ gateway is. refl)
 
     runs_after : runs (log_of setup (call.Tick ∷ calls)) ≡ true
     runs_after = ap runs after_is ∙ appointed_runs (moved_at_tick node_now) log_now ∙ running
@@ -123,7 +115,7 @@ module _ (setup : NodeSetup) (calls : List NodeCall) where
           let state : PacketState = while_open f was.state in
           let goes : state ≡ f was.state = ap (λ (b : Bool). if b then was.state else f was.state) was.open_yet in
           let kept : Contains (packets_of behind) state = in_map (while_open f) (packets_of (logged (appointing (moved_at_tick node_now)) log_now)) was.state
-          (subst (λ (ps : List PacketState). Contains ps was.state) (sym (appointed_packets (moved_at_tick node_now))) was.kept) in
+          (subst (λ (ps : List PacketState). Contains ps was.state) (sym (appointed packets_of (moved_at_tick node_now) log_now (λ gateway. refl))) was.kept) in
           let is : is_of state.number s ≡ true =
           ap (λ (p : PacketState). is_of p.number s) goes ∙ ap (λ (n : ℕ). is_of n s) (all_keep (due node_now) was.state) ∙ was.of in
           let e = ever behind in
