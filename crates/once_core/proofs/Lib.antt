@@ -1,6 +1,6 @@
 -- Steps of proofs.
-pub mod ListLemmas
 pub mod CaseLemmas
+pub mod ListLemmas
 pub mod TurnLemmas
 pub mod EachLemmas
 pub mod EpochLemmas
@@ -28,10 +28,10 @@ pub mod DeedLemmas
 pub mod NodeLemmas
 pub mod MeaningLemmas
 pub mod WaitingLemmas
+pub mod PartLemmas
 pub mod PlayLemmas
 pub mod CommitPlays
 pub mod ReplyPlays
-pub mod RequestPlays
 pub mod PathPlays
 pub mod DeliverPlays
 pub mod RedirectPlays
@@ -44,7 +44,6 @@ pub mod SendingPlays
 pub mod FollowLemmas
 pub mod FollowSentLemmas
 pub mod FollowKnownLemmas
-pub mod TickPlays
 pub mod HearPlays
 pub mod WorldPlays
 pub mod TurnPlays
@@ -58,7 +57,6 @@ pub mod NearestLemmas
 pub mod MeantLemmas
 pub mod DueLemmas
 pub mod TimelyLemmas
-pub mod PartLemmas
 pub mod PartingLemmas
 pub mod HistoryKeptLemmas
 pub mod NodeTurnLemmas

@@ -1,13 +1,14 @@
 -- What a node of a world does is what happens in a scene: what is submitted, a halt and a start are nothing there.
 use Rattle.std.proofs.Common.{◌≡◌, ⊎_elim, ℕ, suc, ◌≤◌, ◌==◌, nat_lt, true, false, List, [], ◌∷◌, Option, Some, None, Contains, refl, sym, ap, subst, ◌∙◌, arith}
 use Rattle.std.proofs.lemmas.List.Elements.{Contains-push_cases}
+use Rattle.std.proofs.lemmas.Bool.{both_ways}
 use Rattle.gtpp_message.specs.Packet.{PacketForm}
 use Rattle.node_core.specs.Log.{LogEntry, Halted, Submitted, Appointed, forms_of, paths_of, runs, submitted}
 use Rattle.node_core.specs.Moving.{appointing}
 use Rattle.node_core.specs.Reached.{NodeCall, call_entries, log_of, most_submissions, submit_entries}
 use Rattle.node_core.specs.Reached as call
 use Rattle.node_core.specs.Submitting.{refusal}
-use Rattle.node_core.specs.Value.{logged, NodeValue}
+use Rattle.node_core.specs.Value.{logged}
 use Rattle.node_core.specs.declared.fault.SubmitFault.{SubmitFault}
 use Rattle.once_core.specs.Addresses.{node_ip, node_setup}
 use Rattle.once_core.specs.Deeds.{deeds_of}
@@ -32,6 +33,11 @@ pub record NodeRightly (gateways place : ℕ) (log : List LogEntry) : Type 0 whe
   pub few : starts_in log ≤ 255
   pub forms : (form : PacketForm) → Contains (forms_ever log) form → GoodForm form
 
+-- the node stands in the scene as it is
+pub record NodeStands (gateways place : ℕ) (values : ℕ → List ℕ) (scene : Scene) (log : List LogEntry) : Type 0 where
+  pub rightly : NodeRightly gateways place log
+  pub deeds : scene.deeds (node_ip place) ≡ deeds_of (node_ip place) values log
+
 -- some happenings are what a node did, and what it sends is among the messages
 pub record NodePlays (node : ℕ) (values : ℕ → List ℕ) (scene : Scene) (call : Called) : Type 0 where
   pub later : List Happening
@@ -45,116 +51,111 @@ pub record NodePlays (node : ℕ) (values : ℕ → List ℕ) (scene : Scene) (c
   pub said : (m : Message) → Contains call.sends m → Said m
 
 -- nothing happens
-pub quiet_node : (node : ℕ) (values : ℕ → List ℕ) (scene : Scene) (log after : List LogEntry) (sends : List Message)
-    → scene.deeds node ≡ deeds_of node values log → deeds_of node values after ≡ deeds_of node values log
-    → ((m : Message) → Contains sends m → speaks m ≡ false) → ((m : Message) → Contains sends m → Said m)
-    → NodePlays node values scene (record { log = after; sends = sends })
-quiet_node node values scene log after sends deeds same silent said = record {
+pub quiet_node : {gateways place : ℕ} {values : ℕ → List ℕ} {scene : Scene} {log : List LogEntry} → NodeStands gateways place values scene log
+    → (after : List LogEntry) (sends : List Message) → deeds_of (node_ip place) values after ≡ deeds_of (node_ip place) values log
+    → ((m : Message) → Contains sends m → (speaks m ≡ false) × Said m) → NodePlays (node_ip place) values scene (record { log = after; sends = sends })
+quiet_node {scene = scene} stands after sends same fine = record {
   later = [];
   after = scene;
   is = refl;
   posts = λ gateway. refl;
   others = λ other e. refl;
-  deeds = deeds ∙ sym same;
+  deeds = stands.deeds ∙ sym same;
   letters = λ l is. is;
-  sends = λ m is speaking. let isnt = silent m is in absurd (cc);
-  said = said;
+  sends = λ m is speaking. absurd (both_ways (speaks m) (fine m is).0 speaking);
+  said = λ m is. (fine m is).1;
 }
 
 -- ---- appointments
 
--- what an appointment leaves as it is stays where there is one or none
-pub appointed : {A : Type 0} (f : List LogEntry → A) (o : Option ℕ) (log : List LogEntry) → ((gateway : ℕ) → f (Appointed gateway ∷ log) ≡ f log) → f (logged (appointing o) log) ≡ f log
-appointed f None log same = refl
-appointed f (Some gateway) log same = same gateway
+appointed : {A : Type 0} (f : List LogEntry → A) → ((gateway : ℕ) (log : List LogEntry) → f (Appointed gateway ∷ log) ≡ f log)
+    → (o : Option ℕ) (log : List LogEntry) → f (logged (appointing o) log) ≡ f log
+appointed f same None log = refl
+appointed f same (Some gateway) log = same gateway log
 
 pub appointed_deeds : (node : ℕ) (values : ℕ → List ℕ) (o : Option ℕ) (log : List LogEntry) → deeds_of node values (logged (appointing o) log) ≡ deeds_of node values log
-appointed_deeds node values o log = appointed (deeds_of node values) o log (λ gateway. refl)
+appointed_deeds node values = appointed (deeds_of node values) (λ gateway log. refl)
 
 pub appointed_starts : (o : Option ℕ) (log : List LogEntry) → starts_in (logged (appointing o) log) ≡ starts_in log
-appointed_starts o log = appointed starts_in o log (λ gateway. starts_same (Appointed gateway) log refl)
+appointed_starts = appointed starts_in (λ gateway log. starts_same (Appointed gateway) log refl)
 
 pub appointed_ever : (o : Option ℕ) (log : List LogEntry) → forms_ever (logged (appointing o) log) ≡ forms_ever log
-appointed_ever o log = appointed forms_ever o log (λ gateway. refl)
+appointed_ever = appointed forms_ever (λ gateway log. refl)
 
 pub appointed_forms : (o : Option ℕ) (log : List LogEntry) → forms_of (logged (appointing o) log) ≡ forms_of log
-appointed_forms o log = appointed forms_of o log (λ gateway. refl)
+appointed_forms = appointed forms_of (λ gateway log. refl)
 
 pub appointed_submitted : (o : Option ℕ) (log : List LogEntry) → submitted (logged (appointing o) log) ≡ submitted log
-appointed_submitted o log = appointed submitted o log (λ gateway. refl)
+appointed_submitted = appointed submitted (λ gateway log. refl)
 
 pub appointed_runs : (o : Option ℕ) (log : List LogEntry) → runs (logged (appointing o) log) ≡ runs log
-appointed_runs o log = appointed runs o log (λ gateway. refl)
+appointed_runs = appointed runs (λ gateway log. refl)
 
 pub appointed_paths : (first : ℕ) (o : Option ℕ) (log : List LogEntry) → paths_of first (logged (appointing o) log) ≡ paths_of first log
-appointed_paths first o log = appointed (paths_of first) o log (λ gateway. refl)
+appointed_paths first = appointed (paths_of first) (λ gateway log. refl)
 
 -- ---- calls
 
-module _ (gateways place : ℕ) (log : List LogEntry) (is : NodeRightly gateways place log) where
-  -- the log after a call
-  pub after_call : (call : NodeCall) → starts_in (log_after gateways place call log) ≤ 255
-      → ((form : PacketForm) → Contains (forms_ever (log_after gateways place call log)) form → GoodForm form)
-      → NodeRightly gateways place (log_after gateways place call log)
-  after_call call few forms = record {
-    calls = call ∷ is.calls;
-    is = ap (log_after gateways place call) is.is;
-    counts = counts_logged (call_entries (node_value gateways place log) call) log is.counts;
-    few = few;
-    forms = forms;
-  }
+-- the log after a call
+pub after_call : {gateways place : ℕ} {log : List LogEntry} → NodeRightly gateways place log → (call : NodeCall) → starts_in (log_after gateways place call log) ≤ 255
+    → ((form : PacketForm) → Contains (forms_ever (log_after gateways place call log)) form → GoodForm form)
+    → NodeRightly gateways place (log_after gateways place call log)
+after_call {gateways} {place} {log} is call few forms = record {
+  calls = call ∷ is.calls;
+  is = ap (log_after gateways place call) is.is;
+  counts = counts_logged (call_entries (node_value gateways place log) call) log is.counts;
+  few = few;
+  forms = forms;
+}
 
-  abbrev value : NodeValue
-  value = node_value gateways place log
+-- a packet that is taken, or not
+pub either : (gateways place : ℕ) (log : List LogEntry) → NodeRightly gateways place log → (P : List LogEntry → Type 0) (form : PacketForm) → P log → P (Submitted form ∷ log)
+    → P (log_after gateways place (call.Submit form) log)
+either gateways place log is P form none one =
+    let node = node_value gateways place log in
+    if_both (λ (entries : List LogEntry). P (logged entries log)) (runs log)
+    (by_option (λ (o : Option SubmitFault). P (logged (submit_entries node o form) log)) (refusal node form)
+    (λ free. if_both (λ (entries : List LogEntry). P (logged entries log)) (nat_lt node.submissions most_submissions) one none)
+    (λ fault refused. none))
+    none
 
-  -- a packet that is taken, or not
-  pub either : (P : List LogEntry → Type 0) (form : PacketForm) → P log → P (Submitted form ∷ log) → P (log_after gateways place (call.Submit form) log)
-  either P form none one = if_both (λ (entries : List LogEntry). P (logged entries log)) (runs log)
-      (by_option (λ (fault : Option SubmitFault). P (logged (submit_entries value fault form) log)) (refusal value form)
-      (λ free. if_both (λ (entries : List LogEntry). P (logged entries log)) (nat_lt value.submissions most_submissions) one none) (λ fault refused. none)) none
+module _ {gateways place : ℕ} {values : ℕ → List ℕ} {scene : Scene} {log : List LogEntry} (stands : NodeStands gateways place values scene log) where
+  abbrev Turns : Called → Type 0
+  Turns called = NodePlays (node_ip place) values scene called × NodeRightly gateways place called.log
 
-  -- nothing is sent
-  silent : (values : ℕ → List ℕ) (scene : Scene) (after : List LogEntry) → scene.deeds (node_ip place) ≡ deeds_of (node_ip place) values log
-      → deeds_of (node_ip place) values after ≡ deeds_of (node_ip place) values log → NodePlays (node_ip place) values scene (record { log = after; sends = [] })
-  silent values scene after deeds same =
-      quiet_node (node_ip place) values scene log after [] deeds same (λ m there. absurd (in_none m there)) (λ m there. absurd (in_none m there))
+  -- a log that tells gateways nothing more
+  record Quietly (after : List LogEntry) : Type 0 where
+    few : starts_in after ≤ 255
+    forms : (form : PacketForm) → Contains (forms_ever after) form → GoodForm form
+    deeds : deeds_of (node_ip place) values after ≡ deeds_of (node_ip place) values log
 
-  abbrev Fine : List LogEntry → Type 0
-  Fine after = (starts_in after ≤ 255) × ((form : PacketForm) → Contains (forms_ever after) form → GoodForm form)
+  same_log : Quietly log
+  same_log = record { few = stands.rightly.few; forms = stands.rightly.forms; deeds = refl }
 
-  called_rightly : (call : NodeCall) → Fine (log_after gateways place call log) → NodeRightly gateways place (log_after gateways place call log)
-  called_rightly call fine = after_call call fine.0 fine.1
+  quiet_turn : (call : NodeCall) → Quietly (log_after gateways place call log) → Turns (called gateways place call log)
+  quiet_turn call quiet =
+      (quiet_node stands (log_after gateways place call log) [] quiet.deeds (λ m there. in_none m there), after_call stands.rightly call quiet.few quiet.forms)
 
-  pub submit_plays : (values : ℕ → List ℕ) (scene : Scene) (octets : List ℕ) → scene.deeds (node_ip place) ≡ deeds_of (node_ip place) values log
-      → NodePlays (node_ip place) values scene (submitting gateways place octets log)
-  submit_plays values scene octets deeds = by_option (λ (o : Option PacketForm). NodePlays (node_ip place) values scene (submitting_form gateways place o log)) (draft_of octets)
-      (λ none. silent values scene log deeds refl)
-      (λ form is. silent values scene (log_after gateways place (call.Submit form) log) deeds
-      (either (λ l. deeds_of (node_ip place) values l ≡ deeds_of (node_ip place) values log) form refl refl))
-
-  pub submit_rightly : RecordsSpelled → (octets : List ℕ) → NodeRightly gateways place (submitting gateways place octets log).log
-  submit_rightly law octets = by_option (λ (o : Option PacketForm). NodeRightly gateways place (submitting_form gateways place o log).log) (draft_of octets) (λ none. is)
-      (λ form e. called_rightly (call.Submit form) (either Fine form (is.few, is.forms) (
-        omega (arith, starts_same (Submitted form) log refl, is.few),
-        λ f there. ⊎_elim (is.forms f) (λ same. subst GoodForm same (draft_is_good law form (submitted_is_draft octets form e))) (Contains-push_cases (forms_ever log) form f there),
-      )))
+  pub submit_turns : RecordsSpelled → (octets : List ℕ) → Turns (submitting gateways place octets log)
+  submit_turns law octets = by_option (λ (o : Option PacketForm). Turns (submitting_form gateways place o log)) (draft_of octets)
+      (λ none. (quiet_node stands log [] refl (λ m there. in_none m there), stands.rightly))
+      (λ form e. quiet_turn (call.Submit form) (either gateways place log stands.rightly Quietly form same_log (record {
+        few = let same = starts_same (Submitted form) log refl in let few = stands.rightly.few in omega (arith, same, few);
+        forms = λ f there. ⊎_elim (stands.rightly.forms f)
+            (λ same. subst GoodForm same (draft_is_good law form (submitted_is_draft octets form e))) (Contains-push_cases (forms_ever log) form f there);
+        deeds = refl;
+      })))
 
   -- a halt, and a start of one that is halted
-  pub halt_plays : (values : ℕ → List ℕ) (scene : Scene) → scene.deeds (node_ip place) ≡ deeds_of (node_ip place) values log
-      → NodePlays (node_ip place) values scene (called gateways place call.Halt log)
-  halt_plays values scene deeds = silent values scene (log_after gateways place call.Halt log) deeds
-      (if_both (λ (entries : List LogEntry). deeds_of (node_ip place) values (logged entries log) ≡ deeds_of (node_ip place) values log) (runs log) refl refl)
+  pub halt_turns : Turns (called gateways place call.Halt log)
+  halt_turns =
+      let halted : Quietly (Halted ∷ log) = record {
+        few = let same = starts_same Halted log refl in let few = stands.rightly.few in omega (arith, same, few);
+        forms = stands.rightly.forms;
+        deeds = refl;
+      } in
+      quiet_turn call.Halt (if_both (λ (entries : List LogEntry). Quietly (logged entries log)) (runs log) halted halted)
 
-  pub halt_rightly : NodeRightly gateways place (called gateways place call.Halt log).log
-  halt_rightly =
-      let halted : Fine (Halted ∷ log) = (omega (arith, starts_same Halted log refl, is.few), is.forms) in
-      called_rightly call.Halt (if_both (λ (entries : List LogEntry). Fine (logged entries log)) (runs log) halted halted)
-
-  pub start_plays : (values : ℕ → List ℕ) (scene : Scene) → scene.deeds (node_ip place) ≡ deeds_of (node_ip place) values log
-      → NodePlays (node_ip place) values scene (called gateways place call.Start log)
-  start_plays values scene deeds = silent values scene (log_after gateways place call.Start log) deeds
-      (if_both (λ (entries : List LogEntry). deeds_of (node_ip place) values (logged entries log) ≡ deeds_of (node_ip place) values log) (runs log) refl refl)
-
-  pub start_rightly : suc (starts_in log) ≤ 255 → NodeRightly gateways place (called gateways place call.Start log).log
-  start_rightly fewer = called_rightly call.Start (if_both (λ (entries : List LogEntry). Fine (logged entries log)) (runs log)
-      (is.few, is.forms) (omega (arith, starts_again log, fewer), is.forms))
+  pub start_turns : suc (starts_in log) ≤ 255 → Turns (called gateways place call.Start log)
+  start_turns fewer = quiet_turn call.Start (if_both (λ (entries : List LogEntry). Quietly (logged entries log)) (runs log) same_log
+      (record { few = let more = starts_again log in omega (arith, more, fewer); forms = stands.rightly.forms; deeds = refl }))

@@ -1,26 +1,24 @@
 -- A world goes on with a gateway's move and with a node's call.
-use Rattle.std.proofs.Common.{◌≡◌, ⊎_elim, ℕ, zero, suc, ◌<◌, ◌≤◌, List, [], ◌∷◌, ◌++◌, length, length-set, take, Option, Some, Contains, slice_get, slice_set, refl, sym, ap, subst, ◌∙◌, arith}
+use Rattle.std.proofs.Common.{◌≡◌, ◌≢◌, ⊎_elim, ℕ, zero, suc, ◌<◌, ◌≤◌, List, [], ◌∷◌, ◌++◌, length, length-set, Option, Some, Contains, slice_get, slice_set, refl, sym, ap, subst, ◌∙◌, arith}
 use Rattle.std.specs.Option.{option_map_or}
 use Rattle.std.proofs.lemmas.Bool.{ne_eqb}
 use Rattle.std.proofs.lemmas.List.Elements.{Contains-append_cases}
+use Rattle.std.proofs.lemmas.Option.{same_Some}
 use Rattle.node_core.specs.Log.{LogEntry}
 use Rattle.once_core.specs.Addresses.{first_node_ip, node_ip}
 use Rattle.once_core.specs.Deeds.{deeds_of}
 use Rattle.once_core.specs.Gateway.{Gateway, Moved}
-use Rattle.once_core.specs.Happenings.{Happening, Post, Scene}
+use Rattle.once_core.specs.Happenings.{Happening, Scene}
 use Rattle.once_core.specs.Meaning.{letter_of}
 use Rattle.once_core.specs.Scenes.{happened_all, nothing_yet, scene_after}
 use Rattle.once_core.specs.Shown.{Shows, post_of}
 use Rattle.once_core.specs.Turn.{at_gateway, at_node, gateway_moved, node_called}
 use Rattle.once_core.specs.World.{Called, World, log_at}
 use Rattle.once_core.specs.declared.message.Message.{Message}
-use Rattle.once_core.proofs.ListLemmas.{in_front}
 use Rattle.once_core.proofs.MeaningLemmas.{Said}
-use Rattle.once_core.proofs.NodePlays.{NodePlays, NodeRightly}
+use Rattle.once_core.proofs.NodePlays.{NodePlays, NodeRightly, NodeStands}
 use Rattle.once_core.proofs.PlayLemmas.{Plays, Rightly, Stands, happened_more}
-use Rattle.std.proofs.lemmas.Option.{same_Some}
 use Rattle.once_core.proofs.CaseLemmas.{map_known, set_known}
-use Rattle.once_core.proofs.TurnLemmas.{log_or, log_there}
 
 -- ---- one place of a list
 
@@ -28,6 +26,13 @@ pub get_set : {A : Type 0} (xs : List A) (p : ℕ) (x y : A) → slice_get xs p 
 get_set [] p x y e = absurd (cc)
 get_set (z ∷ xs) zero x y e = refl
 get_set (z ∷ xs) (suc p) x y e = get_set xs p x y e
+
+pub get_other : {A : Type 0} (xs : List A) (p q : ℕ) (x : A) → q ≢ p → slice_get (slice_set xs p x) q ≡ slice_get xs q
+get_other [] p q x apart = refl
+get_other (z ∷ xs) zero zero x apart = absurd (apart refl)
+get_other (z ∷ xs) zero (suc q) x apart = refl
+get_other (z ∷ xs) (suc p) zero x apart = refl
+get_other (z ∷ xs) (suc p) (suc q) x apart = get_other xs p q x (λ same. apart (ap suc same))
 
 -- ---- worlds that happenings make
 
@@ -47,97 +52,93 @@ pub record Made (values : ℕ → ℕ → List ℕ) (w : World) : Type 0 where
   pub strangers : (node : ℕ) → node < first_node_ip → scene.deeds node ≡ []
   pub sound : Sound w
 
-abbrev pub no_post : Post
-no_post = record { firm = []; rest = []; waiting = [] }
-
--- fewer messages show no more
-pub lost_made : (values : ℕ → ℕ → List ℕ) (w : World) → Made values w → (count : ℕ) → Made values (record w { messages = take count w.messages })
-lost_made values w made count = record {
+-- at another moment, with no more messages
+pub less_made : {values : ℕ → ℕ → List ℕ} {w : World} → Made values w → (now : ℕ) (messages : List Message) → ((m : Message) → Contains messages m → Contains w.messages m)
+    → Made values (record w { now = now; messages = messages })
+less_made made now messages within = record {
   happenings = made.happenings;
   scene = made.scene;
   is = made.is;
-  shows = record {
-    posts = made.shows.posts;
-    deeds = made.shows.deeds;
-    letters = λ m is. made.shows.letters m (in_front count w.messages m is);
-  };
+  shows = record { posts = made.shows.posts; deeds = made.shows.deeds; letters = λ m is. made.shows.letters m (within m is) };
   strangers = made.strangers;
-  sound = record {
-    some = made.sound.some;
-    gateways = made.sound.gateways;
-    nodes = made.sound.nodes;
-    messages = λ m is. made.sound.messages m (in_front count w.messages m is);
-  };
+  sound = record { some = made.sound.some; gateways = made.sound.gateways; nodes = made.sound.nodes; messages = λ m is. made.sound.messages m (within m is) };
 }
 
-module _ (values : ℕ → ℕ → List ℕ) (w : World) (made : Made values w) (place : ℕ) where
-  -- the gateway in a place stands in the scene
-  pub stands_in : (g : Gateway) → slice_get w.gateways place ≡ Some g → Stands place made.scene g
-  stands_in g there = record {
-    post = made.shows.posts place ∙ ap (λ (o : Option Gateway). option_map_or post_of o (record { firm = []; rest = []; waiting = [] })) there;
-    rightly = made.sound.gateways place g there;
-  }
+module _ {values : ℕ → ℕ → List ℕ} {w : World} (made : Made values w) (place : ℕ) where
+  more_made : {scene : Scene} (later : List Happening) → happened_all made.scene later ≡ scene → scene_after (made.happenings ++ later) ≡ scene
+  more_made later is = happened_more nothing_yet made.happenings later ∙ ap (λ (s : Scene). happened_all s later) made.is ∙ is
 
   move_made : (g : Gateway) → slice_get w.gateways place ≡ Some g → (moved : Moved) → Plays place made.scene moved → Made values (gateway_moved w place moved)
-  move_made g there moved plays = record {
-    happenings = made.happenings ++ plays.later;
-    scene = plays.after;
-    is = happened_more nothing_yet made.happenings plays.later ∙ ap (λ (s : Scene). happened_all s plays.later) made.is ∙ plays.is;
-    shows = record {
-      posts = set_known w.gateways place moved.gateway g there (λ q o. plays.after.posts q ≡ option_map_or post_of o no_post) plays.post
-          (λ q apart. plays.goes.others q (ne_eqb q place apart) ∙ made.shows.posts q);
-      deeds = λ p. plays.goes.deeds (node_ip p) ∙ made.shows.deeds p;
-      letters = λ m is speaking. ⊎_elim
-          (λ old. plays.goes.letters (letter_of m) (made.shows.letters m old speaking))
-          (λ new. plays.sends m new speaking)
-          (Contains-append_cases w.messages moved.sends m is);
-    };
-    strangers = λ p less. plays.goes.deeds p ∙ made.strangers p less;
-    sound = record {
-      some = omega (arith, length-set w.gateways place moved.gateway, made.sound.some);
-      gateways = set_known w.gateways place moved.gateway g there (λ q o. (a : Gateway) → o ≡ Some a → Rightly a)
-          (λ a is. subst Rightly (same_Some moved.gateway a is) plays.rightly) (λ q apart. made.sound.gateways q);
-      nodes = λ p log is. subst (λ (n : ℕ). NodeRightly n p log) (sym (length-set w.gateways place moved.gateway)) (made.sound.nodes p log is);
-      messages = λ m is. ⊎_elim (made.sound.messages m) (plays.said m) (Contains-append_cases w.messages moved.sends m is);
-    };
-  }
+  move_made g there moved plays =
+      let same = length-set w.gateways place moved.gateway in
+      record {
+        happenings = made.happenings ++ plays.later;
+        scene = plays.after;
+        is = more_made plays.later plays.is;
+        shows = record {
+          posts = set_known w.gateways place moved.gateway g there (λ q (o : Option Gateway). plays.after.posts q ≡ option_map_or post_of o (record { firm = []; rest = []; waiting = [] })) plays.post
+              (λ q apart. plays.goes.others q (ne_eqb q place apart) ∙ made.shows.posts q);
+          deeds = λ p. plays.goes.deeds (node_ip p) ∙ made.shows.deeds p;
+          letters = λ m is speaking. ⊎_elim
+              (λ old. plays.goes.letters (letter_of m) (made.shows.letters m old speaking))
+              (λ new. plays.sends m new speaking)
+              (Contains-append_cases w.messages moved.sends m is);
+        };
+        strangers = λ p less. plays.goes.deeds p ∙ made.strangers p less;
+        sound = record {
+          some = let some = made.sound.some in omega (arith, same, some);
+          gateways = set_known w.gateways place moved.gateway g there (λ q (o : Option Gateway). (a : Gateway) → o ≡ Some a → Rightly a)
+              (λ a e. subst Rightly (same_Some moved.gateway a e) plays.rightly) (λ q apart. made.sound.gateways q);
+          nodes = λ p log is. subst (λ (n : ℕ). NodeRightly n p log) (sym same) (made.sound.nodes p log is);
+          messages = λ m is. ⊎_elim (made.sound.messages m) (plays.said m) (Contains-append_cases w.messages moved.sends m is);
+        };
+      }
 
   pub gateway_made : (move : Gateway → Moved) → ((g : Gateway) → Stands place made.scene g → Plays place made.scene (move g)) → Made values (at_gateway w place move)
-  gateway_made move plays = map_known (Made values) (slice_get w.gateways place) (λ none. made) (λ g there. move_made g there (move g) (plays g (stands_in g there)))
+  gateway_made move plays = map_known (Made values) (slice_get w.gateways place) (λ none. made)
+      (λ g there. move_made g there (move g) (plays g (record {
+        post = made.shows.posts place ∙ ap (λ (o : Option Gateway). option_map_or post_of o (record { firm = []; rest = []; waiting = [] })) there;
+        rightly = made.sound.gateways place g there;
+      })))
 
   call_made : (log : List LogEntry) → slice_get w.nodes place ≡ Some log → (call : Called) → NodePlays (node_ip place) (values place) made.scene call
       → NodeRightly (length w.gateways) place call.log → Made values (node_called w place call)
   call_made log there call plays rightly = record {
     happenings = made.happenings ++ plays.later;
     scene = plays.after;
-    is = happened_more nothing_yet made.happenings plays.later ∙ ap (λ (s : Scene). happened_all s plays.later) made.is ∙ plays.is;
+    is = more_made plays.later plays.is;
     shows = record {
       posts = λ q. plays.posts q ∙ made.shows.posts q;
-      deeds = set_known w.nodes place call.log log there (λ q o. plays.after.deeds (node_ip q) ≡ deeds_of (node_ip q) (values q) (log_or o)) plays.deeds
+      deeds = set_known w.nodes place call.log log there
+          (λ q (o : Option (List LogEntry)). plays.after.deeds (node_ip q) ≡ deeds_of (node_ip q) (values q) (option_map_or (λ l. l) o [])) plays.deeds
           (λ q apart. plays.others (node_ip q) (ne_eqb (node_ip q) (node_ip place) (λ same. apart (omega (arith, same)))) ∙ made.shows.deeds q);
       letters = λ m is speaking. ⊎_elim
           (λ old. plays.letters (letter_of m) (made.shows.letters m old speaking))
           (λ new. plays.sends m new speaking)
           (Contains-append_cases w.messages call.sends m is);
     };
-    strangers = λ p less. plays.others p (ne_eqb p (node_ip place) (λ same. absurd (omega (arith, same, less)))) ∙ made.strangers p less;
+    strangers = λ p less. plays.others p (ne_eqb p (node_ip place) (λ same. omega (arith, same, less))) ∙ made.strangers p less;
     sound = record {
       some = made.sound.some;
       gateways = made.sound.gateways;
-      nodes = set_known w.nodes place call.log log there (λ q o. (l : List LogEntry) → o ≡ Some l → NodeRightly (length w.gateways) q l)
-          (λ l is. subst (NodeRightly (length w.gateways) place) (same_Some call.log l is) rightly) (λ q apart. made.sound.nodes q);
+      nodes = set_known w.nodes place call.log log there (λ q (o : Option (List LogEntry)). (l : List LogEntry) → o ≡ Some l → NodeRightly (length w.gateways) q l)
+          (λ l e. subst (NodeRightly (length w.gateways) place) (same_Some call.log l e) rightly) (λ q apart. made.sound.nodes q);
       messages = λ m is. ⊎_elim (made.sound.messages m) (plays.said m) (Contains-append_cases w.messages call.sends m is);
     };
   }
 
-  -- the log of the node in a place, and what it did
+  -- the log of the node in a place
   pub log_is : (log : List LogEntry) → slice_get w.nodes place ≡ Some log → log_at w place ≡ log
-  log_is log there = log_there w place log there
+  log_is log there = ap (λ (o : Option (List LogEntry)). option_map_or (λ l. l) o []) there
 
   pub node_made : (call : List LogEntry → Called)
-      → ((log : List LogEntry) → slice_get w.nodes place ≡ Some log → made.scene.deeds (node_ip place) ≡ deeds_of (node_ip place) (values place) log
-      → NodePlays (node_ip place) (values place) made.scene (call log))
-      → ((log : List LogEntry) → slice_get w.nodes place ≡ Some log → NodeRightly (length w.gateways) place log → NodeRightly (length w.gateways) place (call log).log)
+      → ((log : List LogEntry) → slice_get w.nodes place ≡ Some log → NodeStands (length w.gateways) place (values place) made.scene log
+      → NodePlays (node_ip place) (values place) made.scene (call log) × NodeRightly (length w.gateways) place (call log).log)
       → Made values (at_node w place call)
-  node_made call plays rightly = map_known (Made values) (slice_get w.nodes place) (λ none. made) (λ log there. call_made log there (call log)
-      (plays log there (made.shows.deeds place ∙ ap (deeds_of (node_ip place) (values place)) (log_there w place log there))) (rightly log there (made.sound.nodes place log there)))
+  node_made call plays = map_known (Made values) (slice_get w.nodes place) (λ none. made)
+      (λ log there.
+      let both = plays log there (record {
+        rightly = made.sound.nodes place log there;
+        deeds = made.shows.deeds place ∙ ap (deeds_of (node_ip place) (values place)) (log_is log there);
+      }) in
+      call_made log there (call log) both.0 both.1)
