@@ -48,7 +48,6 @@ use Rattle.once_core.proofs.LifeMoves.{Truly, TrulyMoved, followed_truly, no_pat
 use Rattle.once_core.proofs.ListLemmas.{in_one}
 use Rattle.once_core.proofs.MeaningLemmas.{FromNode, NodeSaid, ReadsBack, role_read_of}
 use Rattle.once_core.proofs.PathPlays.{fresh_start, rises}
-use Rattle.once_core.proofs.ReplyPlays.{noted}
 use Rattle.once_core.proofs.StartLemmas.{IsNoPath, known_start, opened_start, path_starts}
 use Rattle.once_core.proofs.WaitingLemmas.{of_map}
 use Rattle.once_core.proofs.StopLemmas.{history_is}

@@ -21,11 +21,10 @@ use Rattle.once_core.specs.Growing.{GrowsTo}
 use Rattle.once_core.specs.Messages.{failing, has_type, is_response}
 use Rattle.once_core.specs.declared.message.Message.{Message}
 use Rattle.once_core.specs.declared.message.Waiting.{Waiting}
-use Rattle.once_core.proofs.CommitPlays.{not_reached, whole_book}
+use Rattle.once_core.proofs.CommitPlays.{not_reached}
 use Rattle.once_core.proofs.EachLemmas.{each_front, each_more}
 use Rattle.once_core.proofs.GrowingLemmas.{on, on_on, on_with}
 use Rattle.once_core.proofs.ListLemmas.{filtered, in_none}
-use Rattle.once_core.proofs.ReplyPlays.{noted}
 use Rattle.once_core.proofs.StartLemmas.{IsNoPath, front_low, no_path_rises, no_path_same, one_rises, start_rises}
 use Rattle.once_core.proofs.WaitingLemmas.{of_map, passed}
 use Rattle.once_core.proofs.StopLemmas.{history_is}

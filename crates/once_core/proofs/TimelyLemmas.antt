@@ -45,7 +45,7 @@ use Rattle.once_core.proofs.MeantLemmas.{Numbers, meant}
 use Rattle.once_core.proofs.NodePlays.{NodeRightly, appointed_runs, appointed_starts, appointed}
 use Rattle.once_core.proofs.NumberLemmas.{all_keep, ever, values_are}
 use Rattle.once_core.proofs.SentPlays.{OneCopyEach}
-use Rattle.once_core.proofs.TurnPlays.{Laws, it_runs, turn_made}
+use Rattle.once_core.proofs.TurnPlays.{Laws, turn_made}
 use Rattle.once_core.proofs.WaitingLemmas.{in_map, of_map}
 use Rattle.once_core.proofs.WorldPlays.{Made, get_set}
 use Rattle.once_core.proofs.NodeTurnLemmas.{addresses_length}
@@ -115,7 +115,7 @@ module _ (setup : NodeSetup) (calls : List NodeCall) where
           let state : PacketState = while_open f was.state in
           let goes : state ≡ f was.state = ap (λ (b : Bool). if b then was.state else f was.state) was.open_yet in
           let kept : Contains (packets_of behind) state = in_map (while_open f) (packets_of (logged (appointing (moved_at_tick node_now)) log_now)) was.state
-          (subst (λ (ps : List PacketState). Contains ps was.state) (sym (appointed packets_of (moved_at_tick node_now) log_now (λ gateway. refl))) was.kept) in
+          (subst (λ (ps : List PacketState). Contains ps was.state) (sym (appointed packets_of (λ gateway log. refl) (moved_at_tick node_now) log_now)) was.kept) in
           let is : is_of state.number s ≡ true =
           ap (λ (p : PacketState). is_of p.number s) goes ∙ ap (λ (n : ℕ). is_of n s) (all_keep (due node_now) was.state) ∙ was.of in
           let e = ever behind in

@@ -40,10 +40,10 @@ use Rattle.once_core.proofs.OnceLemmas.{each_is_filed_once}
 use Rattle.once_core.proofs.RoleLemmas.{among_copies, own_use}
 use Rattle.once_core.proofs.TurnPlays.{Laws}
 use Rattle.once_core.proofs.WaitingLemmas.{in_map}
-use Rattle.once_core.proofs.WorldPlays.{Made, log_is}
+use Rattle.once_core.proofs.WorldPlays.{Made}
 use Rattle.once_core.proofs.NodeTurnLemmas.{addresses_length}
 use Rattle.once_core.proofs.LifeWorlds.{reached_made}
-use Rattle.once_core.proofs.TurnLemmas.{log_or}
+use Rattle.once_core.proofs.TurnLemmas.{log_or, log_there}
 use Rattle.std.proofs.lemmas.Option.{same_Some}
 pub use Rattle.once_core.proofs.LifeWorlds.{values_in, world_made}
 
@@ -69,7 +69,7 @@ module _ (laws : Laws) (w : World) (made : Made (values_in w) w) where
       → Follows (made.scene.deeds (node_ip node)) start (values_in w node) (packets_in start (log_at w node))
   it_follows node log there start =
       let rightly = made.sound.nodes node log there in
-      let same : log_at w node ≡ log_of (node_setup (length w.gateways) node) rightly.calls = log_is (values_in w) w made node log there ∙ rightly.is in
+      let same : log_at w node ≡ log_of (node_setup (length w.gateways) node) rightly.calls = log_there w node log there ∙ rightly.is in
       subst (λ (ds : List Deed). Follows ds start (values_in w node) (packets_in start (log_at w node))) (sym (made.shows.deeds node))
       (subst (λ (l : List LogEntry). Follows (deeds_of (node_ip node) (values_in w node) l) start (values_in w node) (packets_in start l)) (sym same)
       (laws.follow (node_setup (length w.gateways) node) rightly.calls (node_ip node) start (values_in w node) (omega (arith, made.sound.some, addresses_length 0 (length w.gateways)))))
@@ -107,7 +107,7 @@ module _ (laws : Laws) (w : World) (made : Made (values_in w) w) where
         let there = some_log (slice_get w.nodes node) refl in
         let rightly = made.sound.nodes node there.0 there.1 in
         rightly.forms packet.form
-        (subst (λ (l : List LogEntry). Contains (forms_ever l) packet.form) (log_is (values_in w) w made node there.0 there.1)
+        (subst (λ (l : List LogEntry). Contains (forms_ever l) packet.form) (log_there w node there.0 there.1)
         (get_contains (forms_ever (log_at w node)) (packet.state.number - 1) packet.form form_there))
 
     pub records_are : records_within (value_octets packet.form) ≡ packet.form.records
