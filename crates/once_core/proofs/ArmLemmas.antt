@@ -1,8 +1,7 @@
 -- What the parts of a step give: what an event that isn't refused tells; that messages stay; how a world begins.
-use Rattle.std.proofs.Common.{◌≡◌, ℕ, zero, suc, ◌+◌, ◌-◌, ◌<◌, ◌≤◌, true, false, ◌&&◌, not, List, [], ◌∷◌, ◌++◌, Option, Some, None, length, map, refl, ap, sym, ◌∙◌, arith, length-append}
-use Rattle.std.proofs.lemmas.Bool.{leb-true, ltb-true, not-false, and_parts}
-use Rattle.std.specs.Option.{option_map, option_map_or}
-use Rattle.std.specs.Prelude.{nat_le, nat_lt, slice_get}
+use Rattle.std.proofs.Common.{◌≡◌, ℕ, zero, suc, ◌+◌, ◌-◌, ◌<◌, ◌≤◌, true, false, ◌&&◌, not, List, [], ◌∷◌, ◌++◌, Option, Some, None, length, map, refl, ap, sym, ◌∙◌, arith, length-append, leb-true, ltb-true, option_map, nat_le, nat_lt, slice_get}
+use Rattle.std.proofs.lemmas.Bool.{not-false, and_parts}
+use Rattle.std.specs.Option.{option_map_or}
 use Rattle.node_core.specs.Log.{LogEntry}
 use Rattle.node_core.specs.Log as Log
 use Rattle.node_core.specs.Ticks.{tick_entries}

@@ -1,8 +1,7 @@
 -- What a node knows at the end of a start follows what it did in it.
-use Rattle.std.proofs.Common.{◌≡◌, ⊎_elim, ℕ, ◌==◌, ◌||◌, Bool, true, false, List, [], ◌∷◌, ◌++◌, map, Option, Some, None, IfSome, All, Contains, get_or, refl, sym, ap, subst, ◌∙◌, append_assoc}
-use Rattle.std.proofs.lemmas.Bool.{eq-eqb, eqb-true, false≢true, cond-true, or_cases}
+use Rattle.std.proofs.Common.{◌≡◌, ⊎_elim, ℕ, ◌==◌, ◌||◌, Bool, true, false, List, [], ◌∷◌, ◌++◌, map, Option, Some, None, IfSome, All, Contains, get_or, refl, sym, ap, subst, ◌∙◌, append_assoc, eq-eqb, eqb-true, flat_map}
+use Rattle.std.proofs.lemmas.Bool.{false≢true, cond-true, or_cases}
 use Rattle.std.proofs.lemmas.List.Elements.{Contains-append_left, Contains-append_right}
-use Rattle.std.specs.List.{flat_map}
 use Rattle.node_core.specs.Copies.{names}
 use Rattle.node_core.specs.Log as log
 use Rattle.node_core.specs.Log.{LogEntry, Responds, packets_of}

@@ -1,8 +1,7 @@
 -- What a draft is can be sent, and is read back as it was submitted.
-use Rattle.std.proofs.Common.{◌≡◌, ◌↔◌, ℕ, ◌+◌, ◌*◌, ◌/◌, ◌%◌, ◌≤◌, ◌==◌, ◌&&◌, not, nat_lt, Bool, true, if◌then◌else◌, List, [], ◌∷◌, ◌++◌, length, Option, Some, None, Ok, Err, Result, is_ok, refl, sym, ap, subst, ◌∙◌, arith, append_assoc, append-nil}
-use Rattle.std.specs.Prelude.{option_map}
-use Rattle.std.specs.List.{flat_map, list_all}
-use Rattle.std.proofs.lemmas.Bool.{and_parts, false≢true, ltb-false, ne_eqb}
+use Rattle.std.proofs.Common.{◌≡◌, ◌↔◌, ℕ, ◌+◌, ◌*◌, ◌/◌, ◌%◌, ◌≤◌, ◌==◌, ◌&&◌, not, nat_lt, Bool, true, if◌then◌else◌, List, [], ◌∷◌, ◌++◌, length, Option, Some, None, Ok, Err, Result, is_ok, refl, sym, ap, subst, ◌∙◌, arith, append_assoc, append-nil, option_map, flat_map, ltb-false, ne_eqb}
+use Rattle.std.specs.List.{list_all}
+use Rattle.std.proofs.lemmas.Bool.{and_parts, false≢true}
 use Rattle.gw_base.specs.declared.tag.Tag.{Tag}
 use Rattle.ber_frame.specs.Checked.{checked, is_one_value}
 use Rattle.ber_frame.specs.declared.fault.BerFault.{BerFault}

@@ -1,7 +1,6 @@
 -- A gateway tells a node that it is alive only once the node's start is firm, and knows of no start that wasn't made: what
 -- it answers, its marks, its openings and its redirections.
-use Rattle.std.proofs.Common.{◌≡◌, ℕ, ◌≤◌, nat_lt, not, Bool, true, false, List, [], ◌∷◌, map, Option, Some, None, refl, sym, ap, subst, ◌∙◌, arith, append_assoc, IfSome}
-use Rattle.std.specs.Prelude.{option_map}
+use Rattle.std.proofs.Common.{◌≡◌, ℕ, ◌≤◌, nat_lt, not, Bool, true, false, List, [], ◌∷◌, map, Option, Some, None, refl, sym, ap, subst, ◌∙◌, arith, append_assoc, IfSome, option_map}
 use Rattle.std.proofs.lemmas.Bool.{false≢true}
 use Rattle.gw_base.specs.History.{moment_after}
 use Rattle.gw_base.specs.Nearest.{nearest}

@@ -1,7 +1,7 @@
 -- A gateway tells a node that it is alive only once the node's start is firm, and knows of no start that wasn't made: its
 -- moves.
-use Rattle.std.proofs.Common.{◌≡◌, ⊎_elim, ℕ, ◌-◌, ◌≤◌, ◌==◌, nat_lt, not, Bool, true, false, List, [], ◌∷◌, ◌++◌, length, length-append, map, filter, take, drop, take-append-drop, Contains, refl, sym, ap, subst, ◌∙◌, arith, append_assoc, append-nil, ◌⊎◌}
-use Rattle.std.proofs.lemmas.Bool.{eqb-true, false≢true, leb-true, ltb-true}
+use Rattle.std.proofs.Common.{◌≡◌, ⊎_elim, ℕ, ◌-◌, ◌≤◌, ◌==◌, nat_lt, not, Bool, true, false, List, [], ◌∷◌, ◌++◌, length, length-append, map, filter, take, drop, take-append-drop, Contains, refl, sym, ap, subst, ◌∙◌, arith, append_assoc, append-nil, ◌⊎◌, eqb-true, leb-true, ltb-true}
+use Rattle.std.proofs.lemmas.Bool.{false≢true}
 use Rattle.std.proofs.lemmas.List.Elements.{Contains-append_cases, Contains-push_cases}
 use Rattle.gw_base.specs.EntryLaws.{opening_of-append}
 use Rattle.gw_base.specs.Starts.{start_by, start_of}

@@ -1,7 +1,6 @@
 -- What is kept of a node moves as its log grows.
-use Rattle.std.proofs.Common.{◌≡◌, ℕ, ◌+◌, ◌≤◌, Bool, true, false, ◌||◌, not, if◌then◌else◌, List, [], ◌∷◌, ◌++◌, Option, Some, None, refl, ap, sym, ◌∙◌, arith, true≢false}
+use Rattle.std.proofs.Common.{◌≡◌, ℕ, ◌+◌, ◌≤◌, Bool, true, false, ◌||◌, not, if◌then◌else◌, List, [], ◌∷◌, ◌++◌, Option, Some, None, refl, ap, sym, ◌∙◌, arith, true≢false, nat_lt}
 use Rattle.std.specs.List.{list_all}
-use Rattle.std.specs.Prelude.{nat_lt}
 use Rattle.gtpp_message.specs.Packet.{PacketForm}
 use Rattle.gw_base.specs.declared.address.Addr.{Addr}
 use Rattle.node_core.specs.Hearing.{Dropped, Says, Taken, entries_from, heard_entries, heeds, taken, taken_entries}

@@ -1,6 +1,6 @@
 -- What a node knows in a start, by the laws of nodes.
-use Rattle.std.proofs.Common.{◌≡◌, ◌≢◌, ◌⊎◌, inl, inr, ⊎_elim, ℕ, suc, min, ◌+◌, ◌%◌, ◌<◌, ◌≤◌, Bool, if◌then◌else◌, List, [], ◌∷◌, length, length-set, map, All, Contains, slice_get, refl, ◌∙◌, arith, ◌==◌}
-use Rattle.std.proofs.lemmas.Bool.{cases_lt, ne_eqb, cond-false}
+use Rattle.std.proofs.Common.{◌≡◌, ◌≢◌, ◌⊎◌, inl, inr, ⊎_elim, ℕ, suc, min, ◌+◌, ◌%◌, ◌<◌, ◌≤◌, Bool, if◌then◌else◌, List, [], ◌∷◌, length, length-set, map, All, Contains, slice_get, refl, ◌∙◌, arith, ◌==◌, ne_eqb}
+use Rattle.std.proofs.lemmas.Bool.{cases_lt, cond-false}
 use Rattle.std.proofs.lemmas.List.Elements.{All-contains}
 use Rattle.gw_base.specs.declared.address.Addr.{Addr}
 use Rattle.node_core.specs.Choosing.{ReleasesChoice}

@@ -1,7 +1,5 @@
 -- A node of a world, in loops: addresses, messages and records, one after the other.
-use Rattle.std.proofs.Common.{◌≡◌, ℕ, zero, suc, ◌+◌, Bool, true, false, ◌&&◌, not, if◌then◌else◌, List, [], ◌∷◌, ◌++◌, Option, Some, None, option_and_then, refl, ap, sym, ◌∙◌, arith, append_assoc, length, true≢false}
-use Rattle.std.specs.Prelude.{option_map}
-use Rattle.std.proofs.lemmas.List.{append-nil}
+use Rattle.std.proofs.Common.{◌≡◌, ℕ, zero, suc, ◌+◌, Bool, true, false, ◌&&◌, not, if◌then◌else◌, List, [], ◌∷◌, ◌++◌, Option, Some, None, option_and_then, refl, ap, sym, ◌∙◌, arith, append_assoc, length, true≢false, option_map, append-nil}
 use Rattle.gtpp_message.specs.Packet.{PacketForm, Full, is_empty_packet, packet_of, records_at, packet_reading}
 use Rattle.gtpp_header.specs.Header.{two_octets}
 use Rattle.gtpp_message.specs.PacketWriting.{with_record}

@@ -1,9 +1,8 @@
 -- What a node sends in a tick isn't expired: a gateway to which it sends a request knows its start as the present one,
 -- and no gateway knows of a later one.
-use Rattle.std.proofs.Common.{◌≡◌, ℕ, zero, suc, ◌-◌, ◌<◌, ◌≤◌, ◌&&◌, nat_le, nat_lt, not, Bool, true, false, if◌then◌else◌, List, [], ◌∷◌, ◌++◌, ◌||◌, length, Option, Some, None, Contains, slice_get, take, refl, sym, ap, subst, ◌∙◌, arith, append-nil}
-use Rattle.std.proofs.lemmas.List.{length-take}
+use Rattle.std.proofs.Common.{◌≡◌, ℕ, zero, suc, ◌-◌, ◌<◌, ◌≤◌, ◌&&◌, nat_le, nat_lt, not, Bool, true, false, if◌then◌else◌, List, [], ◌∷◌, ◌++◌, ◌||◌, length, Option, Some, None, Contains, slice_get, take, refl, sym, ap, subst, ◌∙◌, arith, append-nil, length-take, le-leb, le-ltb, lt-ltb}
 use Rattle.std.specs.Option.{option_map_or}
-use Rattle.std.proofs.lemmas.Bool.{and_from, false≢true, le-leb, le-ltb, lt-ltb, and_left, or_from}
+use Rattle.std.proofs.lemmas.Bool.{and_from, false≢true, and_left, or_from}
 use Rattle.std.proofs.lemmas.Option.{slice_get_within}
 use Rattle.gw_base.specs.Starts.{start_of}
 use Rattle.gw_base.specs.declared.history.HistoryEntry.{HistoryEntry}

@@ -1,6 +1,5 @@
 -- The records of a history's items are such as the files are read with.
-use Rattle.std.proofs.Common.{◌≡◌, ℕ, zero, suc, ◌+◌, ◌-◌, ◌^◌, ◌<◌, ◌≤◌, ◌≢◌, ◌==◌, ◌/◌, ◌%◌, nat_lt, Bool, All, List, [], ◌∷◌, ◌++◌, length, length-append, length-take, map, drop, filter, Option, Some, None, option_map, refl, sym, subst, arith, ℤ, Contains, not, ⊎_elim}
-use Rattle.std.proofs.lemmas.Bool.{ltb-false}
+use Rattle.std.proofs.Common.{◌≡◌, ℕ, zero, suc, ◌+◌, ◌-◌, ◌^◌, ◌<◌, ◌≤◌, ◌≢◌, ◌==◌, ◌/◌, ◌%◌, nat_lt, Bool, All, List, [], ◌∷◌, ◌++◌, length, length-append, length-take, map, drop, filter, Option, Some, None, option_map, refl, sym, subst, arith, ℤ, Contains, not, ⊎_elim, ltb-false}
 use Rattle.std.proofs.lemmas.List.{map-append}
 use Rattle.std.proofs.lemmas.List.Elements.{All-append, All-cons, All-contains, All-drop, All-filter, All-head, All-nil, All-push, All-same, All-tail, All-weaker}
 use Rattle.std.specs.List.{last_or}

@@ -1,6 +1,5 @@
 -- Each record of each packet stands once in the files of all gateways, as it was filed once.
-use Rattle.std.proofs.Common.{◌≡◌, ℕ, ◌<◌, Bool, true, List, [], length, Option, Some, None, Contains, sum_by, refl, ap, subst, ◌∙◌, arith}
-use Rattle.std.specs.Prelude.{count_by}
+use Rattle.std.proofs.Common.{◌≡◌, ℕ, ◌<◌, Bool, true, List, [], length, Option, Some, None, Contains, sum_by, refl, ap, subst, ◌∙◌, arith, count_by}
 use Rattle.std.specs.Option.{option_map_or}
 use Rattle.std.proofs.lemmas.List.Elements.{All-contains}
 use Rattle.file_writer.specs.Places.{FilePlace}

@@ -1,8 +1,7 @@
 -- A turn of a world that is kept is the turn of the world that it stands for.
-use Rattle.std.proofs.Common.{◌≡◌, ℕ, ◌-◌, ◌≤◌, Bool, true, false, not, if◌then◌else◌, List, [], ◌∷◌, length, Option, Some, None, refl, ap, sym, ◌∙◌, subst}
+use Rattle.std.proofs.Common.{◌≡◌, ℕ, ◌-◌, ◌≤◌, Bool, true, false, not, if◌then◌else◌, List, [], ◌∷◌, length, Option, Some, None, refl, ap, sym, ◌∙◌, subst, option_map, slice_get}
 use Rattle.std.proofs.lemmas.Bool.{not-false}
-use Rattle.std.specs.Option.{option_map, option_map_or, option_or}
-use Rattle.std.specs.Prelude.{slice_get}
+use Rattle.std.specs.Option.{option_map_or, option_or}
 use Rattle.node_core.specs.Log.{LogEntry, Halted, runs}
 use Rattle.node_core.specs.Reached.{Halt, Start}
 use Rattle.node_core.specs.Ticks.{tick_entries}

@@ -1,8 +1,7 @@
 -- Each world is made by happenings, and so it files each record once.
-use Rattle.std.proofs.Common.{◌≡◌, ℕ, ◌-◌, ◌≤◌, ◌==◌, List, [], ◌∷◌, length, filter, map, Option, Some, None, Contains, slice_get, refl, sym, ap, subst, ◌∙◌, arith}
+use Rattle.std.proofs.Common.{◌≡◌, ℕ, ◌-◌, ◌≤◌, ◌==◌, List, [], ◌∷◌, length, filter, map, Option, Some, None, Contains, slice_get, refl, sym, ap, subst, ◌∙◌, arith, option_map, eq-eqb}
 use Rattle.std.specs.Option.{option_map_or}
-use Rattle.std.specs.Prelude.{option_map}
-use Rattle.std.proofs.lemmas.Bool.{and_parts, eq-eqb}
+use Rattle.std.proofs.lemmas.Bool.{and_parts}
 use Rattle.std.proofs.lemmas.List.Elements.{All-contains}
 use Rattle.gtpp_message.specs.Packet.{PacketForm}
 use Rattle.gw_base.specs.CdrKind.{kind_of}
