@@ -1,6 +1,5 @@
 -- A node sends copies of packets only to gateways that are alive to it, and these stay alive as long as it has them.
-use Rattle.std.proofs.Common.{◌≡◌, ◌⊎◌, inl, inr, ⊎_elim, ℕ, zero, suc, ◌==◌, nat_lt, Bool, true, false, List, [], ◌∷◌, ◌++◌, map, Option, Some, None, Contains, slice_index_or, slice_set, refl, sym, ap, subst}
-use Rattle.std.specs.Prelude.{replicate}
+use Rattle.std.proofs.Common.{◌≡◌, ◌⊎◌, inl, inr, ⊎_elim, ℕ, zero, suc, ◌==◌, Bool, true, false, List, [], ◌∷◌, map, Option, Some, None, Contains, slice_index_or, slice_set, refl, sym, ap, subst, ◌∙◌, replicate}
 use Rattle.std.proofs.lemmas.Bool.{false≢true}
 use Rattle.std.proofs.lemmas.List.Elements.{Contains-append_cases, Contains-push_cases}
 use Rattle.gtpp_message.specs.Packet.{PacketForm}
@@ -8,28 +7,25 @@ use Rattle.path_mgmt.specs.NodePath.{PathsOfNode, is_alive, node_after, node_ane
 use Rattle.path_mgmt.specs.declared.event.PathEvent.{PathEvent}
 use Rattle.path_mgmt.specs.declared.event.PathEvent.TheVariants.{AliveTold}
 use Rattle.node_core.specs.Copies.{copy_hearing, is_answered, new_copy}
-use Rattle.node_core.specs.Hearing.{Dropped, Says, Taken, entries_from, taken, taken_entries}
-use Rattle.node_core.specs.Log.{LogEntry, NodeSetup, Began, Halted, Submitted, Appointed, Ticked, Heard, Saying, Path, Responds, packets_of, paths_of, runs, submitted}
-use Rattle.node_core.specs.Moving.{appointing, moved_at_tick, moved_by}
+use Rattle.node_core.specs.Log.{LogEntry, NodeSetup, Began, Halted, Submitted, Appointed, Ticked, Heard, Saying, Path, Responds, packets_of, paths_of, submitted}
+use Rattle.node_core.specs.Moving.{appointing, moved_at_tick}
 use Rattle.node_core.specs.Packets.{PacketState, commanded, copies_after, is_done, is_of, packet_after, packet_after_all, packet_hearing, while_open}
-use Rattle.node_core.specs.Peers.{all_drawn, place_of}
-use Rattle.node_core.specs.Reached.{NodeCall, call_entries, entries_halted, entries_running, log_of, most_submissions, submit_entries}
-use Rattle.node_core.specs.Reached as call
+use Rattle.node_core.specs.Peers.{all_drawn}
+use Rattle.node_core.specs.Reached.{NodeCall, call_entries, log_of}
 use Rattle.node_core.specs.Sendings.{command_by, due_for_all, probes}
-use Rattle.node_core.specs.Submitting.{refusal}
 use Rattle.node_core.specs.Ticks.{due}
 use Rattle.node_core.specs.Value.{NodeValue, befallen, logged, node_of}
 use Rattle.node_core.specs.declared.copy.Command.{Command}
 use Rattle.node_core.specs.declared.copy.Order.{Order}
 use Rattle.node_core.specs.declared.copy.PacketCopy.{PacketCopy}
-use Rattle.node_core.specs.declared.fault.SubmitFault.{SubmitFault}
 use Rattle.node_core.specs.declared.peer.Peer.{Peer}
 use Rattle.node_core.specs.declared.port.Port.{Port}
 use Rattle.node_core.specs.declared.sending.Sending.{Sending}
 use Rattle.node_core.specs.declared.sending.Sending.TheVariants as send
 use Rattle.once_core.proofs.ListLemmas.{in_head, in_none, in_tail}
 use Rattle.once_core.proofs.WaitingLemmas.{of_map}
-use Rattle.once_core.proofs.CaseLemmas.{if_both}
+use Rattle.once_core.proofs.CaseLemmas.{by_option, if_both}
+use Rattle.once_core.proofs.CallLemmas.{Adds, adds, begins_anew, halts, hears, nothing, submits, ticks}
 use Rattle.once_core.proofs.DueLemmas.{all_due, is_probe, probes_are}
 
 -- ---- which gateways are alive
@@ -78,12 +74,9 @@ probe_up : (paths : PathsOfNode) (s : Sending) → is_probe s ≡ true → IsUp 
 probe_up paths (send.Probe gateway number) is = tt
 probe_up paths _ isnt = absurd (false≢true isnt)
 
-moved_paths : (o : Option ℕ) (node : NodeValue) → (befallen (appointing o) node).paths ≡ node.paths
-moved_paths None node = refl
-moved_paths (Some gateway) node = refl
-
 due_up : (node : NodeValue) → AllUp node.paths (due node)
-due_up node = subst (λ (paths : PathsOfNode). AllUp paths (due node)) (moved_paths (moved_at_tick node) node) (λ s is. ⊎_elim
+due_up node = subst (λ (paths : PathsOfNode). AllUp paths (due node))
+    (by_option (λ (o : Option ℕ). (befallen (appointing o) node).paths ≡ node.paths) (moved_at_tick node) (λ none. refl) (λ gateway is. refl)) (λ s is. ⊎_elim
     (λ probe. probe_up there.paths s (probes_are 0 there.paths there.gateways s probe))
     (all_due there.favourite_place up (IsUp there.paths) there.packets (λ p kept open_yet. record {
       copies = λ peers is_plain alive new. alive;
@@ -187,45 +180,15 @@ module _ (setup : NodeSetup) where
   Alive log = AliveIn setup.counter log
 
   -- a call
-  module _ (log : List LogEntry) (all : Alive log) where
-    abbrev node : NodeValue
-    node = node_of setup log
-
-    abbrev Leaves : List LogEntry → Type 0
-    Leaves entries = Alive (logged entries log)
-
-    submit_alive : (o : Option SubmitFault) (form : PacketForm) → Alive (logged (submit_entries node o form) log)
-    submit_alive (Some fault) form = all
-    submit_alive None form = if_both Leaves (nat_lt node.submissions most_submissions) (submitted_alive setup.counter form log all) all
-
-    tick_alive : (o : Option ℕ) → Alive (logged (appointing o ++ Ticked (due node) ∷ []) log)
-    tick_alive None = ticked_alive setup.counter (due node) log (due_up node) all
-    tick_alive (Some gateway) = ticked_alive setup.counter (due node) (Appointed gateway ∷ log) (due_up node) all
-
-    taken_alive : (port : Port) (gateway : ℕ) (t : Taken) → Alive (logged (taken_entries node port gateway t) log)
-    taken_alive port gateway (Dropped why) = all
-    taken_alive port gateway (Says saying reply) =
-        appointed_alive setup.counter (moved_by node port gateway saying) (Heard port gateway saying ∷ log) (heard_alive setup.counter port gateway saying log all)
-
-    hear_alive : (port : Port) (o : Option ℕ) (octets : List ℕ) → Alive (logged (entries_from node port o octets) log)
-    hear_alive port None octets = all
-    hear_alive port (Some gateway) octets = taken_alive port gateway (taken node gateway octets)
-
-    running_alive : (next : NodeCall) → Alive (logged (entries_running node next) log)
-    running_alive (call.Submit form) = submit_alive (refusal node form) form
-    running_alive call.Tick = tick_alive (moved_at_tick node)
-    running_alive (call.Hear port from octets) = hear_alive port (place_of node.gateways from.ip) octets
-    running_alive call.Halt = none_alive_in setup.counter (paths_of setup.counter (Halted ∷ log))
-    running_alive call.Start = all
-
-    halted_alive : (next : NodeCall) → Alive (logged (entries_halted next) log)
-    halted_alive call.Halt = none_alive_in setup.counter (paths_of setup.counter (Halted ∷ log))
-    halted_alive call.Start = none_alive_in setup.counter (paths_of setup.counter (Began ∷ log))
-    halted_alive _ = all
-
-    called_alive : (next : NodeCall) → Alive (logged (call_entries node next) log)
-    called_alive next = if_both Leaves (runs log) (running_alive next) (halted_alive next)
+  adds_alive : (log entries : List LogEntry) → Adds setup log entries → Alive log → Alive (logged entries log)
+  adds_alive log _ nothing all = all
+  adds_alive log _ begins_anew all = none_alive_in setup.counter (paths_of setup.counter (Began ∷ log))
+  adds_alive log _ halts all = none_alive_in setup.counter (paths_of setup.counter (Halted ∷ log))
+  adds_alive log _ (submits up form) all = submitted_alive setup.counter form log all
+  adds_alive log _ (ticks up None) all = ticked_alive setup.counter (due (node_of setup log)) log (due_up (node_of setup log)) all
+  adds_alive log _ (ticks up (Some gateway)) all = ticked_alive setup.counter (due (node_of setup log)) (Appointed gateway ∷ log) (due_up (node_of setup log)) all
+  adds_alive log _ (hears up port gateway saying to) all = appointed_alive setup.counter to (Heard port gateway saying ∷ log) (heard_alive setup.counter port gateway saying log all)
 
   pub copies_alive : (calls : List NodeCall) → AllAlive (paths_of setup.counter (log_of setup calls)) (packets_of (log_of setup calls))
   copies_alive [] = none_alive_in setup.counter (paths_of setup.counter (Began ∷ []))
-  copies_alive (next ∷ calls) = called_alive (log_of setup calls) (copies_alive calls) next
+  copies_alive (next ∷ calls) = adds_alive (log_of setup calls) (call_entries (node_of setup (log_of setup calls)) next) (adds setup (log_of setup calls) next) (copies_alive calls)

@@ -1,12 +1,8 @@
 -- What is filed under a key is the record with its index of a packet that was sent with the key's number, in the
 -- packet's kind.
-use Rattle.std.proofs.Common.{◌≡◌, ⊎_elim, ℕ, ◌==◌, Bool, true, false, List, [], ◌∷◌, ◌++◌, Option, Some, None, Contains, slice_get, refl, sym, ap, subst, ◌∙◌}
-use Rattle.std.proofs.lemmas.Bool.{eqb-true}
-use Rattle.std.proofs.lemmas.List.{append-nil}
+use Rattle.std.proofs.Common.{◌≡◌, ⊎_elim, ℕ, ◌==◌, Bool, true, false, List, [], ◌∷◌, ◌++◌, Option, Some, Contains, slice_get, sym, ap, subst, ◌∙◌, eqb-true, append-nil, option_map}
 use Rattle.std.proofs.lemmas.List.Elements.{Contains-append_cases}
 use Rattle.std.specs.List.{enumerate_from}
-use Rattle.std.specs.Option.{option_map_or}
-use Rattle.std.specs.Prelude.{option_map}
 use Rattle.gtpp_message.specs.Packet.{PacketForm, packet_of}
 use Rattle.gw_base.specs.CdrKind.{kind_of}
 use Rattle.gw_base.specs.History.{present_state, state_of}
@@ -31,18 +27,15 @@ use Rattle.once_core.proofs.EachLemmas.{by_each}
 use Rattle.once_core.proofs.FiledLemmas.{record_within}
 use Rattle.once_core.proofs.ListLemmas.{in_none}
 use Rattle.once_core.proofs.WaitingLemmas.{of_map}
+use Rattle.once_core.proofs.CaseLemmas.{by_option, map_known}
+use Rattle.std.proofs.lemmas.Option.{same_Some}
 
 -- a record of a packet is filed in the packet's kind
 kept_kind : (k : PacketKey) (moment : ℕ) (octets : List ℕ) (r : FiledRecord) → Contains (filed_under k moment octets) r
     → kind_within octets ≡ Some r.kind
-kept_kind k moment octets r is = by_form (packet_of octets) is
-  where
-    by_form : (form : Option PacketForm) → Contains (records_if k moment form) r
-        → option_map (λ (form : PacketForm). kind_of form.format form.version) form ≡ Some r.kind
-    by_form None is = absurd (in_none r is)
-    by_form (Some form) is =
-        let from = of_map (filed_record k moment form.format form.version) (enumerate_from 0 form.records) r is in
-        ap (λ (f : FiledRecord). Some f.kind) from.2
+kept_kind k moment octets r = by_option (λ (form : Option PacketForm). Contains (records_if k moment form) r → option_map (λ (form : PacketForm). kind_of form.format form.version) form ≡ Some r.kind)
+    (packet_of octets) (λ none is. absurd (in_none r is))
+    (λ form there is. ap (λ (f : FiledRecord). Some f.kind) (of_map (filed_record k moment form.format form.version) (enumerate_from 0 form.records) r is).2)
 
 module _ (letters : List Letter) (gateway : ℕ) (key : PacketKey) where
   -- the request that brought a record
@@ -79,26 +72,22 @@ module _ (letters : List Letter) (gateway : ℕ) (key : PacketKey) where
       → Counted letters gateway key 0 h (state_of key h)
       → Brings (h ++ entry moment who (act.Release n xs) ∷ []) (released_by h moment n (once (λ y z. y == z) xs))
   by_release h moment who n xs x rise alone held so_far filing kept same =
-      by_packet (held_packet n.0 x h) refl
+      map_known (λ (rs : List FiledRecord). Contains rs filing → IsBrought (h ++ entry moment who (act.Release n xs) ∷ []) filing) (held_packet n.0 x h)
+      (λ none there. absurd (in_none filing there))
+      (λ octets some there.
+      let within = record_within (present_key h n x) moment octets filing there in
+      let is = key_here h n x filing within.1 same in
+      let as_held = fresh_here letters gateway key 0 h n x Held is held so_far in
+      let octets_are : as_held.0 ≡ octets = same_Some as_held.0 octets
+      (sym as_held.2 ∙ sym (held_here letters gateway key h n (x == key.number) is) ∙ ap (λ (y : ℕ). held_packet n.0 y h) (sym (eqb-true x key.number is.test)) ∙ some) in
+      record {
+        plain = false;
+        octets = as_held.0;
+        backed = backed_stays letters gateway key h (entry moment who (act.Release n xs) ∷ []) key.number (Sends false as_held.0) as_held.3;
+        at = ap (λ (os : List ℕ). slice_get (records_within os) filing.index) octets_are ∙ within.0;
+        kind = ap kind_within octets_are ∙ kept_kind (present_key h n x) moment octets filing there;
+      })
       (subst (λ rs. Contains rs filing) (ap (λ ys. released_by h moment n (once (λ y z. y == z) ys)) alone ∙ append-nil (released_records h moment n x)) kept)
-    where
-      by_packet : (packet : Option (List ℕ)) → held_packet n.0 x h ≡ packet → Contains (option_map_or (filed_under (present_key h n x) moment) packet []) filing
-          → IsBrought (h ++ entry moment who (act.Release n xs) ∷ []) filing
-      by_packet None none kept = absurd (in_none filing kept)
-      by_packet (Some octets) some kept =
-          let there = record_within (present_key h n x) moment octets filing kept in
-          let is = key_here h n x filing there.1 same in
-          let as_held = fresh_here letters gateway key 0 h n x Held is held so_far in
-          let both : Some as_held.0 ≡ Some octets =
-          sym as_held.2 ∙ sym (held_here letters gateway key h n (x == key.number) is) ∙ ap (λ (y : ℕ). held_packet n.0 y h) (sym (eqb-true x key.number is.test)) ∙ some in
-          let octets_are : as_held.0 ≡ octets = cc in
-          record {
-            plain = false;
-            octets = as_held.0;
-            backed = backed_stays letters gateway key h (entry moment who (act.Release n xs) ∷ []) key.number (Sends false as_held.0) as_held.3;
-            at = ap (λ (os : List ℕ). slice_get (records_within os) filing.index) octets_are ∙ there.0;
-            kind = ap kind_within octets_are ∙ kept_kind (present_key h n x) moment octets filing kept;
-          }
 
   by_act : (h : List HistoryEntry) (moment : ℕ) (who : Caller) (a : HistoryAct) → StartsRise h → RestsBy letters gateway h a → Counted letters gateway key 0 h (state_of key h)
       → Brings (h ++ entry moment who a ∷ []) (filed_by_act h moment a)

@@ -1,8 +1,8 @@
 -- What is due is of packets that are open, and they stay open.
-use Rattle.std.proofs.Common.{◌≡◌, ⊎_elim, ℕ, suc, ◌==◌, ◌&&◌, ◌||◌, Bool, true, false, List, [], ◌∷◌, ◌++◌, map, Option, Some, None, Contains, refl, sym, ap, ◌∙◌, arith, subst}
-use Rattle.std.specs.List.{find, flat_map, list_all, list_any}
+use Rattle.std.proofs.Common.{◌≡◌, ⊎_elim, ℕ, suc, ◌==◌, ◌&&◌, ◌||◌, Bool, true, false, List, [], ◌∷◌, ◌++◌, map, Option, Some, None, Contains, refl, sym, ap, ◌∙◌, arith, subst, find, flat_map, eq-eqb}
+use Rattle.std.specs.List.{list_all, list_any}
 use Rattle.std.specs.Option.{option_map_or, option_or}
-use Rattle.std.proofs.lemmas.Bool.{eq-eqb, and_right}
+use Rattle.std.proofs.lemmas.Bool.{and_right}
 use Rattle.std.proofs.lemmas.List.Elements.{Contains-append_cases}
 use Rattle.gtpp_message.specs.Packet.{PacketForm}
 use Rattle.node_core.specs.Copies.{is_answered, is_filed, is_held, is_release, is_released, is_sealed, is_settled, new_copy}
@@ -61,7 +61,7 @@ module _ {number favourite : ℕ} {up : Bool} {Q : Sending → Type 0} (each : E
       let there = of_flat_map (settling peers number) duplicates s is in settling_due there.0.verdict peers there.0 s there.2
 
   releasing_due : (choice : Option PacketCopy) (peers : List Peer) (duplicates : List PacketCopy) → AllDo (releasing choice peers number duplicates)
-  releasing_due None peers duplicates = all_settling peers duplicates
+  releasing_due None peers duplicates s is = all_settling peers duplicates s is
   releasing_due (Some choice) peers duplicates s is = ⊎_elim (command_due peers Release choice s)
       (λ other.
       let there = of_flat_map (settling_beside choice peers number) duplicates s other in

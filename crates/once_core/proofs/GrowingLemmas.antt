@@ -1,6 +1,5 @@
 -- Firm parts grow in every move of a gateway, and so in every turn.
-use Rattle.std.proofs.Common.{ℕ, List, [], ◌++◌, None, refl, sym, ap, subst, ◌∙◌, append_assoc, append-nil, length}
-use Rattle.std.specs.Prelude.{slice_get}
+use Rattle.std.proofs.Common.{ℕ, List, [], ◌++◌, None, refl, sym, ap, subst, ◌∙◌, append_assoc, append-nil, length, slice_get}
 use Rattle.gateway_book.specs.Answer.{Decided, Silent, Says, decided, failure_answer}
 use Rattle.gateway_book.specs.Filed.{along, filed, filed_by}
 use Rattle.gateway_book.specs.FiledLaws.{along-append}

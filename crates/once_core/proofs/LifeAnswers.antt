@@ -1,7 +1,6 @@
 -- A gateway tells a node that it is alive only once the node's start is firm, and knows of no start that wasn't made: what
 -- it answers, its marks, its openings and its redirections.
-use Rattle.std.proofs.Common.{◌≡◌, ℕ, ◌≤◌, nat_lt, not, Bool, true, false, List, [], ◌∷◌, map, Option, Some, None, refl, sym, ap, subst, ◌∙◌, arith, append_assoc, IfSome}
-use Rattle.std.specs.Prelude.{option_map}
+use Rattle.std.proofs.Common.{◌≡◌, ℕ, ◌≤◌, nat_lt, not, Bool, true, false, List, [], ◌∷◌, map, Option, Some, None, refl, sym, ap, subst, ◌∙◌, arith, append_assoc, IfSome, option_map}
 use Rattle.std.proofs.lemmas.Bool.{false≢true}
 use Rattle.gw_base.specs.History.{moment_after}
 use Rattle.gw_base.specs.Nearest.{nearest}
@@ -48,7 +47,6 @@ use Rattle.once_core.proofs.LifeMoves.{Truly, TrulyMoved, followed_truly, no_pat
 use Rattle.once_core.proofs.ListLemmas.{in_one}
 use Rattle.once_core.proofs.MeaningLemmas.{FromNode, NodeSaid, ReadsBack, role_read_of}
 use Rattle.once_core.proofs.PathPlays.{fresh_start, rises}
-use Rattle.once_core.proofs.ReplyPlays.{noted}
 use Rattle.once_core.proofs.StartLemmas.{IsNoPath, known_start, opened_start, path_starts}
 use Rattle.once_core.proofs.WaitingLemmas.{of_map}
 use Rattle.once_core.proofs.StopLemmas.{history_is}

@@ -1,7 +1,7 @@
 -- A gateway tells a node that it is alive only once the node's start is firm, and knows of no start that wasn't made: its
 -- moves.
-use Rattle.std.proofs.Common.{◌≡◌, ⊎_elim, ℕ, ◌-◌, ◌≤◌, ◌==◌, nat_lt, not, Bool, true, false, List, [], ◌∷◌, ◌++◌, length, length-append, map, filter, take, drop, take-append-drop, Contains, refl, sym, ap, subst, ◌∙◌, arith, append_assoc, append-nil, ◌⊎◌}
-use Rattle.std.proofs.lemmas.Bool.{eqb-true, false≢true, leb-true, ltb-true}
+use Rattle.std.proofs.Common.{◌≡◌, ⊎_elim, ℕ, ◌-◌, ◌≤◌, ◌==◌, nat_lt, not, Bool, true, false, List, [], ◌∷◌, ◌++◌, length, length-append, map, filter, take, drop, take-append-drop, Contains, refl, sym, ap, subst, ◌∙◌, arith, append_assoc, append-nil, ◌⊎◌, eqb-true, leb-true, ltb-true}
+use Rattle.std.proofs.lemmas.Bool.{false≢true}
 use Rattle.std.proofs.lemmas.List.Elements.{Contains-append_cases, Contains-push_cases}
 use Rattle.gw_base.specs.EntryLaws.{opening_of-append}
 use Rattle.gw_base.specs.Starts.{start_by, start_of}
@@ -21,11 +21,10 @@ use Rattle.once_core.specs.Growing.{GrowsTo}
 use Rattle.once_core.specs.Messages.{failing, has_type, is_response}
 use Rattle.once_core.specs.declared.message.Message.{Message}
 use Rattle.once_core.specs.declared.message.Waiting.{Waiting}
-use Rattle.once_core.proofs.CommitPlays.{not_reached, whole_book}
+use Rattle.once_core.proofs.CommitPlays.{not_reached}
 use Rattle.once_core.proofs.EachLemmas.{each_front, each_more}
 use Rattle.once_core.proofs.GrowingLemmas.{on, on_on, on_with}
 use Rattle.once_core.proofs.ListLemmas.{filtered, in_none}
-use Rattle.once_core.proofs.ReplyPlays.{noted}
 use Rattle.once_core.proofs.StartLemmas.{IsNoPath, front_low, no_path_rises, no_path_same, one_rises, start_rises}
 use Rattle.once_core.proofs.WaitingLemmas.{of_map, passed}
 use Rattle.once_core.proofs.StopLemmas.{history_is}

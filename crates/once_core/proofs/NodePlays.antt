@@ -68,7 +68,7 @@ quiet_node {scene = scene} stands after sends same fine = record {
 
 -- ---- appointments
 
-appointed : {A : Type 0} (f : List LogEntry → A) → ((gateway : ℕ) (log : List LogEntry) → f (Appointed gateway ∷ log) ≡ f log)
+pub appointed : {A : Type 0} (f : List LogEntry → A) → ((gateway : ℕ) (log : List LogEntry) → f (Appointed gateway ∷ log) ≡ f log)
     → (o : Option ℕ) (log : List LogEntry) → f (logged (appointing o) log) ≡ f log
 appointed f same None log = refl
 appointed f same (Some gateway) log = same gateway log

@@ -1,9 +1,8 @@
 -- What a node sends in a tick isn't expired: a gateway to which it sends a request knows its start as the present one,
 -- and no gateway knows of a later one.
-use Rattle.std.proofs.Common.{◌≡◌, ℕ, zero, suc, ◌-◌, ◌<◌, ◌≤◌, ◌&&◌, nat_le, nat_lt, not, Bool, true, false, if◌then◌else◌, List, [], ◌∷◌, ◌++◌, ◌||◌, length, Option, Some, None, Contains, slice_get, take, refl, sym, ap, subst, ◌∙◌, arith, append-nil}
-use Rattle.std.proofs.lemmas.List.{length-take}
+use Rattle.std.proofs.Common.{◌≡◌, ℕ, zero, suc, ◌-◌, ◌<◌, ◌≤◌, ◌&&◌, nat_le, nat_lt, not, Bool, true, false, if◌then◌else◌, List, [], ◌∷◌, ◌++◌, ◌||◌, length, Option, Some, None, Contains, slice_get, take, refl, sym, ap, subst, ◌∙◌, arith, append-nil, length-take, le-leb, le-ltb, lt-ltb}
 use Rattle.std.specs.Option.{option_map_or}
-use Rattle.std.proofs.lemmas.Bool.{and_from, false≢true, le-leb, le-ltb, lt-ltb, and_left, or_from}
+use Rattle.std.proofs.lemmas.Bool.{and_from, false≢true, and_left, or_from}
 use Rattle.std.proofs.lemmas.Option.{slice_get_within}
 use Rattle.gw_base.specs.Starts.{start_of}
 use Rattle.gw_base.specs.declared.history.HistoryEntry.{HistoryEntry}
@@ -34,7 +33,7 @@ use Rattle.once_core.specs.declared.event.WorldKind.{WorldKind}
 use Rattle.once_core.specs.declared.event.WorldKind.TheVariants.{NoMessage}
 use Rattle.once_core.specs.declared.message.Message.{Message}
 use Rattle.once_core.proofs.AliveLemmas.{AllAlive, copies_alive}
-use Rattle.once_core.proofs.GrowingLemmas.{book_is, on, on_with}
+use Rattle.once_core.proofs.GrowingLemmas.{on, on_with}
 use Rattle.once_core.proofs.LifeWorlds.{Lives, reached_lives, reached_made, values_in}
 use Rattle.once_core.proofs.ListLemmas.{get_contains}
 use Rattle.once_core.proofs.LogLemmas.{gateway_is}
@@ -42,7 +41,7 @@ use Rattle.once_core.proofs.MeantLemmas.{Numbers}
 use Rattle.once_core.proofs.NodePlays.{appointed_paths}
 use Rattle.once_core.proofs.StartLemmas.{front_low, start_rises}
 use Rattle.once_core.proofs.TimelyLemmas.{RequestsSent, after_is, behind, asks, not_expired, running}
-use Rattle.once_core.proofs.TurnPlays.{Laws, it_runs}
+use Rattle.once_core.proofs.TurnPlays.{Laws}
 use Rattle.once_core.proofs.WaitingLemmas.{of_map}
 use Rattle.once_core.proofs.WorldPlays.{Made}
 use Rattle.once_core.proofs.CaseLemmas.{by_bool, by_option, if_known, map_known}

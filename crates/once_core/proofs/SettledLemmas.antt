@@ -1,72 +1,56 @@
 -- The numbers of all copies of a packet that is done are known to their gateways.
-use Rattle.std.proofs.Common.{◌≡◌, ⊎_elim, ℕ, ◌==◌, ◌||◌, Bool, true, false, if◌then◌else◌, List, [], ◌∷◌, Option, Some, None, IfSome, Contains, refl, sym, ap, subst, ◌∙◌}
+use Rattle.std.proofs.Common.{◌≡◌, ⊎_elim, ℕ, ◌==◌, ◌||◌, Bool, true, false, List, [], ◌∷◌, Option, Some, None, IfSome, Contains, refl, sym, ap, subst, ◌∙◌, inl, inr, ◌⊎◌}
 use Rattle.std.specs.List.{list_all, list_any}
 use Rattle.std.specs.Option.{option_map_or}
-use Rattle.std.proofs.lemmas.Bool.{and_parts, false≢true, or_cases}
+use Rattle.std.proofs.lemmas.Bool.{and_parts, false≢true, or_cases, or_left, or_right}
 use Rattle.gw_base.specs.declared.cause.TheConstants.{ACCEPTED, ALREADY_FULFILLED, DUPLICATE_ALREADY_FULFILLED}
 use Rattle.node_core.specs.Copies.{is_answered, is_chosen, is_filed, is_filing, is_fulfilled, is_released, is_sealed, is_settled, is_unknown, told}
 use Rattle.node_core.specs.Packets.{PacketState, is_done}
 use Rattle.node_core.specs.Resting.{IsFulfilled}
 use Rattle.node_core.specs.declared.copy.Command.{Command}
-use Rattle.node_core.specs.declared.copy.Order.{Order}
 use Rattle.node_core.specs.declared.copy.PacketCopy.{PacketCopy}
 use Rattle.node_core.specs.declared.copy.Verdict.{Verdict}
 use Rattle.node_core.specs.declared.copy.Verdict.TheVariants as verdict
 use Rattle.node_core.specs.declared.port.Port.{Port}
 use Rattle.node_core.specs.declared.port.Port.TheVariants.{First, Second}
-use Rattle.once_core.specs.Following.{AnyHasCopyAt, Follows, IsCommandSent, MaySend, heard_in}
+use Rattle.once_core.specs.Following.{Follows, MaySend, heard_in}
 use Rattle.once_core.specs.Happenings.{Asks, Letter, Meaning, Orders, Request, Scene, Sends, Tests, about}
 use Rattle.once_core.specs.Resting.{IsKnown, SceneHolds}
 use Rattle.once_core.specs.Scenes.{is_telling}
 use Rattle.once_core.proofs.KnownLemmas as knows
 use Rattle.once_core.proofs.KnownLemmas.{filing_tells, fulfilled_tells}
-use Rattle.once_core.proofs.ListLemmas.{in_cons, in_head, in_none, in_tail}
-use Rattle.once_core.proofs.RoleLemmas.{IsCopyOf, command_use, not_both, same_user}
+use Rattle.once_core.proofs.ListLemmas.{in_cons, in_head, in_tail}
+use Rattle.once_core.proofs.RoleLemmas.{IsCopyOf}
+use Rattle.std.proofs.lemmas.List.Elements.{All-contains}
+use Rattle.std.proofs.lemmas.List.Sums.{AllPass-from_list_all}
+use Rattle.once_core.proofs.CaseLemmas.{if_known}
 
 -- ---- lists
 
-all_at : {A : Type 0} (p : A → Bool) (xs : List A) (x : A) → list_all p xs ≡ true → Contains xs x → p x ≡ true
-all_at p [] x all is = absurd (in_none x is)
-all_at p (y ∷ xs) x all is =
-    let parts = and_parts (p y) (list_all p xs) all in
-    ⊎_elim (λ e. ap p (sym e) ∙ parts.0) (λ later. all_at p xs x parts.1 later) (in_cons y x xs is)
-
 any_at : {A : Type 0} (p : A → Bool) (xs : List A) → list_any p xs ≡ true → (x : A) × Contains xs x × (p x ≡ true)
 any_at p [] e = absurd (false≢true e)
-any_at {A} p (y ∷ xs) e = by (p y) refl e (λ rest. any_at p xs rest)
-  where
-    by : (b : Bool) → p y ≡ b → (b || list_any p xs) ≡ true → (list_any p xs ≡ true → (x : A) × Contains xs x × (p x ≡ true)) → (x : A) × Contains (y ∷ xs) x × (p x ≡ true)
-    by true is e rest = (y, in_head y xs, is)
-    by false is e rest = let there = rest e in (there.0, in_tail y there.0 xs there.1, there.2)
+any_at {A} p (y ∷ xs) e = ⊎_elim (λ is. (y, in_head y xs, is)) (λ rest. let there = any_at p xs rest in (there.0, in_tail y there.0 xs there.1, there.2)) (or_cases (p y) (list_any p xs) e)
 
 -- ---- a verdict tells by a cause that tells
 
-told_telling : (port : Port) (is_plain : Bool) (cause : ℕ) → is_unknown (told port is_plain cause) ≡ false → is_telling cause ≡ true
-told_telling First true cause e = by (is_filing cause) refl e
-  where
-    by : (b : Bool) → is_filing cause ≡ b → is_unknown (if b then verdict.Filed else verdict.Unknown) ≡ false → is_telling cause ≡ true
-    by true is e = filing_tells cause is
-    by false is e = absurd (false≢true (sym e))
-told_telling First false cause e = by (is_fulfilled cause) refl e
-  where
-    by : (b : Bool) → is_fulfilled cause ≡ b → is_unknown (if b then verdict.Held else verdict.Unknown) ≡ false → is_telling cause ≡ true
-    by true is e = fulfilled_tells cause is
-    by false is e = absurd (false≢true (sym e))
-told_telling Second true cause e = by (cause == ALREADY_FULFILLED) (cause == ACCEPTED) (cause == DUPLICATE_ALREADY_FULFILLED) e
-  where
-    by : (b c d : Bool) → is_unknown (if b then verdict.Filed else if c then verdict.Sealed else verdict.Unknown) ≡ false → (c || b || d) ≡ true
-    by true true d e = refl
-    by true false d e = refl
-    by false true d e = refl
-    by false false d e = absurd (false≢true (sym e))
-told_telling Second false cause e = by (cause == DUPLICATE_ALREADY_FULFILLED) (cause == ACCEPTED) (cause == ALREADY_FULFILLED) e
-  where
-    by : (b c d : Bool) → is_unknown (if b then verdict.Held else if c then verdict.Sealed else verdict.Unknown) ≡ false → (c || d || b) ≡ true
-    by true true d e = refl
-    by true false true e = refl
-    by true false false e = refl
-    by false true d e = refl
-    by false false d e = absurd (false≢true (sym e))
+abbrev IfKnown : ℕ → Verdict → Type 0
+IfKnown cause v = is_unknown v ≡ false → is_telling cause ≡ true
+
+unknown_not : {P : Type 0} → is_unknown verdict.Unknown ≡ false → P
+unknown_not e = absurd (false≢true (sym e))
+
+telling : (cause : ℕ) → ((cause == ACCEPTED) ≡ true) ⊎ (((cause == ALREADY_FULFILLED) ≡ true) ⊎ ((cause == DUPLICATE_ALREADY_FULFILLED) ≡ true)) → is_telling cause ≡ true
+telling cause (inl is) = or_left (cause == ACCEPTED) _ is
+telling cause (inr (inl is)) = or_right (cause == ACCEPTED) _ (or_left (cause == ALREADY_FULFILLED) _ is)
+telling cause (inr (inr is)) = or_right (cause == ACCEPTED) _ (or_right (cause == ALREADY_FULFILLED) _ is)
+
+told_telling : (port : Port) (is_plain : Bool) (cause : ℕ) → IfKnown cause (told port is_plain cause)
+told_telling First true cause = if_known (IfKnown cause) (is_filing cause) (λ is e. filing_tells cause is) (λ isnt. unknown_not)
+told_telling First false cause = if_known (IfKnown cause) (is_fulfilled cause) (λ is e. fulfilled_tells cause is) (λ isnt. unknown_not)
+told_telling Second true cause = if_known (IfKnown cause) (cause == ALREADY_FULFILLED) (λ is e. telling cause (inr (inl is)))
+    (λ isnt. if_known (IfKnown cause) (cause == ACCEPTED) (λ is e. telling cause (inl is)) (λ neither. unknown_not))
+told_telling Second false cause = if_known (IfKnown cause) (cause == DUPLICATE_ALREADY_FULFILLED) (λ is e. telling cause (inr (inr is)))
+    (λ isnt. if_known (IfKnown cause) (cause == ACCEPTED) (λ is e. telling cause (inl is)) (λ neither. unknown_not))
 
 sealed_is_known : (v : Verdict) → is_sealed v ≡ true → is_unknown v ≡ false
 sealed_is_known verdict.Unknown e = absurd (false≢true e)
@@ -101,30 +85,8 @@ module _ (scene : Scene) (holds : SceneHolds scene) (node start : ℕ) (values :
       → IsFulfilled (heard_in start (scene.deeds node)) copy.gateway command.number → Known copy
   by_command packet copy command is e of =
       let answer = knows.answered scene holds node start values packets follows copy.gateway of.port command.number of.cause of.numbers of.heard of.named (fulfilled_tells of.cause of.tells) in
-      by of.port answer.request answer.may answer.known
-    where
-      mixed : AnyHasCopyAt packets copy.gateway command.number → ⊥
-      mixed at =
-          not_both copy.gateway command.number packets (follows.roles copy.gateway command.number) at.packet packet at.copy copy command
-          (record { kept = at.kept; among = at.among }) is at.gateway_is at.number_is refl e refl
-
-      by_order : (which : Order) (named : ℕ) (before : Bool) → IsCommandSent packets copy.gateway named (record { order = which; number = command.number; is_answered = before })
-          → IsKnown (scene.posts copy.gateway).firm node start named → Known copy
-      by_order which named before sent is_known =
-          let other : Command = record { order = which; number = command.number; is_answered = before } in
-          let same : copy ≡ sent.at.copy =
-          (same_user copy.gateway command.number packets (follows.roles copy.gateway command.number) packet sent.at.packet copy sent.at.copy is
-          (record { kept = sent.at.kept; among = sent.at.among }) (command_use copy.gateway command.number copy command refl e refl)
-          (command_use copy.gateway command.number sent.at.copy other sent.at.gateway_is sent.sent refl)).1 in
-          let number_is : named ≡ copy.number = sym sent.at.number_is ∙ ap (λ (c : PacketCopy). c.number) (sym same) in
-          subst (IsKnown (scene.posts copy.gateway).firm node start) number_is is_known
-
-      by : (port : Port) (request : Request) → MaySend packets values (letter_of copy.gateway port command.number (Asks request)) (Asks request)
-          → IsKnown (scene.posts copy.gateway).firm node start (about request command.number) → Known copy
-      by port (Sends true octets) may is_known = absurd (mixed may.1.at)
-      by port (Sends false octets) may is_known = absurd (mixed may.1.at)
-      by port Tests may is_known = absurd (mixed may.1)
-      by port (Orders which named) may is_known = by_order which named may.1 may.2 is_known
+      subst (λ (r : Request). IsKnown (scene.posts copy.gateway).firm node start (about r command.number))
+      (knows.command_request scene holds node start values packets follows packet copy command of.port is e answer.request answer.may) answer.known
 
   -- a copy whose command is answered
   answered_known : (packet : PacketState) (copy : PacketCopy) → IsCopyOf packets packet copy → is_answered copy ≡ true → Known copy
@@ -137,8 +99,7 @@ module _ (scene : Scene) (holds : SceneHolds scene) (node start : ℕ) (values :
 
   settled_known : (packet : PacketState) (copy : PacketCopy) → IsCopyOf packets packet copy → is_settled copy ≡ true → Known copy
   settled_known packet copy is settled = ⊎_elim
-      (λ sealed. by_verdict packet copy is (sealed_is_known copy.verdict sealed))
-      (λ answered. answered_known packet copy is answered)
+      (λ sealed. by_verdict packet copy is (sealed_is_known copy.verdict sealed)) (answered_known packet copy is)
       (or_cases (is_sealed copy.verdict) (is_answered copy) settled)
 
   -- ---- a packet that is done
@@ -154,8 +115,7 @@ module _ (scene : Scene) (holds : SceneHolds scene) (node start : ℕ) (values :
           ⊎_elim
           (λ same. subst (λ (c : PacketCopy). IsKnown (scene.posts c.gateway).firm node start c.number) same
           (by_verdict packet plain (whole plain (in_head plain duplicates))
-          (⊎_elim
-          (λ filed. filed_is_known plain.verdict filed)
+          (⊎_elim (filed_is_known plain.verdict)
           (λ any.
           let one = any_at is_released duplicates any in
           let chosen = (and_parts (is_chosen one.0) (is_answered one.0) one.2).0 in
@@ -163,5 +123,5 @@ module _ (scene : Scene) (holds : SceneHolds scene) (node start : ℕ) (values :
           let first : choice.plain ≡ plain = ap (λ (cs : List PacketCopy). elim cs [ [] ↦ plain | c ∷ rest ↦ c ]) (sym choice.whole ∙ e) in
           ap (λ (c : PacketCopy). is_unknown c.verdict) (sym first) ∙ ap is_unknown choice.sealed)
           (or_cases (is_filed plain.verdict) (list_any is_released duplicates) parts.0))))
-          (λ later. settled_known packet copy (whole copy (in_tail plain copy duplicates later)) (all_at is_settled duplicates copy parts.1 later))
+          (λ later. settled_known packet copy (whole copy (in_tail plain copy duplicates later)) (All-contains (λ (c : PacketCopy). is_settled c ≡ true) duplicates copy (AllPass-from_list_all is_settled duplicates parts.1) later))
           (in_cons plain copy duplicates among)

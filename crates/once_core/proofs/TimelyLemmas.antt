@@ -1,7 +1,7 @@
 -- A request that a node sends in a tick isn't expired at a gateway whose present epoch is that of the node's start.
-use Rattle.std.proofs.Common.{◌≡◌, ⊎_elim, ℕ, ◌-◌, ◌<◌, ◌≤◌, ◌%◌, ◌==◌, ◌&&◌, not, nat_lt, Bool, true, false, if◌then◌else◌, List, [], ◌∷◌, ◌++◌, length, Option, Some, None, All, Contains, slice_get, refl, sym, ap, subst, ◌∙◌, arith}
+use Rattle.std.proofs.Common.{◌≡◌, ⊎_elim, ℕ, ◌-◌, ◌<◌, ◌≤◌, ◌%◌, ◌==◌, ◌&&◌, not, nat_lt, Bool, true, false, if◌then◌else◌, List, [], ◌∷◌, ◌++◌, length, Option, Some, None, All, Contains, slice_get, refl, sym, ap, subst, ◌∙◌, arith, eq-eqb, eqb-true, le-ltb}
 use Rattle.std.specs.Option.{option_map_or}
-use Rattle.std.proofs.lemmas.Bool.{eq-eqb, eqb-true, false≢true, and_right, le-ltb, or_from}
+use Rattle.std.proofs.lemmas.Bool.{false≢true, and_right, or_from}
 use Rattle.std.proofs.lemmas.List.Elements.{All-contains, Contains-append_cases}
 use Rattle.std.proofs.lemmas.Option.{slice_get_within}
 use Rattle.gw_base.specs.History.{top_of}
@@ -42,16 +42,17 @@ use Rattle.once_core.specs.declared.message.Message.{Message}
 use Rattle.once_core.proofs.DueLemmas.{IsOfOpen, all_of_open, is_probe, one_packet, probes_are, stays_open}
 use Rattle.once_core.proofs.LogLemmas.{gateway_is, size, starts_same}
 use Rattle.once_core.proofs.MeantLemmas.{Numbers, meant}
-use Rattle.once_core.proofs.NodePlays.{NodeRightly, appointed_runs, appointed_starts}
+use Rattle.once_core.proofs.NodePlays.{NodeRightly, appointed_runs, appointed_starts, appointed}
 use Rattle.once_core.proofs.NumberLemmas.{all_keep, ever, values_are}
 use Rattle.once_core.proofs.SentPlays.{OneCopyEach}
-use Rattle.once_core.proofs.TurnPlays.{Laws, it_runs, turn_made}
+use Rattle.once_core.proofs.TurnPlays.{Laws, turn_made}
 use Rattle.once_core.proofs.WaitingLemmas.{in_map, of_map}
 use Rattle.once_core.proofs.WorldPlays.{Made, get_set}
 use Rattle.once_core.proofs.NodeTurnLemmas.{addresses_length}
 use Rattle.once_core.proofs.LifeWorlds.{values_in}
 use Rattle.once_core.proofs.TurnLemmas.{log_or, log_there}
 use Rattle.once_core.proofs.PartLemmas.{it_runs}
+use Rattle.once_core.proofs.CaseLemmas.{by_option}
 
 -- what the law of requests says
 abbrev pub RequestsSent : Type 0
@@ -69,70 +70,61 @@ fresh_message h m present read =
 -- ---- a request of a tick is about an open copy
 
 module _ (setup : NodeSetup) (calls : List NodeCall) where
-  abbrev now : NodeValue
-  now = reached setup calls
+  abbrev node_now : NodeValue
+  node_now = reached setup calls
 
-  abbrev log : List LogEntry
-  log = log_of setup calls
+  abbrev log_now : List LogEntry
+  log_now = log_of setup calls
 
   abbrev pub behind : List LogEntry
-  behind = Ticked (due now) ∷ logged (appointing (moved_at_tick now)) log
+  behind = Ticked (due node_now) ∷ logged (appointing (moved_at_tick node_now)) log_now
 
-  ticked : (o : Option ℕ) (sendings : List Sending) → logged (appointing o ++ Ticked sendings ∷ []) log ≡ Ticked sendings ∷ logged (appointing o) log
-  ticked None sendings = refl
-  ticked (Some gateway) sendings = refl
-
-  moved_packets : (o : Option ℕ) (node : NodeValue) → (befallen (appointing o) node).packets ≡ node.packets
-  moved_packets None node = refl
-  moved_packets (Some gateway) node = refl
-
-  appointed_packets : (o : Option ℕ) → packets_of (logged (appointing o) log) ≡ packets_of log
-  appointed_packets None = refl
-  appointed_packets (Some gateway) = refl
-
-  of_open : (s : Sending) → is_probe s ≡ false → Contains (due now) s → IsOfOpen (packets_of log) s
+  of_open : (s : Sending) → is_probe s ≡ false → Contains (due node_now) s → IsOfOpen (packets_of log_now) s
   of_open s isnt there =
-      let node : NodeValue = befallen (appointing (moved_at_tick now)) now in
+      let node : NodeValue = befallen (appointing (moved_at_tick node_now)) node_now in
       let drawn = all_drawn (probes node.paths node.gateways) node.gateways in
-      subst (λ (ps : List PacketState). IsOfOpen ps s) (moved_packets (moved_at_tick now) now) (⊎_elim
+      subst (λ (ps : List PacketState). IsOfOpen ps s)
+      (by_option (λ (o : Option ℕ). (befallen (appointing o) node_now).packets ≡ node_now.packets) (moved_at_tick node_now) (λ none. refl) (λ gateway is. refl)) (⊎_elim
       (λ probe. absurd (false≢true (sym isnt ∙ probes_are 0 node.paths node.gateways s probe)))
       (all_of_open node.favourite_place (is_alive node.paths node.favourite_place) node.packets drawn s)
       (Contains-append_cases (probes node.paths node.gateways) (due_for_all node.favourite_place (is_alive node.paths node.favourite_place) drawn node.packets) s there))
 
-  module _ (running : runs log ≡ true) where
+  module _ (running : runs log_now ≡ true) where
     pub after_is : log_of setup (call.Tick ∷ calls) ≡ behind
-    after_is = ap (λ (b : Bool). logged (if b then tick_entries now else []) log) running ∙ ticked (moved_at_tick now) (due now)
+    after_is = ap (λ (b : Bool). logged (if b then tick_entries node_now else []) log_now) running
+        ∙ by_option (λ (o : Option ℕ). logged (appointing o ++ Ticked (due node_now) ∷ []) log_now ≡ Ticked (due node_now) ∷ logged (appointing o) log_now)
+        (moved_at_tick node_now) (λ none. refl) (λ gateway is. refl)
 
     runs_after : runs (log_of setup (call.Tick ∷ calls)) ≡ true
-    runs_after = ap runs after_is ∙ appointed_runs (moved_at_tick now) log ∙ running
+    runs_after = ap runs after_is ∙ appointed_runs (moved_at_tick node_now) log_now ∙ running
 
-    starts_after : starts_in (log_of setup (call.Tick ∷ calls)) ≡ starts_in log
-    starts_after = ap starts_in after_is ∙ starts_same (Ticked (due now)) (logged (appointing (moved_at_tick now)) log) refl ∙ appointed_starts (moved_at_tick now) log
+    starts_after : starts_in (log_of setup (call.Tick ∷ calls)) ≡ starts_in log_now
+    starts_after = ap starts_in after_is ∙ starts_same (Ticked (due node_now)) (logged (appointing (moved_at_tick node_now)) log_now) refl ∙ appointed_starts (moved_at_tick node_now) log_now
 
     module _ (sent : RequestsSent) (one_each : OneCopyEach) (some : 1 ≤ length setup.gateways) where
-      was_sent : (s : Sending) → Contains (due now) s → IsSent (packets_of behind) s
-      was_sent s there = All-contains (IsSent (packets_of behind)) (due now) s
-          (subst (λ (l : List LogEntry). All (IsSent (packets_of l)) (due now)) after_is (sent setup calls some running)) there
+      was_sent : (s : Sending) → Contains (due node_now) s → IsSent (packets_of behind) s
+      was_sent s there = All-contains (IsSent (packets_of behind)) (due node_now) s
+          (subst (λ (l : List LogEntry). All (IsSent (packets_of l)) (due node_now)) after_is (sent setup calls some running)) there
 
       -- the copy that a sending is about is of the sending's packet, which is open behind the tick
-      open_copy : (s : Sending) (packet gateway number : ℕ) → is_probe s ≡ false → Contains (due now) s → ((n : ℕ) → is_of n s ≡ true → packet ≡ n)
+      open_copy : (s : Sending) (packet gateway number : ℕ) → is_probe s ≡ false → Contains (due node_now) s → ((n : ℕ) → is_of n s ≡ true → packet ≡ n)
           → HasCopyOf (packets_of behind) packet gateway number → HasOpenCopy (packets_of behind) gateway number
       open_copy s packet gateway number isnt there own of =
           let was = of_open s isnt there in
-          let f = packet_after_all (due now) in
+          let f = packet_after_all (due node_now) in
           let state : PacketState = while_open f was.state in
           let goes : state ≡ f was.state = ap (λ (b : Bool). if b then was.state else f was.state) was.open_yet in
-          let kept : Contains (packets_of behind) state = in_map (while_open f) (packets_of (logged (appointing (moved_at_tick now)) log)) was.state
-          (subst (λ (ps : List PacketState). Contains ps was.state) (sym (appointed_packets (moved_at_tick now))) was.kept) in
+          let kept : Contains (packets_of behind) state = in_map (while_open f) (packets_of (logged (appointing (moved_at_tick node_now)) log_now)) was.state
+          (subst (λ (ps : List PacketState). Contains ps was.state) (sym (appointed packets_of (λ gateway log. refl) (moved_at_tick node_now) log_now)) was.kept) in
           let is : is_of state.number s ≡ true =
-          ap (λ (p : PacketState). is_of p.number s) goes ∙ ap (λ (n : ℕ). is_of n s) (all_keep (due now) was.state) ∙ was.of in
+          ap (λ (p : PacketState). is_of p.number s) goes ∙ ap (λ (n : ℕ). is_of n s) (all_keep (due node_now) was.state) ∙ was.of in
           let e = ever behind in
           let same = one_packet (length e.before) (packets_of behind) (forms_of behind) of.state state e.numbered of.kept kept (of.packet_is ∙ own state.number is) in
           record {
             packet = of.state;
             copy = of.at.copy;
             kept = of.kept;
-            open_yet = ap (λ (p : PacketState). is_done p.copies) (same ∙ goes) ∙ stays_open (due now) was.state was.open_yet;
+            open_yet = ap (λ (p : PacketState). is_done p.copies) (same ∙ goes) ∙ stays_open (due node_now) was.state was.open_yet;
             sent = of.at.among;
             gateway_is = of.at.gateway_is;
             number_is = of.at.number_is;
@@ -179,33 +171,28 @@ module _ (laws : Laws) (sent : RequestsSent) (w : World) (made : Made (values_in
   abbrev sent_by : Sending → Message
   sent_by s = message_of (node - 1) log (outgoing (node_value (length w.gateways) (node - 1) log) s)
 
-  asking : (gateway number : ℕ) (m : Message) → HasOpenCopy (packets_of after) gateway number → m.gateway ≡ gateway_at (address_at (peers_of (addresses_from 0 (length w.gateways)) log) gateway)
-      → about m ≡ number → m.node ≡ node - 1 → m.start ≡ starts_in log → IsAsking m
-  asking gateway number m is goes_to about_is of_node of_start =
+  asking : (s : Sending) (packet gateway number : ℕ) → is_probe s ≡ false → Contains (due (reached setup rightly.calls)) s → ((n : ℕ) → is_of n s ≡ true → packet ≡ n)
+      → HasCopyOf (packets_of after) packet gateway number → (sent_by s).gateway ≡ gateway_at (address_at (peers_of (addresses_from 0 (length w.gateways)) log) gateway)
+      → about (sent_by s) ≡ number → IsAsking (sent_by s)
+  asking s packet gateway number isnt kept own of goes_to about_is =
+      let is = open_copy setup rightly.calls running sent laws.one_each some_gateways s packet gateway number isnt kept own of in
       let range = open_in_range setup rightly.calls running sent laws.one_each some_gateways gateway number is in
-      let to : m.gateway ≡ gateway = goes_to ∙ gateway_is (length w.gateways) log gateway (omega (arith, range, size (length w.gateways) after)) in
-      record { number = number; about_is = about_is; is = subst (λ (q : ℕ). HasOpenCopy (packets_of after) q number) (sym to) is; of_node = of_node; of_start = of_start }
+      let to : (sent_by s).gateway ≡ gateway = goes_to ∙ gateway_is (length w.gateways) log gateway (omega (arith, range, size (length w.gateways) after)) in
+      record { number = number; about_is = about_is; is = subst (λ (q : ℕ). HasOpenCopy (packets_of after) q number) (sym to) is; of_node = refl; of_start = refl }
 
-  each_asks : (s : Sending) → Contains (due (reached setup rightly.calls)) s → is_request (sent_by s) ≡ true → IsAsking (sent_by s)
-  each_asks (send.Probe gateway number) kept request = absurd (false≢true request)
-  each_asks (send.Data packet gateway number is_plain is_new) kept request =
-      let s = send.Data packet gateway number is_plain is_new in
-      asking gateway number (sent_by s) (open_copy setup rightly.calls running sent laws.one_each some_gateways s packet gateway number refl kept (eqb-true packet)
-      (was_sent setup rightly.calls running sent laws.one_each some_gateways s kept).0) refl refl refl refl
-  each_asks (send.Test packet gateway number) kept request =
-      let s = send.Test packet gateway number in
-      asking gateway number (sent_by s) (open_copy setup rightly.calls running sent laws.one_each some_gateways s packet gateway number refl kept (eqb-true packet)
-      (was_sent setup rightly.calls running sent laws.one_each some_gateways s kept)) refl refl refl refl
-  each_asks (send.Command packet gateway named number o is_new) kept request =
-      let s = send.Command packet gateway named number o is_new in
-      asking gateway named (sent_by s) (open_copy setup rightly.calls running sent laws.one_each some_gateways s packet gateway named refl kept (eqb-true packet)
-      (was_sent setup rightly.calls running sent laws.one_each some_gateways s kept).0) refl refl refl refl
+  each_asks : (s : Sending) → Contains (due (reached setup rightly.calls)) s → IsSent (packets_of after) s → is_request (sent_by s) ≡ true → IsAsking (sent_by s)
+  each_asks (send.Probe gateway number) kept was request = absurd (false≢true request)
+  each_asks (send.Data packet gateway number is_plain is_new) kept was request =
+      asking (send.Data packet gateway number is_plain is_new) packet gateway number refl kept (eqb-true packet) was.0 refl refl
+  each_asks (send.Test packet gateway number) kept was request = asking (send.Test packet gateway number) packet gateway number refl kept (eqb-true packet) was refl refl
+  each_asks (send.Command packet gateway named number o is_new) kept was request =
+      asking (send.Command packet gateway named number o is_new) packet gateway named refl kept (eqb-true packet) was.0 refl refl
 
   pub asks : (m : Message) → Contains (ticking (length w.gateways) (node - 1) log).sends m → is_request m ≡ true → IsAsking m
   asks m is request =
       let s = of_map sent_by (due (node_value (length w.gateways) (node - 1) log)) m is in
-      subst IsAsking s.2
-      (each_asks s.0 (subst (λ (l : List LogEntry). Contains (due (node_value (length w.gateways) (node - 1) l)) s.0) rightly.is s.1) (ap is_request s.2 ∙ request))
+      let kept = subst (λ (l : List LogEntry). Contains (due (node_value (length w.gateways) (node - 1) l)) s.0) rightly.is s.1 in
+      subst IsAsking s.2 (each_asks s.0 kept (was_sent setup rightly.calls running sent laws.one_each some_gateways s.0 kept) (ap is_request s.2 ∙ request))
 
   -- the world behind the tick
   made_after : Made (values_in w) (node_called w (node - 1) (ticking (length w.gateways) (node - 1) log))
