@@ -1,25 +1,20 @@
 -- Each request in a node's log is of one of the packets of its start.
-use Rattle.std.proofs.Common.{◌≡◌, ⊎_elim, ℕ, nat_lt, Bool, true, false, if◌then◌else◌, List, [], ◌∷◌, ◌++◌, map, Option, Some, All, Contains, refl, sym, ap, subst, ◌∙◌}
+use Rattle.std.proofs.Common.{◌≡◌, ⊎_elim, ℕ, Bool, true, if◌then◌else◌, List, [], ◌∷◌, ◌++◌, map, Option, Some, All, Contains, refl, sym, ap, subst, ◌∙◌, None}
 use Rattle.std.proofs.lemmas.List.Elements.{All-contains, Contains-append_cases}
 use Rattle.std.specs.List.{flat_map}
 use Rattle.node_core.specs.declared.copy.Command.{Command}
-use Rattle.node_core.specs.declared.fault.SubmitFault.{SubmitFault}
-use Rattle.node_core.specs.declared.port.Port.{Port}
 use Rattle.node_core.specs.declared.port.Port.TheVariants.{First, Second}
 use Rattle.node_core.specs.declared.sending.Sending.{Sending}
 use Rattle.node_core.specs.declared.sending.Sending.TheVariants as send
 use Rattle.node_core.specs.Growing.{is_within_start}
-use Rattle.node_core.specs.Hearing.{Taken, Dropped, Says, entries_from, taken, taken_entries}
 use Rattle.node_core.specs.Log as log
 use Rattle.node_core.specs.Log.{LogEntry, NodeSetup, packets_of}
-use Rattle.node_core.specs.Moving.{appointing, moved_at_tick, moved_by}
+use Rattle.node_core.specs.Moving.{appointing, moved_at_tick}
 use Rattle.node_core.specs.Packets.{PacketState}
-use Rattle.node_core.specs.Peers.{place_of}
-use Rattle.node_core.specs.Reached.{NodeCall, Submit, Tick, Hear, Halt, Start, call_entries, entries_halted, entries_running, log_of, most_submissions, reached, submit_entries}
+use Rattle.node_core.specs.Reached.{NodeCall, Tick, call_entries, log_of, reached}
 use Rattle.node_core.specs.Sent.{HasCopyOf, IsSent}
-use Rattle.node_core.specs.Submitting.{refusal}
 use Rattle.node_core.specs.Ticks.{due, tick_entries}
-use Rattle.node_core.specs.Value.{NodeValue, logged, node_of}
+use Rattle.node_core.specs.Value.{logged, node_of}
 use Rattle.once_core.specs.Deeds.{asked_by, deeds_of, letter_of, told_by}
 use Rattle.once_core.specs.Expired.{starts_in}
 use Rattle.once_core.specs.Followed.{followed_before, packets_in}
@@ -28,8 +23,9 @@ use Rattle.once_core.specs.Happenings as did
 use Rattle.once_core.specs.Happenings.{Asks, Letter, Orders, Sends, Tests}
 use Rattle.once_core.proofs.FollowLemmas.{Grows, began_same, halted_same, in_present, may_send_behind, may_send_on, packets_grow, starts_within, states_at, command_now}
 use Rattle.once_core.proofs.ListLemmas.{in_none, in_one, of_flat_map}
-use Rattle.once_core.proofs.CaseLemmas.{by_bool, by_option, if_both}
+use Rattle.once_core.proofs.CaseLemmas.{by_option}
 use Rattle.once_core.proofs.WaitingLemmas.{of_map}
+use Rattle.once_core.proofs.CallLemmas.{Adds, adds}
 
 -- ---- what a tick sends
 
@@ -131,42 +127,24 @@ module _ (grow : Grows) (node : ℕ) (values : ℕ → List ℕ) where
 
 -- ---- all calls
 
-module _ (setup : NodeSetup) (sent : (calls : List NodeCall) → (reached setup calls).is_running ≡ true →
-    All (IsSent (reached setup (Tick ∷ calls)).packets) (due (reached setup calls))) (calls : List NodeCall) where
-  abbrev before : List LogEntry
-  before = log_of setup calls
-
-  abbrev now : NodeValue
-  now = node_of setup (log_of setup calls)
-
-  -- so are the entries of each call
-  abbrev Fine : List LogEntry → Type 0
-  Fine entries = AreFine entries (log_of setup calls)
-
-  fine_call : (call : NodeCall) → Fine (call_entries now call)
-  fine_call call = by_bool (λ (b : Bool). Fine (if b then entries_running now call else entries_halted call)) now.is_running (runs call) (halts call)
-    where
-      takes : (port : Port) (gateway : ℕ) (what : Taken) → Fine (taken_entries now port gateway what)
-      takes port gateway (Dropped why) = tt
-      takes port gateway (Says saying reply) = by_option (λ (o : Option ℕ). Fine (log.Heard port gateway saying ∷ appointing o)) (moved_by now port gateway saying)
-          (λ none. (tt, tt)) (λ to moves. (tt, (tt, tt)))
-
-      runs : (call : NodeCall) → now.is_running ≡ true → Fine (entries_running now call)
-      runs (Submit form) e = by_option (λ (o : Option SubmitFault). Fine (submit_entries now o form)) (refusal now form)
-          (λ free. if_both Fine (nat_lt now.submissions most_submissions) (tt, tt) tt) (λ fault refused. tt)
-      runs Tick e =
-          by_option (λ (o : Option ℕ). All (IsSent (packets_of (logged (appointing o ++ log.Ticked (due now) ∷ []) (log_of setup calls)))) (due now)
-          → Fine (appointing o ++ log.Ticked (due now) ∷ [])) (moved_at_tick now) (λ none all. (all, tt)) (λ to moves all. (tt, (all, tt)))
-          (subst (λ (b : Bool). All (IsSent (packets_of (logged (if b then tick_entries now else []) (log_of setup calls)))) (due now)) e (sent calls e))
-      runs (Hear port from octets) e = by_option (λ (o : Option ℕ). Fine (entries_from now port o octets)) (place_of now.gateways from.ip)
-          (λ none. tt) (λ gateway there. takes port gateway (taken now gateway octets))
-      runs Halt e = (tt, tt)
-      runs Start e = tt
-
-      halts : (call : NodeCall) → now.is_running ≡ false → Fine (entries_halted call)
-      halts Halt e = (tt, tt)
-      halts Start e = (tt, tt)
-      halts _ e = tt
+fine_call : (setup : NodeSetup) → ((calls : List NodeCall) → (reached setup calls).is_running ≡ true → All (IsSent (reached setup (Tick ∷ calls)).packets) (due (reached setup calls)))
+    → (calls : List NodeCall) (call : NodeCall) → AreFine (call_entries (node_of setup (log_of setup calls)) call) (log_of setup calls)
+fine_call setup sent calls call = by (adds setup (log_of setup calls) call)
+  where
+    by : {entries : List LogEntry} → Adds setup (log_of setup calls) entries → AreFine entries (log_of setup calls)
+    by nothing = tt
+    by begins_anew = (tt, tt)
+    by halts = (tt, tt)
+    by (submits up form) = (tt, tt)
+    by (ticks up to) =
+        let now = node_of setup (log_of setup calls) in
+        let fine : All (IsSent (packets_of (log.Ticked (due now) ∷ log_of setup calls))) (due now) =
+        by_option (λ (o : Option ℕ). All (IsSent (packets_of (logged (appointing o ++ log.Ticked (due now) ∷ []) (log_of setup calls)))) (due now)
+        → All (IsSent (packets_of (log.Ticked (due now) ∷ log_of setup calls))) (due now)) (moved_at_tick now) (λ none all. all) (λ gateway moves all. all)
+        (subst (λ (b : Bool). All (IsSent (packets_of (logged (if b then tick_entries now else []) (log_of setup calls)))) (due now)) up (sent calls up)) in
+        by_option (λ (o : Option ℕ). AreFine (appointing o ++ log.Ticked (due now) ∷ []) (log_of setup calls)) to (λ none. (fine, tt)) (λ gateway moves. (tt, (fine, tt)))
+    by (hears up port gateway saying None) = (tt, tt)
+    by (hears up port gateway saying (Some to)) = (tt, (tt, tt))
 
 pub all_sent : Grows → (node : ℕ) (values : ℕ → List ℕ) (setup : NodeSetup) → ((calls : List NodeCall) → (reached setup calls).is_running ≡ true →
     All (IsSent (reached setup (Tick ∷ calls)).packets) (due (reached setup calls))) → (calls : List NodeCall) → (letter : Letter) →

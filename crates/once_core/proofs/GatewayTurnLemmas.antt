@@ -13,6 +13,8 @@ use Rattle.once_core.specs.Answers.{answer_at, answered, delivered, failed, if_b
 use Rattle.once_core.specs.Beginning.{default_rules}
 use Rattle.once_core.specs.Expired.{is_expired}
 use Rattle.once_core.specs.Gateway.{Gateway, Moved, book_committing, committing, cut, followed, opened, readying}
+use Rattle.once_core.specs.GatewayFields.{gateway_value}
+use Rattle.once_core.specs.declared.gateway.KeptGateway.TheInside.{Inside}
 use Rattle.once_core.specs.Moves.{HasMoved, once_started}
 use Rattle.once_core.specs.Standing.{quiet}
 use Rattle.once_core.specs.declared.message.Message.{Message}
@@ -25,6 +27,10 @@ ok_maps (Ok a) f is = f is
 ok_maps (Err e) f is = is
 
 -- ---- what the history answers
+
+-- the history that a gateway stores is that of its book
+pub stored : (i : Inside) {g : Gateway} {h : List HistoryEntry} → gateway_value i ≡ g → h ≡ i.history.items → h ≡ history_of g.book
+stored i is same = same ∙ sym (take-append-drop i.firm i.history.items) ∙ ap (λ (g : Gateway). history_of g.book) is
 
 pub decided_at : (g : Gateway) (h : List HistoryEntry) (from : Addr) (octets : List ℕ) (m : Message)
     → h ≡ history_of g.book → from ≡ node_address m.node m.port → octets ≡ m.octets

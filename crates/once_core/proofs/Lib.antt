@@ -26,6 +26,7 @@ pub mod OnceLemmas
 pub mod StoryLemmas
 pub mod DeedLemmas
 pub mod NodeLemmas
+pub mod CallLemmas
 pub mod MeaningLemmas
 pub mod WaitingLemmas
 pub mod PartLemmas
