@@ -44,6 +44,7 @@ pub mod SentPlays
 pub mod SendingPlays
 pub mod FollowLemmas
 pub mod FollowSentLemmas
+pub mod CallLemmas
 pub mod FollowKnownLemmas
 pub mod HearPlays
 pub mod WorldPlays
