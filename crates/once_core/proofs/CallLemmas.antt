@@ -1,5 +1,5 @@
 -- What a call adds to a node's log.
-use Rattle.std.proofs.Common.{◌≡◌, ℕ, nat_lt, Bool, true, false, if◌then◌else◌, List, [], ◌∷◌, ◌++◌, Option, Some, None, refl}
+use Rattle.std.proofs.Common.{◌≡◌, ℕ, nat_lt, Bool, true, if◌then◌else◌, List, [], ◌∷◌, ◌++◌, Option}
 use Rattle.gtpp_message.specs.Packet.{PacketForm}
 use Rattle.node_core.specs.Hearing.{Taken, Dropped, Says, entries_from, taken, taken_entries}
 use Rattle.node_core.specs.Log.{LogEntry, NodeSetup, Began, Halted, Submitted, Ticked, Heard, Saying, runs}

@@ -1,48 +1,94 @@
 -- What a gateway answers to a message that reaches it, or tells of it where it breaks on the way, is what happens in a scene.
 pub use Rattle.once_core.proofs.PartLemmas.{ready_history}
-use Rattle.std.proofs.Common.{◌≡◌, ℕ, ◌%◌, ◌==◌, ◌&&◌, not, nat_lt, Bool, true, false, List, [], ◌∷◌, ◌++◌, Option, Some, None, Contains, refl, sym, ap, subst, ◌∙◌}
+use Rattle.std.proofs.Common.{◌≡◌, ℕ, ◌%◌, ◌==◌, ◌&&◌, not, nat_lt, Bool, true, false, List, [], ◌∷◌, ◌++◌, Option, Some, None, Contains, refl, sym, ap, subst, ◌∙◌, ◌≢◌, ◌≤◌, arith}
+use Rattle.std.specs.Prelude.{option_map}
 use Rattle.std.specs.Option.{option_map_or}
-use Rattle.std.proofs.lemmas.Bool.{and_from, not-false, or_parts, cond-true}
+use Rattle.std.proofs.lemmas.Bool.{and_from, not-false, or_parts, cond-true, eqb-false, lt-ltb, ltb-false}
+use Rattle.std.proofs.lemmas.Option.{same_Some}
 use Rattle.gw_base.specs.History.{top_of}
 use Rattle.gw_base.specs.Nearest.{nearest}
 use Rattle.gw_base.specs.Observed.{Observed, observed}
-use Rattle.gw_base.specs.Starts.{start_of}
+use Rattle.gw_base.specs.Starts.{start_of, opening_of, start_by}
 use Rattle.gw_base.specs.declared.address.NodeId.{NodeId}
 use Rattle.gw_base.specs.declared.cause.TheConstants.{CDR_DECODING_ERROR, NO_RESOURCES, SYSTEM_FAILURE}
 use Rattle.gw_base.specs.declared.history.HistoryAct.{HistoryAct}
 use Rattle.gw_base.specs.declared.history.HistoryEntry.{HistoryEntry}
-use Rattle.gtpp_message.specs.Message.{TransferRequest, TransferResponse, TransferValue, Send, Possible, Cancel, Release, MessageValue}
+use Rattle.gtpp_message.specs.Message.{TransferRequest, TransferResponse, TransferValue, Send, Possible, Cancel, Release, MessageValue, EchoRequest, EchoResponse, NodeAliveRequest}
 use Rattle.gtpp_message.specs.Packet.{Empty, Full}
 use Rattle.gtpp_message.specs.Writing.{written}
 use Rattle.gtpp_message.specs.declared.message_types.TheConstants.{TRANSFER_REQUEST}
 use Rattle.gtpp_message.specs.declared.role.Role.TheVariants as role
-use Rattle.gateway_book.specs.Answer.{Given, answer_by, asked_by, decided, listed, responding, tabled, Decided, failure_answer}
+use Rattle.gateway_book.specs.Answer.{Given, answer_by, asked_by, decided, listed, responding, tabled, Decided, failure_answer, opening_epoch, replying}
 use Rattle.gateway_book.specs.Answered.{entry_by, no_caller}
-use Rattle.gateway_book.specs.Preparing.{PreparedValue, Refused, Request, framed, prepared_of, sends_values}
+use Rattle.gateway_book.specs.Preparing.{PreparedValue, Refused, Request, framed, prepared_of, sends_values, Path}
 use Rattle.gateway_book.specs.PreparingLaws.{RolesRead}
 use Rattle.gateway_book.specs.Value.{history_of, recorded_if, recorded}
 use Rattle.gtpp_message.specs.Reading.{Message}
 use Rattle.gtpp_message.specs.Role.{for_role}
-use Rattle.once_core.specs.Addresses.{node_address, node_id, node_ip}
-use Rattle.once_core.specs.Answers.{acting, answered, replying, failed, failed_by}
+use Rattle.gw_base.specs.declared.history.HistoryAct.TheVariants as act
+use Rattle.gw_base.specs.declared.history.Opening.{Opening}
+use Rattle.gtpp_message.specs.PathMessages.{path_message, path_number}
+use Rattle.path_mgmt.specs.GatewayPath.{opened_by}
+use Rattle.path_mgmt.specs.declared.event.PathEvent.{PathEvent}
+use Rattle.path_mgmt.specs.declared.event.PathEvent.TheVariants.{EchoAsked, EchoTold, AliveAsked, AliveTold}
+use Rattle.once_core.specs.Addresses.{node_address, node_id, node_ip, port_number}
+use Rattle.once_core.specs.Answers.{acting, answered, failed, failed_by}
 use Rattle.once_core.specs.Expired.{is_expired, is_expired_request, present_start, taken_for}
-use Rattle.once_core.specs.Gateway.{Gateway, Rules}
-use Rattle.once_core.specs.Happenings.{Answers, Comes, Happening, Letter, Meaning, Post, Scene, answer_of, given, history, is_timely}
+use Rattle.once_core.specs.Gateway.{Gateway, Rules, still}
+use Rattle.once_core.specs.Happenings.{Answers, Comes, Happening, Letter, Meaning, Post, Scene, answer_of, given, history, is_timely, Opens, node_at}
 use Rattle.once_core.specs.Happenings as did
-use Rattle.once_core.specs.Meaning.{is_spoken, letter_of, meaning_of, request_in, speaks}
+use Rattle.once_core.specs.Meaning.{is_spoken, letter_of, meaning_of, request_in, speaks, meaning_in}
 use Rattle.once_core.specs.Messages.{about, answering, has_type, is_request}
-use Rattle.once_core.specs.Scenes.{Settled, after_coming, coming, happened_all, noting_if, waiting_for, with_one, with_settled, is_idle}
+use Rattle.once_core.specs.Scenes.{Settled, after_coming, coming, happened_all, noting_if, waiting_for, with_one, with_settled, is_idle, opening, with_post}
 use Rattle.once_core.specs.Scenes as scenes
 use Rattle.once_core.specs.Shown.{post_of, waiting_letters}
 use Rattle.once_core.specs.declared.message.Message as world
-use Rattle.once_core.proofs.MeaningLemmas.{IsAbout, IsWritten, ReadsBack, meaning_is, responds_means, responds_said, role_read_of, type_of, FromNode, NodeSaid, Responds, Said, said_by_gateway}
-use Rattle.once_core.proofs.PlayLemmas.{Plays, Stands, still_plays, idle_plays}
-use Rattle.once_core.proofs.ReplyPlays.{answer_plays}
+use Rattle.once_core.proofs.MeaningLemmas.{IsAbout, IsWritten, ReadsBack, meaning_is, responds_means, responds_said, role_read_of, type_of, FromNode, NodeSaid, Responds, Said, said_by_gateway, FromGateway}
+use Rattle.once_core.proofs.PlayLemmas.{Plays, Stands, still_plays, idle_plays, followed_plays, stands_after}
+use Rattle.once_core.proofs.ReplyPlays.{answer_plays, noted, quiet_plays}
 use Rattle.once_core.proofs.StopLemmas.{history_is}
-use Rattle.once_core.proofs.CaseLemmas.{if_both}
+use Rattle.once_core.proofs.CaseLemmas.{if_both, if_known}
 use Rattle.once_core.proofs.ListLemmas.{number_of, in_one}
-use Rattle.once_core.proofs.PathPlays.{other_plays}
-use Rattle.once_core.proofs.CommitPlays.{noted_rightly}
+use Rattle.once_core.proofs.CommitPlays.{noted_rightly, noted_plays}
+use Rattle.once_core.specs.Answers as out
+
+-- ---- a message of path management means nothing here
+
+path_written : (number : ℕ) (event : PathEvent) → IsWritten (written number (path_message event None)) number (path_message event None)
+path_written number (EchoAsked n) = record { is = refl; sendable = tt; short = omega arith }
+path_written number _ = record { is = refl; sendable = tt; short = omega arith }
+
+path_fits : (m : world.Message) (number : ℕ) (event : PathEvent) → FromGateway m number (path_message event None)
+path_fits m number (EchoAsked n) = tt
+path_fits m number _ = tt
+
+path_else : (number : ℕ) (event : PathEvent) → is_spoken (meaning_in number (path_message event None)) ≡ false
+path_else number (EchoAsked n) = refl
+path_else number _ = refl
+
+-- ---- a start that becomes known is greater than the one before
+
+pub fresh_start : (h : List HistoryEntry) (m : world.Message) → is_expired h m ≡ false → start_of (node_ip m.node) h ≤ m.start
+fresh_start h m fresh =
+    ltb-false m.start (present_start h m) (or_parts (nat_lt m.start (present_start h m)) (is_request m && is_expired_request h m) fresh).0
+
+pub rises : (opening : Option Opening) (counter path : ℕ) → 1 ≤ counter → start_by opening ≤ counter
+    → opened_by (option_map (λ o. o.counter) opening) counter ≡ Some path → nat_lt (start_by opening) path ≡ true
+rises None counter path some low e = let same = same_Some counter path e in lt-ltb 0 path (omega (arith, some, same))
+rises (Some o) counter path some low = if_known (λ (p : Option ℕ). p ≡ Some path → nat_lt o.counter path ≡ true) (o.counter == counter)
+    (λ equal e. absurd (cc))
+    (λ apart e.
+    let same = same_Some counter path e in
+    let differ : o.counter ≢ counter = eqb-false o.counter counter apart in
+    lt-ltb o.counter path (omega (arith, low, differ, same)))
+
+-- ---- what is answered
+
+-- any other message than a request or a response
+abbrev pub Other : MessageValue → Type 0
+Other (TransferRequest body) = ⊥
+Other (TransferResponse cause responded) = ⊥
+Other _ = Unit {0}
 
 -- ---- the answer on octets is the answer on what they mean
 
@@ -100,68 +146,138 @@ timely m h number body e is fresh =
     (not-false (m.start == present_start h m) both.0)
     (ap (λ (n : ℕ). nearest (top_of (node_ip m.node) h) (n % 65536) == n) (about_is m body is) ∙ not-false (taken_for h m == about m) both.1)
 
--- ---- it comes
+-- ---- it comes to a gateway whose book is sound
 
 module _ (back : ReadsBack) (roles : RolesRead) (rules : Rules) (now : ℕ) (m : world.Message) (to : m.to_gateway ≡ true) {g : Gateway} {scene : Scene}
-    (stands : Stands m.gateway scene g) (sound : g.book.is_broken ≡ false) (body : TransferValue) (w : IsWritten m.octets (m.number % 65536) (TransferRequest body))
-    (values : sends_values body ≡ true) (is : IsAbout m body) (fresh : is_expired (history_of g.book) m ≡ false) (there : Contains scene.letters (letter_of m)) where
+    (stands : Stands m.gateway scene g) (sound : g.book.is_broken ≡ false) where
   abbrev may : HistoryAct → Bool
   may = rules.may (history_of g.book) (node_id m.node)
 
-  abbrev answer : ℕ → world.Message
-  answer cause = answering m (written (m.number % 65536) (TransferResponse cause (m.number % 65536 ∷ [])))
+  abbrev acts : Given → Type 0
+  acts given = Plays m.gateway scene (acting now g m (decided given))
 
-  -- what the history answers
-  abbrev Answered : ℕ → Option HistoryAct → Type 0
-  Answered cause a = asked_by (observed (history_of g.book) (node_id m.node)) may (node_id m.node) (m.number % 65536) body ≡ responding (m.number % 65536) cause a
+  abbrev path : ℕ → HistoryAct
+  path counter = act.Path (node_id m.node) (port_number m.port) counter
 
-  means : (cause : ℕ) → meaning_of (answer cause) ≡ Answers cause
-  means cause = responds_means back (answer cause) cause (record { octets = refl })
+  abbrev reply : PathEvent → world.Message
+  reply event = answering m (written (path_number event) (path_message event None))
 
-  coming_is : (cause : ℕ) (a : Option HistoryAct) → Answered cause a → coming may now no_caller (letter_of m) (request_in (about m) body) (post_of g)
-      ≡ waiting_for (letter_of (answer cause)) (noting_if now no_caller a (post_of g))
-  coming_is cause a is_answer =
-      let request = request_in (about m) body in
-      cond-true (is_timely (history (post_of g)) (letter_of m) request) _ _
-      (subst (λ (h : List HistoryEntry). is_timely h (letter_of m) request ≡ true) (history_is g.book sound) (timely m (history_of g.book) (m.number % 65536) body w.is is fresh))
-      ∙ ap (λ (given : Given). scenes.answering now no_caller (letter_of m) given (post_of g))
-      (ap (λ (h : List HistoryEntry). given h may (letter_of m) request) (sym (history_is g.book sound))
-      ∙ sym (same_answer m (observed (history_of g.book) (node_id m.node)) may (node_id m.node) (m.number % 65536) body is) ∙ is_answer)
-      ∙ ap (λ (says : Meaning). waiting_for (record (letter_of m) { says = says }) (noting_if now no_caller a (post_of g))) (sym (means cause))
+  reply_plays : {a : Gateway} {s : Scene} → Stands m.gateway s a → a.book.is_broken ≡ false → (event : PathEvent) → Plays m.gateway s (out.replying a (reply event))
+  reply_plays {a} {s} is whole event =
+      quiet_plays is.rightly (reply event) whole (ap not to) (record {
+        path = path_number event;
+        message = path_message event None;
+        written = path_written (path_number event) event;
+        fits = path_fits (reply event) (path_number event) event;
+      }) m.gateway s is.post
+      (ap is_spoken (meaning_is back (reply event) (path_number event) (path_message event None) (path_written (path_number event) event))
+      ∙ path_else (about (reply event)) event)
 
-  abbrev comes : Happening
-  comes = Comes (number_of scene.letters (letter_of m) there).0 may now no_caller
+  -- nothing is recorded
+  plain_plays : (event : PathEvent) → acts (replying (Some event) None)
+  plain_plays event = reply_plays stands sound event
 
-  happens : (cause : ℕ) (a : Option HistoryAct) → Answered cause a → happened_all scene (comes ∷ [])
-      ≡ with_settled m.gateway (waiting_for (letter_of (answer cause)) (noting_if now no_caller a (post_of g))) scene
-  happens cause a is_answer =
-      ap (λ (l : Option Letter). with_one l (λ letter. after_coming may now no_caller letter letter.says) scene) (number_of scene.letters (letter_of m) there).1
-      ∙ ap (λ (says : Meaning). after_coming may now no_caller (letter_of m) says scene) (meaning_is back m (m.number % 65536) (TransferRequest body) w)
-      ∙ ap (λ (p : Post). with_settled m.gateway (coming may now no_caller (letter_of m) (request_in (about m) body) p) scene) stands.post
-      ∙ ap (λ (s : Settled). with_settled m.gateway s scene) (coming_is cause a is_answer)
+  module _ (fresh : is_expired (history_of g.book) m ≡ false) (started : 1 ≤ m.start) where
+    -- the node's start becomes known
+    path_plays : (event : PathEvent) (counter : ℕ) → nat_lt (start_of (node_ip m.node) (history_of g.book)) counter ≡ true
+        → acts (replying (Some event) (Some (path counter)))
+    path_plays event counter later =
+        let note : Plays m.gateway scene (still (noted now (path counter) g)) =
+        noted_plays stands sound now (path counter) (Opens m.gateway (node_at (node_ip m.node)) (port_number m.port) counter now no_caller)
+        (ap (λ (b : Bool). with_post m.gateway (opening now no_caller (path counter) b (scene.posts m.gateway)) scene)
+        (ap (λ (p : Post). nat_lt (start_of (node_ip m.node) (history p)) counter) stands.post
+        ∙ ap (λ (h : List HistoryEntry). nat_lt (start_of (node_ip m.node) h) counter) (sym (history_is g.book sound)) ∙ later)) in
+        followed_plays (λ a. out.replying a (reply event)) note (reply_plays (stands_after note) sound event)
 
-  answered_plays : (cause : ℕ) (a : Option HistoryAct) → Answered cause a → Plays m.gateway scene (replying (record g { book = recorded_if g.book now no_caller a }) (answer cause))
-  answered_plays cause None is_answer =
-      answer_plays stands.rightly (answer cause) sound (ap not to) (responds_said (answer cause) cause (record { octets = refl }))
-      m.gateway scene (comes ∷ []) (happens cause None is_answer) (ap is_spoken (means cause))
-  answered_plays cause (Some a) is_answer =
-      answer_plays (noted_rightly now a stands.rightly) (answer cause) sound (ap not to) (responds_said (answer cause) cause (record { octets = refl }))
-      m.gateway scene (comes ∷ [])
-      (happens cause (Some a) is_answer
-      ∙ ap (λ (h : List HistoryEntry). with_settled m.gateway (waiting_for (letter_of (answer cause)) (record {
-        firm = g.book.firm;
-        rest = g.book.rest ++ entry_by h now no_caller a ∷ [];
-        waiting = waiting_letters g.waiting;
-      })) scene) (sym (history_is g.book sound)))
-      (ap is_spoken (means cause))
+    opening_plays : (event : PathEvent) (o : Option ℕ) → ((counter : ℕ) → o ≡ Some counter → nat_lt (start_of (node_ip m.node) (history_of g.book)) counter ≡ true)
+        → acts (opening_epoch may (node_address m.node m.port) (Some event) o)
+    opening_plays event None rise = plain_plays event
+    opening_plays event (Some counter) rise = if_both acts (may (path counter)) (path_plays event counter (rise counter refl)) (still_plays stands)
 
-  pub request_plays : Plays m.gateway scene (answered rules now m g)
-  request_plays =
-      let answer_is = asked_responds (observed (history_of g.book) (node_id m.node)) may (node_id m.node) (m.number % 65536) body in
-      subst (λ (d : Decided). Plays m.gateway scene (acting now g m d))
-      (sym (ap (λ (p : PreparedValue). decided (answer_by (observed (history_of g.book) (node_id m.node)) (node_address m.node m.port) p may))
-      (prepared_request back roles m.octets (m.number % 65536) body w values) ∙ ap decided answer_is.is))
-      (answered_plays answer_is.cause answer_is.recorded answer_is.is)
+    event_plays : (event : PathEvent) → ((number counter : ℕ) → event ≡ EchoTold number counter → counter ≡ m.start)
+        → acts (answer_by (observed (history_of g.book) (node_id m.node)) (node_address m.node m.port) (Path event) may)
+    event_plays (EchoAsked number) is = plain_plays (EchoTold number (observed (history_of g.book) (node_id m.node)).own)
+    event_plays (AliveAsked number) is = plain_plays (EchoAsked number)
+    event_plays (AliveTold number) is = still_plays stands
+    event_plays (EchoTold number counter) is =
+        let opening_is = opening_of (node_ip m.node) (history_of g.book) in
+        let same = is number counter refl in
+        opening_plays (AliveTold number) (opened_by (option_map (λ o. o.counter) opening_is) counter)
+        (λ path e. rises opening_is counter path (omega (arith, started, same)) (omega (arith, fresh_start (history_of g.book) m fresh, same)) e)
+
+    message_plays : (number : ℕ) (message : MessageValue) → FromNode m number message → Other message
+        → acts (answer_by (observed (history_of g.book) (node_id m.node)) (node_address m.node m.port) (framed (for_role role.Gateway (Message number message))) may)
+    message_plays number EchoRequest fits other = event_plays (EchoAsked number) (λ n counter e. absurd (cc))
+    message_plays number (EchoResponse counter) fits other = event_plays (EchoTold number counter)
+        (λ n told e. ap (λ (v : PathEvent). elim v [ EchoAsked n ↦ 0 | EchoTold n c ↦ c | AliveAsked n ↦ 0 | AliveTold n ↦ 0 ]) (sym e) ∙ fits)
+    message_plays number (NodeAliveRequest address) fits other = event_plays (AliveAsked number) (λ n counter e. absurd (cc))
+    message_plays number (TransferRequest body) fits other = absurd other
+    message_plays number (TransferResponse cause responded) fits other = absurd other
+    message_plays number _ fits other = still_plays stands
+
+    pub other_plays : (number : ℕ) (message : MessageValue) → IsWritten m.octets number message → FromNode m number message → Other message
+        → Plays m.gateway scene (answered rules now m g)
+    other_plays number message w fits other =
+        subst (λ (p : PreparedValue). acts (answer_by (observed (history_of g.book) (node_id m.node)) (node_address m.node m.port) p may))
+        (sym (ap framed (role_read_of back roles role.Gateway m.octets number message w))) (message_plays number message fits other)
+
+  -- a request comes
+  module _ (body : TransferValue) (w : IsWritten m.octets (m.number % 65536) (TransferRequest body)) (values : sends_values body ≡ true) (is : IsAbout m body)
+      (fresh : is_expired (history_of g.book) m ≡ false) (there : Contains scene.letters (letter_of m)) where
+    abbrev answer : ℕ → world.Message
+    answer cause = answering m (written (m.number % 65536) (TransferResponse cause (m.number % 65536 ∷ [])))
+
+    -- what the history answers
+    abbrev Answered : ℕ → Option HistoryAct → Type 0
+    Answered cause a = asked_by (observed (history_of g.book) (node_id m.node)) may (node_id m.node) (m.number % 65536) body ≡ responding (m.number % 65536) cause a
+
+    means : (cause : ℕ) → meaning_of (answer cause) ≡ Answers cause
+    means cause = responds_means back (answer cause) cause (record { octets = refl })
+
+    coming_is : (cause : ℕ) (a : Option HistoryAct) → Answered cause a → coming may now no_caller (letter_of m) (request_in (about m) body) (post_of g)
+        ≡ waiting_for (letter_of (answer cause)) (noting_if now no_caller a (post_of g))
+    coming_is cause a is_answer =
+        let request = request_in (about m) body in
+        cond-true (is_timely (history (post_of g)) (letter_of m) request) _ _
+        (subst (λ (h : List HistoryEntry). is_timely h (letter_of m) request ≡ true) (history_is g.book sound) (timely m (history_of g.book) (m.number % 65536) body w.is is fresh))
+        ∙ ap (λ (given : Given). scenes.answering now no_caller (letter_of m) given (post_of g))
+        (ap (λ (h : List HistoryEntry). given h may (letter_of m) request) (sym (history_is g.book sound))
+        ∙ sym (same_answer m (observed (history_of g.book) (node_id m.node)) may (node_id m.node) (m.number % 65536) body is) ∙ is_answer)
+        ∙ ap (λ (says : Meaning). waiting_for (record (letter_of m) { says = says }) (noting_if now no_caller a (post_of g))) (sym (means cause))
+
+    abbrev comes : Happening
+    comes = Comes (number_of scene.letters (letter_of m) there).0 may now no_caller
+
+    happens : (cause : ℕ) (a : Option HistoryAct) → Answered cause a → happened_all scene (comes ∷ [])
+        ≡ with_settled m.gateway (waiting_for (letter_of (answer cause)) (noting_if now no_caller a (post_of g))) scene
+    happens cause a is_answer =
+        ap (λ (l : Option Letter). with_one l (λ letter. after_coming may now no_caller letter letter.says) scene) (number_of scene.letters (letter_of m) there).1
+        ∙ ap (λ (says : Meaning). after_coming may now no_caller (letter_of m) says scene) (meaning_is back m (m.number % 65536) (TransferRequest body) w)
+        ∙ ap (λ (p : Post). with_settled m.gateway (coming may now no_caller (letter_of m) (request_in (about m) body) p) scene) stands.post
+        ∙ ap (λ (s : Settled). with_settled m.gateway s scene) (coming_is cause a is_answer)
+
+    answered_plays : (cause : ℕ) (a : Option HistoryAct) → Answered cause a → Plays m.gateway scene (out.replying (record g { book = recorded_if g.book now no_caller a }) (answer cause))
+    answered_plays cause None is_answer =
+        answer_plays stands.rightly (answer cause) sound (ap not to) (responds_said (answer cause) cause (record { octets = refl }))
+        m.gateway scene (comes ∷ []) (happens cause None is_answer) (ap is_spoken (means cause))
+    answered_plays cause (Some a) is_answer =
+        answer_plays (noted_rightly now a stands.rightly) (answer cause) sound (ap not to) (responds_said (answer cause) cause (record { octets = refl }))
+        m.gateway scene (comes ∷ [])
+        (happens cause (Some a) is_answer
+        ∙ ap (λ (h : List HistoryEntry). with_settled m.gateway (waiting_for (letter_of (answer cause)) (record {
+          firm = g.book.firm;
+          rest = g.book.rest ++ entry_by h now no_caller a ∷ [];
+          waiting = waiting_letters g.waiting;
+        })) scene) (sym (history_is g.book sound)))
+        (ap is_spoken (means cause))
+
+    pub request_plays : Plays m.gateway scene (answered rules now m g)
+    request_plays =
+        let answer_is = asked_responds (observed (history_of g.book) (node_id m.node)) may (node_id m.node) (m.number % 65536) body in
+        subst (λ (d : Decided). Plays m.gateway scene (acting now g m d))
+        (sym (ap (λ (p : PreparedValue). decided (answer_by (observed (history_of g.book) (node_id m.node)) (node_address m.node m.port) p may))
+        (prepared_request back roles m.octets (m.number % 65536) body w values) ∙ ap decided answer_is.is))
+        (answered_plays answer_is.cause answer_is.recorded answer_is.is)
 
 -- ---- a message comes
 

@@ -33,7 +33,6 @@ pub mod PartLemmas
 pub mod PlayLemmas
 pub mod CommitPlays
 pub mod ReplyPlays
-pub mod PathPlays
 pub mod DeliverPlays
 pub mod RedirectPlays
 pub mod FormLemmas

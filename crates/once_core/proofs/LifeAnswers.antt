@@ -46,7 +46,7 @@ use Rattle.once_core.proofs.GrowingLemmas.{on}
 use Rattle.once_core.proofs.LifeMoves.{Truly, TrulyMoved, followed_truly, no_path_truly, path_truly, replying_truly, still_truly, Speaks, all_of}
 use Rattle.once_core.proofs.ListLemmas.{in_one}
 use Rattle.once_core.proofs.MeaningLemmas.{FromNode, NodeSaid, ReadsBack, role_read_of}
-use Rattle.once_core.proofs.PathPlays.{fresh_start, rises}
+use Rattle.once_core.proofs.DeliverPlays.{fresh_start, rises}
 use Rattle.once_core.proofs.StartLemmas.{IsNoPath, known_start, opened_start, path_starts}
 use Rattle.once_core.proofs.WaitingLemmas.{of_map}
 use Rattle.once_core.proofs.StopLemmas.{history_is}

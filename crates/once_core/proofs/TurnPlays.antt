@@ -21,6 +21,8 @@ use Rattle.once_core.proofs.PartLemmas.{TurnKeeps, turn_keeps}
 use Rattle.once_core.proofs.DeliverPlays.{answers_play, failed_plays}
 use Rattle.once_core.proofs.NodePlays.{halt_turns, start_turns, submit_turns}
 use Rattle.once_core.proofs.ListLemmas.{in_front}
+use Rattle.once_core.proofs.HearPlays.{hear_turns}
+use Rattle.once_core.proofs.SendingPlays.{tick_turns}
 
 -- what the laws of messages and of nodes say
 pub record Laws : Type 0 where

@@ -1,8 +1,10 @@
 -- Each world is made by happenings, and so it files each record once.
+pub use Rattle.once_core.proofs.LifeWorlds.{values_in, world_made}
 use Rattle.std.proofs.Common.{◌≡◌, ℕ, ◌-◌, ◌≤◌, ◌==◌, List, [], ◌∷◌, length, filter, map, Option, Some, None, Contains, slice_get, refl, sym, ap, subst, ◌∙◌, arith, option_map, eq-eqb}
 use Rattle.std.specs.Option.{option_map_or}
 use Rattle.std.proofs.lemmas.Bool.{and_parts}
 use Rattle.std.proofs.lemmas.List.Elements.{All-contains}
+use Rattle.std.proofs.lemmas.Option.{same_Some}
 use Rattle.gtpp_message.specs.Packet.{PacketForm}
 use Rattle.gw_base.specs.CdrKind.{kind_of}
 use Rattle.gw_base.specs.declared.history.HistoryEntry.{HistoryEntry}
@@ -43,8 +45,6 @@ use Rattle.once_core.proofs.WorldPlays.{Made}
 use Rattle.once_core.proofs.NodeTurnLemmas.{addresses_length}
 use Rattle.once_core.proofs.LifeWorlds.{reached_made}
 use Rattle.once_core.proofs.TurnLemmas.{log_or, log_there}
-use Rattle.std.proofs.lemmas.Option.{same_Some}
-pub use Rattle.once_core.proofs.LifeWorlds.{values_in, world_made}
 
 pub is_made : Laws → (w : World) → IsReached w → IsMade w
 is_made laws w is = let made = reached_made laws w is in record { happenings = made.happenings; shows = subst (Shows (values_in w) w) (sym made.is) made.shows }
