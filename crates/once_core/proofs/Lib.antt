@@ -45,7 +45,6 @@ pub mod FollowLemmas
 pub mod FollowSentLemmas
 pub mod CallLemmas
 pub mod FollowKnownLemmas
-pub mod HearPlays
 pub mod WorldPlays
 pub mod TurnPlays
 pub mod FirstPlays

@@ -19,9 +19,8 @@ use Rattle.once_core.proofs.WorldPlays.{Made, gateway_made, log_is, node_made, l
 use Rattle.once_core.proofs.CommitPlays.{Played, parts_play}
 use Rattle.once_core.proofs.PartLemmas.{TurnKeeps, turn_keeps}
 use Rattle.once_core.proofs.DeliverPlays.{answers_play, failed_plays}
-use Rattle.once_core.proofs.NodePlays.{halt_turns, start_turns, submit_turns}
+use Rattle.once_core.proofs.NodePlays.{halt_turns, hear_turns, start_turns, submit_turns}
 use Rattle.once_core.proofs.ListLemmas.{in_front}
-use Rattle.once_core.proofs.HearPlays.{hear_turns}
 use Rattle.once_core.proofs.SendingPlays.{tick_turns}
 
 -- what the laws of messages and of nodes say
