@@ -1,5 +1,5 @@
 -- What holds goes on with each move of a gateway, and so with whatever happens.
-use Rattle.std.proofs.Common.{◌≡◌, ◌⊎◌, inl, ⊎_elim, ℕ, ◌==◌, nat_le, nat_lt, not, Bool, true, false, List, [], ◌∷◌, ◌++◌, length, length-append, filter, take, drop, take-append-drop, slice_get, Option, Some, None, Contains, refl, sym, ap, subst, ◌∙◌, arith, append_assoc}
+use Rattle.std.proofs.Common.{◌≡◌, ⊎_elim, ℕ, ◌==◌, nat_le, nat_lt, not, Bool, true, false, List, [], ◌∷◌, ◌++◌, length, length-append, filter, take, drop, take-append-drop, slice_get, Option, Some, None, Contains, refl, sym, ap, subst, ◌∙◌, arith, append_assoc}
 use Rattle.std.proofs.lemmas.Bool.{eqb-true, false≢true, leb-true, ltb-true}
 use Rattle.std.proofs.lemmas.List.{append-nil, nil_from_length}
 use Rattle.std.proofs.lemmas.List.Elements.{Contains-append_cases, Contains-append_left, Contains-push_cases}
@@ -14,7 +14,7 @@ use Rattle.gateway_book.specs.Answered.{act_given, entry_by, with_act}
 use Rattle.node_core.specs.declared.copy.Order.TheVariants as order
 use Rattle.once_core.specs.Happenings.{Adds, Asks, Comes, Firms, Happening, Hears, Keeps, Letter, Meaning, Note, Notes, Opens, Orders, Post, Request, Scene, Sends, Starts, WaitingLetter, about, act_noted, cause_of, given, history, is_timely, reply}
 use Rattle.once_core.specs.Resting.{IsBorneOut, IsKnown, IsSent, PostHolds, Rests, RestsBy, SceneHolds, Tells, Waits}
-use Rattle.once_core.specs.Scenes.{Settled, after_coming, after_hearing, at, coming, firming, happened, happened_all, is_answer, is_idle, is_request, keeping, nothing_yet, noting, noting_if, opening, scene_after, waiting_for, with_one}
+use Rattle.once_core.specs.Scenes.{Settled, after_coming, after_hearing, at, coming, firming, happened, happened_all, is_answer, is_idle, is_request, keeping, nothing_yet, noting, noting_if, opening, scene_after, waiting_for, with_one, with_post, with_settled}
 use Rattle.once_core.specs.Happenings as happens
 use Rattle.once_core.proofs.AnswerLemmas.{answer_is_sound}
 use Rattle.once_core.proofs.CountLemmas.{starts_rise}
@@ -27,59 +27,15 @@ use Rattle.once_core.proofs.CaseLemmas.{by_option, if_known}
 -- ---- a gateway's move
 
 -- a gateway becomes this one, its firm part with more behind it, and sends answers that mean what they say in it
-record Moves (scene : Scene) (gateway : ℕ) (letters sends : List Letter) (post : Post) : Type 0 where
-  grows : Grows scene.letters letters
-  back : (l : Letter) → Contains letters l → Contains scene.letters l ⊎ Contains sends l
-  holds : PostHolds letters gateway post
+record Moves (scene : Scene) (gateway : ℕ) (s : Settled) : Type 0 where
+  holds : PostHolds (scene.letters ++ s.sends) gateway s.post
   more : List HistoryEntry
-  firm : post.firm ≡ (scene.posts gateway).firm ++ more
-  sent : (l : Letter) → Contains sends l → (l.gateway ≡ gateway) × (is_answer l.says ≡ true) × IsBorneOut letters post.firm l l.says
+  firm : s.post.firm ≡ (scene.posts gateway).firm ++ more
+  sent : (l : Letter) → Contains s.sends l → (l.gateway ≡ gateway) × (is_answer l.says ≡ true) × IsBorneOut (scene.letters ++ s.sends) s.post.firm l l.says
 
 not_a_request : (deeds : ℕ → List happens.Deed) (l : Letter) (says : Meaning) → is_answer says ≡ true → IsSent deeds l says
 not_a_request deeds l (Asks request) e = absurd (false≢true e)
 not_a_request deeds l _ e = tt
-
-moved : (scene : Scene) (gateway : ℕ) (letters sends : List Letter) (post : Post) → SceneHolds scene → Moves scene gateway letters sends post
-    → SceneHolds (record scene { posts = at gateway post scene.posts; letters = letters })
-moved scene gateway letters sends post holds moves = record {
-  posts = λ g. if_known (PostHolds letters g) (g == gateway)
-      (λ e. subst (λ (k : ℕ). PostHolds letters k post) (sym (eqb-true g gateway e)) moves.holds)
-      (λ e. post_on scene.letters letters moves.grows g (scene.posts g) (holds.posts g));
-  told = λ l kept. ⊎_elim (λ old. old_told l (told_on scene.letters letters moves.grows (scene.posts l.gateway).firm l l.says (holds.told l old))) (new_told l) (moves.back l kept);
-  sent = λ l kept. ⊎_elim (holds.sent l) (λ new. not_a_request scene.deeds l l.says (moves.sent l new).1) (moves.back l kept);
-  heard = λ node l kept. let there = holds.heard node l kept in (there.0, moves.grows l there.1);
-}
-  where
-    old_told : (l : Letter) → IsBorneOut letters (scene.posts l.gateway).firm l l.says → IsBorneOut letters (at gateway post scene.posts l.gateway).firm l l.says
-    old_told l told = if_known (λ (p : Post). IsBorneOut letters p.firm l l.says) (l.gateway == gateway)
-        (λ e.
-        let here : IsBorneOut letters (scene.posts gateway).firm l l.says = subst (λ (k : ℕ). IsBorneOut letters (scene.posts k).firm l l.says) (eqb-true l.gateway gateway e) told in
-        let rests = each_front (λ before d. RestsBy letters gateway before d.act) [] post.firm post.rest moves.holds.rests in
-        subst (λ (h : List HistoryEntry). IsBorneOut letters h l l.says) (sym moves.firm)
-        (told_later letters gateway (scene.posts gateway).firm moves.more l l.says (subst (Rests letters gateway) moves.firm rests) here))
-        (λ e. told)
-
-    new_told : (l : Letter) → Contains sends l → IsBorneOut letters (at gateway post scene.posts l.gateway).firm l l.says
-    new_told l new =
-        let is = moves.sent l new in
-        subst (λ (p : Post). IsBorneOut letters p.firm l l.says) (sym (ap (at gateway post scene.posts) is.0 ∙ at_same gateway post scene.posts)) is.2
-
--- one that sends nothing
-quietly : (scene : Scene) (gateway : ℕ) (post : Post) → SceneHolds scene → PostHolds scene.letters gateway post → post.firm ≡ (scene.posts gateway).firm
-    → SceneHolds (record scene { posts = at gateway post scene.posts })
-quietly scene gateway post holds is firm = moved scene gateway scene.letters [] post holds (record {
-  grows = λ l kept. kept;
-  back = λ l kept. inl kept;
-  holds = is;
-  more = [];
-  firm = firm ∙ sym (append-nil (scene.posts gateway).firm);
-  sent = λ l new. in_none l new;
-})
-
-with_none : (scene : Scene) (posts : ℕ → Post) → SceneHolds (record scene { posts = posts }) → SceneHolds (record scene { posts = posts; letters = scene.letters ++ [] })
-with_none scene posts = subst (λ (ls : List Letter). SceneHolds (record scene { posts = posts; letters = ls })) (sym (append-nil scene.letters))
-
--- ---- the moves
 
 noted : (letters : List Letter) (gateway : ℕ) (post : Post) (now : ℕ) (who : Caller) (a : HistoryAct) → PostHolds letters gateway post
     → RestsBy letters gateway (history post) a → PostHolds letters gateway (noting now who a post)
@@ -107,71 +63,11 @@ kept_back letters gateway keep post holds = record {
   waits = λ w kept. in_none w kept;
 }
 
-firmed : (scene : Scene) (gateway : ℕ) → SceneHolds scene
-    → Moves scene gateway (scene.letters ++ (firming (scene.posts gateway)).sends) (firming (scene.posts gateway)).sends (firming (scene.posts gateway)).post
-firmed scene gateway holds =
-    let post = scene.posts gateway in
-    let size = length (history post) in
-    let sends = (firming post).sends in
-    let grows : Grows scene.letters (scene.letters ++ sends) = λ l kept. Contains-append_left scene.letters sends l kept in
-    let whole : history post ≡ history post ++ [] = sym (append-nil (history post)) in
-    let before = post_on scene.letters (scene.letters ++ sends) grows gateway post (holds.posts gateway) in
-    record {
-      grows = grows;
-      back = λ l kept. Contains-append_cases scene.letters sends l kept;
-      holds = record {
-        rests = subst (Rests (scene.letters ++ sends) gateway) whole before.rests;
-        waits = λ w kept. subst (λ (h : List HistoryEntry). Waits (scene.letters ++ sends) gateway h w.letter) whole
-            (before.waits w (filtered (λ v. not (nat_le v.front size)) post.waiting w kept));
-      };
-      more = post.rest;
-      firm = refl;
-      sent = λ l new.
-          let there = mapped (filter (λ v. nat_le v.front size) post.waiting) l new in
-          let is = before.waits there.0 (filtered (λ v. nat_le v.front size) post.waiting there.0 there.1) in
-          subst (λ (m : Letter). (m.gateway ≡ gateway) × (is_answer m.says ≡ true) × IsBorneOut (scene.letters ++ sends) (history post) m m.says) there.2 (is.gateway_is, is.answers, is.told);
-    }
-
--- ---- an answer
-
 -- the answer to where a message came from speaks of the same number
 tells_reply : (h : List HistoryEntry) (letter : Letter) (answer : Given) (request : Request) (cause : ℕ) → Tells h letter request cause → Tells h (reply letter answer) request cause
 tells_reply h letter answer (Sends false packet) cause told = tt
 tells_reply h letter answer (Orders order.Cancel named) cause told = tt
 tells_reply h letter answer _ cause told = told
-
-abbrev with_answer : Scene → Letter → Settled → Scene
-with_answer scene l settled = record scene { posts = at l.gateway settled.post scene.posts; letters = scene.letters ++ settled.sends }
-
--- an answer waits or is sent
-waited : (scene : Scene) (l : Letter) (post : Post) → SceneHolds scene → PostHolds scene.letters l.gateway post → post.firm ≡ (scene.posts l.gateway).firm
-    → is_answer l.says ≡ true → IsBorneOut scene.letters (history post) l l.says → SceneHolds (with_answer scene l (waiting_for l post))
-waited scene l post holds is firm answers told =
-    if_known (λ (s : Settled). SceneHolds (with_answer scene l s)) (nat_le (length (history post)) (length post.firm))
-    (λ e.
-    let short = leb-true (length (history post)) (length post.firm) e in
-    let all : history post ≡ post.firm =
-    ap (λ (r : List HistoryEntry). post.firm ++ r) (nil_from_length post.rest (omega (arith, short, length-append post.firm post.rest))) ∙ append-nil post.firm in
-    let grows : Grows scene.letters (scene.letters ++ l ∷ []) = λ m kept. Contains-append_left scene.letters (l ∷ []) m kept in
-    moved scene l.gateway (scene.letters ++ l ∷ []) (l ∷ []) post holds (record {
-      grows = grows;
-      back = λ m kept. Contains-append_cases scene.letters (l ∷ []) m kept;
-      holds = post_on scene.letters (scene.letters ++ l ∷ []) grows l.gateway post is;
-      more = [];
-      firm = firm ∙ sym (append-nil (scene.posts l.gateway).firm);
-      sent = λ m new. subst (λ (x : Letter). (x.gateway ≡ l.gateway) × (is_answer x.says ≡ true) × IsBorneOut (scene.letters ++ l ∷ []) post.firm x x.says) (in_one l m new)
-          (refl, answers, told_on scene.letters (scene.letters ++ l ∷ []) grows post.firm l l.says (subst (λ (h : List HistoryEntry). IsBorneOut scene.letters h l l.says) all told));
-    }))
-    (λ e.
-    let last : WaitingLetter = record { front = length (history post); letter = l } in
-    with_none scene (at l.gateway (record post { waiting = post.waiting ++ last ∷ [] }) scene.posts)
-    (quietly scene l.gateway (record post { waiting = post.waiting ++ last ∷ [] }) holds
-    (record {
-      rests = is.rests;
-      waits = λ w kept. ⊎_elim (is.waits w)
-          (λ same. subst (λ (x : WaitingLetter). Waits scene.letters l.gateway (history post) x.letter) same (record { gateway_is = refl; answers = answers; told = told }))
-          (Contains-push_cases post.waiting last w kept);
-    }) firm))
 
 -- what an act that is recorded leaves of a gateway
 record AsNoted (letters : List Letter) (gateway now : ℕ) (who : Caller) (recorded : Option HistoryAct) (post : Post) : Type 0 where
@@ -188,26 +84,142 @@ as_noted letters gateway now who (Some a) post holds rests = record {
   same = append_assoc post.firm post.rest (entry_by (history post) now who a ∷ []);
 }
 
--- a request comes
-came : (scene : Scene) (letter : Letter) (request : Request) (may : HistoryAct → Bool) (now : ℕ) (who : Caller) → SceneHolds scene → Contains scene.letters letter
-    → letter.says ≡ Asks request → SceneHolds (with_answer scene letter (coming may now who letter request (scene.posts letter.gateway)))
-came scene letter request may now who holds kept says =
-    let post = scene.posts letter.gateway in
-    let before = holds.posts letter.gateway in
-    if_known (λ (s : Settled). SceneHolds (with_answer scene letter s)) (is_timely (history post) letter request)
-    (λ timely.
-    let answer = given (history post) may letter request in
-    let sound = answer_is_sound scene.letters (history post) letter request may (starts_rise scene.letters letter.gateway (history post) before.rests) kept says timely in
-    let after = as_noted scene.letters letter.gateway now who (act_given answer) post before sound.rests in
-    waited scene (reply letter answer) (noting_if now who (act_given answer) post) holds after.holds after.firm refl
-    (λ telling. record {
-      request = request;
-      asked = subst (Contains scene.letters) (λ i. record letter { says = says i }) kept;
-      tells = tells_reply (history (noting_if now who (act_given answer) post)) letter answer request (cause_of answer)
-          (subst (λ (h : List HistoryEntry). Tells h letter request (cause_of answer)) after.same (sound.tells now who));
-      known = subst (λ (h : List HistoryEntry). IsKnown h letter.node letter.start (about request letter.number)) after.same (sound.known telling now who);
-    }))
-    (λ lost. with_none scene (at letter.gateway post scene.posts) (quietly scene letter.gateway post holds before refl))
+module _ {scene : Scene} (holds : SceneHolds scene) where
+  abbrev with_sends : Settled → List Letter
+  with_sends s = scene.letters ++ s.sends
+
+  grows : (s : Settled) → Grows scene.letters (with_sends s)
+  grows s l kept = Contains-append_left scene.letters s.sends l kept
+
+  moved : (gateway : ℕ) (s : Settled) → Moves scene gateway s → SceneHolds (with_settled gateway s scene)
+  moved gateway s moves = record {
+    posts = λ g. if_known (PostHolds (with_sends s) g) (g == gateway)
+        (λ e. subst (λ (k : ℕ). PostHolds (with_sends s) k s.post) (sym (eqb-true g gateway e)) moves.holds)
+        (λ e. post_on scene.letters (with_sends s) (grows s) g (scene.posts g) (holds.posts g));
+    told = λ l kept. ⊎_elim (λ old. old_told l (told_on scene.letters (with_sends s) (grows s) (scene.posts l.gateway).firm l l.says (holds.told l old)))
+        (new_told l) (Contains-append_cases scene.letters s.sends l kept);
+    sent = λ l kept. ⊎_elim (holds.sent l) (λ new. not_a_request scene.deeds l l.says (moves.sent l new).1) (Contains-append_cases scene.letters s.sends l kept);
+    heard = λ node l kept. let there = holds.heard node l kept in (there.0, grows s l there.1);
+  }
+    where
+      old_told : (l : Letter) → IsBorneOut (with_sends s) (scene.posts l.gateway).firm l l.says → IsBorneOut (with_sends s) (at gateway s.post scene.posts l.gateway).firm l l.says
+      old_told l told = if_known (λ (p : Post). IsBorneOut (with_sends s) p.firm l l.says) (l.gateway == gateway)
+          (λ e.
+          let here : IsBorneOut (with_sends s) (scene.posts gateway).firm l l.says = subst (λ (k : ℕ). IsBorneOut (with_sends s) (scene.posts k).firm l l.says) (eqb-true l.gateway gateway e) told in
+          let rests = each_front (λ before d. RestsBy (with_sends s) gateway before d.act) [] s.post.firm s.post.rest moves.holds.rests in
+          subst (λ (h : List HistoryEntry). IsBorneOut (with_sends s) h l l.says) (sym moves.firm)
+          (told_later (with_sends s) gateway (scene.posts gateway).firm moves.more l l.says (subst (Rests (with_sends s) gateway) moves.firm rests) here))
+          (λ e. told)
+
+      new_told : (l : Letter) → Contains s.sends l → IsBorneOut (with_sends s) (at gateway s.post scene.posts l.gateway).firm l l.says
+      new_told l new =
+          let is = moves.sent l new in
+          subst (λ (p : Post). IsBorneOut (with_sends s) p.firm l l.says) (sym (ap (at gateway s.post scene.posts) is.0 ∙ at_same gateway s.post scene.posts)) is.2
+
+  -- one that sends nothing
+  silently : (gateway : ℕ) (post : Post) → PostHolds scene.letters gateway post → post.firm ≡ (scene.posts gateway).firm
+      → SceneHolds (with_settled gateway (record { post = post; sends = [] }) scene)
+  silently gateway post is firm = moved gateway (record { post = post; sends = [] }) (record {
+    holds = post_on scene.letters (scene.letters ++ []) (grows (record { post = post; sends = [] })) gateway post is;
+    more = [];
+    firm = firm ∙ sym (append-nil (scene.posts gateway).firm);
+    sent = λ l new. in_none l new;
+  })
+
+  quietly : (gateway : ℕ) (post : Post) → PostHolds scene.letters gateway post → post.firm ≡ (scene.posts gateway).firm → SceneHolds (with_post gateway post scene)
+  quietly gateway post is firm =
+      subst (λ (ls : List Letter). SceneHolds (record scene { posts = at gateway post scene.posts; letters = ls })) (append-nil scene.letters) (silently gateway post is firm)
+
+  firmed : (gateway : ℕ) → Moves scene gateway (firming (scene.posts gateway))
+  firmed gateway =
+      let post = scene.posts gateway in
+      let size = length (history post) in
+      let settled = firming post in
+      let whole : history post ≡ history post ++ [] = sym (append-nil (history post)) in
+      let before = post_on scene.letters (with_sends settled) (grows settled) gateway post (holds.posts gateway) in
+      record {
+        holds = record {
+          rests = subst (Rests (with_sends settled) gateway) whole before.rests;
+          waits = λ w kept. subst (λ (h : List HistoryEntry). Waits (with_sends settled) gateway h w.letter) whole
+              (before.waits w (filtered (λ v. not (nat_le v.front size)) post.waiting w kept));
+        };
+        more = post.rest;
+        firm = refl;
+        sent = λ l new.
+            let there = mapped (filter (λ v. nat_le v.front size) post.waiting) l new in
+            let is = before.waits there.0 (filtered (λ v. nat_le v.front size) post.waiting there.0 there.1) in
+            subst (λ (m : Letter). (m.gateway ≡ gateway) × (is_answer m.says ≡ true) × IsBorneOut (with_sends settled) (history post) m m.says) there.2 (is.gateway_is, is.answers, is.told);
+      }
+
+  -- an answer waits or is sent
+  waited : (l : Letter) (post : Post) → PostHolds scene.letters l.gateway post → post.firm ≡ (scene.posts l.gateway).firm → is_answer l.says ≡ true
+      → IsBorneOut scene.letters (history post) l l.says → SceneHolds (with_settled l.gateway (waiting_for l post) scene)
+  waited l post is firm answers told =
+      if_known (λ (s : Settled). SceneHolds (with_settled l.gateway s scene)) (nat_le (length (history post)) (length post.firm))
+      (λ e.
+      let short = leb-true (length (history post)) (length post.firm) e in
+      let all : history post ≡ post.firm =
+      ap (λ (r : List HistoryEntry). post.firm ++ r) (nil_from_length post.rest (omega (arith, short, length-append post.firm post.rest))) ∙ append-nil post.firm in
+      let sent : Settled = record { post = post; sends = l ∷ [] } in
+      moved l.gateway sent (record {
+        holds = post_on scene.letters (with_sends sent) (grows sent) l.gateway post is;
+        more = [];
+        firm = firm ∙ sym (append-nil (scene.posts l.gateway).firm);
+        sent = λ m new. subst (λ (x : Letter). (x.gateway ≡ l.gateway) × (is_answer x.says ≡ true) × IsBorneOut (with_sends sent) post.firm x x.says) (in_one l m new)
+            (refl, answers, told_on scene.letters (with_sends sent) (grows sent) post.firm l l.says (subst (λ (h : List HistoryEntry). IsBorneOut scene.letters h l l.says) all told));
+      }))
+      (λ e.
+      let last : WaitingLetter = record { front = length (history post); letter = l } in
+      silently l.gateway (record post { waiting = post.waiting ++ last ∷ [] })
+      (record {
+        rests = is.rests;
+        waits = λ w kept. ⊎_elim (is.waits w)
+            (λ same. subst (λ (x : WaitingLetter). Waits scene.letters l.gateway (history post) x.letter) same (record { gateway_is = refl; answers = answers; told = told }))
+            (Contains-push_cases post.waiting last w kept);
+      }) firm)
+
+  -- a request comes
+  came : (letter : Letter) (request : Request) (may : HistoryAct → Bool) (now : ℕ) (who : Caller) → Contains scene.letters letter → letter.says ≡ Asks request
+      → SceneHolds (with_settled letter.gateway (coming may now who letter request (scene.posts letter.gateway)) scene)
+  came letter request may now who kept says =
+      let post = scene.posts letter.gateway in
+      let before = holds.posts letter.gateway in
+      if_known (λ (s : Settled). SceneHolds (with_settled letter.gateway s scene)) (is_timely (history post) letter request)
+      (λ timely.
+      let answer = given (history post) may letter request in
+      let sound = answer_is_sound scene.letters (history post) letter request may (starts_rise scene.letters letter.gateway (history post) before.rests) kept says timely in
+      let after = as_noted scene.letters letter.gateway now who (act_given answer) post before sound.rests in
+      waited (reply letter answer) (noting_if now who (act_given answer) post) after.holds after.firm refl
+      (λ telling. record {
+        request = request;
+        asked = subst (Contains scene.letters) (λ i. record letter { says = says i }) kept;
+        tells = tells_reply (history (noting_if now who (act_given answer) post)) letter answer request (cause_of answer)
+            (subst (λ (h : List HistoryEntry). Tells h letter request (cause_of answer)) after.same (sound.tells now who));
+        known = subst (λ (h : List HistoryEntry). IsKnown h letter.node letter.start (about request letter.number)) after.same (sound.known telling now who);
+      }))
+      (λ lost. silently letter.gateway post before refl)
+
+  coming_on : (letter : Letter) (says : Meaning) (may : HistoryAct → Bool) (now : ℕ) (who : Caller) → letter.says ≡ says → Contains scene.letters letter
+      → SceneHolds (after_coming may now who letter says scene)
+  coming_on letter (Asks request) may now who says kept = came letter request may now who kept says
+  coming_on letter _ may now who says kept = holds
+
+  -- an entry more
+  notes : (gateway now : ℕ) (who : Caller) (a : HistoryAct) → RestsBy scene.letters gateway (history (scene.posts gateway)) a
+      → SceneHolds (with_post gateway (noting now who a (scene.posts gateway)) scene)
+  notes gateway now who a rests =
+      quietly gateway (noting now who a (scene.posts gateway)) (noted scene.letters gateway (scene.posts gateway) now who a (holds.posts gateway) rests) refl
+
+  opened : (gateway now : ℕ) (who : Caller) (node : NodeId) (port counter : ℕ) (b : Bool) → nat_lt (start_of node.0 (history (scene.posts gateway))) counter ≡ b
+      → SceneHolds (with_post gateway (opening now who (act.Path node port counter) b (scene.posts gateway)) scene)
+  opened gateway now who node port counter false e = quietly gateway (scene.posts gateway) (holds.posts gateway) refl
+  opened gateway now who node port counter true e =
+      notes gateway now who (act.Path node port counter) (ltb-true (start_of node.0 (history (scene.posts gateway))) counter e)
+
+  one_on : (k : ℕ) (f : Letter → Scene → Scene) → ((letter : Letter) → Contains scene.letters letter → SceneHolds (f letter scene))
+      → SceneHolds (with_one (slice_get scene.letters k) f scene)
+  one_on k f goes = by_option (λ (o : Option Letter). SceneHolds (with_one o f scene)) (slice_get scene.letters k)
+      (λ none. holds) (λ letter there. goes letter (get_contains scene.letters k letter there))
 
 -- ---- whatever happens
 
@@ -215,41 +227,19 @@ note_rests : (letters : List Letter) (gateway : ℕ) (h : List HistoryEntry) (no
 note_rests letters gateway h Starts = tt
 note_rests letters gateway h _ = tt
 
-opened : (scene : Scene) (gateway : ℕ) (node : NodeId) (port counter now : ℕ) (who : Caller) (b : Bool)
-    → nat_lt (start_of node.0 (history (scene.posts gateway))) counter ≡ b → SceneHolds scene
-    → SceneHolds (record scene { posts = at gateway (opening now who (act.Path node port counter) b (scene.posts gateway)) scene.posts })
-opened scene gateway node port counter now who false e holds = quietly scene gateway (scene.posts gateway) holds (holds.posts gateway) refl
-opened scene gateway node port counter now who true e holds =
-    quietly scene gateway (noting now who (act.Path node port counter) (scene.posts gateway)) holds
-    (noted scene.letters gateway (scene.posts gateway) now who (act.Path node port counter) (holds.posts gateway)
-    (ltb-true (start_of node.0 (history (scene.posts gateway))) counter e)) refl
-
-coming_on : (scene : Scene) (letter : Letter) (says : Meaning) (may : HistoryAct → Bool) (now : ℕ) (who : Caller) → letter.says ≡ says → Contains scene.letters letter
-    → SceneHolds scene → SceneHolds (after_coming may now who letter says scene)
-coming_on scene letter (Asks request) may now who says kept holds = came scene letter request may now who holds kept says
-coming_on scene letter _ may now who says kept holds = holds
-
-one_on : (scene : Scene) (k : ℕ) (f : Letter → Scene → Scene) → SceneHolds scene → ((letter : Letter) → Contains scene.letters letter → SceneHolds (f letter scene))
-    → SceneHolds (with_one (slice_get scene.letters k) f scene)
-one_on scene k f holds goes = by_option (λ (o : Option Letter). SceneHolds (with_one o f scene)) (slice_get scene.letters k)
-    (λ none. holds) (λ letter there. goes letter (get_contains scene.letters k letter there))
-
 pub holds_on : (scene : Scene) (next : Happening) → SceneHolds scene → SceneHolds (happened scene next)
 holds_on scene (happens.Sends letter) holds = sending scene letter (is_request letter.says) refl holds
 holds_on scene (Hears k) holds =
-    one_on scene k (λ letter. after_hearing (is_answer letter.says) letter) holds (λ letter there. hearing scene letter (is_answer letter.says) there holds)
+    one_on holds k (λ letter. after_hearing (is_answer letter.says) letter) (λ letter there. hearing scene letter (is_answer letter.says) there holds)
 holds_on scene (Comes k may now who) holds =
-    one_on scene k (λ letter. after_coming may now who letter letter.says) holds (λ letter there. coming_on scene letter letter.says may now who refl there holds)
+    one_on holds k (λ letter. after_coming may now who letter letter.says) (λ letter there. coming_on holds letter letter.says may now who refl there)
 holds_on scene (Opens gateway node port counter now who) holds =
-    opened scene gateway node port counter now who (nat_lt (start_of node.0 (history (scene.posts gateway))) counter) refl holds
+    opened holds gateway now who node port counter (nat_lt (start_of node.0 (history (scene.posts gateway))) counter) refl
 holds_on scene (Notes gateway note now who) holds =
-    quietly scene gateway (noting now who (act_noted note) (scene.posts gateway)) holds
-    (noted scene.letters gateway (scene.posts gateway) now who (act_noted note) (holds.posts gateway) (note_rests scene.letters gateway (history (scene.posts gateway)) note)) refl
-holds_on scene (Firms gateway) holds =
-    let settled = firming (scene.posts gateway) in
-    moved scene gateway (scene.letters ++ settled.sends) settled.sends settled.post holds (firmed scene gateway holds)
+    notes holds gateway now who (act_noted note) (note_rests scene.letters gateway (history (scene.posts gateway)) note)
+holds_on scene (Firms gateway) holds = moved holds gateway (firming (scene.posts gateway)) (firmed holds gateway)
 holds_on scene (Keeps gateway keep) holds =
-    quietly scene gateway (keeping keep (scene.posts gateway)) holds (kept_back scene.letters gateway keep (scene.posts gateway) (holds.posts gateway)) refl
+    quietly holds gateway (keeping keep (scene.posts gateway)) (kept_back scene.letters gateway keep (scene.posts gateway) (holds.posts gateway)) refl
 holds_on scene (Adds letter) holds = adding scene letter (is_idle letter.says) refl holds
 
 pub holds_yet : SceneHolds nothing_yet
