@@ -25,7 +25,7 @@ use Rattle.once_core.specs.Meaning.{is_spoken, letter_of, meaning_of}
 use Rattle.once_core.specs.Once.{IsFiledFor, IsFollowed, firm_in}
 use Rattle.once_core.specs.Resting.{IsState, Rests, RestsBy, SceneHolds}
 use Rattle.once_core.specs.Scenes.{is_telling}
-use Rattle.once_core.specs.Told.{AnswersACopy, IsAnswerFor, IsOfCopy, MeanCopies, NameChoices, NamesChoice, TellStates, WasSubmitted, asking}
+use Rattle.once_core.specs.Told.{AnswersACopy, IsAnswerFor, IsOfCopy, MeanCopies, NamesChoice, TellStates, WasSubmitted, asking}
 use Rattle.once_core.specs.World.{World, log_at}
 use Rattle.once_core.specs.declared.message.Message.{Message}
 use Rattle.once_core.proofs.ContentLemmas.{IsBrought, brought}
@@ -68,7 +68,10 @@ same_as key node number node_is number_is =
     (and_from (key.node.0 == node) (key.epoch == key.epoch) (eq-eqb key.node.0 node node_is) (eq-eqb key.epoch key.epoch refl))
     (eq-eqb key.number number number_is)
 
-module _ (laws : Laws) (w : World) (made : Made (values_in w) w) where
+module _ (laws : Laws) (w : World) (reached : IsReached w) where
+  made : Made (values_in w) w
+  made = reached_made laws w reached
+
   holds : SceneHolds made.scene
   holds = subst SceneHolds made.is (holds_always made.happenings)
 
@@ -105,7 +108,7 @@ module _ (laws : Laws) (w : World) (made : Made (values_in w) w) where
       let is = holds.told (record (letter_of m) { says = Answers cause }) (spoken m (Answers cause) kept says refl) telling in
       record { request = is.request; of = of_copy m is.request is.asked }
 
-  mean_copies : MeanCopies w
+  pub mean_copies : MeanCopies w
   mean_copies = record { asked = asked; answered = answered }
 
   -- ---- what an answer tells of a copy
@@ -128,7 +131,7 @@ module _ (laws : Laws) (w : World) (made : Made (values_in w) w) where
     answer_is telling =
         told_by made.scene holds (node_ip m.node) packet.start (values_in w m.node) (packets_in packet.start (log_at w m.node)) follows copy.gateway m.port number cause letter_there telling
 
-  tell_states : TellStates w
+  pub tell_states : TellStates w
   tell_states = record {
     filed = λ m packet copy cause is plain tells. firmly copy.gateway
         (filed_by_answer made.scene holds (node_ip m.node) packet.start (values_in w m.node) (packets_in packet.start (log_at w m.node)) (follows m packet copy copy.number cause is)
@@ -147,7 +150,7 @@ module _ (laws : Laws) (w : World) (made : Made (values_in w) w) where
 
   -- ---- what a release names
 
-  name_choices : (m : Message) (named : ℕ) → Contains w.messages m → meaning_of m ≡ Asks (Orders order.Release named) → NamesChoice w m named
+  pub name_choices : (m : Message) (named : ℕ) → Contains w.messages m → meaning_of m ≡ Asks (Orders order.Release named) → NamesChoice w m named
   name_choices m named kept says =
       let may = asked m (Orders order.Release named) kept says in
       let at = may.2.at in
@@ -180,7 +183,7 @@ module _ (laws : Laws) (w : World) (made : Made (values_in w) w) where
   rests place =
       each_front (λ before e. RestsBy made.scene.letters place before e.act) [] (made.scene.posts place).firm (made.scene.posts place).rest (holds.posts place).rests
 
-  was_submitted : (place : ℕ) (filing : FiledRecord) → Contains (filed (firm_in w place)) filing → WasSubmitted w place filing
+  pub was_submitted : (place : ℕ) (filing : FiledRecord) → Contains (filed (firm_in w place)) filing → WasSubmitted w place filing
   was_submitted place filing kept = by (cases_lt filing.key.node.0 first_node_ip)
     where
       of : IsBrought made.scene.letters place filing.key (made.scene.posts place).firm filing
@@ -226,17 +229,3 @@ module _ (laws : Laws) (w : World) (made : Made (values_in w) w) where
       by : (filing.key.node.0 < first_node_ip) ⊎ (first_node_ip ≤ filing.key.node.0) → WasSubmitted w place filing
       by (inl less) = (in_none (Sent letter) (subst (λ (ds : List Deed). Contains ds (Sent letter)) (made.strangers filing.key.node.0 less) sent))
       by (inr more) = by_node (filing.key.node.0 - first_node_ip) (omega (arith, more))
-
--- ---- of all worlds
-
-pub world_means_copies : Laws → (w : World) → IsReached w → MeanCopies w
-world_means_copies laws w reached = mean_copies laws w (reached_made laws w reached)
-
-pub world_tells_states : Laws → (w : World) → IsReached w → TellStates w
-world_tells_states laws w reached = tell_states laws w (reached_made laws w reached)
-
-pub world_names_choices : Laws → (w : World) → IsReached w → NameChoices w
-world_names_choices laws w reached = name_choices laws w (reached_made laws w reached)
-
-pub world_was_submitted : Laws → (w : World) (place : ℕ) (filing : FiledRecord) → IsReached w → Contains (filed (firm_in w place)) filing → WasSubmitted w place filing
-world_was_submitted laws w place filing reached = was_submitted laws w (reached_made laws w reached) place filing

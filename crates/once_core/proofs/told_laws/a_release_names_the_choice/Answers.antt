@@ -1,5 +1,5 @@
-use Rattle.once_core.proofs.ToldLemmas.{world_names_choices}
+use Rattle.once_core.proofs.ToldLemmas.{name_choices}
 use Rattle.once_core.proofs.told_laws.a_release_names_the_choice.Goals as goal
 
 pub returns : goal.returns
-returns c = world_names_choices assumption
+returns c = name_choices assumption

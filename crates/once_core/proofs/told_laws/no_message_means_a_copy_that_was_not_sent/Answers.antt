@@ -1,5 +1,5 @@
-use Rattle.once_core.proofs.ToldLemmas.{world_means_copies}
+use Rattle.once_core.proofs.ToldLemmas.{mean_copies}
 use Rattle.once_core.proofs.told_laws.no_message_means_a_copy_that_was_not_sent.Goals as goal
 
 pub returns : goal.returns
-returns c = world_means_copies assumption
+returns c = mean_copies assumption

@@ -1,5 +1,5 @@
-use Rattle.once_core.proofs.ToldLemmas.{world_was_submitted}
+use Rattle.once_core.proofs.ToldLemmas.{was_submitted}
 use Rattle.once_core.proofs.told_laws.what_is_filed_was_submitted.Goals as goal
 
 pub returns : goal.returns
-returns c = world_was_submitted assumption
+returns c = λ w place filing reached. was_submitted assumption w reached place filing
