@@ -114,29 +114,29 @@ module _ (laws : Laws) (w : World) (made : Made (values_in w) w) where
         ap records_within (value_octets_are packet.form good.some)
         ∙ ap (λ (o : Option PacketForm). option_map_or (λ form. form.records) o []) good.read
 
-    under : (copy : PacketCopy) (filing : FiledRecord) (for : IsFiledFor (firm_in w copy.gateway) node packet copy filing)
+    under : (copy : PacketCopy) (filing : FiledRecord) (of : IsFiledFor (firm_in w copy.gateway) node packet copy filing)
         → IsFiledUnder (firm_in w copy.gateway) (node_ip node) packet.start copy.number filing
-    under copy filing for = record {
-      epoch = for.epoch;
-      begun = for.begun;
-      kept = for.kept;
-      key_is = (and_parts (same_key filing.key (key_in (node_ip node) copy.number for.epoch)) (filing.index == filing.index) for.key_is).0;
+    under copy filing of = record {
+      epoch = of.epoch;
+      begun = of.begun;
+      kept = of.kept;
+      key_is = (and_parts (same_key filing.key (key_in (node_ip node) copy.number of.epoch)) (filing.index == filing.index) of.key_is).0;
     }
 
     pub octets_placed : (copy : PacketCopy) (filing : FiledRecord) → IsFiledFor (firm_in w copy.gateway) node packet copy filing
         → slice_get packet.form.records filing.index ≡ Some filing.octets
-    octets_placed copy filing for =
+    octets_placed copy filing of =
         ap (λ (rs : List (List ℕ)). slice_get rs filing.index) (sym records_are)
         ∙ All-contains (λ (c : PacketCopy). (f : FiledRecord) → IsFiledUnder (firm_in w c.gateway) (node_ip node) packet.start c.number f
-        → slice_get (records_within (value_octets packet.form)) f.index ≡ Some f.octets) packet.state.copies copy placed.content for.copy_is filing (under copy filing for)
+        → slice_get (records_within (value_octets packet.form)) f.index ≡ Some f.octets) packet.state.copies copy placed.content of.copy_is filing (under copy filing of)
 
     -- it is filed in its packet's kind
     pub kind_placed : (copy : PacketCopy) (filing : FiledRecord) → IsFiledFor (firm_in w copy.gateway) node packet copy filing → filing.kind ≡ kind_of packet.form.format packet.form.version
-    kind_placed copy filing for =
+    kind_placed copy filing of =
         let within = All-contains (λ (c : PacketCopy). (f : FiledRecord) → IsFiledUnder (firm_in w c.gateway) (node_ip node) packet.start c.number f
-        → kind_within (value_octets packet.form) ≡ Some f.kind) packet.state.copies copy placed.kind for.copy_is in
+        → kind_within (value_octets packet.form) ≡ Some f.kind) packet.state.copies copy placed.kind of.copy_is in
         same_Some filing.kind (kind_of packet.form.format packet.form.version)
-        (sym (within filing (under copy filing for)) ∙ ap kind_within (value_octets_are packet.form good.some)
+        (sym (within filing (under copy filing of)) ∙ ap kind_within (value_octets_are packet.form good.some)
         ∙ ap (λ (o : Option PacketForm). option_map (λ (form : PacketForm). kind_of form.format form.version) o) good.read)
 
     -- a number has one role in its start
