@@ -107,7 +107,7 @@ release_is : (o : Order) → is_release o ≡ true → o ≡ order.Release
 release_is order.Release e = refl
 release_is order.Cancel e = absurd (false≢true e)
 
-module _ (scene : Scene) (holds : SceneHolds scene) (node start : ℕ) (values : ℕ → List ℕ) (packets : List PacketState) (follows : Follows (scene.deeds node) start values packets) where
+module _ {scene : Scene} (holds : SceneHolds scene) (node : ℕ) {start : ℕ} {values : ℕ → List ℕ} {packets : List PacketState} (follows : Follows (scene.deeds node) start values packets) where
   abbrev pub firm : ℕ → List HistoryEntry
   firm gateway = (scene.posts gateway).firm
 

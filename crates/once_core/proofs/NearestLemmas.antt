@@ -1,5 +1,5 @@
 -- The number of an open copy is read as it is meant, where the gateway's present epoch is that of the node's start.
-use Rattle.std.proofs.Common.{◌≡◌, ◌⊎◌, inl, inr, ℕ, ◌+◌, ◌<◌, ◌≤◌, ◌%◌, ◌↔◌, Bool, false, List, [], Option, Some, None, Contains, refl, sym, ap, subst, ◌∙◌, arith}
+use Rattle.std.proofs.Common.{◌≡◌, ◌⊎◌, inl, inr, ℕ, ◌+◌, ◌<◌, ◌≤◌, ◌%◌, Bool, false, List, [], Option, Some, None, Contains, refl, sym, ap, subst, ◌∙◌, arith}
 use Rattle.std.proofs.lemmas.Option.{same_Some, none-some}
 use Rattle.gateway_book.specs.Fit.{is_fresh}
 use Rattle.gw_base.specs.EntryLaws.{present_state_is}
@@ -77,7 +77,7 @@ module _ (law : NearestIsTheOne) (scene : Scene) (holds : SceneHolds scene) (nod
   above_top : (bound : ℕ) → ((number : ℕ) → IsCovered (top_of node h) number → number ≤ bound) → (later : ℕ) → HasCopy packets gateway later → bound < later → HasOpenCopy packets gateway later
   above_top bound least later is above = by_bool (λ (b : Bool). HasOpenCopy packets gateway later) (is_done is.packet.copies)
       (λ e.
-      let known = done_known scene holds node start values packets follows is.packet is.kept e is.copy is.sent in
+      let known = done_known holds node follows is.packet is.kept e is.copy is.sent in
       let here : IsKnown (scene.posts gateway).firm node start later =
       subst (λ (n : ℕ). IsKnown (scene.posts gateway).firm node start n) is.number_is
       (subst (λ (g : ℕ). IsKnown (scene.posts g).firm node start is.copy.number) is.gateway_is known) in
@@ -89,7 +89,7 @@ module _ (law : NearestIsTheOne) (scene : Scene) (holds : SceneHolds scene) (nod
   top_copy t e =
       let asked = top_asked scene.letters gateway node h rests t e in
       by asked.request asked.own asked.asked.port asked.about_is
-      (knows.may_send scene holds node start values packets follows gateway asked.asked.port asked.own asked.request
+      (knows.may_send holds node follows gateway asked.asked.port asked.own asked.request
       (subst (λ (s : ℕ). Contains scene.letters (record { node = node; start = s; gateway = gateway; port = asked.asked.port; number = asked.own; says = Asks asked.request })) present asked.asked.kept))
     where
       of : (number : ℕ) → number ≡ t → AnyHasCopyAt packets gateway number → HasCopy packets gateway t

@@ -54,7 +54,7 @@ any_released (first ∷ copies) e = ⊎_elim
     (λ later. let there = any_released copies later in (there.0, in_tail first there.0 copies there.1, there.2))
     (or_cases (is_released first) (list_any is_released copies) e)
 
-module _ (scene : Scene) (holds : SceneHolds scene) (node start : ℕ) (values : ℕ → List ℕ) (packets : List PacketState) (follows : Follows (scene.deeds node) start values packets) where
+module _ {scene : Scene} (holds : SceneHolds scene) (node : ℕ) {start : ℕ} {values : ℕ → List ℕ} {packets : List PacketState} (follows : Follows (scene.deeds node) start values packets) where
   abbrev firm_of : ℕ → List HistoryEntry
   firm_of gateway = (scene.posts gateway).firm
 
@@ -73,16 +73,16 @@ module _ (scene : Scene) (holds : SceneHolds scene) (node start : ℕ) (values :
   sent_copy : (packet : PacketState) (copy : PacketCopy) (plain : Bool) (octets : List ℕ) → IsCopyOf packets packet copy
       → IsAsked scene.letters node start copy.gateway copy.number (Sends plain octets) → (copy.is_plain ≡ plain) × (values packet.number ≡ octets)
   sent_copy packet copy plain octets is asked =
-      let may = may_send scene holds node start values packets follows copy.gateway asked.port copy.number (Sends plain octets) asked.kept in
-      let same = the_copy scene holds node start values packets follows packet copy is may.1.at in
+      let may = may_send holds node follows copy.gateway asked.port copy.number (Sends plain octets) asked.kept in
+      let same = the_copy holds node follows packet copy is may.1.at in
       (ap (λ (c : PacketCopy). c.is_plain) same.1 ∙ may.1.plain, ap (λ (p : PacketState). values p.number) same.0 ∙ may.1.packet)
 
   -- a copy that is named by a release is chosen
   released_copy : (packet : PacketState) (copy : PacketCopy) (own : ℕ) → IsCopyOf packets packet copy
       → IsAsked scene.letters node start copy.gateway own (Orders order.Release copy.number) → is_chosen copy ≡ true
   released_copy packet copy own is asked =
-      let may = may_send scene holds node start values packets follows copy.gateway asked.port own (Orders order.Release copy.number) asked.kept in
-      let same = the_copy scene holds node start values packets follows packet copy is may.2.at in
+      let may = may_send holds node follows copy.gateway asked.port own (Orders order.Release copy.number) asked.kept in
+      let same = the_copy holds node follows packet copy is may.2.at in
       ap (λ (there : Option Command). option_map_or (λ (c : Command). is_release c.order) there false) (ap (λ (c : PacketCopy). c.command) same.1 ∙ may.2.sent)
 
   -- ---- where a copy's records stand
@@ -148,17 +148,17 @@ module _ (scene : Scene) (holds : SceneHolds scene) (node start : ℕ) (values :
   pub first_sealed : (packet : PacketState) (copy : PacketCopy) → IsCopyOf packets packet copy → (choice : IsChoice packet.copies copy.gateway copy.number)
       → IsState (firm_of choice.plain.gateway) node start choice.plain.number state.Sealed
   first_sealed packet copy is choice =
-      is_sealed scene holds node start values packets follows packet choice.plain
+      is_sealed holds node follows packet choice.plain
       (record { kept = is.kept; among = subst (λ cs. Contains cs choice.plain) (sym choice.whole) (in_head choice.plain choice.duplicates) })
-      (first_is_plain packet.copies choice.plain choice.duplicates choice.whole (plain_first scene holds node start values packets follows packet is.kept))
+      (first_is_plain packet.copies choice.plain choice.duplicates choice.whole (plain_first holds node follows packet is.kept))
       choice.sealed
 
   filed_or_released : (packet : PacketState) (a b : PacketCopy) → IsCopyOf packets packet a → IsCopyOf packets packet b → a.is_plain ≡ true → IsNow a state.Filed
       → is_chosen b ≡ true → ⊥
   filed_or_released packet a b is_a is_b plain filed_a chosen_b =
-      let choice = choice_of scene holds node start values packets follows packet b is_b chosen_b in
+      let choice = choice_of holds node follows packet b is_b chosen_b in
       let first : a ≡ choice.plain =
-      plain_is_first packet.copies choice.plain choice.duplicates a choice.whole (plain_first scene holds node start values packets follows packet is_a.kept) is_a.among plain in
+      plain_is_first packet.copies choice.plain choice.duplicates a choice.whole (plain_first holds node follows packet is_a.kept) is_a.among plain in
       let clash : state.Filed ≡ state.Sealed = state_is_one (firm_of choice.plain.gateway) node start choice.plain.number state.Filed state.Sealed
       (subst (λ (c : PacketCopy). IsNow c state.Filed) first filed_a) (first_sealed packet b is_b choice) in
       absurd (cc)
@@ -169,14 +169,14 @@ module _ (scene : Scene) (holds : SceneHolds scene) (node start : ℕ) (values :
       by : (copies : List PacketCopy) → packet.copies ≡ copies → a ≡ b
       by [] none = in_none a (subst (λ cs. Contains cs a) none is_a.among)
       by (first ∷ duplicates) whole =
-          let is_first = plain_first scene holds node start values packets follows packet is_a.kept in
+          let is_first = plain_first holds node follows packet is_a.kept in
           plain_is_first packet.copies first duplicates a whole is_first is_a.among plain_a
           ∙ sym (plain_is_first packet.copies first duplicates b whole is_first is_b.among plain_b)
 
   both_chosen : (packet : PacketState) (a b : PacketCopy) → IsCopyOf packets packet a → IsCopyOf packets packet b → is_chosen a ≡ true → is_chosen b ≡ true → a ≡ b
   both_chosen packet a b is_a is_b chosen_a chosen_b =
-      let one = choice_of scene holds node start values packets follows packet a is_a chosen_a in
-      let other = choice_of scene holds node start values packets follows packet b is_b chosen_b in
+      let one = choice_of holds node follows packet a is_a chosen_a in
+      let other = choice_of holds node follows packet b is_b chosen_b in
       let whole : one.plain ∷ one.duplicates ≡ other.plain ∷ other.duplicates = sym one.whole ∙ other.whole in
       let rest : one.duplicates ≡ other.duplicates = cc in
       let copy = same_Some one.copy other.copy (sym one.choice ∙ ap chosen rest ∙ other.choice) in
@@ -226,14 +226,14 @@ module _ (scene : Scene) (holds : SceneHolds scene) (node start : ℕ) (values :
           (λ filed_plain.
           let among = subst (λ cs. Contains cs plain) (sym whole) (in_head plain duplicates) in
           let of : IsCopyOf packets packet plain = record { kept = kept; among = among } in
-          let first = first_is_plain packet.copies plain duplicates whole (plain_first scene holds node start values packets follows packet kept) in
-          let at = is_filed_there scene holds node start values packets follows packet plain of first (filed_verdict plain.verdict filed_plain) in
+          let first = first_is_plain packet.copies plain duplicates whole (plain_first holds node follows packet kept) in
+          let at = is_filed_there holds node follows packet plain of first (filed_verdict plain.verdict filed_plain) in
           once_by plain among (placed_by packet plain index state.Filed of at).1)
           (λ some.
           let there = any_released duplicates some in
           let among = subst (λ cs. Contains cs there.0) (sym whole) (in_tail plain there.0 duplicates there.1) in
           let of : IsCopyOf packets packet there.0 = record { kept = kept; among = among } in
-          let at = is_released_there scene holds node start values packets follows packet there.0 of there.2 in
+          let at = is_released_there holds node follows packet there.0 of there.2 in
           once_by there.0 among (placed_by packet there.0 index state.Released of at).1)
           (or_cases (is_filed plain.verdict) (list_any is_released duplicates) e)
 
@@ -276,7 +276,7 @@ module _ (scene : Scene) (holds : SceneHolds scene) (node start : ℕ) (values :
 pub each_of_scene : (scene : Scene) (node start : ℕ) (values : ℕ → List ℕ) (packets : List PacketState) → SceneHolds scene → Follows (scene.deeds node) start values packets
     → All (λ packet. IsOnce (λ gateway. (scene.posts gateway).firm) node start (values packet.number) packet) packets
 each_of_scene scene node start values packets holds follows =
-    λ k d lt. is_once scene holds node start values packets follows (get_or packets k d) (Contains-get_or packets k d lt)
+    λ k d lt. is_once holds node follows (get_or packets k d) (Contains-get_or packets k d lt)
 
 pub each_is_filed_once : (happenings : List Happening) (node start : ℕ) (values : ℕ → List ℕ) (packets : List PacketState)
     → Follows ((scene_after happenings).deeds node) start values packets

@@ -3,6 +3,8 @@ use Rattle.std.proofs.Common.{◌≡◌, ⊎_elim, ℕ, ◌==◌, ◌||◌, Bool
 use Rattle.std.specs.List.{list_all, list_any}
 use Rattle.std.specs.Option.{option_map_or}
 use Rattle.std.proofs.lemmas.Bool.{and_parts, false≢true, or_cases, or_left, or_right}
+use Rattle.std.proofs.lemmas.List.Elements.{All-contains}
+use Rattle.std.proofs.lemmas.List.Sums.{AllPass-from_list_all}
 use Rattle.gw_base.specs.declared.cause.TheConstants.{ACCEPTED, ALREADY_FULFILLED, DUPLICATE_ALREADY_FULFILLED}
 use Rattle.node_core.specs.Copies.{is_answered, is_chosen, is_filed, is_filing, is_fulfilled, is_released, is_sealed, is_settled, is_unknown, told}
 use Rattle.node_core.specs.Packets.{PacketState, is_done}
@@ -21,8 +23,6 @@ use Rattle.once_core.proofs.KnownLemmas as knows
 use Rattle.once_core.proofs.KnownLemmas.{filing_tells, fulfilled_tells}
 use Rattle.once_core.proofs.ListLemmas.{in_cons, in_head, in_tail}
 use Rattle.once_core.proofs.RoleLemmas.{IsCopyOf}
-use Rattle.std.proofs.lemmas.List.Elements.{All-contains}
-use Rattle.std.proofs.lemmas.List.Sums.{AllPass-from_list_all}
 use Rattle.once_core.proofs.CaseLemmas.{if_known}
 
 -- ---- lists
@@ -60,7 +60,7 @@ filed_is_known : (v : Verdict) → is_filed v ≡ true → is_unknown v ≡ fals
 filed_is_known verdict.Unknown e = absurd (false≢true e)
 filed_is_known _ e = refl
 
-module _ (scene : Scene) (holds : SceneHolds scene) (node start : ℕ) (values : ℕ → List ℕ) (packets : List PacketState) (follows : Follows (scene.deeds node) start values packets) where
+module _ {scene : Scene} (holds : SceneHolds scene) (node : ℕ) {start : ℕ} {values : ℕ → List ℕ} {packets : List PacketState} (follows : Follows (scene.deeds node) start values packets) where
   abbrev Known : PacketCopy → Type 0
   Known copy = IsKnown (scene.posts copy.gateway).firm node start copy.number
 
@@ -69,8 +69,8 @@ module _ (scene : Scene) (holds : SceneHolds scene) (node start : ℕ) (values :
 
   by_verdict : (packet : PacketState) (copy : PacketCopy) → IsCopyOf packets packet copy → is_unknown copy.verdict ≡ false → Known copy
   by_verdict packet copy is known =
-      let of = (knows.rests_of scene holds node start values packets follows packet copy is).verdict known in
-      let answer = knows.answered scene holds node start values packets follows copy.gateway of.port copy.number of.cause of.numbers of.heard of.named
+      let of = (knows.rests_of holds node follows packet copy is).verdict known in
+      let answer = knows.answered holds node follows copy.gateway of.port copy.number of.cause of.numbers of.heard of.named
       (told_telling of.port copy.is_plain of.cause (ap is_unknown of.tells ∙ known)) in
       by of.port answer.request answer.may answer.known
     where
@@ -79,18 +79,18 @@ module _ (scene : Scene) (holds : SceneHolds scene) (node start : ℕ) (values :
       by port (Sends is_plain octets) may is_known = is_known
       by port Tests may is_known = is_known
       by port (Orders which named) may is_known =
-          absurd (knows.no_command scene holds node start values packets follows packet copy named (record { order = which; number = copy.number; is_answered = may.1 }) is may.2 refl)
+          absurd (knows.no_command holds node follows packet copy named (record { order = which; number = copy.number; is_answered = may.1 }) is may.2 refl)
 
   by_command : (packet : PacketState) (copy : PacketCopy) (command : Command) → IsCopyOf packets packet copy → copy.command ≡ Some command
       → IsFulfilled (heard_in start (scene.deeds node)) copy.gateway command.number → Known copy
   by_command packet copy command is e of =
-      let answer = knows.answered scene holds node start values packets follows copy.gateway of.port command.number of.cause of.numbers of.heard of.named (fulfilled_tells of.cause of.tells) in
+      let answer = knows.answered holds node follows copy.gateway of.port command.number of.cause of.numbers of.heard of.named (fulfilled_tells of.cause of.tells) in
       subst (λ (r : Request). IsKnown (scene.posts copy.gateway).firm node start (about r command.number))
-      (knows.command_request scene holds node start values packets follows packet copy command of.port is e answer.request answer.may) answer.known
+      (knows.command_request holds node follows packet copy command of.port is e answer.request answer.may) answer.known
 
   -- a copy whose command is answered
   answered_known : (packet : PacketState) (copy : PacketCopy) → IsCopyOf packets packet copy → is_answered copy ≡ true → Known copy
-  answered_known packet copy is answered = by copy.command refl answered (knows.rests_of scene holds node start values packets follows packet copy is).command
+  answered_known packet copy is answered = by copy.command refl answered (knows.rests_of holds node follows packet copy is).command
     where
       by : (there : Option Command) → copy.command ≡ there → option_map_or (λ (command : Command). command.is_answered) there false ≡ true
           → IfSome there (λ (command : Command). command.is_answered ≡ true → IsFulfilled (heard_in start (scene.deeds node)) copy.gateway command.number) → Known copy
@@ -119,7 +119,7 @@ module _ (scene : Scene) (holds : SceneHolds scene) (node start : ℕ) (values :
           (λ any.
           let one = any_at is_released duplicates any in
           let chosen = (and_parts (is_chosen one.0) (is_answered one.0) one.2).0 in
-          let choice = knows.choice_of scene holds node start values packets follows packet one.0 (whole one.0 (in_tail plain one.0 duplicates one.1)) chosen in
+          let choice = knows.choice_of holds node follows packet one.0 (whole one.0 (in_tail plain one.0 duplicates one.1)) chosen in
           let first : choice.plain ≡ plain = ap (λ (cs : List PacketCopy). elim cs [ [] ↦ plain | c ∷ rest ↦ c ]) (sym choice.whole ∙ e) in
           ap (λ (c : PacketCopy). is_unknown c.verdict) (sym first) ∙ ap is_unknown choice.sealed)
           (or_cases (is_filed plain.verdict) (list_any is_released duplicates) parts.0))))

@@ -113,39 +113,30 @@ module _ (laws : Laws) (w : World) (reached : IsReached w) where
 
   -- ---- what an answer tells of a copy
 
-  module _ (m : Message) (packet : Followed) (copy : PacketCopy) (number cause : ℕ) (is : IsAnswerFor w m packet copy number cause) where
+  module _ {m : Message} {packet : Followed} {copy : PacketCopy} {number cause : ℕ} (is : IsAnswerFor w m packet copy number cause) where
     follows : Follows (made.scene.deeds (node_ip m.node)) packet.start (values_in w m.node) (packets_in packet.start (log_at w m.node))
     follows = let there = some_log laws w made m.node packet is.followed (slice_get w.nodes m.node) refl in it_follows laws w made m.node there.0 there.1 packet.start
 
     copy_of : IsCopyOf (packets_in packet.start (log_at w m.node)) packet.state copy
     copy_of = record { kept = in_start laws w made m.node packet is.followed; among = is.copy_is }
 
-    letter_there : Contains made.scene.letters (record { node = node_ip m.node; start = packet.start; gateway = copy.gateway; port = m.port; number = number; says = Answers cause })
-    letter_there =
-        subst (Contains made.scene.letters)
+    answer_is : is_telling cause ≡ true → IsAnswered holds (node_ip m.node) follows copy.gateway m.port number cause
+    answer_is telling = told_by holds (node_ip m.node) follows copy.gateway m.port number cause
+        (subst (Contains made.scene.letters)
         (λ i. record { node = node_ip m.node; start = is.start i; gateway = is.gateway i; port = m.port; number = is.number_is i; says = Answers cause })
-        (spoken m (Answers cause) is.kept is.says refl)
-
-    answer_is : is_telling cause ≡ true
-        → IsAnswered made.scene holds (node_ip m.node) packet.start (values_in w m.node) (packets_in packet.start (log_at w m.node)) follows copy.gateway m.port number cause
-    answer_is telling =
-        told_by made.scene holds (node_ip m.node) packet.start (values_in w m.node) (packets_in packet.start (log_at w m.node)) follows copy.gateway m.port number cause letter_there telling
+        (spoken m (Answers cause) is.kept is.says refl)) telling
 
   pub tell_states : TellStates w
   tell_states = record {
     filed = λ m packet copy cause is plain tells. firmly copy.gateway
-        (filed_by_answer made.scene holds (node_ip m.node) packet.start (values_in w m.node) (packets_in packet.start (log_at w m.node)) (follows m packet copy copy.number cause is)
-        packet.state copy m.port cause (copy_of m packet copy copy.number cause is) plain tells (answer_is m packet copy copy.number cause is));
+        (filed_by_answer holds (node_ip m.node) (follows is) packet.state copy m.port cause (copy_of is) plain tells (answer_is is));
     filed_by_test = λ m packet copy is second. firmly copy.gateway
-        ((by_test_answer made.scene holds (node_ip m.node) packet.start (values_in w m.node) (packets_in packet.start (log_at w m.node)) (follows m packet copy copy.number ALREADY_FULFILLED is)
-        packet.state copy ALREADY_FULFILLED m.port second (copy_of m packet copy copy.number ALREADY_FULFILLED is) (answer_is m packet copy copy.number ALREADY_FULFILLED is refl)).0 refl);
+        ((by_test_answer holds (node_ip m.node) (follows is) packet.state copy ALREADY_FULFILLED m.port second (copy_of is) (answer_is is refl)).0 refl);
     sealed = λ m packet copy cause is tells. firmly copy.gateway
-        (sealed_by_answer made.scene holds (node_ip m.node) packet.start (values_in w m.node) (packets_in packet.start (log_at w m.node)) (follows m packet copy copy.number cause is)
-        packet.state copy m.port cause (copy_of m packet copy copy.number cause is) tells (answer_is m packet copy copy.number cause is));
+        (sealed_by_answer holds (node_ip m.node) (follows is) packet.state copy m.port cause (copy_of is) tells (answer_is is));
     released = λ m packet copy command cause is sent release fulfilled. firmly copy.gateway
-        (by_release_answer made.scene holds (node_ip m.node) packet.start (values_in w m.node) (packets_in packet.start (log_at w m.node)) (follows m packet copy command.number cause is)
-        packet.state copy command cause m.port fulfilled (copy_of m packet copy command.number cause is) sent release
-        (answer_is m packet copy command.number cause is (fulfilled_tells cause fulfilled)));
+        (by_release_answer holds (node_ip m.node) (follows is) packet.state copy command cause m.port fulfilled (copy_of is) sent release
+        (answer_is is (fulfilled_tells cause fulfilled)));
   }
 
   -- ---- what a release names
@@ -157,8 +148,8 @@ module _ (laws : Laws) (w : World) (reached : IsReached w) where
       let rightly = did_follow m.node m.start (Sent (asking m (Orders order.Release named))) (was_sent m (Orders order.Release named) (spoken m (Asks (Orders order.Release named)) kept says refl)) in
       let copy_is : IsCopyOf (packets_in m.start (log_at w m.node)) at.packet at.copy = record { kept = at.kept; among = at.among } in
       let chosen_is : is_chosen at.copy ≡ true = ap (λ (there : Option Command). option_map_or (λ (c : Command). is_release c.order) there false) may.2.sent in
-      let choice = choice_of made.scene holds (node_ip m.node) m.start (values_in w m.node) (packets_in m.start (log_at w m.node)) rightly at.packet at.copy copy_is chosen_is in
-      let sealed = first_sealed made.scene holds (node_ip m.node) m.start (values_in w m.node) (packets_in m.start (log_at w m.node)) rightly at.packet at.copy copy_is choice in
+      let choice = choice_of holds (node_ip m.node) rightly at.packet at.copy copy_is chosen_is in
+      let sealed = first_sealed holds (node_ip m.node) rightly at.packet at.copy copy_is choice in
       let own = followed_as w m.node m.start at.packet at.kept in
       record {
         packet = own.of;
