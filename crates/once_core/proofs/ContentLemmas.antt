@@ -1,8 +1,9 @@
 -- What is filed under a key is the record with its index of a packet that was sent with the key's number, in the
 -- packet's kind.
-use Rattle.std.proofs.Common.{◌≡◌, ⊎_elim, ℕ, ◌==◌, Bool, true, false, List, [], ◌∷◌, ◌++◌, Option, Some, Contains, slice_get, sym, ap, subst, ◌∙◌, eqb-true, append-nil, option_map}
+use Rattle.std.proofs.Common.{◌≡◌, ⊎_elim, ℕ, ◌==◌, Bool, true, false, List, [], ◌∷◌, ◌++◌, Option, Some, Contains, slice_get, sym, ap, subst, ◌∙◌, append-nil, option_map}
 use Rattle.std.proofs.lemmas.List.Elements.{Contains-append_cases}
 use Rattle.std.specs.List.{enumerate_from}
+use Rattle.std.proofs.lemmas.Option.{same_Some}
 use Rattle.gtpp_message.specs.Packet.{PacketForm, packet_of}
 use Rattle.gw_base.specs.CdrKind.{kind_of}
 use Rattle.gw_base.specs.History.{present_state, state_of}
@@ -22,13 +23,12 @@ use Rattle.once_core.specs.Epochs.{StartsRise}
 use Rattle.once_core.specs.Happenings.{Letter, Sends}
 use Rattle.once_core.specs.FiledOnce.{kind_within, records_within}
 use Rattle.once_core.specs.Resting.{Rests, RestsBy}
-use Rattle.once_core.proofs.CountLemmas.{Counted, IsBacked, IsHere, backed_at, backed_stays, counted, fresh_here, held_here, is_here, same_here, starts_rise}
+use Rattle.once_core.proofs.CountLemmas.{Counted, IsBacked, IsHere, backed_at, backed_stays, counted, counted_here, held_here, is_here, same_here, starts_rise}
 use Rattle.once_core.proofs.EachLemmas.{by_each}
 use Rattle.once_core.proofs.FiledLemmas.{record_within}
 use Rattle.once_core.proofs.ListLemmas.{in_none}
 use Rattle.once_core.proofs.WaitingLemmas.{of_map}
 use Rattle.once_core.proofs.CaseLemmas.{by_option, map_known}
-use Rattle.std.proofs.lemmas.Option.{same_Some}
 
 -- a record of a packet is filed in the packet's kind
 kept_kind : (k : PacketKey) (moment : ℕ) (octets : List ℕ) (r : FiledRecord) → Contains (filed_under k moment octets) r
@@ -64,9 +64,9 @@ module _ (letters : List Letter) (gateway : ℕ) (key : PacketKey) where
 
   -- the key of a record of a packet is the key that it was filed under
   key_here : (h : List HistoryEntry) (n : NodeId) (x : ℕ) (filing : FiledRecord) → filing.key ≡ present_key h n x → same_key filing.key key ≡ true
-      → IsHere letters gateway key h n (x == key.number)
+      → IsHere letters gateway key h n x
   key_here h n x filing of same =
-      is_here letters gateway key h n (x == key.number) (sym (same_here letters gateway key h n x) ∙ ap (λ (k : PacketKey). same_key k key) (sym of) ∙ same)
+      is_here letters gateway key h n x (sym (same_here letters gateway key h n x) ∙ ap (λ (k : PacketKey). same_key k key) (sym of) ∙ same)
 
   by_release : (h : List HistoryEntry) (moment : ℕ) (who : Caller) (n : NodeId) (xs : List ℕ) (x : ℕ) → StartsRise h → xs ≡ x ∷ [] → present_state n.0 x h ≡ Held
       → Counted letters gateway key 0 h (state_of key h)
@@ -77,9 +77,9 @@ module _ (letters : List Letter) (gateway : ℕ) (key : PacketKey) where
       (λ octets some there.
       let within = record_within (present_key h n x) moment octets filing there in
       let is = key_here h n x filing within.1 same in
-      let as_held = fresh_here letters gateway key 0 h n x Held is held so_far in
+      let as_held = counted_here letters gateway key 0 h n x Held is held so_far in
       let octets_are : as_held.0 ≡ octets = same_Some as_held.0 octets
-      (sym as_held.2 ∙ sym (held_here letters gateway key h n (x == key.number) is) ∙ ap (λ (y : ℕ). held_packet n.0 y h) (sym (eqb-true x key.number is.test)) ∙ some) in
+      (sym as_held.2 ∙ sym (held_here letters gateway key h n x is) ∙ some) in
       record {
         plain = false;
         octets = as_held.0;

@@ -17,7 +17,7 @@ use Rattle.gw_base.specs.declared.history.PacketKey.{PacketKey}
 use Rattle.gw_base.specs.declared.key_state.KeyState.{KeyState}
 use Rattle.gw_base.specs.declared.key_state.KeyState.TheVariants.{Fresh, Filed, Held, Released}
 use Rattle.node_core.specs.declared.copy.Order.TheVariants as order
-use Rattle.gateway_book.specs.Filed.{filed, filed_by, filed_by_act, filed_under, held_packet, packet_of_hold, present_key, released_by, released_records}
+use Rattle.gateway_book.specs.Filed.{filed, filed_by, filed_under, held_packet, packet_of_hold, present_key, released_by, released_records}
 use Rattle.gateway_book.specs.FiledLaws.{along-append}
 use Rattle.gateway_book.specs.Once.{same_key, times_filed}
 use Rattle.gateway_book.specs.declared.filing.FiledRecord.{FiledRecord}
@@ -51,53 +51,65 @@ module _ (letters : List Letter) (gateway : ℕ) (key : PacketKey) where
   abbrev pub held_at : List HistoryEntry → Option (List ℕ)
   held_at h = option_and_then (λ e. packet_of_hold e.act) (last_naming key.node.0 key.number (epoch_entries key.node.0 key.epoch h))
 
-  -- whether the entry of a node names the key
-  abbrev pub named : List HistoryEntry → NodeId → Bool → Bool
-  named h n b = (epoch_of key.node.0 h == key.epoch) && ((n.0 == key.node.0) && b)
+  -- whether an entry that names a node's number names the key
+  abbrev pub named : List HistoryEntry → NodeId → ℕ → Bool
+  named h n x = (epoch_of key.node.0 h == key.epoch) && ((n.0 == key.node.0) && (x == key.number))
 
   -- what it means that it does
-  pub record IsHere (h : List HistoryEntry) (n : NodeId) (b : Bool) : Type 0 where
+  pub record IsHere (h : List HistoryEntry) (n : NodeId) (x : ℕ) : Type 0 where
     pub node : n.0 ≡ key.node.0
     pub epoch : epoch_of n.0 h ≡ key.epoch
-    pub test : b ≡ true
+    pub number : x ≡ key.number
 
-  pub is_here : (h : List HistoryEntry) (n : NodeId) (b : Bool) → named h n b ≡ true → IsHere h n b
-  is_here h n b e =
-      let outer = and_parts (epoch_of key.node.0 h == key.epoch) ((n.0 == key.node.0) && b) e in
-      let inner = and_parts (n.0 == key.node.0) b outer.1 in
+  pub is_here : (h : List HistoryEntry) (n : NodeId) (x : ℕ) → named h n x ≡ true → IsHere h n x
+  is_here h n x e =
+      let outer = and_parts (epoch_of key.node.0 h == key.epoch) ((n.0 == key.node.0) && (x == key.number)) e in
+      let inner = and_parts (n.0 == key.node.0) (x == key.number) outer.1 in
       let node = eqb-true n.0 key.node.0 inner.0 in
-      record { node = node; epoch = ap (λ (m : ℕ). epoch_of m h) node ∙ eqb-true (epoch_of key.node.0 h) key.epoch outer.0; test = inner.1 }
+      record {
+        node = node;
+        epoch = ap (λ (m : ℕ). epoch_of m h) node ∙ eqb-true (epoch_of key.node.0 h) key.epoch outer.0;
+        number = eqb-true x key.number inner.1;
+      }
 
-  pub state_here : (h : List HistoryEntry) (n : NodeId) (b : Bool) → IsHere h n b → state_of key h ≡ present_state n.0 key.number h
-  state_here h n b is =
+  pub state_here : (h : List HistoryEntry) (n : NodeId) (x : ℕ) → IsHere h n x → state_of key h ≡ present_state n.0 x h
+  state_here h n x is =
       ap (λ (k : ℕ). state_by (last_naming key.node.0 key.number (epoch_entries key.node.0 k h))) (sym is.epoch ∙ ap (λ (m : ℕ). epoch_of m h) is.node)
-      ∙ present_state_is key.node key.number h ∙ ap (λ (m : ℕ). present_state m key.number h) (sym is.node)
+      ∙ present_state_is key.node key.number h
+      ∙ ap (λ (m : ℕ). present_state m key.number h) (sym is.node) ∙ ap (λ (y : ℕ). present_state n.0 y h) (sym is.number)
 
-  pub held_here : (h : List HistoryEntry) (n : NodeId) (b : Bool) → IsHere h n b → held_packet n.0 key.number h ≡ held_at h
-  held_here h n b is =
-      ap (λ (m : ℕ). held_packet m key.number h) is.node
+  pub held_here : (h : List HistoryEntry) (n : NodeId) (x : ℕ) → IsHere h n x → held_packet n.0 x h ≡ held_at h
+  held_here h n x is =
+      ap (λ (y : ℕ). held_packet n.0 y h) is.number ∙ ap (λ (m : ℕ). held_packet m key.number h) is.node
       ∙ ap (λ (es : List HistoryEntry). option_and_then (λ e. packet_of_hold e.act) (last_naming key.node.0 key.number es)) (sym (present_entries_are key.node.0 h))
       ∙ ap (λ (k : ℕ). option_and_then (λ e. packet_of_hold e.act) (last_naming key.node.0 key.number (epoch_entries key.node.0 k h)))
       (ap (λ (m : ℕ). epoch_of m h) (sym is.node) ∙ is.epoch)
 
-  begun_here : (h : List HistoryEntry) (n : NodeId) (b : Bool) → StartsRise h → IsHere h n b → epoch_with key.node.0 (start_of n.0 h) h ≡ Some key.epoch
-  begun_here h n b rise is =
-      ap (λ (m : ℕ). epoch_with m (start_of n.0 h) h) (sym is.node) ∙ present_epoch n.0 h rise ∙ ap (λ (k : ℕ). Some k) is.epoch
-
-  backed_here : (h : List HistoryEntry) (n : NodeId) (b : Bool) (number : ℕ) (request : Request) → StartsRise h → IsHere h n b
+  backed_here : (h : List HistoryEntry) (n : NodeId) (x number : ℕ) (request : Request) → StartsRise h → IsHere h n x
       → IsAsked letters n.0 (start_of n.0 h) gateway number request → IsBacked h number request
-  backed_here h n b number request rise is asked = record {
+  backed_here h n x number request rise is asked = record {
     start = start_of n.0 h;
-    begun = begun_here h n b rise is;
+    begun = ap (λ (m : ℕ). epoch_with m (start_of n.0 h) h) (sym is.node) ∙ present_epoch n.0 h rise ∙ ap (λ (k : ℕ). Some k) is.epoch;
     asked = subst (λ (m : ℕ). IsAsked letters m (start_of n.0 h) gateway number request) is.node asked;
   }
 
+  pub backed_at : (h : List HistoryEntry) (e : HistoryEntry) (n : NodeId) (x : ℕ) (request : Request) → StartsRise h → IsHere h n x
+      → IsAsked letters n.0 (start_of n.0 h) gateway x request → IsBacked (h ++ e ∷ []) key.number request
+  backed_at h e n x request rise is asked =
+      backed_stays h (e ∷ []) key.number request
+      (backed_here h n x key.number request rise is (subst (λ (y : ℕ). IsAsked letters n.0 (start_of n.0 h) gateway y request) is.number asked))
+
   -- the present key of the node is the key, or not
-  pub same_here : (h : List HistoryEntry) (n : NodeId) (x : ℕ) → same_key (present_key h n x) key ≡ named h n (x == key.number)
+  pub same_here : (h : List HistoryEntry) (n : NodeId) (x : ℕ) → same_key (present_key h n x) key ≡ named h n x
   same_here h n x =
       by_bool (λ (same : Bool). ((same && (epoch_of n.0 h == key.epoch)) && (x == key.number)) ≡ ((epoch_of key.node.0 h == key.epoch) && (same && (x == key.number))))
       (n.0 == key.node.0) (λ e. ap (λ (m : ℕ). (epoch_of m h == key.epoch) && (x == key.number)) (eqb-true n.0 key.node.0 e))
       (λ e. sym (and_right (epoch_of key.node.0 h == key.epoch) false refl))
+
+  -- a list of one number
+  pub any_one : (xs : List ℕ) (x : ℕ) → xs ≡ x ∷ [] → list_any (λ y. y == key.number) xs ≡ (x == key.number)
+  any_one xs x alone =
+      ap (λ (ys : List ℕ). list_any (λ y. y == key.number) ys) alone ∙ by_bool (λ (b : Bool). (b || false) ≡ b) (x == key.number) (λ e. refl) (λ e. refl)
 
   module _ (index : ℕ) where
     abbrev times : List HistoryEntry → ℕ
@@ -141,34 +153,21 @@ module _ (letters : List Letter) (gateway : ℕ) (key : PacketKey) where
         (sym (state_of-append key h e ∙ ap (λ (b : Bool). if b then given_state e.act else state_of key h) unnamed))
         (kept h e (state_of key h) (grown h e ∙ omega (arith, none)) (held_after h e false unnamed) so_far)
 
-    named_step : (h : List HistoryEntry) (e : HistoryEntry) (n : NodeId) (b : Bool)
-        → ((epoch_of key.node.0 h == key.epoch) && names key.node.0 key.number e.act) ≡ named h n b
-        → (named h n b ≡ true → IsHere h n b → Counted (h ++ e ∷ []) (given_state e.act)) → (named h n b ≡ false → times_filed key index (filed_by h e) ≡ 0)
+    named_step : (h : List HistoryEntry) (e : HistoryEntry) (n : NodeId) (x : ℕ) → names key.node.0 key.number e.act ≡ ((n.0 == key.node.0) && (x == key.number))
+        → (named h n x ≡ true → IsHere h n x → Counted (h ++ e ∷ []) (given_state e.act)) → (named h n x ≡ false → times_filed key index (filed_by h e) ≡ 0)
         → Counted h (state_of key h) → Counted (h ++ e ∷ []) (state_of key (h ++ e ∷ []))
-    named_step h e n b same here elsewhere so_far = by_bool (λ c. Counted (h ++ e ∷ []) (state_of key (h ++ e ∷ []))) (named h n b)
-        (λ is. subst (Counted (h ++ e ∷ [])) (sym (state_of-append key h e ∙ ap (λ (c : Bool). if c then given_state e.act else state_of key h) (same ∙ is))) (here is (is_here h n b is)))
-        (λ isnt. unnamed_step h e (same ∙ isnt) (elsewhere isnt) so_far)
+    named_step h e n x same here elsewhere so_far =
+        let at = ap (λ (b : Bool). (epoch_of key.node.0 h == key.epoch) && b) same in
+        by_bool (λ c. Counted (h ++ e ∷ []) (state_of key (h ++ e ∷ []))) (named h n x)
+        (λ is. subst (Counted (h ++ e ∷ [])) (sym (state_of-append key h e ∙ ap (λ (c : Bool). if c then given_state e.act else state_of key h) (at ∙ is))) (here is (is_here h n x is)))
+        (λ isnt. unnamed_step h e (at ∙ isnt) (elsewhere isnt) so_far)
 
     -- the state of a number that is named here
-    pub fresh_here : (h : List HistoryEntry) (n : NodeId) (x : ℕ) (s : KeyState) → IsHere h n (x == key.number) → present_state n.0 x h ≡ s → Counted h (state_of key h) → Counted h s
-    fresh_here h n x s is state so_far =
-        subst (Counted h) (state_here h n (x == key.number) is ∙ ap (λ (y : ℕ). present_state n.0 y h) (sym (eqb-true x key.number is.test)) ∙ state) so_far
-
-    pub backed_at : (h : List HistoryEntry) (e : HistoryEntry) (n : NodeId) (x : ℕ) (request : Request) → StartsRise h → IsHere h n (x == key.number)
-        → IsAsked letters n.0 (start_of n.0 h) gateway x request → IsBacked (h ++ e ∷ []) key.number request
-    backed_at h e n x request rise is asked =
-        backed_stays h (e ∷ []) key.number request
-        (backed_here h n (x == key.number) key.number request rise is
-        (subst (λ (y : ℕ). IsAsked letters n.0 (start_of n.0 h) gateway y request) (eqb-true x key.number is.test) asked))
+    pub counted_here : (h : List HistoryEntry) (n : NodeId) (x : ℕ) (s : KeyState) → IsHere h n x → present_state n.0 x h ≡ s → Counted h (state_of key h) → Counted h s
+    counted_here h n x s is state = subst (Counted h) (state_here h n x is ∙ state)
 
     abbrev entry : ℕ → Caller → HistoryAct → HistoryEntry
     entry moment who a = record { moment = moment; caller = who; act = a }
-
-    nothing_here : (h : List HistoryEntry) (moment : ℕ) (who : Caller) (a : HistoryAct) → names key.node.0 key.number a ≡ false → filed_by_act h moment a ≡ []
-        → Counted h (state_of key h) → Counted (h ++ entry moment who a ∷ []) (state_of key (h ++ entry moment who a ∷ []))
-    nothing_here h moment who a unnamed none so_far =
-        unnamed_step h (entry moment who a) (and_right (epoch_of key.node.0 h == key.epoch) (names key.node.0 key.number a) unnamed)
-        (ap (λ rs. times_filed key index rs) none) so_far
 
     -- what the release of one number files
     one_released : (h : List HistoryEntry) (moment : ℕ) (n : NodeId) (xs : List ℕ) (x : ℕ) → xs ≡ x ∷ []
@@ -177,64 +176,54 @@ module _ (letters : List Letter) (gateway : ℕ) (key : PacketKey) where
         ap (λ ys. times_filed key index (released_by h moment n (once (λ y z. y == z) ys))) alone
         ∙ ap (λ rs. times_filed key index rs) (append-nil (released_records h moment n x))
 
-    released_other : (h : List HistoryEntry) (moment : ℕ) (n : NodeId) (x : ℕ) → named h n (x == key.number) ≡ false → times_filed key index (released_records h moment n x) ≡ 0
+    released_other : (h : List HistoryEntry) (moment : ℕ) (n : NodeId) (x : ℕ) → named h n x ≡ false → times_filed key index (released_records h moment n x) ≡ 0
     released_other h moment n x isnt = map_known (λ (rs : List FiledRecord). times_filed key index rs ≡ 0) (held_packet n.0 x h) (λ none. refl)
         (λ octets held. none_of_packet key index (present_key h n x) moment octets (same_here h n x ∙ isnt))
 
-    released_this : (h : List HistoryEntry) (moment : ℕ) (n : NodeId) (x : ℕ) (octets : List ℕ) → named h n (x == key.number) ≡ true → IsHere h n (x == key.number)
+    released_this : (h : List HistoryEntry) (moment : ℕ) (n : NodeId) (x : ℕ) (octets : List ℕ) → named h n x ≡ true → IsHere h n x
         → held_at h ≡ Some octets → times_filed key index (released_records h moment n x) ≡ within index octets
     released_this h moment n x octets named is held =
-        ap (λ (o : Option (List ℕ)). times_filed key index (option_map_or (filed_under (present_key h n x) moment) o []))
-        (ap (λ (y : ℕ). held_packet n.0 y h) (eqb-true x key.number is.test) ∙ held_here h n (x == key.number) is ∙ held)
+        ap (λ (o : Option (List ℕ)). times_filed key index (option_map_or (filed_under (present_key h n x) moment) o [])) (held_here h n x is ∙ held)
         ∙ times_of_packet key index (present_key h n x) moment octets (same_here h n x ∙ named)
-
-    pub any_one : (xs : List ℕ) (x : ℕ) → xs ≡ x ∷ [] → list_any (λ y. y == key.number) xs ≡ (x == key.number)
-    any_one xs x alone =
-        ap (λ (ys : List ℕ). list_any (λ y. y == key.number) ys) alone ∙ by_bool (λ (b : Bool). (b || false) ≡ b) (x == key.number) (λ e. refl) (λ e. refl)
 
     step_act : (h : List HistoryEntry) (moment : ℕ) (who : Caller) (a : HistoryAct) → StartsRise h → RestsBy letters gateway h a
         → Counted h (state_of key h) → Counted (h ++ entry moment who a ∷ []) (state_of key (h ++ entry moment who a ∷ []))
     step_act h moment who (act.File n x packet) rise rests so_far =
         let e = entry moment who (act.File n x packet) in
-        named_step h e n (x == key.number) refl
+        named_step h e n x refl
         (λ named is. (
           packet,
-          grown h e ∙ (let before : times h ≡ 0 = fresh_here h n x Fresh is rests.0 so_far in
+          grown h e ∙ (let before : times h ≡ 0 = counted_here h n x Fresh is rests.0 so_far in
               omega (arith, before, times_of_packet key index (present_key h n x) moment packet (same_here h n x ∙ named))),
           backed_at h e n x (Sends true packet) rise is rests.1,
         ))
-        (λ isnt. none_of_packet key index (present_key h n x) moment packet (same_here h n x ∙ isnt))
-        so_far
+        (λ isnt. none_of_packet key index (present_key h n x) moment packet (same_here h n x ∙ isnt)) so_far
     step_act h moment who (act.Hold n x packet) rise rests so_far =
         let e = entry moment who (act.Hold n x packet) in
-        named_step h e n (x == key.number) refl
+        named_step h e n x refl
         (λ named is. (
           packet,
-          grown h e ∙ (let before : times h ≡ 0 = fresh_here h n x Fresh is rests.0 so_far in omega (arith, before)),
+          grown h e ∙ (let before : times h ≡ 0 = counted_here h n x Fresh is rests.0 so_far in omega (arith, before)),
           held_after h e true named,
           backed_at h e n x (Sends false packet) rise is rests.1,
         ))
-        (λ isnt. refl)
-        so_far
+        (λ isnt. refl) so_far
     step_act h moment who (act.Seal n x) rise rests so_far =
         let e = entry moment who (act.Seal n x) in
-        named_step h e n (x == key.number) refl
-        (λ named is. grown h e ∙ (let before : times h ≡ 0 = fresh_here h n x Fresh is rests.0 so_far in omega (arith, before)))
-        (λ isnt. refl)
-        so_far
+        named_step h e n x refl
+        (λ named is. grown h e ∙ (let before : times h ≡ 0 = counted_here h n x Fresh is rests.0 so_far in omega (arith, before))) (λ isnt. refl) so_far
     step_act h moment who (act.Cancel n xs) rise rests so_far =
         let e = entry moment who (act.Cancel n xs) in
         let x = rests.number in
-        named_step h e n (x == key.number) (ap (λ (b : Bool). (epoch_of key.node.0 h == key.epoch) && ((n.0 == key.node.0) && b)) (any_one xs x rests.alone))
-        (λ named is. grown h e ∙ (let held = fresh_here h n x Held is rests.held so_far in let before : times h ≡ 0 = held.1 in omega (arith, before)))
-        (λ isnt. refl)
-        so_far
+        named_step h e n x (ap (λ (b : Bool). (n.0 == key.node.0) && b) (any_one xs x rests.alone))
+        (λ named is. grown h e ∙ (let held = counted_here h n x Held is rests.held so_far in let before : times h ≡ 0 = held.1 in omega (arith, before)))
+        (λ isnt. refl) so_far
     step_act h moment who (act.Release n xs) rise rests so_far =
         let e = entry moment who (act.Release n xs) in
         let x = rests.names.number in
-        named_step h e n (x == key.number) (ap (λ (b : Bool). (epoch_of key.node.0 h == key.epoch) && ((n.0 == key.node.0) && b)) (any_one xs x rests.names.alone))
+        named_step h e n x (ap (λ (b : Bool). (n.0 == key.node.0) && b) (any_one xs x rests.names.alone))
         (λ named is.
-        let held = fresh_here h n x Held is rests.names.held so_far in
+        let held = counted_here h n x Held is rests.names.held so_far in
         let before : times h ≡ 0 = held.1 in
         let more = one_released h moment n xs x rests.names.alone ∙ released_this h moment n x held.0 named is held.2 in (
           held.0,
@@ -242,12 +231,11 @@ module _ (letters : List Letter) (gateway : ℕ) (key : PacketKey) where
           backed_stays h (e ∷ []) key.number (Sends false held.0) held.3,
           rests.own,
           backed_stays h (e ∷ []) rests.own (Orders order.Release key.number)
-              (backed_here h n (x == key.number) rests.own (Orders order.Release key.number) rise is
-              (subst (λ (y : ℕ). IsAsked letters n.0 (start_of n.0 h) gateway rests.own (Orders order.Release y)) (eqb-true x key.number is.test) rests.asked)),
+              (backed_here h n x rests.own (Orders order.Release key.number) rise is
+              (subst (λ (y : ℕ). IsAsked letters n.0 (start_of n.0 h) gateway rests.own (Orders order.Release y)) is.number rests.asked)),
         ))
-        (λ isnt. one_released h moment n xs x rests.names.alone ∙ released_other h moment n x isnt)
-        so_far
-    step_act h moment who a rise rests so_far = nothing_here h moment who a refl refl so_far
+        (λ isnt. one_released h moment n xs x rests.names.alone ∙ released_other h moment n x isnt) so_far
+    step_act h moment who a rise rests so_far = unnamed_step h (entry moment who a) (and_right (epoch_of key.node.0 h == key.epoch) false refl) refl so_far
 
     -- what was filed under the key in a history whose entries rest on messages
     pub counted : (h : List HistoryEntry) → Rests letters gateway h → Counted h (state_of key h)

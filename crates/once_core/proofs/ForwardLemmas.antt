@@ -1,5 +1,5 @@
 -- States that end stay, and what an answer tells stays true.
-use Rattle.std.proofs.Common.{◌≡◌, ℕ, ◌==◌, ◌&&◌, Bool, true, false, if◌then◌else◌, List, [], ◌∷◌, ◌++◌, Contains, refl, sym, ap, subst, ◌∙◌, append_assoc, append-nil, eqb-true, eq-eqb}
+use Rattle.std.proofs.Common.{◌≡◌, ℕ, ◌==◌, ◌&&◌, Bool, true, false, if◌then◌else◌, List, [], ◌∷◌, ◌++◌, Contains, refl, sym, ap, subst, ◌∙◌, append_assoc, append-nil, eq-eqb}
 use Rattle.std.proofs.lemmas.Bool.{and_parts, and_from, false≢true}
 use Rattle.gw_base.specs.EntryLaws.{present_state_is, state_of-append}
 use Rattle.gw_base.specs.History.{epoch_of, given_state, names, present_state, state_of}
@@ -31,26 +31,24 @@ is_final _ = true
 module _ (letters : List Letter) (gateway : ℕ) where
   -- a key whose state ends isn't named by an entry that keeps to the table
   not_named : (key : PacketKey) (h : List HistoryEntry) (n : NodeId) (x : ℕ) (s : KeyState) → is_final s ≡ false → present_state n.0 x h ≡ s
-      → is_final (state_of key h) ≡ true → IsHere letters gateway key h n (x == key.number) → ⊥
+      → is_final (state_of key h) ≡ true → IsHere letters gateway key h n x → ⊥
   not_named key h n x s unended state ends is =
-      let at : state_of key h ≡ s =
-      state_here letters gateway key h n (x == key.number) is ∙ ap (λ (y : ℕ). present_state n.0 y h) (sym (eqb-true x key.number is.test)) ∙ state in
-      false≢true (sym unended ∙ ap is_final (sym at) ∙ ends)
+      false≢true (sym unended ∙ ap is_final (sym (state_here letters gateway key h n x is ∙ state)) ∙ ends)
 
   never_named : (key : PacketKey) (h : List HistoryEntry) (a : HistoryAct) → RestsBy letters gateway h a → is_final (state_of key h) ≡ true
       → ((epoch_of key.node.0 h == key.epoch) && names key.node.0 key.number a) ≡ true → ⊥
-  never_named key h (act.File n x packet) rests ends e = not_named key h n x Fresh refl rests.0 ends (is_here letters gateway key h n (x == key.number) e)
-  never_named key h (act.Hold n x packet) rests ends e = not_named key h n x Fresh refl rests.0 ends (is_here letters gateway key h n (x == key.number) e)
-  never_named key h (act.Seal n x) rests ends e = not_named key h n x Fresh refl rests.0 ends (is_here letters gateway key h n (x == key.number) e)
+  never_named key h (act.File n x packet) rests ends e = not_named key h n x Fresh refl rests.0 ends (is_here letters gateway key h n x e)
+  never_named key h (act.Hold n x packet) rests ends e = not_named key h n x Fresh refl rests.0 ends (is_here letters gateway key h n x e)
+  never_named key h (act.Seal n x) rests ends e = not_named key h n x Fresh refl rests.0 ends (is_here letters gateway key h n x e)
   never_named key h (act.Release n xs) rests ends e =
-      let same = any_one letters gateway key 0 xs rests.names.number rests.names.alone in
+      let same = any_one letters gateway key xs rests.names.number rests.names.alone in
       not_named key h n rests.names.number Held refl rests.names.held ends
-      (is_here letters gateway key h n (rests.names.number == key.number)
+      (is_here letters gateway key h n rests.names.number
       (ap (λ (b : Bool). (epoch_of key.node.0 h == key.epoch) && ((n.0 == key.node.0) && b)) (sym same) ∙ e))
   never_named key h (act.Cancel n xs) rests ends e =
-      let same = any_one letters gateway key 0 xs rests.number rests.alone in
+      let same = any_one letters gateway key xs rests.number rests.alone in
       not_named key h n rests.number Held refl rests.held ends
-      (is_here letters gateway key h n (rests.number == key.number)
+      (is_here letters gateway key h n rests.number
       (ap (λ (b : Bool). (epoch_of key.node.0 h == key.epoch) && ((n.0 == key.node.0) && b)) (sym same) ∙ e))
   never_named key h _ rests ends e = absurd (false≢true (and_parts (epoch_of key.node.0 h == key.epoch) false e).1)
 
