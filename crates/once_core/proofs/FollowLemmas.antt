@@ -1,8 +1,9 @@
 -- The packets of each start of a node only grow, and what it may send goes on being of them.
-use Rattle.std.proofs.Common.{◌≡◌, ⊎_elim, ℕ, suc, ◌==◌, Bool, true, false, cond, List, [], ◌∷◌, ◌++◌, length, map, zip, filter, Option, Some, None, Contains, refl, sym, ap, subst, ◌∙◌, arith, length-append}
-use Rattle.std.proofs.lemmas.Bool.{eq-eqb, eqb-true}
+use Rattle.std.proofs.Common.{◌≡◌, ⊎_elim, ℕ, suc, ◌==◌, Bool, true, false, if◌then◌else◌, List, [], ◌∷◌, ◌++◌, length, map, zip, filter, Option, Some, None, Contains, refl, sym, ap, subst, ◌∙◌, arith, length-append}
+use Rattle.std.proofs.lemmas.Bool.{cond-false, cond-true, eq-eqb, eqb-true}
 use Rattle.std.proofs.lemmas.List.{append-nil, length-map, map-append}
 use Rattle.std.proofs.lemmas.List.Elements.{Contains-append_right, filter-append}
+use Rattle.std.proofs.lemmas.Slice.Zip.{firsts-zip}
 use Rattle.gtpp_message.specs.Packet.{PacketForm}
 use Rattle.node_core.specs.Growing.{CommandGrows, CopyGrows, Extends, PacketGrows, is_within_start}
 use Rattle.node_core.specs.Log.{LogEntry, Began, Halted, Submitted, Appointed, Ticked, Heard, Saying, Responds, forms_of, packets_of, submitted}
@@ -17,7 +18,7 @@ use Rattle.once_core.specs.Following.{AnyHasCopyAt, MaySend}
 use Rattle.once_core.specs.Happenings.{Asks, Letter, Meaning, Orders, Sends, Tests}
 use Rattle.once_core.proofs.ListLemmas.{in_cons, in_head, in_none, in_tail}
 use Rattle.once_core.proofs.LogLemmas.{starts_same}
-use Rattle.once_core.proofs.CaseLemmas.{by_bool}
+use Rattle.once_core.proofs.CaseLemmas.{by_bool, if_both}
 
 -- ---- lists that grow
 
@@ -134,26 +135,19 @@ states_append start one two =
     ap (λ (ps : List Followed). map (λ (p : Followed). p.state) ps) (filter-append (λ (p : Followed). p.start == start) one two)
     ∙ map-append (λ (p : Followed). p.state) (filter (λ (p : Followed). p.start == start) one) (filter (λ (p : Followed). p.start == start) two)
 
-abbrev followed_as : ℕ → List PacketState → List PacketForm → List Followed
-followed_as start packets forms = map (λ (p : PacketState × PacketForm). record { start = start; state = p.0; form = p.1 }) (zip packets forms)
+abbrev followed_one : ℕ → PacketState × PacketForm → Followed
+followed_one start z = record { start = start; state = z.0; form = z.1 }
 
-states_same : (start : ℕ) (packets : List PacketState) (forms : List PacketForm) → length forms ≡ length packets → states_at start (followed_as start packets forms) ≡ packets
-states_same start [] forms same = refl
-states_same start (packet ∷ packets) [] same = absurd (omega (arith, same))
-states_same start (packet ∷ packets) (form ∷ forms) same =
-    let one : Followed = record { start = start; state = packet; form = form } in
-    let rest : List Followed = filter (λ (p : Followed). p.start == start) (followed_as start packets forms) in
-    ap (λ (b : Bool). map (λ (p : Followed). p.state) (cond b (one ∷ rest) rest)) (eq-eqb start start refl)
-    ∙ ap (λ (ps : List PacketState). packet ∷ ps) (states_same start packets forms (omega (arith, same)))
-
-states_other : (start other : ℕ) → (other == start) ≡ false → (packets : List PacketState) (forms : List PacketForm) →
-    states_at start (followed_as other packets forms) ≡ []
-states_other start other isnt (packet ∷ packets) (form ∷ forms) =
-    let one : Followed = record { start = other; state = packet; form = form } in
-    let rest : List Followed = filter (λ (p : Followed). p.start == start) (followed_as other packets forms) in
-    ap (λ (b : Bool). map (λ (p : Followed). p.state) (cond b (one ∷ rest) rest)) isnt
-    ∙ states_other start other isnt packets forms
-states_other start other isnt _ _ = refl
+-- those of one start are all of the start that is asked for, or none is
+states_as : (start other : ℕ) (zs : List (PacketState × PacketForm))
+    → states_at start (map (followed_one other) zs) ≡ (if other == start then map (λ (z : PacketState × PacketForm). z.0) zs else [])
+states_as start other [] = if_both (λ (ps : List PacketState). [] ≡ ps) (other == start) refl refl
+states_as start other (z ∷ zs) =
+    let rest = filter (λ (p : Followed). p.start == start) (map (followed_one other) zs) in
+    by_bool (λ (b : Bool). map (λ (p : Followed). p.state) (if b then followed_one other z ∷ rest else rest)
+        ≡ (if b then z.0 ∷ map (λ (y : PacketState × PacketForm). y.0) zs else [])) (other == start)
+    (λ e. ap (λ (ps : List PacketState). z.0 ∷ ps) (states_as start other zs ∙ cond-true (other == start) _ _ e))
+    (λ e. states_as start other zs ∙ cond-false (other == start) _ _ e)
 
 as_many_heard : (port : Port) (gateway : ℕ) (saying : Saying) (log : List LogEntry) → length (forms_of log) ≡ length (packets_of log) →
     length (forms_of log) ≡ length (packets_of (Heard port gateway saying ∷ log))
@@ -171,13 +165,15 @@ as_many_forms _ = refl
 pub in_present : (start : ℕ) (log : List LogEntry) → starts_in log ≡ start → packets_in start log ≡ states_at start (followed_before log) ++ packets_of log
 in_present start log is =
     states_append start (followed_before log) (following log)
-    ∙ ap (λ (n : ℕ). states_at start (followed_before log) ++ states_at start (followed_as n (packets_of log) (forms_of log))) is
-    ∙ ap (λ (ps : List PacketState). states_at start (followed_before log) ++ ps) (states_same start (packets_of log) (forms_of log) (as_many_forms log))
+    ∙ ap (λ (ps : List PacketState). states_at start (followed_before log) ++ ps)
+    (states_as start (starts_in log) (zip (packets_of log) (forms_of log)) ∙ cond-true (starts_in log == start) _ _ (eq-eqb (starts_in log) start is)
+    ∙ firsts-zip (packets_of log) (forms_of log) (as_many_forms log))
 
 pub in_other : (start : ℕ) (log : List LogEntry) → (starts_in log == start) ≡ false → packets_in start log ≡ states_at start (followed_before log)
 in_other start log isnt =
     states_append start (followed_before log) (following log)
-    ∙ ap (λ (ps : List PacketState). states_at start (followed_before log) ++ ps) (states_other start (starts_in log) isnt (packets_of log) (forms_of log))
+    ∙ ap (λ (ps : List PacketState). states_at start (followed_before log) ++ ps)
+    (states_as start (starts_in log) (zip (packets_of log) (forms_of log)) ∙ cond-false (starts_in log == start) _ _ isnt)
     ∙ append-nil (states_at start (followed_before log))
 
 -- ---- one more entry
