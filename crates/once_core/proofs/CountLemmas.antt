@@ -1,9 +1,10 @@
--- What was filed under a key, by its state.
-use Rattle.std.proofs.Common.{◌≡◌, ℕ, zero, suc, ◌+◌, ◌==◌, ◌&&◌, ◌||◌, Bool, true, false, if◌then◌else◌, List, [], ◌∷◌, ◌++◌, Option, Some, option_and_then, refl, sym, ap, subst, ◌∙◌, arith}
+-- What was filed under a key, by its state, and which request brought it.
+use Rattle.std.proofs.Common.{◌≡◌, ℕ, zero, suc, ◌+◌, ◌==◌, ◌&&◌, ◌||◌, Bool, true, false, if◌then◌else◌, List, [], ◌∷◌, ◌++◌, Option, Some, option_and_then, refl, sym, ap, subst, ◌∙◌, arith, ⊎_elim, Contains, slice_get, append-nil, option_map}
 use Rattle.std.proofs.lemmas.Bool.{and_parts, and_right, eqb-true}
-use Rattle.std.proofs.lemmas.List.{append-nil}
-use Rattle.std.specs.List.{list_any}
+use Rattle.std.specs.List.{list_any, enumerate_from}
 use Rattle.std.specs.Option.{option_map_or}
+use Rattle.std.proofs.lemmas.List.Elements.{Contains-append_cases}
+use Rattle.std.proofs.lemmas.Option.{same_Some}
 use Rattle.gw_base.specs.EntryLaws.{key_naming-append, present_entries_are, present_state_is, state_of-append}
 use Rattle.gw_base.specs.History.{epoch_entries, epoch_of, given_state, last_naming, names, present_state, state_by, state_of}
 use Rattle.gw_base.specs.Lists.{once}
@@ -17,17 +18,22 @@ use Rattle.gw_base.specs.declared.history.PacketKey.{PacketKey}
 use Rattle.gw_base.specs.declared.key_state.KeyState.{KeyState}
 use Rattle.gw_base.specs.declared.key_state.KeyState.TheVariants.{Fresh, Filed, Held, Released}
 use Rattle.node_core.specs.declared.copy.Order.TheVariants as order
-use Rattle.gateway_book.specs.Filed.{filed, filed_by, filed_under, held_packet, packet_of_hold, present_key, released_by, released_records}
+use Rattle.gateway_book.specs.Filed.{filed, filed_by, filed_under, held_packet, packet_of_hold, present_key, released_by, released_records, filed_by_act, filed_record, records_if}
 use Rattle.gateway_book.specs.FiledLaws.{along-append}
 use Rattle.gateway_book.specs.Once.{same_key, times_filed}
 use Rattle.gateway_book.specs.declared.filing.FiledRecord.{FiledRecord}
+use Rattle.gtpp_message.specs.Packet.{PacketForm, packet_of}
+use Rattle.gw_base.specs.CdrKind.{kind_of}
 use Rattle.once_core.specs.Epochs.{RisesBy, StartsRise, epoch_with}
 use Rattle.once_core.specs.Happenings.{Letter, Orders, Request, Sends}
 use Rattle.once_core.specs.Resting.{IsAsked, Rests, RestsBy}
 use Rattle.once_core.proofs.EachLemmas.{by_each, each_also}
 use Rattle.once_core.proofs.EpochLemmas.{epoch_stays, present_epoch}
-use Rattle.once_core.proofs.FiledLemmas.{none_of_packet, times-append, times_of_packet, within}
-use Rattle.once_core.proofs.CaseLemmas.{by_bool, map_known}
+use Rattle.once_core.proofs.FiledLemmas.{none_of_packet, times-append, times_of_packet, within, record_within}
+use Rattle.once_core.proofs.CaseLemmas.{by_bool, map_known, by_option}
+use Rattle.once_core.specs.FiledOnce.{kind_within, records_within}
+use Rattle.once_core.proofs.ListLemmas.{in_none}
+use Rattle.once_core.proofs.WaitingLemmas.{of_map}
 
 -- the starts rise in a history whose entries rest on messages
 pub starts_rise : (letters : List Letter) (gateway : ℕ) (h : List HistoryEntry) → Rests letters gateway h → StartsRise h
@@ -36,6 +42,13 @@ starts_rise letters gateway = each_also (λ before e. RestsBy letters gateway be
     by_act : (h : List HistoryEntry) (a : HistoryAct) → RestsBy letters gateway h a → RisesBy h a
     by_act h (act.Path n port counter) rests = rests
     by_act h _ rests = tt
+
+-- a record of a packet is filed in the packet's kind
+kept_kind : (k : PacketKey) (moment : ℕ) (octets : List ℕ) (r : FiledRecord) → Contains (filed_under k moment octets) r
+    → kind_within octets ≡ Some r.kind
+kept_kind k moment octets r = by_option (λ (form : Option PacketForm). Contains (records_if k moment form) r → option_map (λ (form : PacketForm). kind_of form.format form.version) form ≡ Some r.kind)
+    (packet_of octets) (λ none is. absurd (in_none r is))
+    (λ form there is. ap (λ (f : FiledRecord). Some f.kind) (of_map (filed_record k moment form.format form.version) (enumerate_from 0 form.records) r is).2)
 
 module _ (letters : List Letter) (gateway : ℕ) (key : PacketKey) where
   -- a request of the key's node in the start of its epoch
@@ -111,6 +124,9 @@ module _ (letters : List Letter) (gateway : ℕ) (key : PacketKey) where
   any_one xs x alone =
       ap (λ (ys : List ℕ). list_any (λ y. y == key.number) ys) alone ∙ by_bool (λ (b : Bool). (b || false) ≡ b) (x == key.number) (λ e. refl) (λ e. refl)
 
+  abbrev entry : ℕ → Caller → HistoryAct → HistoryEntry
+  entry moment who a = record { moment = moment; caller = who; act = a }
+
   module _ (index : ℕ) where
     abbrev times : List HistoryEntry → ℕ
     times h = times_filed key index (filed h)
@@ -165,9 +181,6 @@ module _ (letters : List Letter) (gateway : ℕ) (key : PacketKey) where
     -- the state of a number that is named here
     pub counted_here : (h : List HistoryEntry) (n : NodeId) (x : ℕ) (s : KeyState) → IsHere h n x → present_state n.0 x h ≡ s → Counted h (state_of key h) → Counted h s
     counted_here h n x s is state = subst (Counted h) (state_here h n x is ∙ state)
-
-    abbrev entry : ℕ → Caller → HistoryAct → HistoryEntry
-    entry moment who a = record { moment = moment; caller = who; act = a }
 
     -- what the release of one number files
     one_released : (h : List HistoryEntry) (moment : ℕ) (n : NodeId) (xs : List ℕ) (x : ℕ) → xs ≡ x ∷ []
@@ -247,3 +260,73 @@ module _ (letters : List Letter) (gateway : ℕ) (key : PacketKey) where
         none_yet : (k : ℕ) → state_by (last_naming key.node.0 key.number (epoch_entries key.node.0 k [])) ≡ Fresh
         none_yet zero = refl
         none_yet (suc k) = refl
+
+  -- ---- the request that brought a record
+
+  pub record IsBrought (h : List HistoryEntry) (filing : FiledRecord) : Type 0 where
+    pub plain : Bool
+    pub octets : List ℕ
+    pub backed : IsBacked h key.number (Sends plain octets)
+    pub at : slice_get (records_within octets) filing.index ≡ Some filing.octets
+    pub kind : kind_within octets ≡ Some filing.kind
+
+  brought_stays : (h g : List HistoryEntry) (filing : FiledRecord) → IsBrought h filing → IsBrought (h ++ g) filing
+  brought_stays h g filing is = record {
+    plain = is.plain;
+    octets = is.octets;
+    backed = backed_stays h g key.number (Sends is.plain is.octets) is.backed;
+    at = is.at;
+    kind = is.kind;
+  }
+
+  abbrev Brings : List HistoryEntry → List FiledRecord → Type 0
+  Brings h filings = (filing : FiledRecord) → Contains filings filing → same_key filing.key key ≡ true → IsBrought h filing
+
+  -- the key of a record of a packet is the key that it was filed under
+  key_here : (h : List HistoryEntry) (n : NodeId) (x : ℕ) (filing : FiledRecord) → filing.key ≡ present_key h n x → same_key filing.key key ≡ true → IsHere h n x
+  key_here h n x filing of same = is_here h n x (sym (same_here h n x) ∙ ap (λ (k : PacketKey). same_key k key) (sym of) ∙ same)
+
+  brings_release : (h : List HistoryEntry) (moment : ℕ) (who : Caller) (n : NodeId) (xs : List ℕ) (x : ℕ) → StartsRise h → xs ≡ x ∷ [] → present_state n.0 x h ≡ Held
+      → Counted 0 h (state_of key h) → Brings (h ++ entry moment who (act.Release n xs) ∷ []) (released_by h moment n (once (λ y z. y == z) xs))
+  brings_release h moment who n xs x rise alone held so_far filing kept same =
+      map_known (λ (rs : List FiledRecord). Contains rs filing → IsBrought (h ++ entry moment who (act.Release n xs) ∷ []) filing) (held_packet n.0 x h)
+      (λ none there. absurd (in_none filing there))
+      (λ octets some there.
+      let within = record_within (present_key h n x) moment octets filing there in
+      let is = key_here h n x filing within.1 same in
+      let as_held = counted_here 0 h n x Held is held so_far in
+      let octets_are : as_held.0 ≡ octets = same_Some as_held.0 octets (sym as_held.2 ∙ sym (held_here h n x is) ∙ some) in
+      record {
+        plain = false;
+        octets = as_held.0;
+        backed = backed_stays h (entry moment who (act.Release n xs) ∷ []) key.number (Sends false as_held.0) as_held.3;
+        at = ap (λ (os : List ℕ). slice_get (records_within os) filing.index) octets_are ∙ within.0;
+        kind = ap kind_within octets_are ∙ kept_kind (present_key h n x) moment octets filing there;
+      })
+      (subst (λ rs. Contains rs filing) (ap (λ ys. released_by h moment n (once (λ y z. y == z) ys)) alone ∙ append-nil (released_records h moment n x)) kept)
+
+  brings_act : (h : List HistoryEntry) (moment : ℕ) (who : Caller) (a : HistoryAct) → StartsRise h → RestsBy letters gateway h a → Counted 0 h (state_of key h)
+      → Brings (h ++ entry moment who a ∷ []) (filed_by_act h moment a)
+  brings_act h moment who (act.File n x packet) rise rests so_far filing kept same =
+      let there = record_within (present_key h n x) moment packet filing kept in
+      let is = key_here h n x filing there.1 same in
+      record {
+        plain = true;
+        octets = packet;
+        backed = backed_at h (entry moment who (act.File n x packet)) n x (Sends true packet) rise is rests.1;
+        at = there.0;
+        kind = kept_kind (present_key h n x) moment packet filing kept;
+      }
+  brings_act h moment who (act.Release n xs) rise rests so_far filing kept same =
+      brings_release h moment who n xs rests.names.number rise rests.names.alone rests.names.held so_far filing kept same
+  brings_act h moment who _ rise rests so_far filing kept same = absurd (in_none filing kept)
+
+  pub brought : (h : List HistoryEntry) → Rests letters gateway h → Brings h (filed h)
+  brought =
+      by_each (λ before e. RestsBy letters gateway before e.act) (λ h. Brings h (filed h))
+      (λ filing kept same. absurd (in_none filing kept))
+      (λ h e all rests so_far filing kept same. ⊎_elim
+      (λ old. brought_stays h (e ∷ []) filing (so_far filing old same))
+      (λ new. brings_act h e.moment e.caller e.act (starts_rise letters gateway h all) rests (counted 0 h all) filing new same)
+      (Contains-append_cases (filed h) (filed_by h e) filing
+      (subst (λ rs. Contains rs filing) (along-append filed_by [] h (e ∷ []) ∙ ap (λ rs. filed h ++ rs) (append-nil (filed_by h e))) kept)))

@@ -6,7 +6,6 @@ pub mod EachLemmas
 pub mod EpochLemmas
 pub mod FiledLemmas
 pub mod CountLemmas
-pub mod ContentLemmas
 pub mod GrowingLemmas
 pub mod StopLemmas
 pub mod StateLemmas

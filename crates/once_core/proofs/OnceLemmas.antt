@@ -24,10 +24,9 @@ use Rattle.once_core.specs.Epochs.{epoch_with, key_in, state_with, times_with}
 use Rattle.once_core.specs.FiledOnce.{IsFiledUnder, IsOnce, filing_count, is_withheld, kind_within, record_count, records_within}
 use Rattle.once_core.specs.Following.{Follows}
 use Rattle.once_core.specs.Happenings.{Happening, Orders, Request, Scene, Sends}
-use Rattle.once_core.proofs.ContentLemmas.{brought}
 use Rattle.once_core.specs.Resting.{IsAsked, IsState, Rests, RestsBy, SceneHolds}
 use Rattle.once_core.specs.Scenes.{scene_after}
-use Rattle.once_core.proofs.CountLemmas.{Counted, IsBacked, counted}
+use Rattle.once_core.proofs.CountLemmas.{Counted, IsBacked, brought, counted}
 use Rattle.once_core.proofs.EachLemmas.{each_front}
 use Rattle.once_core.proofs.EpochLemmas.{start_is_one}
 use Rattle.once_core.proofs.FiledLemmas.{one_if, within}

@@ -28,7 +28,7 @@ use Rattle.once_core.specs.Scenes.{is_telling}
 use Rattle.once_core.specs.Told.{AnswersACopy, IsAnswerFor, IsOfCopy, MeanCopies, NamesChoice, TellStates, WasSubmitted, asking}
 use Rattle.once_core.specs.World.{World, log_at}
 use Rattle.once_core.specs.declared.message.Message.{Message}
-use Rattle.once_core.proofs.ContentLemmas.{IsBrought, brought}
+use Rattle.once_core.proofs.CountLemmas.{IsBrought, brought}
 use Rattle.once_core.proofs.EachLemmas.{each_front}
 use Rattle.once_core.proofs.KnownLemmas.{IsAnswered, by_release_answer, by_test_answer, choice_of, filed_by_answer, fulfilled_tells, sealed_by_answer, told_by}
 use Rattle.once_core.proofs.ListLemmas.{filtered, in_none}
