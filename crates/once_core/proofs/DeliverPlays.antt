@@ -1,6 +1,7 @@
--- What a gateway answers to a message that reaches it, or tells of it where it breaks on the way, is what happens in a scene.
+-- What a gateway sends is what happens in a scene: its answer to a message that reaches it, what it tells of one where it breaks
+-- on the way, and the requests of a redirection, which tell nodes nothing of a copy.
 pub use Rattle.once_core.proofs.PartLemmas.{ready_history}
-use Rattle.std.proofs.Common.{◌≡◌, ℕ, ◌%◌, ◌==◌, ◌&&◌, not, nat_lt, Bool, true, false, List, [], ◌∷◌, ◌++◌, Option, Some, None, Contains, refl, sym, ap, subst, ◌∙◌, ◌≢◌, ◌≤◌, arith}
+use Rattle.std.proofs.Common.{◌≡◌, ℕ, ◌%◌, ◌==◌, ◌&&◌, not, nat_lt, Bool, true, false, List, [], ◌∷◌, ◌++◌, Option, Some, None, Contains, refl, sym, ap, subst, ◌∙◌, ◌≢◌, ◌≤◌, arith, map, ◌+◌}
 use Rattle.std.specs.Prelude.{option_map}
 use Rattle.std.specs.Option.{option_map_or}
 use Rattle.std.proofs.lemmas.Bool.{and_from, not-false, or_parts, cond-true, eqb-false, lt-ltb, ltb-false}
@@ -13,7 +14,7 @@ use Rattle.gw_base.specs.declared.address.NodeId.{NodeId}
 use Rattle.gw_base.specs.declared.cause.TheConstants.{CDR_DECODING_ERROR, NO_RESOURCES, SYSTEM_FAILURE}
 use Rattle.gw_base.specs.declared.history.HistoryAct.{HistoryAct}
 use Rattle.gw_base.specs.declared.history.HistoryEntry.{HistoryEntry}
-use Rattle.gtpp_message.specs.Message.{TransferRequest, TransferResponse, TransferValue, Send, Possible, Cancel, Release, MessageValue, EchoRequest, EchoResponse, NodeAliveRequest}
+use Rattle.gtpp_message.specs.Message.{TransferRequest, TransferResponse, TransferValue, Send, Possible, Cancel, Release, MessageValue, EchoRequest, EchoResponse, NodeAliveRequest, RedirectionRequest}
 use Rattle.gtpp_message.specs.Packet.{Empty, Full}
 use Rattle.gtpp_message.specs.Writing.{written}
 use Rattle.gtpp_message.specs.declared.message_types.TheConstants.{TRANSFER_REQUEST}
@@ -31,7 +32,9 @@ use Rattle.gtpp_message.specs.PathMessages.{path_message, path_number}
 use Rattle.path_mgmt.specs.GatewayPath.{opened_by}
 use Rattle.path_mgmt.specs.declared.event.PathEvent.{PathEvent}
 use Rattle.path_mgmt.specs.declared.event.PathEvent.TheVariants.{EchoAsked, EchoTold, AliveAsked, AliveTold}
-use Rattle.once_core.specs.Addresses.{node_address, node_id, node_ip, port_number}
+use Rattle.byteorder.specs.Endian.{big_bytes}
+use Rattle.gateway_book.specs.Told.{paths_of}
+use Rattle.once_core.specs.Addresses.{node_address, node_id, node_ip, port_number, gateway_address}
 use Rattle.once_core.specs.Answers.{acting, answered, failed, failed_by}
 use Rattle.once_core.specs.Expired.{is_expired, is_expired_request, present_start, taken_for}
 use Rattle.once_core.specs.Gateway.{Gateway, Rules, still}
@@ -45,12 +48,14 @@ use Rattle.once_core.specs.Shown.{post_of, waiting_letters}
 use Rattle.once_core.specs.declared.message.Message as world
 use Rattle.once_core.proofs.MeaningLemmas.{IsAbout, IsWritten, ReadsBack, meaning_is, responds_means, responds_said, role_read_of, type_of, FromNode, NodeSaid, Responds, Said, said_by_gateway, FromGateway}
 use Rattle.once_core.proofs.PlayLemmas.{Plays, Stands, still_plays, idle_plays, followed_plays, stands_after}
-use Rattle.once_core.proofs.ReplyPlays.{answer_plays, noted, quiet_plays}
+use Rattle.once_core.proofs.ReplyPlays.{answer_plays, quiet_plays}
 use Rattle.once_core.proofs.StopLemmas.{history_is}
 use Rattle.once_core.proofs.CaseLemmas.{if_both, if_known}
 use Rattle.once_core.proofs.ListLemmas.{number_of, in_one}
 use Rattle.once_core.proofs.CommitPlays.{noted_rightly, noted_plays}
 use Rattle.once_core.specs.Answers as out
+use Rattle.once_core.proofs.WaitingLemmas.{of_map}
+use Rattle.once_core.proofs.PartLemmas.{noted}
 
 -- ---- a message of path management means nothing here
 
@@ -318,3 +323,32 @@ module _ (back : ReadsBack) (roles : RolesRead) (m : world.Message) (to : m.to_g
           (told_plays said.path fits.0) (told_plays said.path fits.0)
       by (TransferResponse cause responded) fits = absurd fits
       by _ fits = still_plays stands
+
+-- ---- a redirection
+
+-- the address of the gateway that is recommended
+abbrev recommended : Option ℕ → Option (List ℕ)
+recommended to = option_map (λ other. big_bytes 4 (gateway_address other).ip) to
+
+asks_written : (number cause : ℕ) (to : Option ℕ) → IsWritten (written number (RedirectionRequest cause (recommended to))) number (RedirectionRequest cause (recommended to))
+asks_written number cause None = record { is = refl; sendable = refl; short = omega arith }
+asks_written number cause (Some other) = record { is = refl; sendable = refl; short = omega arith }
+
+pub redirected_plays : ReadsBack → (gateway cause : ℕ) (to : Option ℕ) {g : Gateway} {scene : Scene} → Stands gateway scene g
+    → Plays gateway scene (out.redirected gateway cause to g)
+redirected_plays back gateway cause to {g} {scene} stands =
+    let again : Stands gateway scene (record g { redirects = g.redirects + 1 }) =
+    record { post = stands.post; rightly = record { fronts = stands.rightly.fronts; said = stands.rightly.said; broken = stands.rightly.broken } } in
+    idle_plays again
+    (map (out.redirecting gateway cause to g) (paths_of (history_of g.book)))
+    (λ m is.
+    let there = of_map (out.redirecting gateway cause to g) (paths_of (history_of g.book)) m is in
+    subst Said there.2 (said_by_gateway (out.redirecting gateway cause to g there.0) refl
+    (record { path = number; message = RedirectionRequest cause (recommended to); written = asks_written number cause to; fits = tt })))
+    (λ m is.
+    let there = of_map (out.redirecting gateway cause to g) (paths_of (history_of g.book)) m is in
+    subst (λ (k : world.Message). is_idle (meaning_of k) ≡ true) there.2
+    (ap is_idle (meaning_is back (out.redirecting gateway cause to g there.0) number (RedirectionRequest cause (recommended to)) (asks_written number cause to))))
+  where
+    number : ℕ
+    number = g.redirects % 65536

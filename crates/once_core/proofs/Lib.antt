@@ -33,7 +33,6 @@ pub mod PlayLemmas
 pub mod CommitPlays
 pub mod ReplyPlays
 pub mod DeliverPlays
-pub mod RedirectPlays
 pub mod FormLemmas
 pub mod LogLemmas
 pub mod NumberLemmas

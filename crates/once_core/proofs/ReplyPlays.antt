@@ -1,5 +1,4 @@
 -- An answer that waits or is sent is a happening.
-pub use Rattle.once_core.proofs.PartLemmas.{noted}
 use Rattle.std.proofs.Common.{◌≡◌, ⊎_elim, ℕ, nat_le, not, Bool, true, false, cond, List, [], ◌∷◌, ◌++◌, length, filter, Contains, refl, sym, ap, subst, ◌∙◌, append-nil}
 use Rattle.std.proofs.lemmas.List.Elements.{Contains-push_cases, filter-append}
 use Rattle.std.proofs.lemmas.Bool.{both_ways}
@@ -21,7 +20,6 @@ use Rattle.once_core.proofs.WaitingLemmas.{all_pass, letters_append, none_pass, 
 use Rattle.once_core.proofs.StopLemmas.{history_is}
 use Rattle.once_core.proofs.CaseLemmas.{by_bool, if_both, if_known}
 use Rattle.once_core.proofs.ListLemmas.{filtered, in_head, in_one}
-use Rattle.once_core.proofs.KnownLemmas.{firm}
 
 module _ {g : Gateway} (rightly : Rightly g) (m : Message) (sound : g.book.is_broken ≡ false) (from : m.to_gateway ≡ false) (said : GatewaySaid m) where
   abbrev answer : Waiting
@@ -90,9 +88,6 @@ module _ {g : Gateway} (rightly : Rightly g) (m : Message) (sound : g.book.is_br
         (settled_said (record g { waiting = g.waiting ++ answer ∷ [] }) all_said)
         (settled_rightly (record g { waiting = g.waiting ++ answer ∷ [] }) sound all_said)
       where
-        all : List HistoryEntry
-        all = g.book.firm ++ g.book.rest
-
         at_once : Bool
         at_once = nat_le (length (g.book.firm ++ g.book.rest)) (length g.book.firm)
 

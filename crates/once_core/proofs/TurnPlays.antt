@@ -13,12 +13,11 @@ use Rattle.once_core.specs.declared.message.Message.{Message}
 use Rattle.once_core.proofs.FormLemmas.{RecordsSpelled}
 use Rattle.once_core.proofs.MeaningLemmas.{ReadsBack, Said}
 use Rattle.once_core.proofs.NumberLemmas.{Values}
-use Rattle.once_core.proofs.RedirectPlays.{redirected_plays}
 use Rattle.once_core.proofs.SentPlays.{NodesFollow, OneCopyEach}
 use Rattle.once_core.proofs.WorldPlays.{Made, gateway_made, log_is, node_made, less_made}
 use Rattle.once_core.proofs.CommitPlays.{Played, parts_play}
 use Rattle.once_core.proofs.PartLemmas.{TurnKeeps, turn_keeps}
-use Rattle.once_core.proofs.DeliverPlays.{answers_play, failed_plays}
+use Rattle.once_core.proofs.DeliverPlays.{answers_play, failed_plays, redirected_plays}
 use Rattle.once_core.proofs.NodePlays.{halt_turns, hear_turns, start_turns, submit_turns}
 use Rattle.once_core.proofs.ListLemmas.{in_front}
 use Rattle.once_core.proofs.SendingPlays.{tick_turns}
