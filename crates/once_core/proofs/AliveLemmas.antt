@@ -22,8 +22,7 @@ use Rattle.node_core.specs.declared.peer.Peer.{Peer}
 use Rattle.node_core.specs.declared.port.Port.{Port}
 use Rattle.node_core.specs.declared.sending.Sending.{Sending}
 use Rattle.node_core.specs.declared.sending.Sending.TheVariants as send
-use Rattle.once_core.proofs.ListLemmas.{in_head, in_none, in_tail}
-use Rattle.once_core.proofs.WaitingLemmas.{of_map}
+use Rattle.once_core.proofs.ListLemmas.{in_head, in_none, in_tail, of_map}
 use Rattle.once_core.proofs.CaseLemmas.{by_option, if_both}
 use Rattle.once_core.proofs.CallLemmas.{Adds, adds, begins_anew, halts, hears, nothing, submits, ticks}
 use Rattle.once_core.proofs.DueLemmas.{all_due, is_probe, probes_are}

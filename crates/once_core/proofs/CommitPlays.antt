@@ -2,7 +2,7 @@
 pub use Rattle.once_core.proofs.PartLemmas.{noted, whole_book}
 use Rattle.std.proofs.Common.{◌≡◌, ℕ, ◌-◌, nat_le, not, Bool, true, false, List, [], ◌∷◌, ◌++◌, length, map, filter, Contains, refl, sym, ap, subst, ◌∙◌, arith, if◌then◌else◌}
 use Rattle.std.proofs.lemmas.List.{take_all}
-use Rattle.std.proofs.lemmas.Bool.{both_ways, not-true}
+use Rattle.std.proofs.lemmas.Bool.{both_ways, cond-false, cond-true, not-true}
 use Rattle.gw_base.specs.declared.history.HistoryEntry.{HistoryEntry}
 use Rattle.gateway_book.specs.Value.{BookValue, history_of}
 use Rattle.gw_base.specs.declared.history.HistoryAct.{HistoryAct}
@@ -13,17 +13,44 @@ use Rattle.once_core.specs.Happenings as did
 use Rattle.once_core.specs.Meaning.{letter_of, meaning_of, speaks}
 use Rattle.once_core.specs.Messages.{failing, is_response}
 use Rattle.once_core.specs.Scenes.{firming, is_idle, keeping, with_post, happened, noting}
-use Rattle.once_core.specs.Shown.{waiting_letters}
+use Rattle.once_core.specs.Shown.{waiting_if, waiting_letters}
 use Rattle.once_core.specs.declared.message.Message.{Message}
 use Rattle.once_core.specs.declared.message.Waiting.{Waiting}
-use Rattle.once_core.proofs.ListLemmas.{filtered}
+use Rattle.once_core.proofs.ListLemmas.{filtered, in_flat, in_head, in_map, of_map, passed}
 use Rattle.once_core.proofs.MeaningLemmas.{GatewaySaid, ReadsBack, Said, failing_means, failing_said, said_by_gateway}
 use Rattle.once_core.proofs.PlayLemmas.{Plays, Rightly, Stands, still_plays, followed_plays, idle_plays, none_waits, post_plays, settled_plays, stands_after}
-use Rattle.once_core.proofs.WaitingLemmas.{letters_passing, of_map, passed, sent_letters}
 use Rattle.once_core.proofs.PartLemmas.{PartsKeep, cut_book, torn_book, standing}
 use Rattle.once_core.specs.World.{World}
 use Rattle.once_core.proofs.StopLemmas.{history_is, crash_to_all, crash_to_firm}
-use Rattle.once_core.proofs.CaseLemmas.{by_bool}
+use Rattle.once_core.proofs.CaseLemmas.{by_bool, if_known}
+
+-- ---- answers that wait, by what they mean
+
+module _ (q : ℕ → Bool) where
+  abbrev passes : did.WaitingLetter → Bool
+  passes v = q v.front
+
+  -- the answers among those that pass are the answers that pass
+  letters_passing : (ws : List Waiting) → waiting_letters (filter (λ w. q w.front) ws) ≡ filter passes (waiting_letters ws)
+  letters_passing [] = refl
+  letters_passing (w ∷ ws) =
+      let rest = letters_passing ws in
+      if_known (λ (vs : List Waiting). waiting_letters vs ≡ filter passes (waiting_letters (w ∷ ws))) (q w.front)
+      (λ e. by_bool (λ (b : Bool). waiting_if b w ++ waiting_letters (filter (λ v. q v.front) ws) ≡ filter passes (waiting_if b w ++ waiting_letters ws))
+      (speaks w.message) (λ speaking. ap (λ (ls : List did.WaitingLetter). waiting_if true w ++ ls) rest ∙ sym (cond-true (q w.front) _ _ e)) (λ silent. rest))
+      (λ e. by_bool (λ (b : Bool). waiting_letters (filter (λ v. q v.front) ws) ≡ filter passes (waiting_if b w ++ waiting_letters ws))
+      (speaks w.message) (λ speaking. rest ∙ sym (cond-false (q w.front) _ _ e)) (λ silent. rest))
+
+-- an answer among the messages that wait is among the letters
+sent_letters : (ws : List Waiting) (m : Message) → Contains (map (λ w. w.message) ws) m → speaks m ≡ true
+    → Contains (map (λ (v : did.WaitingLetter). v.letter) (waiting_letters ws)) (letter_of m)
+sent_letters ws m is speaking =
+    let there = of_map (λ (w : Waiting). w.message) ws m is in
+    let letter : did.WaitingLetter = record { front = there.0.front; letter = letter_of there.0.message } in
+    subst (λ (n : Message). Contains (map (λ (v : did.WaitingLetter). v.letter) (waiting_letters ws)) (letter_of n)) there.2
+    (in_map (λ (v : did.WaitingLetter). v.letter) (waiting_letters ws) letter
+    (in_flat (λ (w : Waiting). waiting_if (speaks w.message) w) ws there.0 letter there.1
+    (subst (λ (b : Bool). Contains (waiting_if b there.0) letter) (sym (ap speaks there.2 ∙ speaking)) (in_head letter []))))
 
 pub not_reached : (book : BookValue) (ws : List Waiting) (w : Waiting) → Contains (filter (λ v. not (is_reached book v)) ws) w → is_reached book w ≡ false
 not_reached book ws w is = not-true (is_reached book w) (passed (λ v. not (is_reached book v)) ws w is)

@@ -32,8 +32,7 @@ use Rattle.once_core.proofs.EpochLemmas.{epoch_stays, present_epoch}
 use Rattle.once_core.proofs.FiledLemmas.{none_of_packet, times-append, times_of_packet, within, record_within}
 use Rattle.once_core.proofs.CaseLemmas.{by_bool, map_known, by_option}
 use Rattle.once_core.specs.FiledOnce.{kind_within, records_within}
-use Rattle.once_core.proofs.ListLemmas.{in_none}
-use Rattle.once_core.proofs.WaitingLemmas.{of_map}
+use Rattle.once_core.proofs.ListLemmas.{in_none, of_map}
 
 -- the starts rise in a history whose entries rest on messages
 pub starts_rise : (letters : List Letter) (gateway : ℕ) (h : List HistoryEntry) → Rests letters gateway h → StartsRise h

@@ -51,10 +51,9 @@ use Rattle.once_core.proofs.PlayLemmas.{Plays, Stands, still_plays, idle_plays, 
 use Rattle.once_core.proofs.ReplyPlays.{answer_plays, quiet_plays}
 use Rattle.once_core.proofs.StopLemmas.{history_is}
 use Rattle.once_core.proofs.CaseLemmas.{if_both, if_known}
-use Rattle.once_core.proofs.ListLemmas.{number_of, in_one}
+use Rattle.once_core.proofs.ListLemmas.{in_one, number_of, of_map}
 use Rattle.once_core.proofs.CommitPlays.{noted_rightly, noted_plays}
 use Rattle.once_core.specs.Answers as out
-use Rattle.once_core.proofs.WaitingLemmas.{of_map}
 use Rattle.once_core.proofs.PartLemmas.{noted}
 
 -- ---- a message of path management means nothing here

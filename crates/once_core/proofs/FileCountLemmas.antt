@@ -22,9 +22,8 @@ use Rattle.gw_base.specs.declared.tag.Tag.{Tag}
 use Rattle.route_filter.specs.Rules.{matches, stream_of}
 use Rattle.route_filter.specs.declared.rule.Rule.{Rule}
 use Rattle.once_core.specs.FilePlaces.{as_filed, at_place, filed_item, filed_items, filed_items_by, filed_runs, goes_to, placed, streams_of}
-use Rattle.once_core.proofs.ListLemmas.{in_cons, in_head, in_none, in_tail}
+use Rattle.once_core.proofs.ListLemmas.{in_cons, in_head, in_map, in_none, in_tail}
 use Rattle.once_core.proofs.CaseLemmas.{by_bool, if_both, if_known, map_known}
-use Rattle.once_core.proofs.WaitingLemmas.{in_map}
 
 -- each record of some items stands once in the runs that they are divided into
 abbrev pub Divides : Type 0

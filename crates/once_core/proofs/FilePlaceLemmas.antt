@@ -19,8 +19,7 @@ use Rattle.route_filter.specs.Rules.{stream_of}
 use Rattle.once_core.specs.FilePlaces.{as_filed, at_place, filed_item, filed_items, filed_items_by, filed_runs, goes_to, placed, streams_of}
 use Rattle.once_core.proofs.FileCountLemmas.{Divides, counted_there, in_runs, one_stream, records_append}
 use Rattle.once_core.proofs.FileRunLemmas.{plain, same_runs}
-use Rattle.once_core.proofs.ListLemmas.{get_contains, in_cons, in_flat, in_none, in_tail, filtered, of_flat_map}
-use Rattle.once_core.proofs.WaitingLemmas.{in_map, of_map, passed}
+use Rattle.once_core.proofs.ListLemmas.{filtered, get_contains, in_cons, in_flat, in_map, in_none, in_tail, of_flat_map, of_map, passed}
 
 -- ---- lists
 

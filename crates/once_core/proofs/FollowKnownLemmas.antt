@@ -15,12 +15,11 @@ use Rattle.once_core.specs.Following.{Knows, entries_of, heard_in}
 use Rattle.once_core.specs.Happenings as did
 use Rattle.once_core.specs.Happenings.{Deed, Letter}
 use Rattle.once_core.proofs.FollowLemmas.{before_within, began_same, halted_same, in_present, other_same, starts_within, states_at}
-use Rattle.once_core.proofs.ListLemmas.{in_none}
+use Rattle.once_core.proofs.ListLemmas.{in_none, none_pass}
 use Rattle.once_core.proofs.CaseLemmas.{by_bool}
 use Rattle.once_core.proofs.CallLemmas.{Adds, adds, begins_anew, halts, hears, nothing, submits, ticks}
 use Rattle.once_core.proofs.DeedLemmas.{rests_along}
 use Rattle.once_core.proofs.NumberLemmas.{earlier}
-use Rattle.once_core.proofs.WaitingLemmas.{none_pass}
 
 -- ---- what was heard stays heard
 

@@ -27,7 +27,6 @@ pub mod DeedLemmas
 pub mod NodeLemmas
 pub mod CallLemmas
 pub mod MeaningLemmas
-pub mod WaitingLemmas
 pub mod PartLemmas
 pub mod PlayLemmas
 pub mod CommitPlays

@@ -44,11 +44,10 @@ use Rattle.once_core.specs.Messages.{answering, has_type}
 use Rattle.once_core.specs.declared.message.Message as world
 use Rattle.once_core.proofs.GrowingLemmas.{on}
 use Rattle.once_core.proofs.LifeMoves.{Truly, TrulyMoved, followed_truly, no_path_truly, path_truly, replying_truly, still_truly, Speaks, all_of}
-use Rattle.once_core.proofs.ListLemmas.{in_one}
+use Rattle.once_core.proofs.ListLemmas.{in_one, of_map}
 use Rattle.once_core.proofs.MeaningLemmas.{FromNode, NodeSaid, ReadsBack, role_read_of}
 use Rattle.once_core.proofs.DeliverPlays.{fresh_start, rises}
 use Rattle.once_core.proofs.StartLemmas.{IsNoPath, known_start, opened_start, path_starts}
-use Rattle.once_core.proofs.WaitingLemmas.{of_map}
 use Rattle.once_core.proofs.StopLemmas.{history_is}
 use Rattle.gw_base.specs.declared.history.Opening.{Opening}
 use Rattle.once_core.proofs.CaseLemmas.{if_both}

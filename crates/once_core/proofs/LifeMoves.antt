@@ -24,9 +24,8 @@ use Rattle.once_core.specs.declared.message.Waiting.{Waiting}
 use Rattle.once_core.proofs.CommitPlays.{not_reached}
 use Rattle.once_core.proofs.EachLemmas.{each_front, each_more}
 use Rattle.once_core.proofs.GrowingLemmas.{on, on_on, on_with}
-use Rattle.once_core.proofs.ListLemmas.{filtered, in_none}
+use Rattle.once_core.proofs.ListLemmas.{filtered, in_none, of_map, passed}
 use Rattle.once_core.proofs.StartLemmas.{IsNoPath, front_low, no_path_rises, no_path_same, one_rises, start_rises}
-use Rattle.once_core.proofs.WaitingLemmas.{of_map, passed}
 use Rattle.once_core.proofs.StopLemmas.{history_is}
 use Rattle.std.proofs.lemmas.List.{nil_from_length}
 use Rattle.once_core.specs.Happenings.{Note, Starts, act_noted}

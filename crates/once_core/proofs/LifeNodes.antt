@@ -30,11 +30,10 @@ use Rattle.once_core.specs.World.{Called, answers_of, called, delivered_to_node,
 use Rattle.once_core.specs.declared.message.Message as world
 use Rattle.once_core.proofs.AliveLemmas.{none_alive, told_cases}
 use Rattle.once_core.proofs.LifeMoves.{tells_alive}
-use Rattle.once_core.proofs.ListLemmas.{in_none, in_one}
+use Rattle.once_core.proofs.ListLemmas.{in_none, in_one, of_map}
 use Rattle.once_core.proofs.LogLemmas.{place_is, starts_again, starts_same}
 use Rattle.once_core.proofs.MeaningLemmas.{FromGateway, GatewaySaid, IsWritten, ReadsBack, role_read_of, type_of}
 use Rattle.once_core.proofs.NodePlays.{NodeRightly, appointed_paths, appointed_starts, either}
-use Rattle.once_core.proofs.WaitingLemmas.{of_map}
 use Rattle.once_core.proofs.CaseLemmas.{if_both}
 
 -- Where a gateway is alive to the node of this log, the node's starts are at most those that the gateway knows firmly.

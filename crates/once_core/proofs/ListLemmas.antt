@@ -1,7 +1,7 @@
 -- Elements of lists.
-use Rattle.std.proofs.Common.{Bool, Contains, List, Some, [], ap, arith, filter, inl, inr, length, map, refl, slice_get, slice_index_or, subst, sym, take, true, ℕ, ⊎_elim, ◌<◌, ◌∙◌, ◌∷◌, ◌≡◌, ◌⊎◌}
+use Rattle.std.proofs.Common.{Bool, Contains, List, Some, [], ap, arith, false, filter, inl, inr, length, map, refl, slice_get, slice_index_or, subst, sym, take, true, ℕ, ⊎_elim, ◌<◌, ◌∙◌, ◌∷◌, ◌≡◌, ◌⊎◌}
 use Rattle.std.proofs.lemmas.List.Elements.{All-contains, All-contains_itself, All-filter, All-take, Contains-append_cases, Contains-append_left, Contains-append_right, filter_passes}
-use Rattle.std.proofs.lemmas.Bool.{both_ways}
+use Rattle.std.proofs.lemmas.Bool.{both_ways, cond-false, cond-true}
 use Rattle.std.specs.List.{flat_map}
 use Rattle.std.proofs.lemmas.List.{get_or-map, length-map}
 use Rattle.std.proofs.lemmas.Option.{get_or_from_slice_get, slice_get_read, slice_get_within}
@@ -48,6 +48,15 @@ kept_in p [] x is e = in_none x is
 kept_in {A} p (y ∷ xs) x is e = if_known (λ (ys : List A). Contains ys x) (p y)
     (λ passes. ⊎_elim (λ same. (0, omega arith, same)) (λ later. in_tail y x (filter p xs) (kept_in p xs x later e)) (in_cons y x xs is))
     (λ fails. ⊎_elim (λ same. absurd (both_ways (p x) (ap p (sym same) ∙ fails) e)) (λ later. kept_in p xs x later e) (in_cons y x xs is))
+
+pub none_pass : {A : Type 0} (p : A → Bool) (xs : List A) → ((x : A) → Contains xs x → p x ≡ false) → filter p xs ≡ []
+none_pass p [] none = refl
+none_pass p (x ∷ xs) none = cond-false (p x) _ _ (none x (in_head x xs)) ∙ none_pass p xs (λ y is. none y (in_tail x y xs is))
+
+pub all_pass : {A : Type 0} (p : A → Bool) (xs : List A) → ((x : A) → Contains xs x → p x ≡ true) → filter p xs ≡ xs
+all_pass p [] all = refl
+all_pass {A} p (x ∷ xs) all =
+    cond-true (p x) _ _ (all x (in_head x xs)) ∙ ap (λ (ys : List A). x ∷ ys) (all_pass p xs (λ y is. all y (in_tail x y xs is)))
 
 -- ---- what lists are mapped to
 

@@ -14,9 +14,8 @@ use Rattle.once_core.specs.Followed.{Followed, all_followed, followed_before, fo
 use Rattle.once_core.specs.Growing.{GrowsTo}
 use Rattle.once_core.specs.Shown.{forms_ever, values_of}
 use Rattle.once_core.proofs.GrowingLemmas.{on, on_on, on_with}
-use Rattle.once_core.proofs.ListLemmas.{filtered, in_cons, in_head, in_none, in_tail}
+use Rattle.once_core.proofs.ListLemmas.{filtered, in_cons, in_head, in_none, in_tail, of_map, passed}
 use Rattle.once_core.proofs.LogLemmas.{starts_again, starts_same}
-use Rattle.once_core.proofs.WaitingLemmas.{of_map, passed}
 use Rattle.once_core.proofs.CaseLemmas.{if_both}
 
 -- ---- lists

@@ -9,10 +9,9 @@ use Rattle.once_core.specs.Scenes.{Settled, after_adding, at, happened, happened
 use Rattle.once_core.specs.Shown.{post_of}
 use Rattle.once_core.specs.declared.message.Message.{Message}
 use Rattle.once_core.specs.declared.message.Waiting.{Waiting}
-use Rattle.once_core.proofs.ListLemmas.{in_head, in_none, in_tail}
+use Rattle.once_core.proofs.ListLemmas.{in_head, in_map, in_none, in_tail, of_map}
 use Rattle.once_core.proofs.MeaningLemmas.{GatewaySaid, Said}
 use Rattle.once_core.proofs.SceneLemmas.{at_same}
-use Rattle.once_core.proofs.WaitingLemmas.{in_map, of_map}
 
 -- ---- a gateway of a world
 

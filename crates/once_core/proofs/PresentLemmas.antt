@@ -35,14 +35,13 @@ use Rattle.once_core.specs.declared.message.Message.{Message}
 use Rattle.once_core.proofs.AliveLemmas.{AllAlive, copies_alive}
 use Rattle.once_core.proofs.GrowingLemmas.{on, on_with}
 use Rattle.once_core.proofs.LifeWorlds.{Lives, reached_lives, reached_made, values_in}
-use Rattle.once_core.proofs.ListLemmas.{get_contains}
+use Rattle.once_core.proofs.ListLemmas.{get_contains, of_map}
 use Rattle.once_core.proofs.LogLemmas.{gateway_is}
 use Rattle.once_core.proofs.MeantLemmas.{Numbers}
 use Rattle.once_core.proofs.NodePlays.{appointed_paths}
 use Rattle.once_core.proofs.StartLemmas.{front_low, start_rises}
 use Rattle.once_core.proofs.TimelyLemmas.{RequestsSent, after_is, behind, asks, not_expired, running}
 use Rattle.once_core.proofs.TurnPlays.{Laws}
-use Rattle.once_core.proofs.WaitingLemmas.{of_map}
 use Rattle.once_core.proofs.WorldPlays.{Made}
 use Rattle.once_core.proofs.CaseLemmas.{by_bool, by_option, if_known, map_known}
 use Rattle.once_core.proofs.TurnLemmas.{firm_there, log_or, log_there}

@@ -40,8 +40,7 @@ use Rattle.route_filter.specs.Rules.{last_stream, stream_of}
 use Rattle.route_filter.specs.declared.rule.Rule.{Rule}
 use Rattle.once_core.specs.FilePlaces.{placed, streams_of}
 use Rattle.once_core.proofs.FilePlaceLemmas.{stream_there}
-use Rattle.once_core.proofs.ListLemmas.{filtered, in_cons, in_head, in_tail}
-use Rattle.once_core.proofs.WaitingLemmas.{of_map}
+use Rattle.once_core.proofs.ListLemmas.{filtered, in_cons, in_head, in_tail, of_map}
 use Rattle.std.proofs.lemmas.Option.{option_and_then_some, same_Some}
 use Rattle.once_core.proofs.CaseLemmas.{by_bool, by_option, if_both, if_known, map_known}
 

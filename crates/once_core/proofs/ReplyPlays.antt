@@ -2,6 +2,7 @@
 use Rattle.std.proofs.Common.{◌≡◌, ⊎_elim, ℕ, nat_le, not, Bool, true, false, cond, List, [], ◌∷◌, ◌++◌, length, filter, Contains, refl, sym, ap, subst, ◌∙◌, append-nil}
 use Rattle.std.proofs.lemmas.List.Elements.{Contains-push_cases, filter-append}
 use Rattle.std.proofs.lemmas.Bool.{both_ways}
+use Rattle.std.proofs.lemmas.List.Concat.{flat_map-append}
 use Rattle.gw_base.specs.declared.history.HistoryEntry.{HistoryEntry}
 use Rattle.once_core.specs.Answers as world
 use Rattle.once_core.specs.Answers.{replying}
@@ -16,10 +17,9 @@ use Rattle.once_core.specs.declared.message.Waiting.{Waiting}
 use Rattle.once_core.proofs.CommitPlays.{settled_rightly, settled_said}
 use Rattle.once_core.proofs.MeaningLemmas.{GatewaySaid}
 use Rattle.once_core.proofs.PlayLemmas.{Plays, Rightly, same_at, settled_plays}
-use Rattle.once_core.proofs.WaitingLemmas.{all_pass, letters_append, none_pass, of_map, passed}
 use Rattle.once_core.proofs.StopLemmas.{history_is}
 use Rattle.once_core.proofs.CaseLemmas.{by_bool, if_both, if_known}
-use Rattle.once_core.proofs.ListLemmas.{filtered, in_head, in_one}
+use Rattle.once_core.proofs.ListLemmas.{all_pass, filtered, in_head, in_one, none_pass, of_map, passed}
 
 module _ {g : Gateway} (rightly : Rightly g) (m : Message) (sound : g.book.is_broken ≡ false) (from : m.to_gateway ≡ false) (said : GatewaySaid m) where
   abbrev answer : Waiting
@@ -52,7 +52,7 @@ module _ {g : Gateway} (rightly : Rightly g) (m : Message) (sound : g.book.is_br
       ∙ ap (λ (ws : List Waiting). ws ++ filter waits (answer ∷ [])) (all_pass waits g.waiting (λ w is. ap not (rightly.fronts w is)))
       ∙ ap (λ (ws : List Waiting). g.waiting ++ ws) (ap (λ (c : Bool). cond (not c) (answer ∷ []) []) e
       ∙ by_bool (λ (c : Bool). cond (not c) (answer ∷ []) [] ≡ cond c [] (answer ∷ [])) b (λ t. refl) (λ f. refl)))
-      ∙ letters_append g.waiting (cond b [] (answer ∷ []))
+      ∙ flat_map-append (λ (w : Waiting). waiting_if (speaks w.message) w) g.waiting (cond b [] (answer ∷ []))
 
   module _ (gateway : ℕ) (scene : Scene) where
     -- one that means nothing here: nothing happens

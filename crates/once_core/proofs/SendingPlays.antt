@@ -39,13 +39,12 @@ use Rattle.once_core.specs.Shown.{forms_ever}
 use Rattle.once_core.specs.World.{log_after, message_of, node_value, ticking}
 use Rattle.once_core.specs.declared.message.Message.{Message}
 use Rattle.once_core.proofs.FormLemmas.{GoodForm, packet_is, value_octets_are}
-use Rattle.once_core.proofs.ListLemmas.{get_contains, in_flat, in_head}
+use Rattle.once_core.proofs.ListLemmas.{get_contains, in_flat, in_head, in_map, of_map}
 use Rattle.once_core.proofs.LogLemmas.{gateway_is, size, starts_same}
 use Rattle.once_core.proofs.MeaningLemmas.{IsWritten, ReadsBack, Said, meaning_is, said_by_node, FromNode}
 use Rattle.once_core.proofs.NodePlays.{NodeRightly, appointed_ever, appointed_forms, appointed_runs, appointed_starts, appointed_submitted, NodePlays, NodeStands, after_call, appointed_deeds}
 use Rattle.once_core.proofs.NumberLemmas.{Values, ever, ever_at, numbered_in, present_packet}
 use Rattle.once_core.proofs.SentPlays.{NodesFollow, OneCopyEach, sent_deed, IsOwn, are_sent, of_flat, sending_of}
-use Rattle.once_core.proofs.WaitingLemmas.{in_map, of_map}
 use Rattle.once_core.proofs.NodeTurnLemmas.{addresses_length}
 use Rattle.once_core.proofs.CaseLemmas.{by_option}
 

@@ -46,7 +46,7 @@ use Rattle.once_core.proofs.NodePlays.{NodeRightly, appointed_runs, appointed_st
 use Rattle.once_core.proofs.NumberLemmas.{all_keep, ever, values_are}
 use Rattle.once_core.proofs.SentPlays.{OneCopyEach}
 use Rattle.once_core.proofs.TurnPlays.{Laws, turn_made}
-use Rattle.once_core.proofs.WaitingLemmas.{in_map, of_map}
+use Rattle.once_core.proofs.ListLemmas.{in_map, of_map}
 use Rattle.once_core.proofs.WorldPlays.{Made, get_set}
 use Rattle.once_core.proofs.NodeTurnLemmas.{addresses_length}
 use Rattle.once_core.proofs.LifeWorlds.{values_in}

@@ -31,12 +31,11 @@ use Rattle.once_core.specs.declared.message.Message.{Message}
 use Rattle.once_core.proofs.CountLemmas.{IsBrought, brought}
 use Rattle.once_core.proofs.EachLemmas.{each_front}
 use Rattle.once_core.proofs.KnownLemmas.{IsAnswered, by_release_answer, by_test_answer, choice_of, filed_by_answer, fulfilled_tells, sealed_by_answer, told_by}
-use Rattle.once_core.proofs.ListLemmas.{filtered, in_none}
+use Rattle.once_core.proofs.ListLemmas.{filtered, in_none, of_map, passed}
 use Rattle.once_core.proofs.MoveLemmas.{holds_always}
 use Rattle.once_core.proofs.OnceLemmas.{first_sealed}
 use Rattle.once_core.proofs.RoleLemmas.{IsCopyOf}
 use Rattle.once_core.proofs.TurnPlays.{Laws}
-use Rattle.once_core.proofs.WaitingLemmas.{of_map, passed}
 use Rattle.once_core.proofs.WorldOnceLemmas.{firm_at, in_start, it_follows, kind_placed, octets_placed, some_log, values_in}
 use Rattle.once_core.proofs.WorldPlays.{Made}
 use Rattle.once_core.specs.Beginning.{IsReached}

@@ -35,12 +35,11 @@ use Rattle.once_core.proofs.ApartLemmas.{key_of, one_place}
 use Rattle.once_core.proofs.EpochLemmas.{start_is_one}
 use Rattle.once_core.proofs.FirstPlays.{same_world}
 use Rattle.once_core.proofs.FormLemmas.{GoodForm, value_octets_are}
-use Rattle.once_core.proofs.ListLemmas.{get_contains, in_none, kept_in}
+use Rattle.once_core.proofs.ListLemmas.{get_contains, in_map, in_none, kept_in}
 use Rattle.once_core.proofs.NumberLemmas.{all_followed_at, values_are}
 use Rattle.once_core.proofs.OnceLemmas.{each_is_filed_once}
 use Rattle.once_core.proofs.RoleLemmas.{among_copies, own_use}
 use Rattle.once_core.proofs.TurnPlays.{Laws}
-use Rattle.once_core.proofs.WaitingLemmas.{in_map}
 use Rattle.once_core.proofs.WorldPlays.{Made}
 use Rattle.once_core.proofs.NodeTurnLemmas.{addresses_length}
 use Rattle.once_core.proofs.LifeWorlds.{reached_made}
