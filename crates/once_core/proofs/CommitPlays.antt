@@ -1,7 +1,6 @@
 -- The parts of a gateway's moves, which are commits, openings again, stops, openings and marks, are happenings.
 pub use Rattle.once_core.proofs.PartLemmas.{noted, whole_book}
-use Rattle.std.proofs.Common.{◌≡◌, ℕ, ◌-◌, nat_le, not, Bool, true, false, List, [], ◌∷◌, ◌++◌, length, map, filter, Contains, refl, sym, ap, subst, ◌∙◌, arith, if◌then◌else◌}
-use Rattle.std.proofs.lemmas.List.{take_all}
+use Rattle.std.proofs.Common.{◌≡◌, ℕ, ◌-◌, nat_le, not, Bool, true, false, List, [], ◌∷◌, ◌++◌, length, map, filter, Contains, refl, sym, ap, subst, ◌∙◌, arith, if◌then◌else◌, take_all}
 use Rattle.std.proofs.lemmas.Bool.{both_ways, cond-false, cond-true, not-true}
 use Rattle.gw_base.specs.declared.history.HistoryEntry.{HistoryEntry}
 use Rattle.gateway_book.specs.Value.{BookValue, history_of}

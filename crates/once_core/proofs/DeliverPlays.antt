@@ -1,8 +1,7 @@
 -- What a gateway sends is what happens in a scene: its answer to a message that reaches it, what it tells of one where it breaks
 -- on the way, and the requests of a redirection, which tell nodes nothing of a copy.
 pub use Rattle.once_core.proofs.PartLemmas.{ready_history}
-use Rattle.std.proofs.Common.{◌≡◌, ℕ, ◌%◌, ◌==◌, ◌&&◌, not, nat_lt, Bool, true, false, List, [], ◌∷◌, ◌++◌, Option, Some, None, Contains, refl, sym, ap, subst, ◌∙◌, ◌≢◌, ◌≤◌, arith, map, ◌+◌}
-use Rattle.std.specs.Prelude.{option_map}
+use Rattle.std.proofs.Common.{◌≡◌, ℕ, ◌%◌, ◌==◌, ◌&&◌, not, nat_lt, Bool, true, false, List, [], ◌∷◌, ◌++◌, Option, Some, None, Contains, refl, sym, ap, subst, ◌∙◌, ◌≢◌, ◌≤◌, arith, map, ◌+◌, option_map}
 use Rattle.std.specs.Option.{option_map_or}
 use Rattle.std.proofs.lemmas.Bool.{and_from, not-false, or_parts, cond-true, eqb-false, lt-ltb, ltb-false}
 use Rattle.std.proofs.lemmas.Option.{same_Some}

@@ -1,6 +1,5 @@
 -- The files of a history have each record that it files at one place: there are as many places as filings.
-use Rattle.std.proofs.Common.{◌≡◌, ⊎_elim, ℕ, ◌+◌, ◌==◌, not, Bool, true, cond, List, [], ◌∷◌, ◌++◌, map, filter, Option, Some, Contains, refl, sym, ap, ◌∙◌, arith, append_assoc, append-nil, ◌||◌}
-use Rattle.std.specs.Prelude.{count_by, find, sum_by}
+use Rattle.std.proofs.Common.{◌≡◌, ⊎_elim, ℕ, ◌+◌, ◌==◌, not, Bool, true, cond, List, [], ◌∷◌, ◌++◌, map, filter, Option, Some, Contains, refl, sym, ap, ◌∙◌, arith, append_assoc, append-nil, ◌||◌, count_by, find, sum_by}
 use Rattle.std.proofs.lemmas.Bool.{eq-eqb, cases_eq, ne_eqb, or_left, or_right}
 use Rattle.std.proofs.lemmas.List.Sums.{sum_by-append, sum_by-cons}
 use Rattle.std.specs.List.{enumerate_from, flat_map, list_any}

@@ -1,7 +1,5 @@
 -- What stands at a place in the files of a history was filed, and is what the files have there.
-use Rattle.std.proofs.Common.{◌≡◌, ⊎_elim, ℕ, zero, suc, ◌+◌, List, [], ◌∷◌, ◌++◌, map, filter, Option, Some, None, Contains, slice_get, refl, sym, ap, subst, ◌∙◌, arith, get_or, length, ◌<◌}
-use Rattle.std.specs.Prelude.{option_map}
-use Rattle.std.proofs.lemmas.Bool.{eqb-true}
+use Rattle.std.proofs.Common.{◌≡◌, ⊎_elim, ℕ, zero, suc, ◌+◌, List, [], ◌∷◌, ◌++◌, map, filter, Option, Some, None, Contains, slice_get, refl, sym, ap, subst, ◌∙◌, arith, get_or, length, ◌<◌, option_map, eqb-true}
 use Rattle.std.proofs.lemmas.List.Elements.{Contains-append_cases, Contains-append_left, Contains-append_right}
 use Rattle.std.proofs.lemmas.Option.{same_Some, slice_get-map, get_or_from_slice_get, slice_get-get_or, slice_get_within}
 use Rattle.std.specs.List.{enumerate_from, flat_map}

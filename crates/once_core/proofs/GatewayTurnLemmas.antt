@@ -1,6 +1,5 @@
 -- Moves of a gateway whose journal never fails, one after the other.
-use Rattle.std.proofs.Common.{◌≡◌, ℕ, ◌+◌, ◌-◌, ◌≤◌, max, min, Bool, true, false, ◌||◌, if◌then◌else◌, List, [], ◌++◌, length, take, drop, refl, ap, sym, ◌∙◌, subst, arith, append_assoc}
-use Rattle.std.specs.Prelude.{nat_lt, OnOk, Result, Ok, Err}
+use Rattle.std.proofs.Common.{◌≡◌, ℕ, ◌+◌, ◌-◌, ◌≤◌, max, min, Bool, true, false, ◌||◌, if◌then◌else◌, List, [], ◌++◌, length, take, drop, refl, ap, sym, ◌∙◌, subst, arith, append_assoc, nat_lt, OnOk, Result, Ok, Err}
 use Rattle.std.proofs.lemmas.Bool.{ltb-false, ltb-true, cond-false}
 use Rattle.std.proofs.lemmas.List.{drop-take, drop_all, length-drop, length-take-le, take-append-drop, take-take, take_all}
 use Rattle.gw_base.specs.declared.address.Addr.{Addr}

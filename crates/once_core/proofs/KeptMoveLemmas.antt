@@ -1,6 +1,5 @@
 -- How often a gateway redirected decides nothing but the number of its next Redirection Request.
-use Rattle.std.proofs.Common.{◌≡◌, ℕ, ◌+◌, ◌%◌, Bool, false, ◌||◌, ◌&&◌, if◌then◌else◌, List, ◌++◌, Option, None, map, refl, ap, sym, ◌∙◌, arith}
-use Rattle.std.specs.Prelude.{option_map}
+use Rattle.std.proofs.Common.{◌≡◌, ℕ, ◌+◌, ◌%◌, Bool, false, ◌||◌, ◌&&◌, if◌then◌else◌, List, ◌++◌, Option, None, map, refl, ap, sym, ◌∙◌, arith, option_map}
 use Rattle.byteorder.specs.Endian.{big_bytes}
 use Rattle.gtpp_message.specs.Message.{RedirectionRequest}
 use Rattle.gtpp_message.specs.Writing.{written}

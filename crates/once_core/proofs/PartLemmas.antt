@@ -1,6 +1,5 @@
 -- What the parts of a gateway's moves keep, each move keeps; and what the moves and the calls of nodes keep, each turn keeps.
-use Rattle.std.proofs.Common.{Bool, Contains, List, None, Option, Some, [], ap, append-nil, arith, false, length, not, refl, slice_get, subst, suc, sym, take, true, true≢false, ℕ, ◌&&◌, ◌++◌, ◌-◌, ◌||◌, ◌∙◌, ◌≡◌, ◌≤◌}
-use Rattle.std.specs.Prelude.{option_map}
+use Rattle.std.proofs.Common.{Bool, Contains, List, None, Option, Some, [], ap, append-nil, arith, false, length, not, refl, slice_get, subst, suc, sym, take, true, true≢false, ℕ, ◌&&◌, ◌++◌, ◌-◌, ◌||◌, ◌∙◌, ◌≡◌, ◌≤◌, option_map}
 use Rattle.std.proofs.lemmas.Bool.{and_parts, false≢true, leb-false, not-false, both_ways}
 use Rattle.std.specs.Option.{option_map_or, option_or}
 use Rattle.gateway_book.specs.Value.{BookValue, Fortune, Gone, Refused, Reopening, committed, faulted, history_of, recorded, reopened, standing_for, Whole}

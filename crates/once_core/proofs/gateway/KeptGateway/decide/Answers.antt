@@ -1,5 +1,4 @@
-use Rattle.std.proofs.Common.{◌≡◌, sym, subst, ◌∙◌}
-use Rattle.std.specs.Prelude.{IfOk}
+use Rattle.std.proofs.Common.{◌≡◌, sym, subst, ◌∙◌, IfOk}
 use Rattle.gateway_book.specs.Answer.{Decided, decided, node_of}
 use Rattle.gateway_book.specs.Answered.{answer, room_for}
 use Rattle.gateway_book.specs.Plain.{answer_view}
