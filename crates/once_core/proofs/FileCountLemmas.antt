@@ -1,11 +1,12 @@
 -- The files of a history have each record that it files at one place: there are as many places as filings.
 use Rattle.std.proofs.Common.{◌≡◌, ⊎_elim, ℕ, ◌+◌, ◌==◌, not, Bool, true, cond, List, [], ◌∷◌, ◌++◌, map, filter, Option, Some, Contains, refl, sym, ap, ◌∙◌, arith, append_assoc, append-nil, ◌||◌, count_by, find, sum_by}
-use Rattle.std.proofs.lemmas.Bool.{eq-eqb, cases_eq, ne_eqb, or_left, or_right}
+use Rattle.std.proofs.lemmas.Bool.{eq-eqb, cases_eq, ne_eqb}
 use Rattle.std.proofs.lemmas.List.Sums.{sum_by-append, sum_by-cons}
 use Rattle.std.specs.List.{enumerate_from, flat_map, list_any}
 use Rattle.std.proofs.lemmas.List.Recursion.{is_sum_by}
 use Rattle.std.proofs.lemmas.Bool.Decides.{nat_tests}
 use Rattle.std.proofs.lemmas.Option.{same_Some}
+use Rattle.std.proofs.lemmas.List.Folds.{list_any_at}
 use Rattle.file_rotate.specs.Division.{ClosedRun, division_of}
 use Rattle.file_rotate.specs.Items.{Filed, Item, Record, records_of}
 use Rattle.file_rotate.specs.declared.limits.Limits.{Limits}
@@ -21,7 +22,7 @@ use Rattle.gw_base.specs.declared.tag.Tag.{Tag}
 use Rattle.route_filter.specs.Rules.{matches, stream_of}
 use Rattle.route_filter.specs.declared.rule.Rule.{Rule}
 use Rattle.once_core.specs.FilePlaces.{as_filed, at_place, filed_item, filed_items, filed_items_by, filed_runs, goes_to, placed, streams_of}
-use Rattle.once_core.proofs.ListLemmas.{in_cons, in_head, in_map, in_none, in_tail}
+use Rattle.once_core.proofs.ListLemmas.{in_head, in_map, in_tail}
 use Rattle.once_core.proofs.CaseLemmas.{by_bool, if_both, if_known, map_known}
 
 -- each record of some items stands once in the runs that they are divided into
@@ -77,11 +78,7 @@ counted_there x (t ∷ ss) e = ⊎_elim
     (cases_eq x t)
 
 any_at : (x : ℕ) (xs : List ℕ) → Contains xs x → list_any (λ s. x == s) xs ≡ true
-any_at x [] is = in_none x is
-any_at x (y ∷ ys) is = ⊎_elim
-    (λ same. or_left (x == y) (list_any (λ s. x == s) ys) (eq-eqb x y (sym same)))
-    (λ later. or_right (x == y) (list_any (λ s. x == s) ys) (any_at x ys later))
-    (in_cons y x ys is)
+any_at x xs is = list_any_at (λ s. x == s) xs is.0 x is.1 (eq-eqb x _ (sym is.2))
 
 find_in : {A : Type 0} (p : A → Bool) (xs : List A) (x : A) → find p xs ≡ Some x → Contains xs x
 find_in p [] x e = absurd (cc)

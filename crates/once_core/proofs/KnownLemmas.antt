@@ -1,16 +1,18 @@
 -- What a node knows is so in the firm parts of the gateways' histories.
 use Rattle.std.proofs.Common.{◌≡◌, ◌⊎◌, inl, inr, ⊎_elim, ℕ, ◌==◌, ◌&&◌, ◌||◌, Bool, true, false, List, [], ◌∷◌, Option, Some, None, IfSome, Contains, refl, sym, ap, subst, ◌∙◌, eqb-true}
-use Rattle.std.proofs.lemmas.Bool.{false≢true, and_parts, or_cases}
+use Rattle.std.proofs.lemmas.Bool.{false≢true, and_parts, or_cases, or_left, or_right}
 use Rattle.std.proofs.lemmas.List.Elements.{All-contains, Contains-append_cases}
 use Rattle.std.specs.Option.{option_map_or}
+use Rattle.std.specs.List.{list_all, list_any}
+use Rattle.std.proofs.lemmas.List.Sums.{AllPass-from_list_all}
 use Rattle.gw_base.specs.declared.cause.TheConstants.{ACCEPTED, ALREADY_FULFILLED, DUPLICATE_ALREADY_FULFILLED}
 use Rattle.gw_base.specs.declared.history.HistoryEntry.{HistoryEntry}
 use Rattle.gw_base.specs.declared.key_state.KeyState.TheVariants as state
 use Rattle.node_core.specs.Choosing.{IsChoice, ReleasesChoice}
-use Rattle.node_core.specs.Copies.{is_chosen, is_filing, is_fulfilled, is_release, is_released, is_unknown, names, told}
+use Rattle.node_core.specs.Copies.{is_chosen, is_filing, is_fulfilled, is_release, is_released, is_unknown, names, told, is_answered, is_filed, is_sealed, is_settled}
 use Rattle.node_core.specs.Log as log
 use Rattle.node_core.specs.Log.{Responds, LogEntry}
-use Rattle.node_core.specs.Packets.{PacketState}
+use Rattle.node_core.specs.Packets.{PacketState, is_done}
 use Rattle.node_core.specs.Resting.{AllRestOn, IsFulfilled, RestsOn}
 use Rattle.node_core.specs.Roles.{IsPlainFirst}
 use Rattle.node_core.specs.declared.copy.Command.{Command}
@@ -20,12 +22,13 @@ use Rattle.node_core.specs.declared.copy.PacketCopy.{PacketCopy}
 use Rattle.node_core.specs.declared.copy.Verdict.TheVariants as verdict
 use Rattle.node_core.specs.declared.port.Port.{Port}
 use Rattle.node_core.specs.declared.port.Port.TheVariants.{First, Second}
+use Rattle.node_core.specs.declared.copy.Verdict.{Verdict}
 use Rattle.once_core.specs.Following.{AnyHasCopyAt, Follows, IsCommandSent, MaySend, entries_by, entries_of, heard_in}
 use Rattle.once_core.specs.Happenings.{Answers, Asks, Deed, Heard, Letter, Meaning, Orders, Request, Scene, Sends, Sent, Tests, about}
 use Rattle.once_core.specs.Resting.{IsKnown, IsState, SceneHolds, Tells}
 use Rattle.once_core.specs.Scenes.{is_telling}
 use Rattle.once_core.proofs.RoleLemmas.{IsCopyOf, command_use, not_both, own_use, same_user}
-use Rattle.once_core.proofs.ListLemmas.{in_head, in_none, in_tail, in_one}
+use Rattle.once_core.proofs.ListLemmas.{any_at, in_head, in_none, in_tail, in_one, in_cons}
 use Rattle.once_core.proofs.CaseLemmas.{if_both, if_known}
 
 -- ---- what was heard is a message
@@ -86,19 +89,17 @@ filed_by Second cause e = if_known (λ v. v ≡ verdict.Filed → ((Second ≡ F
     (λ isnt. if_both (λ v. v ≡ verdict.Filed → ((Second ≡ First) × (is_filing cause ≡ true)) ⊎ ((Second ≡ Second) × (cause ≡ ALREADY_FULFILLED)))
     (cause == ACCEPTED) (λ same. absurd (cc)) (λ same. absurd (cc))) e
 
-or_three_first : (a b c : Bool) → (a || b) ≡ true → (a || b || c) ≡ true
-or_three_first false false c e = absurd (false≢true e)
-or_three_first _ _ c e = refl
-
-or_three_ends : (a b c : Bool) → (a || c) ≡ true → (a || b || c) ≡ true
-or_three_ends false false c e = e
-or_three_ends _ _ c e = refl
+telling : (cause : ℕ) → ((cause == ACCEPTED) ≡ true) ⊎ (((cause == ALREADY_FULFILLED) ≡ true) ⊎ ((cause == DUPLICATE_ALREADY_FULFILLED) ≡ true)) → is_telling cause ≡ true
+telling cause (inl is) = or_left (cause == ACCEPTED) _ is
+telling cause (inr (inl is)) = or_right (cause == ACCEPTED) _ (or_left (cause == ALREADY_FULFILLED) _ is)
+telling cause (inr (inr is)) = or_right (cause == ACCEPTED) _ (or_right (cause == ALREADY_FULFILLED) _ is)
 
 pub filing_tells : (cause : ℕ) → is_filing cause ≡ true → is_telling cause ≡ true
-filing_tells cause e = or_three_first (cause == ACCEPTED) (cause == ALREADY_FULFILLED) (cause == DUPLICATE_ALREADY_FULFILLED) e
+filing_tells cause e = ⊎_elim (λ is. telling cause (inl is)) (λ is. telling cause (inr (inl is))) (or_cases (cause == ACCEPTED) (cause == ALREADY_FULFILLED) e)
 
 pub fulfilled_tells : (cause : ℕ) → is_fulfilled cause ≡ true → is_telling cause ≡ true
-fulfilled_tells cause e = or_three_ends (cause == ACCEPTED) (cause == ALREADY_FULFILLED) (cause == DUPLICATE_ALREADY_FULFILLED) e
+fulfilled_tells cause e =
+    ⊎_elim (λ is. telling cause (inl is)) (λ is. telling cause (inr (inr is))) (or_cases (cause == ACCEPTED) (cause == DUPLICATE_ALREADY_FULFILLED) e)
 
 not_first : Second ≡ First → ⊥
 not_first e = absurd (cc)
@@ -106,6 +107,29 @@ not_first e = absurd (cc)
 release_is : (o : Order) → is_release o ≡ true → o ≡ order.Release
 release_is order.Release e = refl
 release_is order.Cancel e = absurd (false≢true e)
+
+-- a verdict is told by a cause that tells
+abbrev IfKnown : ℕ → Verdict → Type 0
+IfKnown cause v = is_unknown v ≡ false → is_telling cause ≡ true
+
+unknown_not : {P : Type 0} → is_unknown verdict.Unknown ≡ false → P
+unknown_not e = absurd (false≢true (sym e))
+
+told_telling : (port : Port) (is_plain : Bool) (cause : ℕ) → IfKnown cause (told port is_plain cause)
+told_telling First true cause = if_known (IfKnown cause) (is_filing cause) (λ is e. filing_tells cause is) (λ isnt. unknown_not)
+told_telling First false cause = if_known (IfKnown cause) (is_fulfilled cause) (λ is e. fulfilled_tells cause is) (λ isnt. unknown_not)
+told_telling Second true cause = if_known (IfKnown cause) (cause == ALREADY_FULFILLED) (λ is e. telling cause (inr (inl is)))
+    (λ isnt. if_known (IfKnown cause) (cause == ACCEPTED) (λ is e. telling cause (inl is)) (λ neither. unknown_not))
+told_telling Second false cause = if_known (IfKnown cause) (cause == DUPLICATE_ALREADY_FULFILLED) (λ is e. telling cause (inr (inr is)))
+    (λ isnt. if_known (IfKnown cause) (cause == ACCEPTED) (λ is e. telling cause (inl is)) (λ neither. unknown_not))
+
+sealed_is_known : (v : Verdict) → is_sealed v ≡ true → is_unknown v ≡ false
+sealed_is_known verdict.Unknown e = absurd (false≢true e)
+sealed_is_known _ e = refl
+
+filed_is_known : (v : Verdict) → is_filed v ≡ true → is_unknown v ≡ false
+filed_is_known verdict.Unknown e = absurd (false≢true e)
+filed_is_known _ e = refl
 
 module _ {scene : Scene} (holds : SceneHolds scene) (node : ℕ) {start : ℕ} {values : ℕ → List ℕ} {packets : List PacketState} (follows : Follows (scene.deeds node) start values packets) where
   abbrev pub firm : ℕ → List HistoryEntry
@@ -273,3 +297,67 @@ module _ {scene : Scene} (holds : SceneHolds scene) (node : ℕ) {start : ℕ} {
 
   pub plain_first : (packet : PacketState) → Contains packets packet → IsPlainFirst packet.copies
   plain_first packet kept = All-contains (λ (p : PacketState). IsPlainFirst p.copies) packets packet follows.plain kept
+
+  -- ---- the numbers of all copies of a packet that is done are known to their gateways
+
+  abbrev Known : PacketCopy → Type 0
+  Known copy = IsKnown (firm copy.gateway) node start copy.number
+
+  by_verdict : (packet : PacketState) (copy : PacketCopy) → IsCopyOf packets packet copy → is_unknown copy.verdict ≡ false → Known copy
+  by_verdict packet copy is known =
+      let of = (rests_of packet copy is).verdict known in
+      let answer = answered copy.gateway of.port copy.number of.cause of.numbers of.heard of.named
+      (told_telling of.port copy.is_plain of.cause (ap is_unknown of.tells ∙ known)) in
+      by of.port answer.request answer.may answer.known
+    where
+      by : (port : Port) (request : Request) → MaySend packets values (letter_of copy.gateway port copy.number (Asks request)) (Asks request)
+          → IsKnown (firm copy.gateway) node start (about request copy.number) → Known copy
+      by port (Sends is_plain octets) may is_known = is_known
+      by port Tests may is_known = is_known
+      by port (Orders which named) may is_known =
+          absurd (no_command packet copy named (record { order = which; number = copy.number; is_answered = may.1 }) is may.2 refl)
+
+  by_command : (packet : PacketState) (copy : PacketCopy) (command : Command) → IsCopyOf packets packet copy → copy.command ≡ Some command
+      → IsFulfilled (heard_in start (scene.deeds node)) copy.gateway command.number → Known copy
+  by_command packet copy command is e of =
+      let answer = answered copy.gateway of.port command.number of.cause of.numbers of.heard of.named (fulfilled_tells of.cause of.tells) in
+      subst (λ (r : Request). IsKnown (firm copy.gateway) node start (about r command.number))
+      (command_request packet copy command of.port is e answer.request answer.may) answer.known
+
+  -- a copy whose command is answered
+  answered_known : (packet : PacketState) (copy : PacketCopy) → IsCopyOf packets packet copy → is_answered copy ≡ true → Known copy
+  answered_known packet copy is answered = by copy.command refl answered (rests_of packet copy is).command
+    where
+      by : (there : Option Command) → copy.command ≡ there → option_map_or (λ (command : Command). command.is_answered) there false ≡ true
+          → IfSome there (λ (command : Command). command.is_answered ≡ true → IsFulfilled (heard_in start (scene.deeds node)) copy.gateway command.number) → Known copy
+      by None e answered rests = absurd (false≢true answered)
+      by (Some command) e answered rests = by_command packet copy command is e (rests answered)
+
+  settled_known : (packet : PacketState) (copy : PacketCopy) → IsCopyOf packets packet copy → is_settled copy ≡ true → Known copy
+  settled_known packet copy is settled = ⊎_elim
+      (λ sealed. by_verdict packet copy is (sealed_is_known copy.verdict sealed)) (answered_known packet copy is)
+      (or_cases (is_sealed copy.verdict) (is_answered copy) settled)
+
+  -- ---- a packet that is done
+
+  pub done_known : (packet : PacketState) → Contains packets packet → is_done packet.copies ≡ true → (copy : PacketCopy) → Contains packet.copies copy → Known copy
+  done_known packet kept done copy among = by packet.copies refl done among
+    where
+      by : (copies : List PacketCopy) → packet.copies ≡ copies → is_done copies ≡ true → Contains copies copy → Known copy
+      by [] e done among = absurd (false≢true done)
+      by (plain ∷ duplicates) e done among =
+          let parts = and_parts (is_filed plain.verdict || list_any is_released duplicates) (list_all is_settled duplicates) done in
+          let whole : (c : PacketCopy) → Contains (plain ∷ duplicates) c → IsCopyOf packets packet c = λ c there. record { kept = kept; among = subst (λ (cs : List PacketCopy). Contains cs c) (sym e) there } in
+          ⊎_elim
+          (λ same. subst (λ (c : PacketCopy). IsKnown (firm c.gateway) node start c.number) same
+          (by_verdict packet plain (whole plain (in_head plain duplicates))
+          (⊎_elim (filed_is_known plain.verdict)
+          (λ any.
+          let one = any_at is_released duplicates any in
+          let chosen = (and_parts (is_chosen one.0) (is_answered one.0) one.2).0 in
+          let choice = choice_of packet one.0 (whole one.0 (in_tail plain one.0 duplicates one.1)) chosen in
+          let first : choice.plain ≡ plain = ap (λ (cs : List PacketCopy). elim cs [ [] ↦ plain | c ∷ rest ↦ c ]) (sym choice.whole ∙ e) in
+          ap (λ (c : PacketCopy). is_unknown c.verdict) (sym first) ∙ ap is_unknown choice.sealed)
+          (or_cases (is_filed plain.verdict) (list_any is_released duplicates) parts.0))))
+          (λ later. settled_known packet copy (whole copy (in_tail plain copy duplicates later)) (All-contains (λ (c : PacketCopy). is_settled c ≡ true) duplicates copy (AllPass-from_list_all is_settled duplicates parts.1) later))
+          (in_cons plain copy duplicates among)

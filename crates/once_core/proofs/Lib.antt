@@ -49,7 +49,6 @@ pub mod SubmittedLemmas
 pub mod WorldOnceLemmas
 pub mod ReachedLemmas
 pub mod TopLemmas
-pub mod SettledLemmas
 pub mod NearestLemmas
 pub mod MeantLemmas
 pub mod DueLemmas

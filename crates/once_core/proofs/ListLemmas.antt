@@ -2,7 +2,8 @@
 use Rattle.std.proofs.Common.{Bool, Contains, List, Some, [], ap, arith, false, filter, inl, inr, length, map, refl, slice_get, slice_index_or, subst, sym, take, true, ℕ, ⊎_elim, ◌<◌, ◌∙◌, ◌∷◌, ◌≡◌, ◌⊎◌}
 use Rattle.std.proofs.lemmas.List.Elements.{All-contains, All-contains_itself, All-filter, All-take, Contains-append_cases, Contains-append_left, Contains-append_right, filter_passes}
 use Rattle.std.proofs.lemmas.Bool.{both_ways, cond-false, cond-true}
-use Rattle.std.specs.List.{flat_map}
+use Rattle.std.specs.List.{flat_map, list_any}
+use Rattle.std.proofs.lemmas.List.Folds.{Any-from_list_any}
 use Rattle.std.proofs.lemmas.List.{get_or-map, length-map}
 use Rattle.std.proofs.lemmas.Option.{get_or_from_slice_get, slice_get_read, slice_get_within}
 use Rattle.once_core.proofs.CaseLemmas.{if_known}
@@ -57,6 +58,10 @@ pub all_pass : {A : Type 0} (p : A → Bool) (xs : List A) → ((x : A) → Cont
 all_pass p [] all = refl
 all_pass {A} p (x ∷ xs) all =
     cond-true (p x) _ _ (all x (in_head x xs)) ∙ ap (λ (ys : List A). x ∷ ys) (all_pass p xs (λ y is. all y (in_tail x y xs is)))
+
+-- one that passes, where any does
+pub any_at : {A : Type 0} (p : A → Bool) (xs : List A) → list_any p xs ≡ true → (x : A) × Contains xs x × (p x ≡ true)
+any_at p xs e = let is = Any-from_list_any p xs e in (is.1, (is.0, is.2, is.3), is.4)
 
 -- ---- what lists are mapped to
 

@@ -20,7 +20,6 @@ use Rattle.once_core.proofs.EachLemmas.{each_front}
 use Rattle.once_core.proofs.EpochLemmas.{present_epoch}
 use Rattle.once_core.proofs.ForwardLemmas.{known_on}
 use Rattle.once_core.proofs.KnownLemmas as knows
-use Rattle.once_core.proofs.SettledLemmas.{done_known}
 use Rattle.once_core.proofs.TopLemmas.{IsCovered, covers, top_asked}
 use Rattle.once_core.proofs.CaseLemmas.{by_bool}
 
@@ -77,7 +76,7 @@ module _ (law : NearestIsTheOne) (scene : Scene) (holds : SceneHolds scene) (nod
   above_top : (bound : ℕ) → ((number : ℕ) → IsCovered (top_of node h) number → number ≤ bound) → (later : ℕ) → HasCopy packets gateway later → bound < later → HasOpenCopy packets gateway later
   above_top bound least later is above = by_bool (λ (b : Bool). HasOpenCopy packets gateway later) (is_done is.packet.copies)
       (λ e.
-      let known = done_known holds node follows is.packet is.kept e is.copy is.sent in
+      let known = knows.done_known holds node follows is.packet is.kept e is.copy is.sent in
       let here : IsKnown (scene.posts gateway).firm node start later =
       subst (λ (n : ℕ). IsKnown (scene.posts gateway).firm node start n) is.number_is
       (subst (λ (g : ℕ). IsKnown (scene.posts g).firm node start is.copy.number) is.gateway_is known) in

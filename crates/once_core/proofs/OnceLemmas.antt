@@ -33,7 +33,7 @@ use Rattle.once_core.proofs.FiledLemmas.{one_if, within}
 use Rattle.once_core.proofs.KnownLemmas.{choice_of, is_filed_there, is_released_there, is_sealed, may_send, plain_first, the_copy}
 use Rattle.once_core.proofs.MoveLemmas.{holds_always}
 use Rattle.once_core.proofs.RoleLemmas.{IsCopyOf, copies_once, first_is_plain, own_use, plain_is_first, same_user, sum_has, sum_one}
-use Rattle.once_core.proofs.ListLemmas.{in_head, in_none, in_tail}
+use Rattle.once_core.proofs.ListLemmas.{any_at, in_head, in_none, in_tail}
 use Rattle.once_core.proofs.CaseLemmas.{by_bool, by_option}
 
 -- a number has one state
@@ -45,13 +45,6 @@ state_is_one h node start number a b one other =
 filed_verdict : (v : Verdict) → is_filed v ≡ true → v ≡ verdict.Filed
 filed_verdict verdict.Filed e = refl
 filed_verdict _ e = absurd (false≢true e)
-
-any_released : (copies : List PacketCopy) → list_any is_released copies ≡ true → (copy : PacketCopy) × Contains copies copy × (is_released copy ≡ true)
-any_released [] e = absurd (false≢true e)
-any_released (first ∷ copies) e = ⊎_elim
-    (λ here. (first, in_head first copies, here))
-    (λ later. let there = any_released copies later in (there.0, in_tail first there.0 copies there.1, there.2))
-    (or_cases (is_released first) (list_any is_released copies) e)
 
 module _ {scene : Scene} (holds : SceneHolds scene) (node : ℕ) {start : ℕ} {values : ℕ → List ℕ} {packets : List PacketState} (follows : Follows (scene.deeds node) start values packets) where
   abbrev firm_of : ℕ → List HistoryEntry
@@ -229,7 +222,7 @@ module _ {scene : Scene} (holds : SceneHolds scene) (node : ℕ) {start : ℕ} {
           let at = is_filed_there holds node follows packet plain of first (filed_verdict plain.verdict filed_plain) in
           once_by plain among (placed_by packet plain index state.Filed of at).1)
           (λ some.
-          let there = any_released duplicates some in
+          let there = any_at is_released duplicates some in
           let among = subst (λ cs. Contains cs there.0) (sym whole) (in_tail plain there.0 duplicates there.1) in
           let of : IsCopyOf packets packet there.0 = record { kept = kept; among = among } in
           let at = is_released_there holds node follows packet there.0 of there.2 in
