@@ -20,8 +20,8 @@ use Rattle.once_core.proofs.AnswerLemmas.{answer_is_sound}
 use Rattle.once_core.proofs.CountLemmas.{starts_rise}
 use Rattle.once_core.proofs.EachLemmas.{each_front, each_more}
 use Rattle.once_core.proofs.ForwardLemmas.{Grows}
-use Rattle.once_core.proofs.ListLemmas.{filtered, get_contains, in_none, in_one}
-use Rattle.once_core.proofs.SceneLemmas.{adding, at_same, hearing, mapped, post_on, sending, told_later, told_on}
+use Rattle.once_core.proofs.ListLemmas.{filtered, get_contains, in_none, in_one, of_map}
+use Rattle.once_core.proofs.SceneLemmas.{adding, at_same, firm_rests, hearing, post_on, sending, told_later, told_on}
 use Rattle.once_core.proofs.CaseLemmas.{by_option, if_known}
 
 -- ---- a gateway's move
@@ -106,7 +106,7 @@ module _ {scene : Scene} (holds : SceneHolds scene) where
       old_told l told = if_known (λ (p : Post). IsBorneOut (with_sends s) p.firm l l.says) (l.gateway == gateway)
           (λ e.
           let here : IsBorneOut (with_sends s) (scene.posts gateway).firm l l.says = subst (λ (k : ℕ). IsBorneOut (with_sends s) (scene.posts k).firm l l.says) (eqb-true l.gateway gateway e) told in
-          let rests = each_front (λ before d. RestsBy (with_sends s) gateway before d.act) [] s.post.firm s.post.rest moves.holds.rests in
+          let rests = firm_rests (with_sends s) gateway s.post moves.holds in
           subst (λ (h : List HistoryEntry). IsBorneOut (with_sends s) h l l.says) (sym moves.firm)
           (told_later (with_sends s) gateway (scene.posts gateway).firm moves.more l l.says (subst (Rests (with_sends s) gateway) moves.firm rests) here))
           (λ e. told)
@@ -146,7 +146,7 @@ module _ {scene : Scene} (holds : SceneHolds scene) where
         more = post.rest;
         firm = refl;
         sent = λ l new.
-            let there = mapped (filter (λ v. nat_le v.front size) post.waiting) l new in
+            let there = of_map (λ (w : WaitingLetter). w.letter) (filter (λ v. nat_le v.front size) post.waiting) l new in
             let is = before.waits there.0 (filtered (λ v. nat_le v.front size) post.waiting there.0 there.1) in
             subst (λ (m : Letter). (m.gateway ≡ gateway) × (is_answer m.says ≡ true) × IsBorneOut (with_sends settled) (history post) m m.says) there.2 (is.gateway_is, is.answers, is.told);
       }

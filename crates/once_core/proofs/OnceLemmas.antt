@@ -24,10 +24,10 @@ use Rattle.once_core.specs.Epochs.{epoch_with, key_in, state_with, times_with}
 use Rattle.once_core.specs.FiledOnce.{IsFiledUnder, IsOnce, filing_count, is_withheld, kind_within, record_count, records_within}
 use Rattle.once_core.specs.Following.{Follows}
 use Rattle.once_core.specs.Happenings.{Happening, Orders, Request, Scene, Sends}
-use Rattle.once_core.specs.Resting.{IsAsked, IsState, Rests, RestsBy, SceneHolds}
+use Rattle.once_core.specs.Resting.{IsAsked, IsState, Rests, SceneHolds}
 use Rattle.once_core.specs.Scenes.{scene_after}
 use Rattle.once_core.proofs.CountLemmas.{Counted, IsBacked, brought, counted}
-use Rattle.once_core.proofs.EachLemmas.{each_front}
+use Rattle.once_core.proofs.SceneLemmas.{firm_rests}
 use Rattle.once_core.proofs.EpochLemmas.{start_is_one}
 use Rattle.once_core.proofs.FiledLemmas.{one_if, within}
 use Rattle.once_core.proofs.KnownLemmas.{choice_of, is_filed_there, is_released_there, is_sealed, may_send, plain_first, the_copy}
@@ -51,7 +51,7 @@ module _ {scene : Scene} (holds : SceneHolds scene) (node : ℕ) {start : ℕ} {
   firm_of gateway = (scene.posts gateway).firm
 
   rests : (gateway : ℕ) → Rests scene.letters gateway (firm_of gateway)
-  rests gateway = each_front (λ before e. RestsBy scene.letters gateway before e.act) [] (firm_of gateway) (scene.posts gateway).rest (holds.posts gateway).rests
+  rests gateway = firm_rests scene.letters gateway (scene.posts gateway) (holds.posts gateway)
 
   -- ---- what a backed key tells of a copy
 

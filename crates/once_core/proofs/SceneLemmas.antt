@@ -1,19 +1,14 @@
 -- Whatever happens next, what holds goes on.
-use Rattle.std.proofs.Common.{◌≡◌, ◌⊎◌, inl, inr, ⊎_elim, ℕ, ◌==◌, not, Bool, true, false, List, [], ◌∷◌, ◌++◌, map, Contains, refl, sym, ap, subst, ◌∙◌, eqb-true, eq-eqb}
+use Rattle.std.proofs.Common.{◌≡◌, ◌⊎◌, inl, inr, ⊎_elim, ℕ, ◌==◌, not, Bool, true, false, List, [], ◌∷◌, ◌++◌, Contains, refl, sym, ap, subst, ◌∙◌, eqb-true, eq-eqb}
 use Rattle.std.proofs.lemmas.Bool.{false≢true, cond-true}
 use Rattle.std.proofs.lemmas.List.Elements.{Contains-append_left, Contains-push, Contains-push_cases}
 use Rattle.gw_base.specs.declared.history.HistoryEntry.{HistoryEntry}
-use Rattle.once_core.specs.Happenings.{Answers, Asks, Deed, Else, Heard, Letter, Meaning, Post, Scene, Sent, WaitingLetter, about, history}
-use Rattle.once_core.specs.Resting.{IsAnswerTo, IsBorneOut, IsSent, PostHolds, Rests, SceneHolds, Waits}
+use Rattle.once_core.specs.Happenings.{Answers, Asks, Deed, Else, Heard, Letter, Meaning, Post, Scene, Sent, about, history}
+use Rattle.once_core.specs.Resting.{IsAnswerTo, IsBorneOut, IsSent, PostHolds, Rests, RestsBy, SceneHolds, Waits}
 use Rattle.once_core.specs.Scenes.{after_adding, after_hearing, after_sending, at, is_idle, is_request}
 use Rattle.once_core.proofs.ForwardLemmas.{Grows, known_on, rests_on, tells_on}
-use Rattle.once_core.proofs.ListLemmas.{of_map}
+use Rattle.once_core.proofs.EachLemmas.{each_front}
 use Rattle.once_core.proofs.CaseLemmas.{if_known}
-
--- ---- lists
-
-pub mapped : (ws : List WaitingLetter) (l : Letter) → Contains (map (λ w. w.letter) ws) l → (w : WaitingLetter) × Contains ws w × (w.letter ≡ l)
-mapped ws l is = of_map (λ (w : WaitingLetter). w.letter) ws l is
 
 pub at_same : {A : Type 0} (k : ℕ) (x : A) (f : ℕ → A) → at k x f k ≡ x
 at_same k x f = cond-true (k == k) x (f k) (eq-eqb k k refl)
@@ -49,6 +44,10 @@ post_on letters more grows gateway post holds = record {
   rests = rests_on letters more grows gateway (history post) holds.rests;
   waits = λ w kept. waits_on letters more grows gateway (history post) w.letter (holds.waits w kept);
 }
+
+-- the firm part too rests on messages
+pub firm_rests : (letters : List Letter) (gateway : ℕ) (post : Post) → PostHolds letters gateway post → Rests letters gateway post.firm
+firm_rests letters gateway post holds = each_front (λ before e. RestsBy letters gateway before e.act) [] post.firm post.rest holds.rests
 
 -- ---- messages and deeds alone
 

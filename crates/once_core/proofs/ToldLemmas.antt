@@ -23,13 +23,13 @@ use Rattle.once_core.specs.Following.{Follows}
 use Rattle.once_core.specs.Happenings.{Answers, Asks, Deed, Letter, Meaning, Orders, Request, Sends, Sent}
 use Rattle.once_core.specs.Meaning.{is_spoken, letter_of, meaning_of}
 use Rattle.once_core.specs.Once.{IsFiledFor, IsFollowed, firm_in}
-use Rattle.once_core.specs.Resting.{IsState, Rests, RestsBy, SceneHolds}
+use Rattle.once_core.specs.Resting.{IsState, SceneHolds}
 use Rattle.once_core.specs.Scenes.{is_telling}
 use Rattle.once_core.specs.Told.{AnswersACopy, IsAnswerFor, IsOfCopy, MeanCopies, NamesChoice, TellStates, WasSubmitted, asking}
 use Rattle.once_core.specs.World.{World, log_at}
 use Rattle.once_core.specs.declared.message.Message.{Message}
 use Rattle.once_core.proofs.CountLemmas.{IsBrought, brought}
-use Rattle.once_core.proofs.EachLemmas.{each_front}
+use Rattle.once_core.proofs.SceneLemmas.{firm_rests}
 use Rattle.once_core.proofs.KnownLemmas.{IsAnswered, by_release_answer, by_test_answer, choice_of, filed_by_answer, fulfilled_tells, sealed_by_answer, told_by}
 use Rattle.once_core.proofs.ListLemmas.{filtered, in_none, of_map, passed}
 use Rattle.once_core.proofs.MoveLemmas.{holds_always}
@@ -169,15 +169,11 @@ module _ (laws : Laws) (w : World) (reached : IsReached w) where
 
   -- ---- what is filed
 
-  rests : (place : ℕ) → Rests made.scene.letters place (made.scene.posts place).firm
-  rests place =
-      each_front (λ before e. RestsBy made.scene.letters place before e.act) [] (made.scene.posts place).firm (made.scene.posts place).rest (holds.posts place).rests
-
   pub was_submitted : (place : ℕ) (filing : FiledRecord) → Contains (filed (firm_in w place)) filing → WasSubmitted w place filing
   was_submitted place filing kept = by (cases_lt filing.key.node.0 first_node_ip)
     where
       of : IsBrought made.scene.letters place filing.key (made.scene.posts place).firm filing
-      of = brought made.scene.letters place filing.key (made.scene.posts place).firm (rests place) filing
+      of = brought made.scene.letters place filing.key (made.scene.posts place).firm (firm_rests made.scene.letters place (made.scene.posts place) (holds.posts place)) filing
           (subst (λ (h : List HistoryEntry). Contains (filed h) filing) (sym (firm_at laws w made place)) kept)
           (same_as filing.key filing.key.node.0 filing.key.number refl refl)
 
