@@ -1,9 +1,9 @@
 -- What the parts of a step give: what an event that isn't refused tells; that messages stay; how a world begins.
-use Rattle.std.proofs.Common.{◌≡◌, ℕ, zero, suc, ◌+◌, ◌-◌, ◌<◌, ◌≤◌, true, false, ◌&&◌, not, List, [], ◌∷◌, ◌++◌, Option, Some, None, length, map, refl, ap, sym, ◌∙◌, arith, length-append, leb-true, ltb-true, option_map, nat_le, nat_lt, slice_get}
-use Rattle.std.proofs.lemmas.Bool.{not-false, and_parts}
+use Rattle.std.proofs.Common.{◌≡◌, ℕ, zero, suc, ◌+◌, ◌-◌, ◌≤◌, true, false, not, List, [], ◌∷◌, ◌++◌, Option, Some, None, length, map, refl, ap, sym, ◌∙◌, arith, length-append, option_map, slice_get}
+use Rattle.std.proofs.lemmas.Bool.{not-false}
 use Rattle.std.specs.Option.{option_map_or}
 use Rattle.node_core.specs.Log.{LogEntry}
-use Rattle.node_core.specs.Log as Log
+use Rattle.node_core.specs.Log
 use Rattle.node_core.specs.Ticks.{tick_entries}
 use Rattle.once_core.proofs.StepLemmas.{or_none, refusing_none}
 use Rattle.once_core.specs.Answers.{delivered, making_close, making_tick, marked}
@@ -13,21 +13,13 @@ use Rattle.once_core.specs.KeptTurn.{gateway_changed, gateway_moves, no_node, no
 use Rattle.once_core.specs.NodeMoves.{answered_by, due_messages, heard_by, submitted_entries, with_entries}
 use Rattle.once_core.specs.Redirecting.{redirected_kept}
 use Rattle.once_core.specs.Standing.{NodeKept, Stands, WorldKept, gateway_kept, node_kept, nodes_kept, quiet}
-use Rattle.once_core.specs.Turn.{is_none_of, refusing}
+use Rattle.once_core.specs.Turn.{refusing}
 use Rattle.once_core.specs.World.{draft_of}
 use Rattle.once_core.specs.declared.event.Event.{Event}
 use Rattle.once_core.specs.declared.event.Event.TheVariants as event
-use Rattle.once_core.specs.declared.event.WorldKind.{WorldKind}
 use Rattle.once_core.specs.declared.event.WorldKind.TheVariants.{Halted}
 use Rattle.once_core.specs.declared.message.Message.{Message}
 use Rattle.once_core.proofs.CaseLemmas.{if_both, map_known}
-
--- ---- what an event that isn't refused tells
-
-pub place_within : (count number : ℕ) (kind : WorldKind) → refusing (is_none_of count number) kind ≡ None → number - 1 < count
-place_within count number kind allowed =
-    let both = and_parts (nat_lt 0 number) (nat_le number count) (not-false (nat_lt 0 number && nat_le number count) (refusing_none (is_none_of count number) kind allowed)) in
-    omega (arith, ltb-true 0 number both.0, leb-true number count both.1)
 
 module _ (k : WorldKept) (number : ℕ) (n : NodeKept) (found : slice_get k.nodes (number - 1) ≡ Some n) where
   pub runs_there : no_running_node k number ≡ None → n.node.is_running ≡ true

@@ -184,9 +184,6 @@ began_same start log = ap (states_at start) (append-nil (followed_before log ++ 
 pub halted_same : (start : ℕ) (log : List LogEntry) → packets_in start (Halted ∷ log) ≡ packets_in start log
 halted_same start log = ap (states_at start) (append-nil (followed_before log ++ following log))
 
-pub starts_halted : (log : List LogEntry) → starts_in (Halted ∷ log) ≡ starts_in log
-starts_halted log = starts_same Halted log refl
-
 pub starts_within : (entry : LogEntry) (log : List LogEntry) → is_within_start entry ≡ true → starts_in (entry ∷ log) ≡ starts_in log
 starts_within Began log is = absurd (cc)
 starts_within entry log is = starts_same entry log refl
