@@ -6,7 +6,7 @@ use Rattle.gtpp_message.specs.Packet.{PacketForm}
 use Rattle.path_mgmt.specs.NodePath.{PathsOfNode, is_alive, node_after, node_anew}
 use Rattle.path_mgmt.specs.declared.event.PathEvent.{PathEvent}
 use Rattle.path_mgmt.specs.declared.event.PathEvent.TheVariants.{AliveTold}
-use Rattle.node_core.specs.Copies.{copy_hearing, is_answered, new_copy}
+use Rattle.node_core.specs.Copies.{copy_hearing, new_copy}
 use Rattle.node_core.specs.Log.{LogEntry, NodeSetup, Began, Halted, Submitted, Appointed, Ticked, Heard, Saying, Path, Responds, packets_of, paths_of, submitted}
 use Rattle.node_core.specs.Moving.{appointing, moved_at_tick}
 use Rattle.node_core.specs.Packets.{PacketState, commanded, copies_after, is_done, is_of, packet_after, packet_after_all, packet_hearing, while_open}

@@ -6,7 +6,6 @@ use Rattle.gateway_book.specs.FiledLaws.{along-append}
 use Rattle.gateway_book.specs.Items.{items_by, items_of}
 use Rattle.gateway_book.specs.Preparing.{prepared_of}
 use Rattle.gateway_book.specs.Value.{history_of}
-use Rattle.gw_base.specs.declared.history.HistoryAct.TheVariants.{Start}
 use Rattle.gw_base.specs.declared.history.HistoryEntry.{HistoryEntry}
 use Rattle.node_core.specs.Log.{LogEntry}
 use Rattle.node_core.specs.Reached.{Halt}

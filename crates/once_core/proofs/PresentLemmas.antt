@@ -36,7 +36,6 @@ use Rattle.once_core.proofs.AliveLemmas.{AllAlive, copies_alive}
 use Rattle.once_core.proofs.GrowingLemmas.{on, on_with}
 use Rattle.once_core.proofs.LifeWorlds.{Lives, reached_lives, reached_made, values_in}
 use Rattle.once_core.proofs.ListLemmas.{get_contains, of_map}
-use Rattle.once_core.proofs.LogLemmas.{gateway_is}
 use Rattle.once_core.proofs.MeantLemmas.{Numbers}
 use Rattle.once_core.proofs.NodePlays.{appointed_paths}
 use Rattle.once_core.proofs.StartLemmas.{front_low, start_rises}
