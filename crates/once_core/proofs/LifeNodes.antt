@@ -33,7 +33,7 @@ use Rattle.once_core.proofs.LifeMoves.{tells_alive}
 use Rattle.once_core.proofs.ListLemmas.{in_none, in_one, of_map}
 use Rattle.once_core.proofs.LogLemmas.{place_is, starts_again, starts_same}
 use Rattle.once_core.proofs.MeaningLemmas.{FromGateway, GatewaySaid, IsWritten, ReadsBack, role_read_of, type_of}
-use Rattle.once_core.proofs.NodePlays.{NodeRightly, appointed_paths, appointed_starts, either}
+use Rattle.once_core.proofs.NodePlays.{NodeRightly, appointed_starts, either, appointed}
 use Rattle.once_core.proofs.CaseLemmas.{if_both}
 
 -- Where a gateway is alive to the node of this log, the node's starts are at most those that the gateway knows firmly.
@@ -139,7 +139,7 @@ module _ (known : ℕ → ℕ) (gateways : ℕ) (m : world.Message) (log : List 
       grows = omega (arith, starts);
       alive = λ gateway is. omega (
         arith,
-        alive gateway (ap (λ p. is_alive p gateway) (sym (appointed_paths 1 (moved_by value m.port m.gateway saying) (Heard m.port m.gateway saying ∷ log))) ∙ is),
+        alive gateway (ap (λ p. is_alive p gateway) (sym (appointed (paths_of 1) (λ gateway log. refl) (moved_by value m.port m.gateway saying) (Heard m.port m.gateway saying ∷ log))) ∙ is),
         starts,
       );
       sends = λ k is. answers_life reply (behind saying) (omega (arith, starts)) k (subst (λ (ks : List world.Message). Contains ks k) e is);

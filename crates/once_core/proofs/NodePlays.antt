@@ -5,7 +5,7 @@ use Rattle.std.proofs.lemmas.Bool.{both_ways, eqb-true, not-false, or_parts, con
 use Rattle.std.specs.Option.{option_map_or}
 use Rattle.std.proofs.lemmas.Option.{same_Some}
 use Rattle.gtpp_message.specs.Packet.{PacketForm}
-use Rattle.node_core.specs.Log.{LogEntry, Halted, Submitted, Appointed, forms_of, paths_of, runs, submitted, Heard, Saying, Path, Redirects, Responds, Other}
+use Rattle.node_core.specs.Log.{LogEntry, Halted, Submitted, Appointed, runs, Heard, Saying, Path, Redirects, Responds, Other}
 use Rattle.node_core.specs.Moving.{appointing, moved_by}
 use Rattle.node_core.specs.Reached.{NodeCall, call_entries, log_of, most_submissions, submit_entries}
 use Rattle.node_core.specs.Reached as call
@@ -96,21 +96,6 @@ appointed_deeds node values = appointed (deeds_of node values) (λ gateway log. 
 
 pub appointed_starts : (o : Option ℕ) (log : List LogEntry) → starts_in (logged (appointing o) log) ≡ starts_in log
 appointed_starts = appointed starts_in (λ gateway log. starts_same (Appointed gateway) log refl)
-
-pub appointed_ever : (o : Option ℕ) (log : List LogEntry) → forms_ever (logged (appointing o) log) ≡ forms_ever log
-appointed_ever = appointed forms_ever (λ gateway log. refl)
-
-pub appointed_forms : (o : Option ℕ) (log : List LogEntry) → forms_of (logged (appointing o) log) ≡ forms_of log
-appointed_forms = appointed forms_of (λ gateway log. refl)
-
-pub appointed_submitted : (o : Option ℕ) (log : List LogEntry) → submitted (logged (appointing o) log) ≡ submitted log
-appointed_submitted = appointed submitted (λ gateway log. refl)
-
-pub appointed_runs : (o : Option ℕ) (log : List LogEntry) → runs (logged (appointing o) log) ≡ runs log
-appointed_runs = appointed runs (λ gateway log. refl)
-
-pub appointed_paths : (first : ℕ) (o : Option ℕ) (log : List LogEntry) → paths_of first (logged (appointing o) log) ≡ paths_of first log
-appointed_paths first = appointed (paths_of first) (λ gateway log. refl)
 
 -- ---- calls
 
@@ -208,7 +193,7 @@ module _ (back : ReadsBack) (roles : RolesRead) (m : world.Message) (from : m.to
       let few = stands.rightly.few in
       omega (arith, one, two, few)))
       (hear_either (λ l. (form : PacketForm) → Contains (forms_ever l) form → GoodForm form) stands.rightly.forms (λ p saying o form is.
-      stands.rightly.forms form (subst (λ (fs : List PacketForm). Contains fs form) (appointed_ever o (Heard m.port p saying ∷ log)) is))))
+      stands.rightly.forms form (subst (λ (fs : List PacketForm). Contains fs form) (appointed forms_ever (λ gateway log. refl) o (Heard m.port p saying ∷ log)) is))))
 
   -- ---- what is heard
 

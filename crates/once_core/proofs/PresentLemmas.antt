@@ -37,7 +37,7 @@ use Rattle.once_core.proofs.GrowingLemmas.{on, on_with}
 use Rattle.once_core.proofs.LifeWorlds.{Lives, reached_lives, reached_made, values_in}
 use Rattle.once_core.proofs.ListLemmas.{get_contains, of_map}
 use Rattle.once_core.proofs.MeantLemmas.{Numbers}
-use Rattle.once_core.proofs.NodePlays.{appointed_paths}
+use Rattle.once_core.proofs.NodePlays.{appointed}
 use Rattle.once_core.proofs.StartLemmas.{front_low, start_rises}
 use Rattle.once_core.proofs.TimelyLemmas.{RequestsSent, after_is, behind, asks, not_expired, running}
 use Rattle.once_core.proofs.TurnPlays.{Laws}
@@ -54,7 +54,7 @@ open_alive : (setup : NodeSetup) (calls : List NodeCall) → runs (log_of setup 
     → is_alive (paths_of setup.counter (log_of setup calls)) gateway ≡ true
 open_alive setup calls up gateway number is =
     let all = subst (λ (l : List LogEntry). AllAlive (paths_of setup.counter l) (packets_of l)) (after_is setup calls up) (copies_alive setup (call.Tick ∷ calls)) in
-    subst (λ (paths : PathsOfNode). is_alive paths gateway ≡ true) (appointed_paths setup.counter (moved_at_tick (reached setup calls)) (log_of setup calls))
+    subst (λ (paths : PathsOfNode). is_alive paths gateway ≡ true) (appointed (paths_of setup.counter) (λ gateway log. refl) (moved_at_tick (reached setup calls)) (log_of setup calls))
     (subst (λ (q : ℕ). is_alive (paths_of setup.counter (behind setup calls)) q ≡ true) is.gateway_is (all is.packet is.kept is.copy is.sent))
 
 -- ---- in a world

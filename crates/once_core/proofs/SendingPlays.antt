@@ -42,7 +42,7 @@ use Rattle.once_core.proofs.FormLemmas.{GoodForm, packet_is, value_octets_are}
 use Rattle.once_core.proofs.ListLemmas.{get_contains, in_flat, in_head, in_map, of_map}
 use Rattle.once_core.proofs.LogLemmas.{gateway_is, size, starts_same}
 use Rattle.once_core.proofs.MeaningLemmas.{IsWritten, ReadsBack, Said, meaning_is, said_by_node, FromNode}
-use Rattle.once_core.proofs.NodePlays.{NodeRightly, appointed_ever, appointed_forms, appointed_runs, appointed_starts, appointed_submitted, NodePlays, NodeStands, after_call, appointed_deeds}
+use Rattle.once_core.proofs.NodePlays.{NodeRightly, appointed_starts, NodePlays, NodeStands, after_call, appointed_deeds, appointed}
 use Rattle.once_core.proofs.NumberLemmas.{Values, ever, ever_at, numbered_in, present_packet}
 use Rattle.once_core.proofs.SentPlays.{NodesFollow, OneCopyEach, sent_deed, IsOwn, are_sent, of_flat, sending_of}
 use Rattle.once_core.proofs.NodeTurnLemmas.{addresses_length}
@@ -72,7 +72,7 @@ module _ {gateways place : ℕ} {values : ℕ → List ℕ} {scene : Scene} {log
   calls_are = sym tick_is ∙ ap (log_after gateways place call.Tick) stands.rightly.is
 
   running_still : runs after ≡ true
-  running_still = appointed_runs to log ∙ running
+  running_still = appointed runs (λ gateway log. refl) to log ∙ running
 
   some_here : 1 ≤ length (addresses_from 0 gateways)
   some_here = omega (arith, some, addresses_length 0 gateways)
@@ -119,18 +119,18 @@ module _ {gateways place : ℕ} {values : ℕ → List ℕ} {scene : Scene} {log
       let found = numbered_in (length e.before) (packets_of after) (forms_of after) state e.numbered kept in
       let is = found.number in
       let count = e.count in
-      let lengths : length (forms_of before) ≡ length (forms_of log) = ap length (appointed_forms to log) in
+      let lengths : length (forms_of before) ≡ length (forms_of log) = ap length (appointed forms_of (λ gateway log. refl) to log) in
       let at : packet ≡ suc (length e.before + found.place) = omega (arith, is, number) in
-      let index : packet - suc (submitted log - length (forms_of log)) ≡ found.place = omega (arith, at, count, lengths, appointed_submitted to log) in
+      let index : packet - suc (submitted log - length (forms_of log)) ≡ found.place = omega (arith, at, count, lengths, appointed submitted (λ gateway log. refl) to log) in
       let all : slice_get (forms_ever log) (packet - 1) ≡ Some found.form =
-      ap (λ (fs : List PacketForm). slice_get fs (packet - 1)) (sym (appointed_ever to log)) ∙ ever_at after e found.place found.form packet at found.there in
+      ap (λ (fs : List PacketForm). slice_get fs (packet - 1)) (sym (appointed forms_ever (λ gateway log. refl) to log)) ∙ ever_at after e found.place found.form packet at found.there in
       let good = stands.rightly.forms found.form (get_contains (forms_ever log) (packet - 1) found.form all) in
       record {
         form = found.form;
         good = good;
         numbered =
             ap (λ (f : Option PacketForm). option_map_or packet_of_form f Empty)
-            (ap (slice_get (forms_of log)) index ∙ ap (λ (fs : List PacketForm). slice_get fs found.place) (sym (appointed_forms to log)) ∙ found.there)
+            (ap (slice_get (forms_of log)) index ∙ ap (λ (fs : List PacketForm). slice_get fs found.place) (sym (appointed forms_of (λ gateway log. refl) to log)) ∙ found.there)
             ∙ packet_is found.form good.some;
         ever_there = all;
       }
@@ -240,7 +240,7 @@ module _ {gateways place : ℕ} {values : ℕ → List ℕ} {scene : Scene} {log
       omega (arith, one, two, few)))
       (λ form there.
       stands.rightly.forms form
-      (subst (λ (fs : List PacketForm). Contains fs form) (appointed_ever to log) (subst (λ (l : List LogEntry). Contains (forms_ever l) form) tick_is there)))
+      (subst (λ (fs : List PacketForm). Contains fs form) (appointed forms_ever (λ gateway log. refl) to log) (subst (λ (l : List LogEntry). Contains (forms_ever l) form) tick_is there)))
 
   tick_plays : NodePlays (node_ip place) values scene (ticking gateways place log)
   tick_plays =

@@ -42,7 +42,7 @@ use Rattle.once_core.specs.declared.message.Message.{Message}
 use Rattle.once_core.proofs.DueLemmas.{IsOfOpen, all_of_open, is_probe, one_packet, probes_are, stays_open}
 use Rattle.once_core.proofs.LogLemmas.{gateway_is, size, starts_same}
 use Rattle.once_core.proofs.MeantLemmas.{Numbers, meant}
-use Rattle.once_core.proofs.NodePlays.{NodeRightly, appointed_runs, appointed_starts, appointed}
+use Rattle.once_core.proofs.NodePlays.{NodeRightly, appointed_starts, appointed}
 use Rattle.once_core.proofs.NumberLemmas.{all_keep, ever, values_are}
 use Rattle.once_core.proofs.SentPlays.{OneCopyEach}
 use Rattle.once_core.proofs.TurnPlays.{Laws, turn_made}
@@ -96,7 +96,7 @@ module _ (setup : NodeSetup) (calls : List NodeCall) where
         (moved_at_tick node_now) (λ none. refl) (λ gateway is. refl)
 
     runs_after : runs (log_of setup (call.Tick ∷ calls)) ≡ true
-    runs_after = ap runs after_is ∙ appointed_runs (moved_at_tick node_now) log_now ∙ running
+    runs_after = ap runs after_is ∙ appointed runs (λ gateway log. refl) (moved_at_tick node_now) log_now ∙ running
 
     starts_after : starts_in (log_of setup (call.Tick ∷ calls)) ≡ starts_in log_now
     starts_after = ap starts_in after_is ∙ starts_same (Ticked (due node_now)) (logged (appointing (moved_at_tick node_now)) log_now) refl ∙ appointed_starts (moved_at_tick node_now) log_now
