@@ -160,22 +160,14 @@ abbrev pub Lawful : List HistoryEntry → HistoryAct → Type 0
 Lawful h a = is_act_lawful (observed h) a ≡ true
 
 pub lawful_plain : IsPlain Lawful
-lawful_plain = record { holds = λ h note. by note }
-  where
-    by : {h : List HistoryEntry} (note : Note) → Lawful h (act_noted note)
-    by Starts = refl
-    by _ = refl
+lawful_plain = record { holds = λ h. elim [ Starts ↦ refl | _ ↦ refl ] }
 
 -- and what is within the limits, too
 abbrev pub Limited : List HistoryEntry → HistoryAct → Type 0
 Limited h a = is_act_fit (observed h) a ≡ true
 
 pub limited_plain : IsPlain Limited
-limited_plain = record { holds = λ h note. by note }
-  where
-    by : {h : List HistoryEntry} (note : Note) → Limited h (act_noted note)
-    by Starts = refl
-    by _ = refl
+limited_plain = record { holds = λ h. elim [ Starts ↦ refl | _ ↦ refl ] }
 
 -- what a gateway makes of octets is whole
 module _ (whole : (octets : List ℕ) → IsWhole (prepared_of octets)) where
