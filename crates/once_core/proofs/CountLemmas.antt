@@ -63,60 +63,60 @@ module _ (letters : List Letter) (gateway : ℕ) (key : PacketKey) where
   abbrev pub held_at : List HistoryEntry → Option (List ℕ)
   held_at h = option_and_then (λ e. packet_of_hold e.act) (last_naming key.node.0 key.number (epoch_entries key.node.0 key.epoch h))
 
-  -- whether an entry that names a node's number names the key
-  abbrev pub named : List HistoryEntry → NodeId → ℕ → Bool
-  named h n x = (epoch_of key.node.0 h == key.epoch) && ((n.0 == key.node.0) && (x == key.number))
+  -- an entry that names a number of a node here
+  module _ (h : List HistoryEntry) (n : NodeId) (x : ℕ) where
+    -- whether it names the key, and what it means that it does
+    abbrev pub named : Bool
+    named = (epoch_of key.node.0 h == key.epoch) && ((n.0 == key.node.0) && (x == key.number))
 
-  -- what it means that it does
-  pub record IsHere (h : List HistoryEntry) (n : NodeId) (x : ℕ) : Type 0 where
-    pub node : n.0 ≡ key.node.0
-    pub epoch : epoch_of n.0 h ≡ key.epoch
-    pub number : x ≡ key.number
+    pub record IsHere : Type 0 where
+      pub node : n.0 ≡ key.node.0
+      pub epoch : epoch_of n.0 h ≡ key.epoch
+      pub number : x ≡ key.number
 
-  pub is_here : (h : List HistoryEntry) (n : NodeId) (x : ℕ) → named h n x ≡ true → IsHere h n x
-  is_here h n x e =
-      let outer = and_parts (epoch_of key.node.0 h == key.epoch) ((n.0 == key.node.0) && (x == key.number)) e in
-      let inner = and_parts (n.0 == key.node.0) (x == key.number) outer.1 in
-      let node = eqb-true n.0 key.node.0 inner.0 in
-      record {
-        node = node;
-        epoch = ap (λ (m : ℕ). epoch_of m h) node ∙ eqb-true (epoch_of key.node.0 h) key.epoch outer.0;
-        number = eqb-true x key.number inner.1;
-      }
+    pub is_here : named ≡ true → IsHere
+    is_here e =
+        let outer = and_parts (epoch_of key.node.0 h == key.epoch) ((n.0 == key.node.0) && (x == key.number)) e in
+        let inner = and_parts (n.0 == key.node.0) (x == key.number) outer.1 in
+        let node = eqb-true n.0 key.node.0 inner.0 in
+        record {
+          node = node;
+          epoch = ap (λ (m : ℕ). epoch_of m h) node ∙ eqb-true (epoch_of key.node.0 h) key.epoch outer.0;
+          number = eqb-true x key.number inner.1;
+        }
 
-  pub state_here : (h : List HistoryEntry) (n : NodeId) (x : ℕ) → IsHere h n x → state_of key h ≡ present_state n.0 x h
-  state_here h n x is =
-      ap (λ (k : ℕ). state_by (last_naming key.node.0 key.number (epoch_entries key.node.0 k h))) (sym is.epoch ∙ ap (λ (m : ℕ). epoch_of m h) is.node)
-      ∙ present_state_is key.node key.number h
-      ∙ ap (λ (m : ℕ). present_state m key.number h) (sym is.node) ∙ ap (λ (y : ℕ). present_state n.0 y h) (sym is.number)
+    pub state_here : IsHere → state_of key h ≡ present_state n.0 x h
+    state_here is =
+        ap (λ (k : ℕ). state_by (last_naming key.node.0 key.number (epoch_entries key.node.0 k h))) (sym is.epoch ∙ ap (λ (m : ℕ). epoch_of m h) is.node)
+        ∙ present_state_is key.node key.number h
+        ∙ ap (λ (m : ℕ). present_state m key.number h) (sym is.node) ∙ ap (λ (y : ℕ). present_state n.0 y h) (sym is.number)
 
-  pub held_here : (h : List HistoryEntry) (n : NodeId) (x : ℕ) → IsHere h n x → held_packet n.0 x h ≡ held_at h
-  held_here h n x is =
-      ap (λ (y : ℕ). held_packet n.0 y h) is.number ∙ ap (λ (m : ℕ). held_packet m key.number h) is.node
-      ∙ ap (λ (es : List HistoryEntry). option_and_then (λ e. packet_of_hold e.act) (last_naming key.node.0 key.number es)) (sym (present_entries_are key.node.0 h))
-      ∙ ap (λ (k : ℕ). option_and_then (λ e. packet_of_hold e.act) (last_naming key.node.0 key.number (epoch_entries key.node.0 k h)))
-      (ap (λ (m : ℕ). epoch_of m h) (sym is.node) ∙ is.epoch)
+    pub held_here : IsHere → held_packet n.0 x h ≡ held_at h
+    held_here is =
+        ap (λ (y : ℕ). held_packet n.0 y h) is.number ∙ ap (λ (m : ℕ). held_packet m key.number h) is.node
+        ∙ ap (λ (es : List HistoryEntry). option_and_then (λ e. packet_of_hold e.act) (last_naming key.node.0 key.number es)) (sym (present_entries_are key.node.0 h))
+        ∙ ap (λ (k : ℕ). option_and_then (λ e. packet_of_hold e.act) (last_naming key.node.0 key.number (epoch_entries key.node.0 k h)))
+        (ap (λ (m : ℕ). epoch_of m h) (sym is.node) ∙ is.epoch)
 
-  backed_here : (h : List HistoryEntry) (n : NodeId) (x number : ℕ) (request : Request) → StartsRise h → IsHere h n x
-      → IsAsked letters n.0 (start_of n.0 h) gateway number request → IsBacked h number request
-  backed_here h n x number request rise is asked = record {
-    start = start_of n.0 h;
-    begun = ap (λ (m : ℕ). epoch_with m (start_of n.0 h) h) (sym is.node) ∙ present_epoch n.0 h rise ∙ ap (λ (k : ℕ). Some k) is.epoch;
-    asked = subst (λ (m : ℕ). IsAsked letters m (start_of n.0 h) gateway number request) is.node asked;
-  }
+    backed_here : (number : ℕ) (request : Request) → StartsRise h → IsHere → IsAsked letters n.0 (start_of n.0 h) gateway number request → IsBacked h number request
+    backed_here number request rise is asked = record {
+      start = start_of n.0 h;
+      begun = ap (λ (m : ℕ). epoch_with m (start_of n.0 h) h) (sym is.node) ∙ present_epoch n.0 h rise ∙ ap (λ (k : ℕ). Some k) is.epoch;
+      asked = subst (λ (m : ℕ). IsAsked letters m (start_of n.0 h) gateway number request) is.node asked;
+    }
 
-  pub backed_at : (h : List HistoryEntry) (e : HistoryEntry) (n : NodeId) (x : ℕ) (request : Request) → StartsRise h → IsHere h n x
-      → IsAsked letters n.0 (start_of n.0 h) gateway x request → IsBacked (h ++ e ∷ []) key.number request
-  backed_at h e n x request rise is asked =
-      backed_stays h (e ∷ []) key.number request
-      (backed_here h n x key.number request rise is (subst (λ (y : ℕ). IsAsked letters n.0 (start_of n.0 h) gateway y request) is.number asked))
+    backed_at : (e : HistoryEntry) (request : Request) → StartsRise h → IsHere → IsAsked letters n.0 (start_of n.0 h) gateway x request
+        → IsBacked (h ++ e ∷ []) key.number request
+    backed_at e request rise is asked =
+        backed_stays h (e ∷ []) key.number request
+        (backed_here key.number request rise is (subst (λ (y : ℕ). IsAsked letters n.0 (start_of n.0 h) gateway y request) is.number asked))
 
-  -- the present key of the node is the key, or not
-  pub same_here : (h : List HistoryEntry) (n : NodeId) (x : ℕ) → same_key (present_key h n x) key ≡ named h n x
-  same_here h n x =
-      by_bool (λ (same : Bool). ((same && (epoch_of n.0 h == key.epoch)) && (x == key.number)) ≡ ((epoch_of key.node.0 h == key.epoch) && (same && (x == key.number))))
-      (n.0 == key.node.0) (λ e. ap (λ (m : ℕ). (epoch_of m h == key.epoch) && (x == key.number)) (eqb-true n.0 key.node.0 e))
-      (λ e. sym (and_right (epoch_of key.node.0 h == key.epoch) false refl))
+    -- the present key of the node is the key, or not
+    same_here : same_key (present_key h n x) key ≡ named
+    same_here =
+        by_bool (λ (same : Bool). ((same && (epoch_of n.0 h == key.epoch)) && (x == key.number)) ≡ ((epoch_of key.node.0 h == key.epoch) && (same && (x == key.number))))
+        (n.0 == key.node.0) (λ e. ap (λ (m : ℕ). (epoch_of m h == key.epoch) && (x == key.number)) (eqb-true n.0 key.node.0 e))
+        (λ e. sym (and_right (epoch_of key.node.0 h == key.epoch) false refl))
 
   -- a list of one number
   pub any_one : (xs : List ℕ) (x : ℕ) → xs ≡ x ∷ [] → list_any (λ y. y == key.number) xs ≡ (x == key.number)
@@ -207,7 +207,7 @@ module _ (letters : List Letter) (gateway : ℕ) (key : PacketKey) where
           packet,
           grown h e ∙ (let before : times h ≡ 0 = counted_here h n x Fresh is rests.0 so_far in
               omega (arith, before, times_of_packet key index (present_key h n x) moment packet (same_here h n x ∙ named))),
-          backed_at h e n x (Sends true packet) rise is rests.1,
+          backed_at h n x e (Sends true packet) rise is rests.1,
         ))
         (λ isnt. none_of_packet key index (present_key h n x) moment packet (same_here h n x ∙ isnt)) so_far
     step_act h moment who (act.Hold n x packet) rise rests so_far =
@@ -217,7 +217,7 @@ module _ (letters : List Letter) (gateway : ℕ) (key : PacketKey) where
           packet,
           grown h e ∙ (let before : times h ≡ 0 = counted_here h n x Fresh is rests.0 so_far in omega (arith, before)),
           held_after h e true named,
-          backed_at h e n x (Sends false packet) rise is rests.1,
+          backed_at h n x e (Sends false packet) rise is rests.1,
         ))
         (λ isnt. refl) so_far
     step_act h moment who (act.Seal n x) rise rests so_far =
@@ -312,7 +312,7 @@ module _ (letters : List Letter) (gateway : ℕ) (key : PacketKey) where
       record {
         plain = true;
         octets = packet;
-        backed = backed_at h (entry moment who (act.File n x packet)) n x (Sends true packet) rise is rests.1;
+        backed = backed_at h n x (entry moment who (act.File n x packet)) (Sends true packet) rise is rests.1;
         at = there.0;
         kind = kept_kind (present_key h n x) moment packet filing kept;
       }
