@@ -153,6 +153,9 @@ timely m h number body e is fresh =
 
 module _ (back : ReadsBack) (roles : RolesRead) (rules : Rules) (now : ℕ) (m : world.Message) (to : m.to_gateway ≡ true) {g : Gateway} {scene : Scene}
     (stands : Stands m.gateway scene g) (sound : g.book.is_broken ≡ false) where
+  abbrev seen : Observed
+  seen = observed (history_of g.book) (node_id m.node)
+
   abbrev may : HistoryAct → Bool
   may = rules.may (history_of g.book) (node_id m.node)
 
@@ -198,8 +201,8 @@ module _ (back : ReadsBack) (roles : RolesRead) (rules : Rules) (now : ℕ) (m :
     opening_plays event (Some counter) rise = if_both acts (may (path counter)) (path_plays event counter (rise counter refl)) (still_plays stands)
 
     event_plays : (event : PathEvent) → ((number counter : ℕ) → event ≡ EchoTold number counter → counter ≡ m.start)
-        → acts (answer_by (observed (history_of g.book) (node_id m.node)) (node_address m.node m.port) (Path event) may)
-    event_plays (EchoAsked number) is = plain_plays (EchoTold number (observed (history_of g.book) (node_id m.node)).own)
+        → acts (answer_by seen (node_address m.node m.port) (Path event) may)
+    event_plays (EchoAsked number) is = plain_plays (EchoTold number seen.own)
     event_plays (AliveAsked number) is = plain_plays (EchoAsked number)
     event_plays (AliveTold number) is = still_plays stands
     event_plays (EchoTold number counter) is =
@@ -209,7 +212,7 @@ module _ (back : ReadsBack) (roles : RolesRead) (rules : Rules) (now : ℕ) (m :
         (λ path e. rises opening_is counter path (omega (arith, started, same)) (omega (arith, fresh_start (history_of g.book) m fresh, same)) e)
 
     message_plays : (number : ℕ) (message : MessageValue) → FromNode m number message → Other message
-        → acts (answer_by (observed (history_of g.book) (node_id m.node)) (node_address m.node m.port) (framed (for_role role.Gateway (Message number message))) may)
+        → acts (answer_by seen (node_address m.node m.port) (framed (for_role role.Gateway (Message number message))) may)
     message_plays number EchoRequest fits other = event_plays (EchoAsked number) (λ n counter e. absurd (cc))
     message_plays number (EchoResponse counter) fits other = event_plays (EchoTold number counter)
         (λ n told e. ap (λ (v : PathEvent). elim v [ EchoAsked n ↦ 0 | EchoTold n c ↦ c | AliveAsked n ↦ 0 | AliveTold n ↦ 0 ]) (sym e) ∙ fits)
@@ -221,7 +224,7 @@ module _ (back : ReadsBack) (roles : RolesRead) (rules : Rules) (now : ℕ) (m :
     pub other_plays : (number : ℕ) (message : MessageValue) → IsWritten m.octets number message → FromNode m number message → Other message
         → Plays m.gateway scene (answered rules now m g)
     other_plays number message w fits other =
-        subst (λ (p : PreparedValue). acts (answer_by (observed (history_of g.book) (node_id m.node)) (node_address m.node m.port) p may))
+        subst (λ (p : PreparedValue). acts (answer_by seen (node_address m.node m.port) p may))
         (sym (ap framed (role_read_of back roles role.Gateway m.octets number message w))) (message_plays number message fits other)
 
   -- a request comes
@@ -232,7 +235,7 @@ module _ (back : ReadsBack) (roles : RolesRead) (rules : Rules) (now : ℕ) (m :
 
     -- what the history answers
     abbrev Answered : ℕ → Option HistoryAct → Type 0
-    Answered cause a = asked_by (observed (history_of g.book) (node_id m.node)) may (node_id m.node) (m.number % 65536) body ≡ responding (m.number % 65536) cause a
+    Answered cause a = asked_by seen may (node_id m.node) (m.number % 65536) body ≡ responding (m.number % 65536) cause a
 
     means : (cause : ℕ) → meaning_of (answer cause) ≡ Answers cause
     means cause = responds_means back (answer cause) cause (record { octets = refl })
@@ -245,7 +248,7 @@ module _ (back : ReadsBack) (roles : RolesRead) (rules : Rules) (now : ℕ) (m :
         (subst (λ (h : List HistoryEntry). is_timely h (letter_of m) request ≡ true) (history_is g.book sound) (timely m (history_of g.book) (m.number % 65536) body w.is is fresh))
         ∙ ap (λ (given : Given). scenes.answering now no_caller (letter_of m) given (post_of g))
         (ap (λ (h : List HistoryEntry). given h may (letter_of m) request) (sym (history_is g.book sound))
-        ∙ sym (same_answer m (observed (history_of g.book) (node_id m.node)) may (node_id m.node) (m.number % 65536) body is) ∙ is_answer)
+        ∙ sym (same_answer m seen may (node_id m.node) (m.number % 65536) body is) ∙ is_answer)
         ∙ ap (λ (says : Meaning). waiting_for (record (letter_of m) { says = says }) (noting_if now no_caller a (post_of g))) (sym (means cause))
 
     abbrev comes : Happening
@@ -276,9 +279,9 @@ module _ (back : ReadsBack) (roles : RolesRead) (rules : Rules) (now : ℕ) (m :
 
     pub request_plays : Plays m.gateway scene (answered rules now m g)
     request_plays =
-        let answer_is = asked_responds (observed (history_of g.book) (node_id m.node)) may (node_id m.node) (m.number % 65536) body in
+        let answer_is = asked_responds seen may (node_id m.node) (m.number % 65536) body in
         subst (λ (d : Decided). Plays m.gateway scene (acting now g m d))
-        (sym (ap (λ (p : PreparedValue). decided (answer_by (observed (history_of g.book) (node_id m.node)) (node_address m.node m.port) p may))
+        (sym (ap (λ (p : PreparedValue). decided (answer_by seen (node_address m.node m.port) p may))
         (prepared_request back roles m.octets (m.number % 65536) body w values) ∙ ap decided answer_is.is))
         (answered_plays answer_is.cause answer_is.recorded answer_is.is)
 

@@ -130,14 +130,17 @@ at_some from (suc count) (suc place) lt =
     at_some (suc from) count place (omega (arith, lt)) ∙ ap (λ (n : ℕ). Some (gateway_address n)) same
 
 module _ (gateways : ℕ) (log : List LogEntry) where
-  there : (place : ℕ) → place < gateways → option_map (λ (peer : Peer). peer.address) (slice_get (peers_of (addresses_from 0 gateways) log) place) ≡ Some (gateway_address place)
+  abbrev pub peers : List Peer
+  peers = peers_of (addresses_from 0 gateways) log
+
+  there : (place : ℕ) → place < gateways → option_map (λ (peer : Peer). peer.address) (slice_get peers place) ≡ Some (gateway_address place)
   there place lt =
-      sym (slice_get-map (λ (peer : Peer). peer.address) (peers_of (addresses_from 0 gateways) log) place)
+      sym (slice_get-map (λ (peer : Peer). peer.address) peers place)
       ∙ ap (λ (all : List Addr). slice_get all place) (addresses_stay (addresses_from 0 gateways) log) ∙ at_some 0 gateways place lt
       ∙ (let same : 0 + place ≡ place = omega arith in ap (λ (n : ℕ). Some (gateway_address n)) same)
 
-  pub address_is : (place : ℕ) → place < gateways → address_at (peers_of (addresses_from 0 gateways) log) place ≡ gateway_address place
-  address_is place lt = by (slice_get (peers_of (addresses_from 0 gateways) log) place) (there place lt)
+  pub address_is : (place : ℕ) → place < gateways → address_at peers place ≡ gateway_address place
+  address_is place lt = by (slice_get peers place) (there place lt)
     where
       by : (o : Option Peer) → option_map (λ (peer : Peer). peer.address) o ≡ Some (gateway_address place)
           → option_map_or (λ (peer : Peer). peer.address) o (record { ip = 0; port = 0 }) ≡ gateway_address place
@@ -145,24 +148,24 @@ module _ (gateways : ℕ) (log : List LogEntry) where
       by (Some peer) e = same_Some peer.address (gateway_address place) e
 
   -- the gateway at an address is the one that the address is of
-  pub gateway_is : (place : ℕ) → place < gateways → gateway_at (address_at (peers_of (addresses_from 0 gateways) log) place) ≡ place
+  pub gateway_is : (place : ℕ) → place < gateways → gateway_at (address_at peers place) ≡ place
   gateway_is place lt =
       let back : first_gateway_ip + place - first_gateway_ip ≡ place = omega arith in
       ap gateway_at (address_is place lt) ∙ back
 
-  pub size : length (peers_of (addresses_from 0 gateways) log) ≡ gateways
+  pub size : length peers ≡ gateways
   size =
-      sym (length-map (peers_of (addresses_from 0 gateways) log) (λ (peer : Peer). peer.address))
+      sym (length-map peers (λ (peer : Peer). peer.address))
       ∙ ap length (addresses_stay (addresses_from 0 gateways) log) ∙ addresses_length 0 gateways
 
-  pub place_is : (gateway place : ℕ) → place_of (peers_of (addresses_from 0 gateways) log) (gateway_address gateway).ip ≡ Some place → place ≡ gateway
+  pub place_is : (gateway place : ℕ) → place_of peers (gateway_address gateway).ip ≡ Some place → place ≡ gateway
   place_is gateway place e =
       let d : Peer = peer_anew (gateway_address 0) in
-      let is = position-Some (has_ip (first_gateway_ip + gateway)) (peers_of (addresses_from 0 gateways) log) place d e in
+      let is = position-Some (has_ip (first_gateway_ip + gateway)) peers place d e in
       let lt : place < gateways = omega (arith, is.0, size) in
-      let ip : (get_or (peers_of (addresses_from 0 gateways) log) place d).address.ip ≡ first_gateway_ip + gateway = eqb-true _ _ is.1 in
-      let own : (get_or (peers_of (addresses_from 0 gateways) log) place d).address.ip ≡ first_gateway_ip + place =
+      let ip : (get_or peers place d).address.ip ≡ first_gateway_ip + gateway = eqb-true _ _ is.1 in
+      let own : (get_or peers place d).address.ip ≡ first_gateway_ip + place =
       ap (λ (a : Addr). a.ip)
-      (sym (ap (λ (o : Option Peer). option_map_or (λ (peer : Peer). peer.address) o (record { ip = 0; port = 0 })) (slice_get-get_or (peers_of (addresses_from 0 gateways) log) place d is.0))
+      (sym (ap (λ (o : Option Peer). option_map_or (λ (peer : Peer). peer.address) o (record { ip = 0; port = 0 })) (slice_get-get_or peers place d is.0))
       ∙ address_is place lt) in
       omega (arith, ip, own)
