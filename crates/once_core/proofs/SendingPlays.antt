@@ -54,7 +54,7 @@ module _ {gateways place : ℕ} {values : ℕ → List ℕ} {scene : Scene} {log
   node = node_value gateways place log
 
   abbrev to : Option ℕ
-  to = moved_at_tick (node_value gateways place log)
+  to = moved_at_tick node
 
   -- the log before the tick's own entry, and behind it
   abbrev before : List LogEntry
@@ -110,7 +110,7 @@ module _ {gateways place : ℕ} {values : ℕ → List ℕ} {scene : Scene} {log
   record IsPacketOf (packet : ℕ) : Type 0 where
     form : PacketForm
     good : GoodForm form
-    numbered : packet_numbered (node_value gateways place log) packet ≡ Full form (value_of form)
+    numbered : packet_numbered node packet ≡ Full form (value_of form)
     ever_there : slice_get (forms_ever log) (packet - 1) ≡ Some form
 
   packet_of : (state : PacketState) (packet : ℕ) → state.number ≡ packet → Contains (packets_of after) state → IsPacketOf packet
@@ -141,9 +141,8 @@ module _ {gateways place : ℕ} {values : ℕ → List ℕ} {scene : Scene} {log
   sent s = message_of place log (outgoing node s)
 
   record SendingPlays (s : Sending) : Type 0 where
-    said : Said (message_of place log (outgoing (node_value gateways place log) s))
-    letter : speaks (message_of place log (outgoing (node_value gateways place log) s)) ≡ true
-        → Contains (asked_by (node_ip place) (starts_in before) values s) (letter_of (message_of place log (outgoing (node_value gateways place log) s)))
+    said : Said (sent s)
+    letter : speaks (sent s) ≡ true → Contains (asked_by (node_ip place) (starts_in before) values s) (letter_of (sent s))
 
   probe_plays : (gateway number : ℕ) → SendingPlays (send.Probe gateway number)
   probe_plays gateway number =
