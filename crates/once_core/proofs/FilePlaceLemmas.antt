@@ -63,7 +63,7 @@ in_records (i ∷ items) r is = ⊎_elim (λ same. absurd (cc)) (in_records item
 of_records : (profile : ℕ) (rs : List FiledRecord) (r : Filed FiledRecord) → Contains (records_of (map (filed_item profile) rs)) r → Contains rs r.payload × (r ≡ as_filed profile r.payload)
 of_records profile rs r is =
     let there = of_map (filed_item profile) rs (Record r) (record_in (map (filed_item profile) rs) r is) in
-    let item : filed_item profile there.0 ≡ Record r = there.2 in
+    let item : Record (as_filed profile there.0) ≡ Record r = there.2 in
     let same : as_filed profile there.0 ≡ r = cc in
     (subst (λ (y : Filed FiledRecord). Contains rs y.payload) same there.1, subst (λ (y : Filed FiledRecord). y ≡ as_filed profile y.payload) same refl)
 
