@@ -9,7 +9,7 @@ use Rattle.gw_base.specs.declared.cause.TheConstants.{ACCEPTED, ALREADY_FULFILLE
 use Rattle.gw_base.specs.declared.history.HistoryEntry.{HistoryEntry}
 use Rattle.gw_base.specs.declared.key_state.KeyState.TheVariants as state
 use Rattle.node_core.specs.Choosing.{IsChoice, ReleasesChoice}
-use Rattle.node_core.specs.Copies.{is_chosen, is_filing, is_fulfilled, is_release, is_released, is_unknown, names, told, is_answered, is_filed, is_sealed, is_settled}
+use Rattle.node_core.specs.Copies.{is_chosen, is_filing, is_fulfilled, is_release, is_released, is_unknown, names, told, is_answered, is_filed, is_sealed as says_sealed, is_settled}
 use Rattle.node_core.specs.Log as log
 use Rattle.node_core.specs.Log.{Responds, LogEntry}
 use Rattle.node_core.specs.Packets.{PacketState, is_done}
@@ -123,7 +123,7 @@ told_telling Second true cause = if_known (IfKnown cause) (cause == ALREADY_FULF
 told_telling Second false cause = if_known (IfKnown cause) (cause == DUPLICATE_ALREADY_FULFILLED) (λ is e. telling cause (inr (inr is)))
     (λ isnt. if_known (IfKnown cause) (cause == ACCEPTED) (λ is e. telling cause (inl is)) (λ neither. unknown_not))
 
-sealed_is_known : (v : Verdict) → is_sealed v ≡ true → is_unknown v ≡ false
+sealed_is_known : (v : Verdict) → says_sealed v ≡ true → is_unknown v ≡ false
 sealed_is_known verdict.Unknown e = absurd (false≢true e)
 sealed_is_known _ e = refl
 
@@ -336,7 +336,7 @@ module _ {scene : Scene} (holds : SceneHolds scene) (node : ℕ) {start : ℕ} {
   settled_known : (packet : PacketState) (copy : PacketCopy) → IsCopyOf packets packet copy → is_settled copy ≡ true → Known copy
   settled_known packet copy is settled = ⊎_elim
       (λ sealed. by_verdict packet copy is (sealed_is_known copy.verdict sealed)) (answered_known packet copy is)
-      (or_cases (is_sealed copy.verdict) (is_answered copy) settled)
+      (or_cases (says_sealed copy.verdict) (is_answered copy) settled)
 
   -- ---- a packet that is done
 
