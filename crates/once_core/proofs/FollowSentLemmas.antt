@@ -24,7 +24,7 @@ use Rattle.once_core.specs.Happenings.{Asks, Letter, Orders, Sends, Tests}
 use Rattle.once_core.proofs.FollowLemmas.{Grows, began_same, halted_same, in_present, may_send_behind, may_send_on, packets_grow, starts_within, states_at, command_now}
 use Rattle.once_core.proofs.ListLemmas.{in_none, in_one, of_flat_map, of_map}
 use Rattle.once_core.proofs.CaseLemmas.{by_option}
-use Rattle.once_core.proofs.CallLemmas.{Adds, adds}
+use Rattle.once_core.proofs.CallLemmas.{Adds, adds, begins_anew, halts, hears, nothing, submits, ticks}
 
 -- ---- what a tick sends
 

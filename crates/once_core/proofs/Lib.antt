@@ -40,7 +40,6 @@ pub mod SentPlays
 pub mod SendingPlays
 pub mod FollowLemmas
 pub mod FollowSentLemmas
-pub mod CallLemmas
 pub mod FollowKnownLemmas
 pub mod WorldPlays
 pub mod TurnPlays
