@@ -17,7 +17,6 @@ use Rattle.once_core.specs.Scenes.{happened_all, nothing_yet, scene_after}
 use Rattle.once_core.specs.Shown.{post_of}
 use Rattle.once_core.proofs.CommitPlays.{firm_plays, whole_book, noted_plays}
 use Rattle.once_core.proofs.ListLemmas.{in_none}
-use Rattle.once_core.proofs.LogLemmas.{counts_first}
 use Rattle.once_core.proofs.NodePlays.{NodeRightly}
 use Rattle.once_core.proofs.PlayLemmas.{Plays, Rightly, Stands, followed_plays, happened_more, stands_after, none_waits}
 use Rattle.once_core.proofs.WorldPlays.{Made}
@@ -124,7 +123,7 @@ first_made values rules gateways nodes some =
         some = omega (arith, some, many);
         gateways = λ place g is. subst Rightly (gateways_each rules gateways place g is) (none_waits refl);
         nodes = λ place log is. subst (NodeRightly (length (gateways_by rules gateways)) place) (times_each nodes (Began ∷ []) place log is)
-            (record { calls = []; is = refl; counts = counts_first; few = omega arith; forms = λ form is. in_none form is });
+            (record { calls = []; is = refl; counts = record { some = refl; one = omega arith; counter = λ few. refl }; few = omega arith; forms = λ form is. in_none form is });
         messages = λ m is. in_none m is;
       };
     }

@@ -55,9 +55,6 @@ module _ (log : List LogEntry) (is : Counts log) where
   counts_more Began = began_counts
   counts_more entry = same_counts entry refl refl
 
-pub counts_first : Counts (Began ∷ [])
-counts_first = record { some = refl; one = omega arith; counter = λ few. refl }
-
 pub counts_logged : (entries log : List LogEntry) → Counts log → Counts (logged entries log)
 counts_logged [] log is = is
 counts_logged (entry ∷ entries) log is = counts_logged entries (entry ∷ log) (counts_more log is entry)
