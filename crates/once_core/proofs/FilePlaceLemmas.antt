@@ -203,7 +203,7 @@ module _ (divides : Divides) (settings : Settings) (h : List HistoryEntry) (plac
   by_number : (found : Filed (List ℕ)) (q : ℕ) → place.sequence ≡ q → in_run place.index (run_with q (map (map plain) mine)) ≡ Some found
       → (filing : FiledRecord) × Contains (placed settings h) (place, filing)
   by_number found zero e there = absurd (cc)
-  by_number found (suc k) e = by (slice_get (map (map plain) mine) k) refl
+  by_number found (suc k) e there = by (slice_get (map (map plain) mine) k) refl there
     where
       by : (o : Option (List (Filed (List ℕ)))) → slice_get (map (map plain) mine) k ≡ o → in_run place.index o ≡ Some found
           → (filing : FiledRecord) × Contains (placed settings h) (place, filing)
