@@ -4,17 +4,17 @@ use Rattle.std.specs.Option.{option_map_or}
 
 -- what holds both ways holds of the choice
 pub if_both : {A : Type 0} (P : A → Type 0) (b : Bool) {x y : A} → P x → P y → P (if b then x else y)
-if_both P true one other = one
-if_both P false one other = other
+if_both P true holds other = holds
+if_both P false other holds = holds
 
 -- the same where each way may ask how the test came out
 pub if_known : {A : Type 0} (P : A → Type 0) (b : Bool) {x y : A} → (b ≡ true → P x) → (b ≡ false → P y) → P (if b then x else y)
-if_known P true one other = one refl
-if_known P false one other = other refl
+if_known P true holds other = holds refl
+if_known P false other holds = holds refl
 
 pub by_bool : (P : Bool → Type 0) (b : Bool) → (b ≡ true → P true) → (b ≡ false → P false) → P b
-by_bool P true one other = one refl
-by_bool P false one other = other refl
+by_bool P true holds other = holds refl
+by_bool P false other holds = holds refl
 
 pub by_option : {A : Type 0} (P : Option A → Type 0) (o : Option A) → (o ≡ None → P None) → ((x : A) → o ≡ Some x → P (Some x)) → P o
 by_option P None none some = none refl

@@ -78,12 +78,12 @@ fresh_start h m fresh =
 pub rises : (opening : Option Opening) (counter path : ℕ) → 1 ≤ counter → start_by opening ≤ counter
     → opened_by (option_map (λ o. o.counter) opening) counter ≡ Some path → nat_lt (start_by opening) path ≡ true
 rises None counter path some low e = let same = same_Some counter path e in lt-ltb 0 path (omega (arith, some, same))
-rises (Some o) counter path some low = if_known (λ (p : Option ℕ). p ≡ Some path → nat_lt o.counter path ≡ true) (o.counter == counter)
+rises (Some o) counter path some low e = if_known (λ (p : Option ℕ). p ≡ Some path → nat_lt o.counter path ≡ true) (o.counter == counter)
     (λ equal e. absurd (cc))
     (λ apart e.
     let same = same_Some counter path e in
     let differ : o.counter ≢ counter = eqb-false o.counter counter apart in
-    lt-ltb o.counter path (omega (arith, low, differ, same)))
+    lt-ltb o.counter path (omega (arith, low, differ, same))) e
 
 -- ---- what is answered
 

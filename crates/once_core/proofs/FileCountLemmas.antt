@@ -82,8 +82,8 @@ any_at x xs is = list_any_at (λ s. x == s) xs is.0 x is.1 (eq-eqb x _ (sym is.2
 
 find_in : {A : Type 0} (p : A → Bool) (xs : List A) (x : A) → find p xs ≡ Some x → Contains xs x
 find_in p [] x e = absurd (cc)
-find_in {A} p (y ∷ ys) x there = if_known (λ (o : Option A). o ≡ Some x → Contains (y ∷ ys) x) (p y)
-    (λ is e. (0, omega arith, same_Some y x e)) (λ isnt e. in_tail y x ys (find_in p ys x e)) there
+find_in {A} p (y ∷ ys) x is = if_known (λ (o : Option A). o ≡ Some x → Contains (y ∷ ys) x) (p y)
+    (λ yes e. (0, omega arith, same_Some y x e)) (λ no e. in_tail y x ys (find_in p ys x e)) is
 
 -- the stream of a record is one that the rules may choose, and stands once among these
 pub one_stream : (settings : Settings) (tag : Option Tag) (format : ℕ) → count_by (λ s. stream_of settings.rules tag format == s) (streams_of settings) ≡ 1

@@ -85,7 +85,7 @@ addresses peers = map (λ (peer : Peer). peer.address) peers
 set_keeps : (gateway : ℕ) (peers : List Peer) (p q : Peer) → slice_get peers gateway ≡ Some p → q.address ≡ p.address → addresses (slice_set peers gateway q) ≡ addresses peers
 set_keeps gateway [] p q e same = absurd (cc)
 set_keeps zero (peer ∷ peers) p q e same = ap (λ (a : Addr). a ∷ addresses peers) (same ∙ ap (λ (x : Peer). x.address) (sym (same_Some peer p e)))
-set_keeps (suc gateway) (peer ∷ peers) p q e same = ap (λ (rest : List Addr). peer.address ∷ rest) (set_keeps gateway peers p q e same)
+set_keeps (suc gateway) (peer ∷ peers) p q e same = ap (λ (them : List Addr). peer.address ∷ them) (set_keeps gateway peers p q e same)
 
 place_keeps : (f : Peer → Peer) → ((peer : Peer) → (f peer).address ≡ peer.address) → (gateway : ℕ) (peers : List Peer) → addresses (at_place gateway f peers) ≡ addresses peers
 place_keeps f keeps gateway peers = map_known (λ (ps : List Peer). addresses ps ≡ addresses peers) (slice_get peers gateway) (λ none. refl)

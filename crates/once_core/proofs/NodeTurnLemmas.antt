@@ -20,7 +20,7 @@ addresses_split first (suc count) =
 
 pub addresses_more : (count : ℕ) → addresses_from 0 (count + 1) ≡ addresses_from 0 count ++ gateway_address count ∷ []
 addresses_more count =
-    ap (addresses_from 0) (omega arith) ∙ (addresses_split 0 count ∙ ap (λ (n : ℕ). addresses_from 0 count ++ gateway_address n ∷ []) (omega arith))
+    ap (addresses_from 0) {y = suc count} (omega arith) ∙ (addresses_split 0 count ∙ ap (λ (n : ℕ). addresses_from 0 count ++ gateway_address n ∷ []) (omega arith))
 
 -- ---- a draft, record by record
 

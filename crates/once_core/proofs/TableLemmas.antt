@@ -96,8 +96,8 @@ module _ {P : List HistoryEntry → HistoryAct → Type 0} (plain : IsPlain P) w
 
   acting_keeps : (now : ℕ) (m : Message) (g : Gateway) (given : Given) → IfRecords (λ number message a. P (history_of g.book) a) given → NoMark given
       → g.book.is_broken ≡ false → KeepsOn g (acting now g m (decided given))
-  acting_keeps now m g (Replies number message (Some a)) fits isnt sound =
-      recorded_keeps g.book now a sound fits (λ mark. absurd (both_ways (is_mark a) isnt mark))
+  acting_keeps now m g (Replies number message (Some a)) fits isnt sound keeps =
+      recorded_keeps g.book now a sound fits (λ mark. absurd (both_ways (is_mark a) isnt mark)) keeps
   acting_keeps now m g _ fits isnt sound keeps = keeps
 
   failed_keeps : (m : Message) (g : Gateway) (d : Decided) → KeepsOn g (failed_by m g d)
