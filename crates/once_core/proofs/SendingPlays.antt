@@ -44,7 +44,7 @@ use Rattle.once_core.proofs.LogLemmas.{gateway_is, size, starts_same}
 use Rattle.once_core.proofs.MeaningLemmas.{IsWritten, ReadsBack, Said, meaning_is, said_by_node, FromNode}
 use Rattle.once_core.proofs.NodePlays.{NodeRightly, appointed_starts, NodePlays, NodeStands, after_call, appointed_deeds, appointed}
 use Rattle.once_core.proofs.NumberLemmas.{Values, ever, ever_at, numbered_in, present_packet}
-use Rattle.once_core.proofs.SentPlays.{NodesFollow, OneCopyEach, sent_deed, IsOwn, are_sent, of_flat, sending_of}
+use Rattle.once_core.proofs.SentPlays.{NodesFollow, asks, OneCopyEach, sent_deed, IsOwn, are_sent, of_flat, sending_of}
 use Rattle.once_core.proofs.NodeTurnLemmas.{addresses_length}
 use Rattle.once_core.proofs.CaseLemmas.{by_option}
 
@@ -83,13 +83,13 @@ module _ {gateways place : ℕ} {values : ℕ → List ℕ} {scene : Scene} {log
   may : (numbers : ℕ → List ℕ) (s : Sending) (l : Letter) → Contains (due node) s → Contains (asked_by (node_ip place) (starts_in before) numbers s) l
       → l.start ≡ starts_in before → MaySend (packets_in (starts_in after) after) numbers l l.says
   may numbers s l there asked start =
-      let asks : List Letter = flat_map (asked_by (node_ip place) (starts_in before) numbers) (due node) in
+      let asked_all : List Letter = flat_map (asked_by (node_ip place) (starts_in before) numbers) (due node) in
       let follows : Follows (deeds_of (node_ip place) numbers after) (starts_in after) numbers (packets_in (starts_in after) after) =
       subst (λ (l : List LogEntry). Follows (deeds_of (node_ip place) numbers l) (starts_in after) numbers (packets_in (starts_in after) l)) (sym calls_are)
       (follow (node_setup gateways place) (call.Tick ∷ stands.rightly.calls) (node_ip place) (starts_in after) numbers some_here) in
       follows.sends l
-      (Contains-append_right (deeds_of (node_ip place) numbers before) (map sent_deed asks) (happens.Sent l)
-      (in_map sent_deed asks l (in_flat (asked_by (node_ip place) (starts_in before) numbers) (due node) s l there asked)))
+      (Contains-append_right (deeds_of (node_ip place) numbers before) (map sent_deed asked_all) (happens.Sent l)
+      (in_map sent_deed asked_all l (in_flat (asked_by (node_ip place) (starts_in before) numbers) (due node) s l there asked)))
       (start ∙ sym (starts_same (Ticked (due node)) before refl))
 
   present : {gateway number : ℕ} (at : AnyHasCopyAt (packets_in (starts_in after) after) gateway number) → Contains (packets_of after) at.packet
@@ -161,7 +161,7 @@ module _ {gateways place : ℕ} {values : ℕ → List ℕ} {scene : Scene} {log
       → letter_of (sent s) ≡ did.letter_of (node_ip place) (starts_in log) (gateway_at (address_at (peers_of (addresses_from 0 gateways) log) gateway)) port number (meaning_of (sent s))
       → asked_by (node_ip place) (starts_in before) values s ≡ did.letter_of (node_ip place) (starts_in before) gateway port number says ∷ []
       → 1 ≤ (sent s).start → SendingPlays s
-  request_plays s port gateway number body says range to_gateway w fits means is asks started = record {
+  request_plays s port gateway number body says range to_gateway w fits means is all started = record {
     said = said_by_node (sent s) to_gateway (record { started = started; path = wire number; message = TransferRequest body; written = w; fits = fits });
     letter = λ speaking.
         let letter : Letter = did.letter_of (node_ip place) (starts_in before) gateway port number says in
@@ -169,7 +169,7 @@ module _ {gateways place : ℕ} {values : ℕ → List ℕ} {scene : Scene} {log
         is ∙ ap (λ (g : ℕ). did.letter_of (node_ip place) (starts_in log) g port number (meaning_of (sent s))) (gateway_is gateways log gateway range)
         ∙ ap (λ (start : ℕ). did.letter_of (node_ip place) start gateway port number (meaning_of (sent s))) (sym (appointed_starts to log))
         ∙ ap (did.letter_of (node_ip place) (starts_in before) gateway port number) (meaning_is back (sent s) (wire number) (TransferRequest body) w ∙ means) in
-        subst (λ (ls : List Letter). Contains ls (letter_of (sent s))) (sym asks) (subst (Contains (letter ∷ [])) (sym same) (in_head letter []));
+        subst (λ (ls : List Letter). Contains ls (letter_of (sent s))) (sym all) (subst (Contains (letter ∷ [])) (sym same) (in_head letter []));
   }
 
   -- a copy of a packet, plain or not
