@@ -3,4 +3,4 @@ use Rattle.once_core.proofs.once_laws.open_numbers_are_read_as_meant.Goals as go
 
 pub returns : goal.returns
 returns c = λ happenings setup calls node gateway number values h some inside running.
-    meant assumption setup calls some running gateway inside happenings node number values h
+    meant (assumption) setup calls some running gateway inside happenings node number values h

@@ -6,4 +6,4 @@ use Rattle.once_core.proofs.world_laws.starts_only_rise.Goals as goal
 
 pub returns : goal.returns
 returns c = λ w place. by_reached (λ w. StartsRise (firm_in w place))
-    (λ rules gateways nodes all. starts_rise assumption rules gateways nodes all place) w
+    (λ rules gateways nodes all. starts_rise (assumption) rules gateways nodes all place) w
