@@ -74,7 +74,7 @@ pub counted_there : (x : ℕ) (ss : List ℕ) → count_by (λ s. x == s) ss ≡
 counted_there x [] e = absurd (omega (arith, e))
 counted_there x (t ∷ ss) e = ⊎_elim
     (λ same. (0, omega arith, sym same))
-    (λ apart. in_tail t x ss (counted_there x ss (omega (arith, e, sum_by-cons (is_same x) t ss, ap (λ (b : Bool). cond b 1 0) (ne_eqb x t apart)))))
+    (λ apart. in_tail t x ss (counted_there x ss (omega (arith, e, sum_by-cons (is_same x) t ss, ap {B = ℕ} (λ (b : Bool). cond b 1 0) (ne_eqb x t apart)))))
     (cases_eq x t)
 
 any_at : (x : ℕ) (xs : List ℕ) → Contains xs x → list_any (λ s. x == s) xs ≡ true

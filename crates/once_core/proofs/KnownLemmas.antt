@@ -90,9 +90,9 @@ filed_by Second cause e = if_known (λ v. v ≡ verdict.Filed → ((Second ≡ F
     (cause == ACCEPTED) (λ same. absurd (cc)) (λ same. absurd (cc))) e
 
 telling : (cause : ℕ) → ((cause == ACCEPTED) ≡ true) ⊎ (((cause == ALREADY_FULFILLED) ≡ true) ⊎ ((cause == DUPLICATE_ALREADY_FULFILLED) ≡ true)) → is_telling cause ≡ true
-telling cause (inl is) = or_left (cause == ACCEPTED) ((cause == ALREADY_FULFILLED) || (cause == DUPLICATE_ALREADY_FULFILLED)) is
-telling cause (inr (inl is)) = or_right (cause == ACCEPTED) ((cause == ALREADY_FULFILLED) || (cause == DUPLICATE_ALREADY_FULFILLED)) (or_left (cause == ALREADY_FULFILLED) (cause == DUPLICATE_ALREADY_FULFILLED) is)
-telling cause (inr (inr is)) = or_right (cause == ACCEPTED) ((cause == ALREADY_FULFILLED) || (cause == DUPLICATE_ALREADY_FULFILLED)) (or_right (cause == ALREADY_FULFILLED) _ is)
+telling cause (inl is) = or_left ((cause == ACCEPTED) || (cause == ALREADY_FULFILLED)) (cause == DUPLICATE_ALREADY_FULFILLED) (or_left (cause == ACCEPTED) (cause == ALREADY_FULFILLED) is)
+telling cause (inr (inl is)) = or_left ((cause == ACCEPTED) || (cause == ALREADY_FULFILLED)) (cause == DUPLICATE_ALREADY_FULFILLED) (or_right (cause == ACCEPTED) (cause == ALREADY_FULFILLED) is)
+telling cause (inr (inr is)) = or_right ((cause == ACCEPTED) || (cause == ALREADY_FULFILLED)) (cause == DUPLICATE_ALREADY_FULFILLED) is
 
 pub filing_tells : (cause : ℕ) → is_filing cause ≡ true → is_telling cause ≡ true
 filing_tells cause e = ⊎_elim (λ is. telling cause (inl is)) (λ is. telling cause (inr (inl is))) (or_cases (cause == ACCEPTED) (cause == ALREADY_FULFILLED) e)

@@ -44,7 +44,7 @@ use Rattle.once_core.proofs.LogLemmas.{gateway_is, size, starts_same}
 use Rattle.once_core.proofs.MeaningLemmas.{IsWritten, ReadsBack, Said, meaning_is, said_by_node, FromNode}
 use Rattle.once_core.proofs.NodePlays.{NodeRightly, appointed_starts, NodePlays, NodeStands, after_call, appointed_deeds, appointed}
 use Rattle.once_core.proofs.NumberLemmas.{Values, ever, ever_at, numbered_in, present_packet}
-use Rattle.once_core.proofs.SentPlays.{NodesFollow, OneCopyEach, sent_deed, IsOwn, are_sent, of_flat, sending_of}
+use Rattle.once_core.proofs.SentPlays.{asks, NodesFollow, OneCopyEach, sent_deed, IsOwn, are_sent, of_flat, sending_of}
 use Rattle.once_core.proofs.NodeTurnLemmas.{addresses_length}
 use Rattle.once_core.proofs.CaseLemmas.{by_option}
 
