@@ -42,7 +42,7 @@ sums p q = λ i. p i + q i
 sum_kept : {A : Type 0} (w : A → ℕ) (p : A → Bool) (xs : List A) → sum_by w (filter p xs) ≡ sum_by (λ x. cond (p x) (w x) 0) xs
 sum_kept {A} w p = is_sum_by (λ (xs : List A). sum_by w (filter p xs)) (λ x. cond (p x) (w x) 0) refl (λ x xs.
     by_bool (λ (b : Bool). sum_by w (cond b (x ∷ filter p xs) (filter p xs)) ≡ cond b (w x) 0 + sum_by w (filter p xs)) (p x)
-    (λ yes. sum_by-cons w x (filter p xs)) (λ no. sym (nothing_more (sum_by w (filter p xs)))))
+    (λ is. sum_by-cons w x (filter p xs)) (λ isnt. sym (nothing_more (sum_by w (filter p xs)))))
 
 sum_both : (f g : ℕ → ℕ) (ss : List ℕ) → sum_by f ss + sum_by g ss ≡ sum_by (λ s. f s + g s) ss
 sum_both f g = is_sum_by (λ (ss : List ℕ). sum_by f ss + sum_by g ss) (λ s. f s + g s) refl (λ s ss. omega (arith, sum_by-cons f s ss, sum_by-cons g s ss))

@@ -207,10 +207,10 @@ module _ (divides : Divides) (settings : Settings) (h : List HistoryEntry) (plac
     where
       by : (o : Option (List (Filed (List ℕ)))) → slice_get (map (map plain) mine) k ≡ o → in_run place.index o ≡ Some found
           → (filing : FiledRecord) × Contains (placed settings h) (place, filing)
-      by None is there = absurd (cc)
-      by (Some run) is there =
+      by None is found_there = absurd (cc)
+      by (Some run) is found_there =
           let run_there = get_of_map (map plain) mine k run is in
-          let r_there = get_of_map plain run_there.0 place.index found (ap (λ (rs : List (Filed (List ℕ))). slice_get rs place.index) run_there.2 ∙ there) in
+          let r_there = get_of_map plain run_there.0 place.index found (ap (λ (rs : List (Filed (List ℕ))). slice_get rs place.index) run_there.2 ∙ found_there) in
           (r_there.0.payload, here k e run_there.0 run_there.1 r_there.0 r_there.1)
 
   pub all_stand : (found : Filed (List ℕ)) → record_at settings (items_of h) place ≡ Some found → (filing : FiledRecord) × Contains (placed settings h) (place, filing)

@@ -40,19 +40,19 @@ module _ (key : PacketKey) (index : ℕ) where
   -- what is filed from a record on under a key that is the key, or isn't
   times_from : (k : PacketKey) (same : Bool) → same_key k key ≡ same → (moment format version j : ℕ) (records : List (List ℕ))
       → times_filed key index (records_from k moment format version j records) ≡ cond same (from_on index j (length records)) 0
-  times_from k same e moment format version j [] = by_bool (λ (b : Bool). 0 ≡ cond b (from_on index j 0) 0) same (λ yes. none_on index j) (λ no. refl)
+  times_from k same e moment format version j [] = by_bool (λ (b : Bool). 0 ≡ cond b (from_on index j 0) 0) same (λ is. none_on index j) (λ isnt. refl)
   times_from k same e moment format version j (r ∷ records) =
       sum_by-cons (λ (x : FiledRecord). cond (is_record_of key index x) 1 0) (filed_record k moment format version (j, r)) (records_from k moment format version (j + 1) records)
       ∙ ap (λ (b : Bool). cond (b && (j == index)) 1 0 + times_filed key index (records_from k moment format version (j + 1) records)) e
       ∙ ap (λ (n : ℕ). cond (same && (j == index)) 1 0 + n) (times_from k same e moment format version (j + 1) records)
       ∙ by_bool (λ (b : Bool). cond (b && (j == index)) 1 0 + cond b (from_on index (j + 1) (length records)) 0 ≡ cond b (from_on index j (suc (length records))) 0) same
-      (λ yes. one_more index j (length records)) (λ no. refl)
+      (λ is. one_more index j (length records)) (λ isnt. refl)
 
   times_under : (k : PacketKey) (same : Bool) → same_key k key ≡ same → (moment : ℕ) (octets : List ℕ)
       → times_filed key index (filed_under k moment octets) ≡ cond same (within index octets) 0
   times_under k same e moment octets =
       by_option (λ (o : Option PacketForm). times_filed key index (records_if k moment o) ≡ cond same (one_if (nat_lt index (option_map_or (λ form. length form.records) o 0))) 0)
-      (packet_of octets) (λ none. by_bool (λ (b : Bool). 0 ≡ cond b (one_if (nat_lt index 0)) 0) same (λ yes. none_on index 0 ∙ from_first index 0) (λ no. refl))
+      (packet_of octets) (λ none. by_bool (λ (b : Bool). 0 ≡ cond b (one_if (nat_lt index 0)) 0) same (λ is. none_on index 0 ∙ from_first index 0) (λ isnt. refl))
       (λ form there.
       times_from k same e moment form.format form.version 0 form.records ∙ ap (λ (n : ℕ). cond same n 0) (from_first index (length form.records)))
 

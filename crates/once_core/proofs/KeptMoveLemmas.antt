@@ -37,7 +37,7 @@ Keeps f = (r : ℕ) (g : Gateway) → f (with_redirects r g) ≡ with_moved r (f
 keeps_if : (test : BookValue → Bool → Bool) (a b : Gateway → Moved) → Keeps a → Keeps b → Keeps (λ g. if test g.book g.is_down then a g else b g)
 keeps_if test a b ka kb r g =
     by_bool (λ (c : Bool). (if c then a (with_redirects r g) else b (with_redirects r g)) ≡ with_moved r (if c then a g else b g)) (test g.book g.is_down)
-    (λ yes. ka r g) (λ no. kb r g)
+    (λ is. ka r g) (λ isnt. kb r g)
 
 keeps_followed : (a b : Gateway → Moved) → Keeps a → Keeps b → Keeps (λ g. followed (a g) b)
 keeps_followed a b ka kb r g =
