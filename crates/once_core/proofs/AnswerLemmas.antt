@@ -1,8 +1,8 @@
 -- What a gateway records for a timely request rests on it, and its answer tells the state.
-use Rattle.std.proofs.Common.{◌≡◌, ℕ, ◌%◌, ◌==◌, ◌&&◌, ◌||◌, Bool, true, false, cond, if◌then◌else◌, List, [], ◌∷◌, ◌++◌, Some, None, Contains, refl, sym, subst, ◌∙◌}
-use Rattle.std.proofs.lemmas.Bool.{and_parts, and_from, or_left, eqb-true, eq-eqb, false≢true}
+use Rattle.std.proofs.Common.{◌≡◌, ℕ, ◌%◌, ◌==◌, ◌&&◌, ◌||◌, Bool, true, false, cond, List, [], ◌∷◌, ◌++◌, Some, None, Contains, refl, sym, subst}
+use Rattle.std.proofs.lemmas.Bool.{and_parts, and_from, or_left, eqb-true, eq-eqb, false≢true, eqb-false}
 use Rattle.std.proofs.lemmas.Option.{none-some, same_Some}
-use Rattle.gw_base.specs.History.{names, present_state, top_of}
+use Rattle.gw_base.specs.History.{names, present_state, top_of, given_state}
 use Rattle.gw_base.specs.Lists.{once}
 use Rattle.gw_base.specs.Nearest.{nearest}
 use Rattle.gw_base.specs.Starts.{start_of}
@@ -21,11 +21,13 @@ use Rattle.node_core.specs.declared.copy.Order.TheVariants as order
 use Rattle.transfer_cmd.specs.Lists.{is_held, verdict_cause, verdict_of}
 use Rattle.transfer_cmd.specs.Table.{answer_cause, state_given}
 use Rattle.transfer_cmd.specs.declared.decision.Ask.TheVariants as ask
+use Rattle.transfer_cmd.specs.declared.decision.Ask.{Ask}
 use Rattle.once_core.specs.Epochs.{StartsRise}
 use Rattle.once_core.specs.Happenings.{Asks, Letter, Orders, Request, Sends, Tests, about, cause_of, given, is_timely, node_at}
 use Rattle.once_core.specs.Resting.{IsAsked, IsKnown, IsState, RestsBy, Tells}
 use Rattle.once_core.specs.Scenes.{is_telling}
 use Rattle.once_core.proofs.ForwardLemmas.{known_given_now, known_now, state_given_now, state_now}
+use Rattle.once_core.proofs.CaseLemmas.{if_both}
 
 -- what an answer records rests on the request, and what it says tells the state behind it
 pub record IsSound (letters : List Letter) (h : List HistoryEntry) (letter : Letter) (request : Request) (answer : Given) : Type 0 where
@@ -33,177 +35,125 @@ pub record IsSound (letters : List Letter) (h : List HistoryEntry) (letter : Let
   pub tells : (now : ℕ) (who : Caller) → Tells (with_act h now who (act_given answer)) letter request (cause_of answer)
   pub known : is_telling (cause_of answer) ≡ true → (now : ℕ) (who : Caller) → IsKnown (with_act h now who (act_given answer)) letter.node letter.start (about request letter.number)
 
-module _ (letters : List Letter) (h : List HistoryEntry) (letter : Letter) (rise : StartsRise h) (present : letter.start ≡ start_of letter.node h) where
+module _ (letters : List Letter) (h : List HistoryEntry) (letter : Letter) (may : HistoryAct → Bool) (rise : StartsRise h) (kept : Contains letters letter)
+    (present : letter.start ≡ start_of letter.node h) where
   abbrev node : NodeId
   node = node_at letter.node
 
-  -- an answer that records nothing
-  silent : (request : Request) (number cause : ℕ) → (is_telling cause ≡ true → IsKnown h letter.node letter.start (about request letter.number)) → Tells h letter request cause
-      → IsSound letters h letter request (responding number cause None)
-  silent request number cause known told = record { rests = λ a e. absurd (none-some a e); tells = λ now who. told; known = λ telling now who. known telling }
+  abbrev number : ℕ
+  number = letter.number % 65536
+
+  abbrev state : ℕ → KeyState
+  state n = present_state letter.node n h
+
+  -- an answer that records nothing: where it tells anything, the number that is asked about isn't fresh
+  silent : (request : Request) (cause : ℕ) (s : KeyState) → state (about request letter.number) ≡ s → (is_telling cause ≡ true → is_fresh s ≡ false)
+      → Tells h letter request cause → IsSound letters h letter request (responding number cause None)
+  silent request cause s is used told = record {
+    rests = λ a e. absurd (none-some a e);
+    tells = λ now who. told;
+    known = λ telling now who. subst (λ (t : ℕ). IsKnown h letter.node t (about request letter.number)) (sym present)
+        (known_now h letter.node (about request letter.number) s rise is (used telling));
+  }
 
   -- one that records an act, or may not
-  recorded : (may : HistoryAct → Bool) (request : Request) (number : ℕ) (a : HistoryAct) → RestsBy letters letter.gateway h a
-      → names letter.node (about request letter.number) a ≡ true
+  recorded : (request : Request) (a : HistoryAct) → RestsBy letters letter.gateway h a → names letter.node (about request letter.number) a ≡ true
       → ((now : ℕ) (who : Caller) → Tells (h ++ entry_by h now who a ∷ []) letter request ACCEPTED) → Tells h letter request NO_RESOURCES
       → IsSound letters h letter request (recording may number ACCEPTED a)
-  recorded may request number a rests named told without = by_test (may a)
-    where
-      by_test : (b : Bool) → IsSound letters h letter request (if b then responding number ACCEPTED (Some a) else responding number NO_RESOURCES None)
-      by_test true = record {
+  recorded request a rests named told without = if_both (IsSound letters h letter request) (may a)
+      (record {
         rests = λ c e. subst (RestsBy letters letter.gateway h) (same_Some a c e) rests;
         tells = told;
         known = λ telling now who. subst (λ (t : ℕ). IsKnown (h ++ entry_by h now who a ∷ []) letter.node t (about request letter.number)) (sym present)
             (known_given_now h (entry_by h now who a) letter.node (about request letter.number) rise named);
-      }
-      by_test false = silent request number NO_RESOURCES (λ telling. absurd (false≢true telling)) without
+      })
+      (silent request NO_RESOURCES (state (about request letter.number)) refl (λ telling. absurd (false≢true telling)) without)
 
   -- the state now, and after an entry that names a number
-  now_is : (number : ℕ) (s : KeyState) → present_state letter.node number h ≡ s → IsState h letter.node letter.start number s
-  now_is number s is = subst (λ (t : ℕ). IsState h letter.node t number s) (sym present) (state_now h letter.node number s rise is)
+  now_is : (n : ℕ) (s : KeyState) → state n ≡ s → IsState h letter.node letter.start n s
+  now_is n s is = subst (λ (t : ℕ). IsState h letter.node t n s) (sym present) (state_now h letter.node n s rise is)
 
-  -- a number that isn't fresh
-  known_is : (number : ℕ) (s : KeyState) → present_state letter.node number h ≡ s → is_fresh s ≡ false → IsKnown h letter.node letter.start number
-  known_is number s is isnt = subst (λ (t : ℕ). IsKnown h letter.node t number) (sym present) (known_now h letter.node number s rise is isnt)
+  then_is : (now : ℕ) (who : Caller) (a : HistoryAct) (n : ℕ) → names letter.node n a ≡ true
+      → IsState (h ++ entry_by h now who a ∷ []) letter.node letter.start n (given_state a)
+  then_is now who a n named =
+      let e = entry_by h now who a in
+      subst (λ (t : ℕ). IsState (h ++ e ∷ []) letter.node t n (given_state a)) (sym present) (state_given_now h e letter.node n rise named)
 
-  then_is : (e : HistoryEntry) (number : ℕ) (s : KeyState) → names letter.node number e.act ≡ true → (s' : KeyState) → s' ≡ s
-      → IsState (h ++ e ∷ []) letter.node (start_of letter.node h) number s' → IsState (h ++ e ∷ []) letter.node letter.start number s
-  then_is e number s named s' same is =
-      subst (λ (t : ℕ). IsState (h ++ e ∷ []) letter.node t number s) (sym present) (subst (IsState (h ++ e ∷ []) letter.node (start_of letter.node h) number) same is)
+  named : ((letter.node == letter.node) && (letter.number == letter.number)) ≡ true
+  named = and_from (letter.node == letter.node) (letter.number == letter.number) (eq-eqb letter.node letter.node refl) (eq-eqb letter.number letter.number refl)
 
-  names_it : (number : ℕ) → ((letter.node == letter.node) && (number == number)) ≡ true
-  names_it number = and_from (letter.node == letter.node) (number == number) (eq-eqb letter.node letter.node refl) (eq-eqb number number refl)
-
-  names_one : (number : ℕ) → ((letter.node == letter.node) && ((number == number) || false)) ≡ true
-  names_one number =
-      and_from (letter.node == letter.node) ((number == number) || false) (eq-eqb letter.node letter.node refl) (or_left (number == number) false (eq-eqb number number refl))
+  names_one : (n : ℕ) → ((letter.node == letter.node) && ((n == n) || false)) ≡ true
+  names_one n = and_from (letter.node == letter.node) ((n == n) || false) (eq-eqb letter.node letter.node refl) (or_left (n == n) false (eq-eqb n n refl))
 
   -- the request is among the messages
-  asked : (request : Request) → Contains letters letter → letter.says ≡ Asks request → IsAsked letters letter.node (start_of letter.node h) letter.gateway letter.number request
-  asked request kept says = record {
-    port = letter.port;
-    kept = subst (Contains letters) (λ i. record letter { start = present i; says = says i }) kept;
-  }
+  asked : (request : Request) → letter.says ≡ Asks request → IsAsked letters letter.node (start_of letter.node h) letter.gateway letter.number request
+  asked request says = record { port = letter.port; kept = subst (Contains letters) (λ i. record letter { start = present i; says = says i }) kept }
 
-  module _ (may : HistoryAct → Bool) (number : ℕ) (kept : Contains letters letter) where
-    send_table : (packet : List ℕ) (s : KeyState) → present_state letter.node letter.number h ≡ s → letter.says ≡ Asks (Sends true packet)
-        → IsSound letters h letter (Sends true packet)
-        (tabled may number (answer_cause ask.Send s) (recorded_as ask.Send node letter.number packet (state_given ask.Send s)))
-    send_table packet Fresh is says =
-        recorded may (Sends true packet) number (act.File node letter.number packet) (is, asked (Sends true packet) kept says) (names_it letter.number)
-        (λ now who filing. let e = entry_by h now who (act.File node letter.number packet) in
-        then_is e letter.number Filed (names_it letter.number) Filed refl (state_given_now h e letter.node letter.number rise (names_it letter.number)))
-        (λ filing. absurd (false≢true filing))
-    send_table packet Filed is says = silent (Sends true packet) number ALREADY_FULFILLED (λ telling. known_is letter.number Filed is refl) (λ filing. now_is letter.number Filed is)
-    send_table packet Sealed is says = silent (Sends true packet) number NOT_FULFILLED (λ telling. absurd (false≢true telling)) (λ filing. absurd (false≢true filing))
-    send_table packet Held is says = silent (Sends true packet) number DUPLICATE_ALREADY_FULFILLED (λ telling. known_is letter.number Held is refl) (λ filing. absurd (false≢true filing))
-    send_table packet Released is says = silent (Sends true packet) number DUPLICATE_ALREADY_FULFILLED (λ telling. known_is letter.number Released is refl) (λ filing. absurd (false≢true filing))
-    send_table packet Cancelled is says = silent (Sends true packet) number DUPLICATE_ALREADY_FULFILLED (λ telling. known_is letter.number Cancelled is refl) (λ filing. absurd (false≢true filing))
+  send_table : (packet : List ℕ) (s : KeyState) → state letter.number ≡ s → letter.says ≡ Asks (Sends true packet) → IsSound letters h letter (Sends true packet)
+      (tabled may number (answer_cause ask.Send s) (recorded_as ask.Send node letter.number packet (state_given ask.Send s)))
+  send_table packet Fresh is says = recorded (Sends true packet) (act.File node letter.number packet) (is, asked (Sends true packet) says) named
+      (λ now who filing. then_is now who (act.File node letter.number packet) letter.number named) (λ filing. absurd (false≢true filing))
+  send_table packet Filed is says = silent (Sends true packet) ALREADY_FULFILLED Filed is (λ t. refl) (λ filing. now_is letter.number Filed is)
+  send_table packet Sealed is says = silent (Sends true packet) NOT_FULFILLED Sealed is (λ t. refl) (λ filing. absurd (false≢true filing))
+  send_table packet s is says = silent (Sends true packet) DUPLICATE_ALREADY_FULFILLED s is (λ t. refl) (λ filing. absurd (false≢true filing))
 
-    possible_table : (packet : List ℕ) (s : KeyState) → present_state letter.node letter.number h ≡ s → letter.says ≡ Asks (Sends false packet)
-        → IsSound letters h letter (Sends false packet)
-        (tabled may number (answer_cause ask.Possible s) (recorded_as ask.Possible node letter.number packet (state_given ask.Possible s)))
-    possible_table packet Fresh is says =
-        recorded may (Sends false packet) number (act.Hold node letter.number packet) (is, asked (Sends false packet) kept says) (names_it letter.number) (λ now who. tt) tt
-    possible_table packet Filed is says = silent (Sends false packet) number ALREADY_FULFILLED (λ telling. known_is letter.number Filed is refl) tt
-    possible_table packet Sealed is says = silent (Sends false packet) number NOT_FULFILLED (λ telling. absurd (false≢true telling)) tt
-    possible_table packet Held is says = silent (Sends false packet) number DUPLICATE_ALREADY_FULFILLED (λ telling. known_is letter.number Held is refl) tt
-    possible_table packet Released is says = silent (Sends false packet) number DUPLICATE_ALREADY_FULFILLED (λ telling. known_is letter.number Released is refl) tt
-    possible_table packet Cancelled is says = silent (Sends false packet) number DUPLICATE_ALREADY_FULFILLED (λ telling. known_is letter.number Cancelled is refl) tt
+  possible_table : (packet : List ℕ) (s : KeyState) → state letter.number ≡ s → letter.says ≡ Asks (Sends false packet) → IsSound letters h letter (Sends false packet)
+      (tabled may number (answer_cause ask.Possible s) (recorded_as ask.Possible node letter.number packet (state_given ask.Possible s)))
+  possible_table packet Fresh is says =
+      recorded (Sends false packet) (act.Hold node letter.number packet) (is, asked (Sends false packet) says) named (λ now who. tt) tt
+  possible_table packet Filed is says = silent (Sends false packet) ALREADY_FULFILLED Filed is (λ t. refl) tt
+  possible_table packet Sealed is says = silent (Sends false packet) NOT_FULFILLED Sealed is (λ t. refl) tt
+  possible_table packet s is says = silent (Sends false packet) DUPLICATE_ALREADY_FULFILLED s is (λ t. refl) tt
 
-    abbrev cause_is : ℕ → ℕ → Bool
-    cause_is a b = a == b
+  test_table : (s : KeyState) → state letter.number ≡ s → letter.says ≡ Asks Tests → IsSound letters h letter Tests
+      (tabled may number (answer_cause ask.Empty s) (recorded_as ask.Empty node letter.number [] (state_given ask.Empty s)))
+  test_table Fresh is says = recorded Tests (act.Seal node letter.number) (is, asked Tests says) named
+      (λ now who. (λ c. absurd (eqb-false ACCEPTED ALREADY_FULFILLED refl c), λ c. then_is now who (act.Seal node letter.number) letter.number named))
+      (λ c. absurd (eqb-false NO_RESOURCES ALREADY_FULFILLED refl c), λ c. absurd (eqb-false NO_RESOURCES ACCEPTED refl c))
+  test_table Filed is says =
+      silent Tests ALREADY_FULFILLED Filed is (λ t. refl) (λ c. now_is letter.number Filed is, λ c. absurd (eqb-false ALREADY_FULFILLED ACCEPTED refl c))
+  test_table Sealed is says = silent Tests ACCEPTED Sealed is (λ t. refl) (λ c. absurd (eqb-false ACCEPTED ALREADY_FULFILLED refl c), λ c. now_is letter.number Sealed is)
+  test_table s is says = silent Tests DUPLICATE_ALREADY_FULFILLED s is (λ t. refl)
+      (λ c. absurd (eqb-false DUPLICATE_ALREADY_FULFILLED ALREADY_FULFILLED refl c), λ c. absurd (eqb-false DUPLICATE_ALREADY_FULFILLED ACCEPTED refl c))
 
-    apart : (a b : ℕ) → (a == b) ≡ false → a ≡ b → ⊥
-    apart a b other e = false≢true (sym other ∙ eq-eqb a b e)
+  -- the answer by the number for which that of a request is taken
+  abbrev by_ask : Ask → List ℕ → ℕ → Given
+  by_ask a packet n = tabled may number (answer_cause a (state n)) (recorded_as a node n packet (state_given a (state n)))
 
-    test_table : (packet : List ℕ) (s : KeyState) → present_state letter.node letter.number h ≡ s → letter.says ≡ Asks Tests
-        → IsSound letters h letter Tests (tabled may number (answer_cause ask.Empty s) (recorded_as ask.Empty node letter.number packet (state_given ask.Empty s)))
-    test_table packet Fresh is says =
-        recorded may Tests number (act.Seal node letter.number) (is, asked Tests kept says) (names_it letter.number)
-        (λ now who. let e = entry_by h now who (act.Seal node letter.number) in (
-          λ c. absurd (apart ACCEPTED ALREADY_FULFILLED refl c),
-          λ c. then_is e letter.number Sealed (names_it letter.number) Sealed refl (state_given_now h e letter.node letter.number rise (names_it letter.number)),
-        ))
-        (λ c. absurd (apart NO_RESOURCES ALREADY_FULFILLED refl c), λ c. absurd (apart NO_RESOURCES ACCEPTED refl c))
-    test_table packet Filed is says =
-        silent Tests number ALREADY_FULFILLED (λ telling. known_is letter.number Filed is refl) (λ c. now_is letter.number Filed is, λ c. absurd (apart ALREADY_FULFILLED ACCEPTED refl c))
-    test_table packet Sealed is says = silent Tests number ACCEPTED (λ telling. known_is letter.number Sealed is refl) (λ c. absurd (apart ACCEPTED ALREADY_FULFILLED refl c), λ c. now_is letter.number Sealed is)
-    test_table packet Held is says =
-        silent Tests number DUPLICATE_ALREADY_FULFILLED (λ telling. known_is letter.number Held is refl)
-        (λ c. absurd (apart DUPLICATE_ALREADY_FULFILLED ALREADY_FULFILLED refl c), λ c. absurd (apart DUPLICATE_ALREADY_FULFILLED ACCEPTED refl c))
-    test_table packet Released is says =
-        silent Tests number DUPLICATE_ALREADY_FULFILLED (λ telling. known_is letter.number Released is refl)
-        (λ c. absurd (apart DUPLICATE_ALREADY_FULFILLED ALREADY_FULFILLED refl c), λ c. absurd (apart DUPLICATE_ALREADY_FULFILLED ACCEPTED refl c))
-    test_table packet Cancelled is says =
-        silent Tests number DUPLICATE_ALREADY_FULFILLED (λ telling. known_is letter.number Cancelled is refl)
-        (λ c. absurd (apart DUPLICATE_ALREADY_FULFILLED ALREADY_FULFILLED refl c), λ c. absurd (apart DUPLICATE_ALREADY_FULFILLED ACCEPTED refl c))
+  abbrev by_order : Bool → ℕ → KeyState → Given
+  by_order release n s =
+      let verdict = verdict_of release (s ∷ []) in
+      tabled may number (verdict_cause verdict) (changes verdict release node (once (λ x y. x == y) (cond (is_held s) (n ∷ []) [])))
 
-    -- a list of one number
-    abbrev one_held : KeyState → ℕ → List ℕ
-    one_held s named = once (λ x y. x == y) (cond (is_held s) (named ∷ []) [])
+  release_table : (n : ℕ) (s : KeyState) → state n ≡ s → letter.says ≡ Asks (Orders order.Release n) → IsSound letters h letter (Orders order.Release n) (by_order true n s)
+  release_table n Held is says = recorded (Orders order.Release n) (act.Release node (n ∷ []))
+      (record { names = record { number = n; alone = refl; held = is }; own = letter.number; asked = asked (Orders order.Release n) says }) (names_one n)
+      (λ now who fulfilled. then_is now who (act.Release node (n ∷ [])) n (names_one n)) (λ fulfilled. absurd (false≢true fulfilled))
+  release_table n Released is says = silent (Orders order.Release n) DUPLICATE_ALREADY_FULFILLED Released is (λ t. refl) (λ fulfilled. now_is n Released is)
+  release_table n s is says = silent (Orders order.Release n) NUMBERS_INCORRECT s is (λ telling. absurd (false≢true telling)) (λ fulfilled. absurd (false≢true fulfilled))
 
-    release_table : (named : ℕ) (s : KeyState) → present_state letter.node named h ≡ s → letter.says ≡ Asks (Orders order.Release named)
-        → IsSound letters h letter (Orders order.Release named)
-        (tabled may number (verdict_cause (verdict_of true (s ∷ []))) (changes (verdict_of true (s ∷ [])) true node (one_held s named)))
-    release_table named Held is says =
-        recorded may (Orders order.Release named) number (act.Release node (named ∷ []))
-        (record {
-          names = record { number = named; alone = refl; held = is };
-          own = letter.number;
-          asked = asked (Orders order.Release named) kept says;
-        })
-        (names_one named)
-        (λ now who fulfilled. let e = entry_by h now who (act.Release node (named ∷ [])) in
-        then_is e named Released (names_one named) Released refl (state_given_now h e letter.node named rise (names_one named)))
-        (λ fulfilled. absurd (false≢true fulfilled))
-    release_table named Released is says = silent (Orders order.Release named) number DUPLICATE_ALREADY_FULFILLED (λ telling. known_is named Released is refl) (λ fulfilled. now_is named Released is)
-    release_table named _ is says = silent (Orders order.Release named) number NUMBERS_INCORRECT (λ telling. absurd (false≢true telling)) (λ fulfilled. absurd (false≢true fulfilled))
+  cancel_table : (n : ℕ) (s : KeyState) → state n ≡ s → IsSound letters h letter (Orders order.Cancel n) (by_order false n s)
+  cancel_table n Held is =
+      recorded (Orders order.Cancel n) (act.Cancel node (n ∷ [])) (record { number = n; alone = refl; held = is }) (names_one n) (λ now who. tt) tt
+  cancel_table n Cancelled is = silent (Orders order.Cancel n) DUPLICATE_ALREADY_FULFILLED Cancelled is (λ t. refl) tt
+  cancel_table n s is = silent (Orders order.Cancel n) NUMBERS_INCORRECT s is (λ telling. absurd (false≢true telling)) tt
 
-    cancel_table : (named : ℕ) (s : KeyState) → present_state letter.node named h ≡ s
-        → IsSound letters h letter (Orders order.Cancel named)
-        (tabled may number (verdict_cause (verdict_of false (s ∷ []))) (changes (verdict_of false (s ∷ [])) false node (one_held s named)))
-    cancel_table named Held is =
-        recorded may (Orders order.Cancel named) number (act.Cancel node (named ∷ [])) (record { number = named; alone = refl; held = is }) (names_one named) (λ now who. tt) tt
-    cancel_table named Cancelled is = silent (Orders order.Cancel named) number DUPLICATE_ALREADY_FULFILLED (λ telling. known_is named Cancelled is refl) tt
-    cancel_table named _ is = silent (Orders order.Cancel named) number NUMBERS_INCORRECT (λ telling. absurd (false≢true telling)) tt
+  by_request : (asks : Request) → letter.says ≡ Asks asks → nearest (top_of letter.node h) (about asks letter.number % 65536) ≡ about asks letter.number
+      → IsSound letters h letter asks (given h may letter asks)
+  by_request (Sends true packet) says meant = subst (λ (m : ℕ). IsSound letters h letter (Sends true packet) (by_ask ask.Send packet m)) (sym meant)
+      (send_table packet (state letter.number) refl says)
+  by_request (Sends false packet) says meant = subst (λ (m : ℕ). IsSound letters h letter (Sends false packet) (by_ask ask.Possible packet m)) (sym meant)
+      (possible_table packet (state letter.number) refl says)
+  by_request Tests says meant = subst (λ (m : ℕ). IsSound letters h letter Tests (by_ask ask.Empty [] m)) (sym meant) (test_table (state letter.number) refl says)
+  by_request (Orders order.Release n) says meant =
+      subst (λ (m : ℕ). IsSound letters h letter (Orders order.Release n) (by_order true m (state m))) (sym meant) (release_table n (state n) refl says)
+  by_request (Orders order.Cancel n) says meant =
+      subst (λ (m : ℕ). IsSound letters h letter (Orders order.Cancel n) (by_order false m (state m))) (sym meant) (cancel_table n (state n) refl)
 
 -- the answer to a timely request
 pub answer_is_sound : (letters : List Letter) (h : List HistoryEntry) (letter : Letter) (request : Request) (may : HistoryAct → Bool) → StartsRise h
     → Contains letters letter → letter.says ≡ Asks request → is_timely h letter request ≡ true → IsSound letters h letter request (given h may letter request)
 answer_is_sound letters h letter request may rise kept says timely =
     let parts = and_parts (letter.start == start_of letter.node h) (nearest (top_of letter.node h) (about request letter.number % 65536) == about request letter.number) timely in
-    by_request request says
-    (eqb-true letter.start (start_of letter.node h) parts.0)
+    by_request letters h letter may rise kept (eqb-true letter.start (start_of letter.node h) parts.0) request says
     (eqb-true (nearest (top_of letter.node h) (about request letter.number % 65536)) (about request letter.number) parts.1)
-  where
-    by_request : (asks : Request) → letter.says ≡ Asks asks → letter.start ≡ start_of letter.node h
-        → nearest (top_of letter.node h) (about asks letter.number % 65536) ≡ about asks letter.number
-        → IsSound letters h letter asks (given h may letter asks)
-    by_request (Sends true packet) says present meant =
-        subst
-        (λ (m : ℕ). IsSound letters h letter (Sends true packet)
-        (tabled may (letter.number % 65536) (answer_cause ask.Send (present_state letter.node m h)) (recorded_as ask.Send (node_at letter.node) m packet (state_given ask.Send (present_state letter.node m h)))))
-        (sym meant) (send_table letters h letter rise present may (letter.number % 65536) kept packet (present_state letter.node letter.number h) refl says)
-    by_request (Sends false packet) says present meant =
-        subst
-        (λ (m : ℕ). IsSound letters h letter (Sends false packet)
-        (tabled may (letter.number % 65536) (answer_cause ask.Possible (present_state letter.node m h)) (recorded_as ask.Possible (node_at letter.node) m packet (state_given ask.Possible (present_state letter.node m h)))))
-        (sym meant) (possible_table letters h letter rise present may (letter.number % 65536) kept packet (present_state letter.node letter.number h) refl says)
-    by_request Tests says present meant =
-        subst
-        (λ (m : ℕ). IsSound letters h letter Tests
-        (tabled may (letter.number % 65536) (answer_cause ask.Empty (present_state letter.node m h)) (recorded_as ask.Empty (node_at letter.node) m [] (state_given ask.Empty (present_state letter.node m h)))))
-        (sym meant) (test_table letters h letter rise present may (letter.number % 65536) kept [] (present_state letter.node letter.number h) refl says)
-    by_request (Orders order.Release named) says present meant =
-        subst
-        (λ (m : ℕ). IsSound letters h letter (Orders order.Release named)
-        (tabled may (letter.number % 65536) (verdict_cause (verdict_of true (present_state letter.node m h ∷ [])))
-        (changes (verdict_of true (present_state letter.node m h ∷ [])) true (node_at letter.node) (once (λ x y. x == y) (cond (is_held (present_state letter.node m h)) (m ∷ []) [])))))
-        (sym meant) (release_table letters h letter rise present may (letter.number % 65536) kept named (present_state letter.node named h) refl says)
-    by_request (Orders order.Cancel named) says present meant =
-        subst
-        (λ (m : ℕ). IsSound letters h letter (Orders order.Cancel named)
-        (tabled may (letter.number % 65536) (verdict_cause (verdict_of false (present_state letter.node m h ∷ [])))
-        (changes (verdict_of false (present_state letter.node m h ∷ [])) false (node_at letter.node) (once (λ x y. x == y) (cond (is_held (present_state letter.node m h)) (m ∷ []) [])))))
-        (sym meant) (cancel_table letters h letter rise present may (letter.number % 65536) kept named (present_state letter.node named h) refl)

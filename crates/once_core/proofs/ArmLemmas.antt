@@ -1,46 +1,30 @@
 -- What the parts of a step give: what an event that isn't refused tells; that messages stay; how a world begins.
-use Rattle.std.proofs.Common.{◌≡◌, ℕ, zero, suc, ◌+◌, ◌-◌, ◌<◌, ◌≤◌, Bool, true, false, ◌&&◌, not, if◌then◌else◌, List, [], ◌∷◌, ◌++◌, Option, Some, None, length, map, refl, ap, sym, ◌∙◌, arith, true≢false, length-append}
-use Rattle.std.proofs.lemmas.Bool.{leb-true, ltb-true, not-false}
-use Rattle.std.specs.Option.{option_map, option_map_or}
-use Rattle.std.specs.Prelude.{nat_le, nat_lt, slice_get}
+use Rattle.std.proofs.Common.{◌≡◌, ℕ, zero, suc, ◌+◌, ◌-◌, ◌≤◌, true, false, not, List, [], ◌∷◌, ◌++◌, Option, Some, None, length, map, refl, ap, sym, ◌∙◌, arith, length-append, option_map, slice_get}
+use Rattle.std.proofs.lemmas.Bool.{not-false}
+use Rattle.std.specs.Option.{option_map_or}
 use Rattle.node_core.specs.Log.{LogEntry}
-use Rattle.node_core.specs.Log as Log
+use Rattle.node_core.specs.Log
 use Rattle.node_core.specs.Ticks.{tick_entries}
 use Rattle.once_core.proofs.StepLemmas.{or_none, refusing_none}
 use Rattle.once_core.specs.Answers.{delivered, making_close, making_tick, marked}
 use Rattle.once_core.specs.Beginning.{default_rules, first_gateway, times_of, world_of}
 use Rattle.once_core.specs.Gateway.{Gateway, Moved, committing, cut, opened}
-use Rattle.once_core.specs.KeptTurn.{gateway_changed, gateway_moves, no_node, no_running_node, node_changed, node_moves, reaching, runs_at, started_again, turn_kept, with_gateway, with_node}
+use Rattle.once_core.specs.KeptTurn.{gateway_changed, gateway_moves, no_node, no_running_node, node_changed, node_moves, reaching, runs_at, started_again, turn_kept}
 use Rattle.once_core.specs.NodeMoves.{answered_by, due_messages, heard_by, submitted_entries, with_entries}
 use Rattle.once_core.specs.Redirecting.{redirected_kept}
 use Rattle.once_core.specs.Standing.{NodeKept, Stands, WorldKept, gateway_kept, node_kept, nodes_kept, quiet}
-use Rattle.once_core.specs.Turn.{is_none_of, refusing}
+use Rattle.once_core.specs.Turn.{refusing}
 use Rattle.once_core.specs.World.{draft_of}
 use Rattle.once_core.specs.declared.event.Event.{Event}
 use Rattle.once_core.specs.declared.event.Event.TheVariants as event
-use Rattle.once_core.specs.declared.event.WorldKind.{WorldKind}
 use Rattle.once_core.specs.declared.event.WorldKind.TheVariants.{Halted}
 use Rattle.once_core.specs.declared.message.Message.{Message}
-
--- ---- what an event that isn't refused tells
-
-pub place_within : (count number : ℕ) (kind : WorldKind) → refusing (is_none_of count number) kind ≡ None → number - 1 < count
-place_within count number kind allowed =
-    by_tests (nat_lt 0 number) (nat_le number count) refl refl (refusing_none (is_none_of count number) kind allowed)
-  where
-    by_tests : (a b : Bool) → nat_lt 0 number ≡ a → nat_le number count ≡ b → not (a && b) ≡ false → number - 1 < count
-    by_tests true true some few is = omega (arith, ltb-true 0 number some, leb-true number count few)
-    by_tests true false some few is = absurd (true≢false is)
-    by_tests false true some few is = absurd (true≢false is)
-    by_tests false false some few is = absurd (true≢false is)
+use Rattle.once_core.proofs.CaseLemmas.{if_both, map_known}
 
 module _ (k : WorldKept) (number : ℕ) (n : NodeKept) (found : slice_get k.nodes (number - 1) ≡ Some n) where
-  runs_found : runs_at k (number - 1) ≡ n.node.is_running
-  runs_found = ap (λ (o : Option NodeKept). option_map_or (λ (x : NodeKept). x.node.is_running) o false) found
-
   pub runs_there : no_running_node k number ≡ None → n.node.is_running ≡ true
   runs_there allowed =
-      sym runs_found
+      sym (ap (λ (o : Option NodeKept). option_map_or (λ (x : NodeKept). x.node.is_running) o false) found)
       ∙ not-false (runs_at k (number - 1))
       (refusing_none (not (runs_at k (number - 1))) Halted (or_none (no_node k number) (refusing (not (runs_at k (number - 1))) Halted) allowed))
 
@@ -66,16 +50,9 @@ node_kept_by k place change None = omega arith
 node_kept_by k place change (Some n) = omega arith
 
 reaching_stays : (k : WorldKept) (m : Message) → count k ≤ count (reaching k m)
-reaching_stays k m = by_test m.to_gateway
-  where
-    by_test : (b : Bool) → count k ≤ count (if b then with_gateway k m.gateway (delivered default_rules k.moment quiet m)
-        else with_node k m.node (λ n. heard_by n m) (λ n. answered_by n m))
-    by_test true = gateway_stays k m.gateway (delivered default_rules k.moment quiet m) (slice_get k.gateways m.gateway)
-    by_test false = node_stays k m.node (λ n. heard_by n m) (λ n. answered_by n m) (slice_get k.nodes m.node)
-
-delivering_stays : (k : WorldKept) (o : Option Message) → count k ≤ count (option_map_or (reaching k) o k)
-delivering_stays k None = omega arith
-delivering_stays k (Some m) = reaching_stays k m
+reaching_stays k m = if_both (λ (after : WorldKept). count k ≤ count after) m.to_gateway
+    (gateway_stays k m.gateway (delivered default_rules k.moment quiet m) (slice_get k.gateways m.gateway))
+    (node_stays k m.node (λ n. heard_by n m) (λ n. answered_by n m) (slice_get k.nodes m.node))
 
 -- messages that were sent stay
 pub turn_stays : (k : WorldKept) (e : Event) → length k.messages ≤ length (turn_kept k e).messages
@@ -83,7 +60,7 @@ turn_stays k (event.Submit node packet) =
     node_kept_by k (node - 1) (λ n. with_entries (submitted_entries n.node (draft_of packet)) n) (slice_get k.nodes (node - 1))
 turn_stays k (event.Tick node) =
     node_stays k (node - 1) (λ n. with_entries (tick_entries n.node) n) (due_messages (node - 1)) (slice_get k.nodes (node - 1))
-turn_stays k (event.Deliver message) = delivering_stays k (slice_get k.messages (message - 1))
+turn_stays k (event.Deliver message) = map_known (λ (after : WorldKept). count k ≤ count after) (slice_get k.messages (message - 1)) (λ none. omega arith) (λ m there. reaching_stays k m)
 turn_stays k (event.Commit gateway) = gateway_stays k (gateway - 1) (committing quiet) (slice_get k.gateways (gateway - 1))
 turn_stays k (event.Cut gateway keep) = gateway_kept_by k (gateway - 1) (cut keep) (slice_get k.gateways (gateway - 1))
 turn_stays k (event.Open gateway) = gateway_kept_by k (gateway - 1) (opened default_rules) (slice_get k.gateways (gateway - 1))
@@ -99,12 +76,11 @@ turn_stays k (event.Close gateway) = gateway_stays k (gateway - 1) (marked defau
 
 nodes_from : (gateways first count : ℕ) (log : List LogEntry)
     → nodes_kept gateways first (times_of (suc count) log) ≡ nodes_kept gateways first (times_of count log) ++ node_kept gateways (first + count) log ∷ []
-nodes_from gateways first zero log = let e : first ≡ first + 0 = omega arith in ap (λ (n : ℕ). node_kept gateways n log ∷ []) e
+nodes_from gateways first zero log = ap (λ (n : ℕ). node_kept gateways n log ∷ []) (omega arith)
 nodes_from gateways first (suc count) log =
-    let e : suc first + count ≡ first + suc count = omega arith in
     ap (λ (ns : List NodeKept). node_kept gateways first log ∷ ns)
     (nodes_from gateways (suc first) count log
-    ∙ ap (λ (n : ℕ). nodes_kept gateways (suc first) (times_of count log) ++ node_kept gateways n log ∷ []) e)
+    ∙ ap (λ (n : ℕ). nodes_kept gateways (suc first) (times_of count log) ++ node_kept gateways n log ∷ []) (omega arith))
 
 pub nodes_more : (gateways count : ℕ) (log : List LogEntry)
     → nodes_kept gateways 0 (times_of (count + 1) log) ≡ nodes_kept gateways 0 (times_of count log) ++ node_kept gateways count log ∷ []

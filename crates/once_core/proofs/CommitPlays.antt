@@ -1,45 +1,58 @@
--- Commits, openings again, stops, openings and marks of a gateway are happenings.
-use Rattle.std.proofs.Common.{◌≡◌, ℕ, ◌-◌, nat_le, not, Bool, true, false, ◌||◌, if◌then◌else◌, List, [], ◌∷◌, ◌++◌, length, map, filter, take, Contains, refl, sym, ap, subst, ◌∙◌, arith}
-use Rattle.std.proofs.lemmas.Bool.{false≢true}
-use Rattle.std.proofs.lemmas.List.{take_all}
-use Rattle.std.proofs.lemmas.List.Elements.{Contains-append_right}
+-- The parts of a gateway's moves, which are commits, openings again, stops, openings and marks, are happenings.
+pub use Rattle.once_core.proofs.PartLemmas.{noted, whole_book}
+use Rattle.std.proofs.Common.{◌≡◌, ℕ, ◌-◌, nat_le, not, Bool, true, false, List, [], ◌∷◌, ◌++◌, length, map, filter, Contains, refl, sym, ap, subst, ◌∙◌, arith, if◌then◌else◌, take_all}
+use Rattle.std.proofs.lemmas.Bool.{both_ways, cond-false, cond-true, not-true}
 use Rattle.gw_base.specs.declared.history.HistoryEntry.{HistoryEntry}
-use Rattle.gateway_book.specs.Value.{BookValue, Fortune, Gone, Refused, Reopening, Whole, committed, faulted, reopened, tried}
-use Rattle.once_core.specs.Gateway.{Gateway, Rules, committing, cut, giving_up, is_reached, readying, settling, still, with_book}
-use Rattle.once_core.specs.Happenings.{Firms, Keeps, Letter, Post, Scene}
+use Rattle.gateway_book.specs.Value.{BookValue, history_of}
+use Rattle.gw_base.specs.declared.history.HistoryAct.{HistoryAct}
+use Rattle.gateway_book.specs.Answered.{entry_by, no_caller}
+use Rattle.once_core.specs.Gateway.{Gateway, cut, giving_up, is_reached, settling, still, Moved}
+use Rattle.once_core.specs.Happenings.{Firms, Keeps, Post, Scene, Happening, Notes, act_noted}
 use Rattle.once_core.specs.Happenings as did
-use Rattle.once_core.specs.Meaning.{letter_of, meaning_of}
+use Rattle.once_core.specs.Meaning.{letter_of, meaning_of, speaks}
 use Rattle.once_core.specs.Messages.{failing, is_response}
-use Rattle.once_core.specs.Scenes.{firming, is_idle, keeping, with_post, with_settled}
-use Rattle.once_core.specs.Shown.{post_of, waiting_letters}
+use Rattle.once_core.specs.Scenes.{firming, is_idle, keeping, with_post, happened, noting}
+use Rattle.once_core.specs.Shown.{waiting_if, waiting_letters}
 use Rattle.once_core.specs.declared.message.Message.{Message}
 use Rattle.once_core.specs.declared.message.Waiting.{Waiting}
-use Rattle.once_core.proofs.ListLemmas.{filtered, in_none}
+use Rattle.once_core.proofs.ListLemmas.{filtered, in_flat, in_head, in_map, of_map, passed}
 use Rattle.once_core.proofs.MeaningLemmas.{GatewaySaid, ReadsBack, Said, failing_means, failing_said, said_by_gateway}
-use Rattle.once_core.proofs.PlayLemmas.{Plays, Rightly, Stands, adds, goes_on_at, letters_go, post_goes, same_at, settled_goes, still_plays, with_letters}
-use Rattle.once_core.proofs.SceneLemmas.{at_same}
-use Rattle.once_core.proofs.WaitingLemmas.{in_map, letters_passing, of_map, passed, sent_letters}
+use Rattle.once_core.proofs.PlayLemmas.{Plays, Rightly, Stands, still_plays, followed_plays, idle_plays, none_waits, post_plays, settled_plays, stands_after}
+use Rattle.once_core.proofs.PartLemmas.{PartsKeep, cut_book, torn_book, standing}
+use Rattle.once_core.specs.World.{World}
+use Rattle.once_core.proofs.StopLemmas.{history_is, crash_to_all, crash_to_firm}
+use Rattle.once_core.proofs.CaseLemmas.{by_bool, if_known}
 
--- a book whose entries are all firm, and one without the torn ones
-abbrev pub whole_book : BookValue → ℕ → Bool → BookValue
-whole_book v cuts broken = record { firm = v.firm ++ v.rest; rest = []; cuts = cuts; is_broken = broken }
+-- ---- answers that wait, by what they mean
 
-abbrev cut_book : BookValue → ℕ → BookValue
-cut_book v cuts = record { firm = v.firm; rest = []; cuts = cuts; is_broken = false }
+module _ (q : ℕ → Bool) where
+  abbrev passes : did.WaitingLetter → Bool
+  passes v = q v.front
 
-abbrev torn_book : BookValue → ℕ → BookValue
-torn_book v cuts = record { firm = v.firm; rest = v.rest; cuts = cuts; is_broken = true }
+  -- the answers among those that pass are the answers that pass
+  letters_passing : (ws : List Waiting) → waiting_letters (filter (λ w. q w.front) ws) ≡ filter passes (waiting_letters ws)
+  letters_passing [] = refl
+  letters_passing (w ∷ ws) =
+      let rest = letters_passing ws in
+      if_known (λ (vs : List Waiting). waiting_letters vs ≡ filter passes (waiting_letters (w ∷ ws))) (q w.front)
+      (λ e. by_bool (λ (b : Bool). waiting_if b w ++ waiting_letters (filter (λ v. q v.front) ws) ≡ filter passes (waiting_if b w ++ waiting_letters ws))
+      (speaks w.message) (λ speaking. ap (λ (ls : List did.WaitingLetter). waiting_if true w ++ ls) rest ∙ sym (cond-true (q w.front) _ _ e)) (λ silent. rest))
+      (λ e. by_bool (λ (b : Bool). waiting_letters (filter (λ v. q v.front) ws) ≡ filter passes (waiting_if b w ++ waiting_letters ws))
+      (speaks w.message) (λ speaking. rest ∙ sym (cond-false (q w.front) _ _ e)) (λ silent. rest))
 
--- a gateway that stopped with these entries behind the firm ones
-abbrev left_with : Gateway → List HistoryEntry → Gateway
-left_with g left = record { book = record g.book { rest = left; is_broken = false }; waiting = []; is_down = true; redirects = g.redirects }
+-- an answer among the messages that wait is among the letters
+sent_letters : (ws : List Waiting) (m : Message) → Contains (map (λ w. w.message) ws) m → speaks m ≡ true
+    → Contains (map (λ (v : did.WaitingLetter). v.letter) (waiting_letters ws)) (letter_of m)
+sent_letters ws m is speaking =
+    let there = of_map (λ (w : Waiting). w.message) ws m is in
+    let letter : did.WaitingLetter = record { front = there.0.front; letter = letter_of there.0.message } in
+    subst (λ (n : Message). Contains (map (λ (v : did.WaitingLetter). v.letter) (waiting_letters ws)) (letter_of n)) there.2
+    (in_map (λ (v : did.WaitingLetter). v.letter) (waiting_letters ws) letter
+    (in_flat (λ (w : Waiting). waiting_if (speaks w.message) w) ws there.0 letter there.1
+    (subst (λ (b : Bool). Contains (waiting_if b there.0) letter) (sym (ap speaks there.2 ∙ speaking)) (in_head letter []))))
 
 pub not_reached : (book : BookValue) (ws : List Waiting) (w : Waiting) → Contains (filter (λ v. not (is_reached book v)) ws) w → is_reached book w ≡ false
-not_reached book ws w is = by (is_reached book w) (passed (λ v. not (is_reached book v)) ws w is)
-  where
-    by : (b : Bool) → not b ≡ true → b ≡ false
-    by true e = absurd (false≢true e)
-    by false e = refl
+not_reached book ws w is = not-true (is_reached book w) (passed (λ v. not (is_reached book v)) ws w is)
 
 -- a gateway that isn't broken settles rightly
 pub settled_rightly : (g : Gateway) → g.book.is_broken ≡ false → ((w : Waiting) → Contains g.waiting w → (w.message.to_gateway ≡ false) × GatewaySaid w.message)
@@ -47,8 +60,11 @@ pub settled_rightly : (g : Gateway) → g.book.is_broken ≡ false → ((w : Wai
 settled_rightly g sound said = record {
   fronts = λ w is. not_reached g.book g.waiting w is;
   said = λ w is. said w (filtered (λ v. not (is_reached g.book v)) g.waiting w is);
-  broken = λ e. absurd (false≢true (sym sound ∙ e));
+  broken = λ e. absurd (both_ways g.book.is_broken sound e);
 }
+
+pub noted_rightly : (now : ℕ) (a : HistoryAct) {g : Gateway} → Rightly g → Rightly (noted now a g)
+noted_rightly now a is = record { fronts = is.fronts; said = is.said; broken = is.broken }
 
 -- what settling sends was said
 pub settled_said : (g : Gateway) → ((w : Waiting) → Contains g.waiting w → (w.message.to_gateway ≡ false) × GatewaySaid w.message)
@@ -58,144 +74,109 @@ settled_said g said m is =
     let is_said = said there.0 (filtered (is_reached g.book) g.waiting there.0 there.1) in
     subst Said there.2 (said_by_gateway there.0.message is_said.0 is_said.1)
 
-module _ (gateway : ℕ) (scene : Scene) (g : Gateway) (stands : Stands gateway scene g) where
+-- whether the gateway is down, and how often it redirected, is nothing there
+relabelled_plays : {gateway : ℕ} {scene : Scene} {moved : Moved} (is_down : Bool) (redirects : ℕ) → Plays gateway scene moved
+    → Plays gateway scene (record { gateway = record moved.gateway { is_down = is_down; redirects = redirects }; sends = moved.sends })
+relabelled_plays is_down redirects plays = record {
+  later = plays.later;
+  after = plays.after;
+  is = plays.is;
+  goes = plays.goes;
+  post = plays.post;
+  sends = plays.sends;
+  said = plays.said;
+  rightly = record { fronts = plays.rightly.fronts; said = plays.rightly.said; broken = plays.rightly.broken };
+}
+
+module _ {gateway : ℕ} {scene : Scene} {g : Gateway} (stands : Stands gateway scene g) where
   -- all becomes firm
   pub firm_plays : (cuts : ℕ) → Plays gateway scene (settling (record g { book = whole_book g.book cuts false }))
-  firm_plays cuts = record {
-    later = Firms gateway ∷ [];
-    after = with_settled gateway (firming (scene.posts gateway)) scene;
-    is = refl;
-    goes = settled_goes gateway (firming (scene.posts gateway)) scene;
-    post = at_same gateway (firming (scene.posts gateway)).post scene.posts ∙ ap (λ (p : Post). (firming p).post) stands.post ∙ post_is;
-    sends = λ m is speaking.
-        Contains-append_right scene.letters (firming (scene.posts gateway)).sends (letter_of m)
-        (subst (λ (p : Post). Contains (firming p).sends (letter_of m)) (sym stands.post)
-        (subst (λ (ws : List did.WaitingLetter). Contains (map (λ (v : did.WaitingLetter). v.letter) ws) (letter_of m))
-        (letters_passing (λ n. nat_le n (length all)) g.waiting)
-        (sent_letters (filter (λ w. nat_le w.front (length all)) g.waiting) m is speaking)));
-    said = settled_said (record g { book = whole_book g.book cuts false }) stands.rightly.said;
-    rightly = settled_rightly (record g { book = whole_book g.book cuts false }) refl stands.rightly.said;
-  }
-    where
-      all : List HistoryEntry
-      all = g.book.firm ++ g.book.rest
-
-      post_is : (firming (post_of g)).post ≡ post_of (settling (record g { book = whole_book g.book cuts false })).gateway
-      post_is = ap (λ (ws : List did.WaitingLetter). record { firm = all; rest = []; waiting = ws })
-          (sym (letters_passing (λ n. not (nat_le n (length all))) g.waiting))
+  firm_plays cuts =
+      let whole : Gateway = record g { book = whole_book g.book cuts false } in
+      let all : List HistoryEntry = g.book.firm ++ g.book.rest in
+      settled_plays gateway scene (firming (scene.posts gateway)) (Firms gateway ∷ []) (settling whole) refl
+      (ap (λ (p : Post). (firming p).post) stands.post ∙ ap (λ (ws : List did.WaitingLetter). record { firm = all; rest = []; waiting = ws })
+      (sym (letters_passing (λ n. not (nat_le n (length all))) g.waiting)))
+      (λ m is speaking.
+      subst (λ (p : Post). Contains (firming p).sends (letter_of m)) (sym stands.post)
+      (subst (λ (ws : List did.WaitingLetter). Contains (map (λ (v : did.WaitingLetter). v.letter) ws) (letter_of m))
+      (letters_passing (λ n. nat_le n (length all)) g.waiting)
+      (sent_letters (filter (λ w. nat_le w.front (length all)) g.waiting) m is speaking)))
+      (settled_said whole stands.rightly.said) (settled_rightly whole refl stands.rightly.said)
 
   -- the torn entries are gone
-  gone_plays : (cuts : ℕ) → g.waiting ≡ [] → Plays gateway scene (settling (record g { book = cut_book g.book cuts }))
-  gone_plays cuts none = record {
-    later = Keeps gateway 0 ∷ [];
-    after = with_post gateway (keeping 0 (scene.posts gateway)) scene;
-    is = refl;
-    goes = post_goes gateway (keeping 0 (scene.posts gateway)) scene;
-    post =
-        at_same gateway (keeping 0 (scene.posts gateway)) scene.posts ∙ ap (keeping 0) stands.post
-        ∙ ap (λ (ws : List did.WaitingLetter). record { firm = g.book.firm; rest = []; waiting = ws })
-        (ap (λ (ws : List Waiting). waiting_letters (filter (λ w. not (is_reached (cut_book g.book cuts) w)) ws)) (sym none));
-    sends = λ m is speaking. absurd (in_none m (subst (λ (ws : List Waiting). Contains (map (λ w. w.message) (filter (is_reached (cut_book g.book cuts)) ws)) m) none is));
-    said = settled_said (record g { book = cut_book g.book cuts }) stands.rightly.said;
-    rightly = settled_rightly (record g { book = cut_book g.book cuts }) refl stands.rightly.said;
-  }
+  gone_plays : (cuts : ℕ) → g.book.is_broken ≡ true → Plays gateway scene (settling (record g { book = cut_book g.book cuts }))
+  gone_plays cuts broken =
+      subst (λ (ws : List Waiting). Plays gateway scene (settling (record g { book = cut_book g.book cuts; waiting = ws }))) (sym (stands.rightly.broken broken))
+      (post_plays gateway scene (keeping 0 (scene.posts gateway)) (Keeps gateway 0) (record g { book = cut_book g.book cuts; waiting = [] }) refl
+      (ap (keeping 0) stands.post) (none_waits refl))
 
-  -- none is told of a failure where nothing waits
-  refused_plays : (cuts : ℕ) → g.waiting ≡ [] → Plays gateway scene (giving_up (record g { book = torn_book g.book cuts }))
-  refused_plays cuts none = record {
-    later = [];
-    after = scene;
-    is = refl;
-    goes = same_at gateway scene;
-    post = stands.post ∙ ap (λ (ws : List Waiting). record { firm = g.book.firm; rest = g.book.rest; waiting = waiting_letters ws }) none;
-    sends = λ m is speaking. absurd (in_none m (nothing m is));
-    said = λ m is. absurd (in_none m (nothing m is));
-    rightly = record { fronts = λ w is. absurd (in_none w is); said = λ w is. absurd (in_none w is); broken = λ e. refl };
-  }
-    where
-      nothing : (m : Message) → Contains (giving_up (record g { book = torn_book g.book cuts })).sends m → Contains [] m
-      nothing m is = subst (λ (ws : List Waiting). Contains (map (λ w. failing w.message) (filter (λ w. is_response w.message) ws)) m) none is
+  -- a commit or an opening again fails, and the requests that wait are told
+  torn_plays : ReadsBack → (cuts : ℕ) → Plays gateway scene (giving_up (record g { book = torn_book g.book cuts }))
+  torn_plays back cuts =
+      let all : ℕ = length g.book.rest in
+      let asked : List Waiting = filter (λ w. is_response w.message) g.waiting in
+      let torn : Gateway = record g { book = torn_book g.book cuts; waiting = [] } in
+      let lost : Plays gateway scene (still torn) =
+      post_plays gateway scene (keeping all (scene.posts gateway)) (Keeps gateway all) torn refl
+      (ap (keeping all) stands.post ∙ ap (λ (r : List HistoryEntry). record { firm = g.book.firm; rest = r; waiting = [] }) (take_all all g.book.rest (omega arith)))
+      (none_waits refl) in
+      followed_plays (λ a. record { gateway = a; sends = map (λ w. failing w.message) asked }) lost
+      (idle_plays (stands_after lost) (map (λ w. failing w.message) asked)
+      (λ m is.
+      let there = of_map (λ (w : Waiting). failing w.message) asked m is in
+      let was = stands.rightly.said there.0 (filtered (λ w. is_response w.message) g.waiting there.0 there.1) in
+      subst Said there.2 (said_by_gateway (failing there.0.message) was.0 (failing_said there.0.message)))
+      (λ m is.
+      let there = of_map (λ (w : Waiting). failing w.message) asked m is in
+      subst (λ (k : Message). is_idle (meaning_of k) ≡ true) there.2 (ap is_idle (failing_means back there.0.message))))
 
-  -- a commit fails, and the requests that wait are told
-  module _ (back : ReadsBack) where
-    torn_plays : (cuts : ℕ) → Plays gateway scene (giving_up (record g { book = torn_book g.book cuts }))
-    torn_plays cuts = record {
-      later = Keeps gateway (length g.book.rest) ∷ map (λ l. did.Adds l) letters;
-      after = with_letters letters (with_post gateway (keeping (length g.book.rest) (scene.posts gateway)) scene);
-      is = adds letters (with_post gateway (keeping (length g.book.rest) (scene.posts gateway)) scene) idle;
-      goes =
-          goes_on_at gateway scene (with_post gateway (keeping (length g.book.rest) (scene.posts gateway)) scene)
-          (with_letters letters (with_post gateway (keeping (length g.book.rest) (scene.posts gateway)) scene))
-          (post_goes gateway (keeping (length g.book.rest) (scene.posts gateway)) scene)
-          (letters_go gateway letters (with_post gateway (keeping (length g.book.rest) (scene.posts gateway)) scene));
-      post =
-          at_same gateway (keeping (length g.book.rest) (scene.posts gateway)) scene.posts ∙ ap (keeping (length g.book.rest)) stands.post
-          ∙ ap (λ (r : List HistoryEntry). record { firm = g.book.firm; rest = r; waiting = [] }) (take_all (length g.book.rest) g.book.rest (omega arith));
-      sends = λ m is speaking. Contains-append_right scene.letters letters (letter_of m) (in_map letter_of sent m is);
-      said = λ m is.
-          let there = of_map (λ (w : Waiting). failing w.message) asked m is in
-          let was = stands.rightly.said there.0 (filtered (λ w. is_response w.message) g.waiting there.0 there.1) in
-          subst Said there.2 (said_by_gateway (failing there.0.message) was.0 (failing_said there.0.message));
-      rightly = record { fronts = λ w is. absurd (in_none w is); said = λ w is. absurd (in_none w is); broken = λ e. refl };
-    }
-      where
-        asked : List Waiting
-        asked = filter (λ w. is_response w.message) g.waiting
-
-        sent : List Message
-        sent = map (λ w. failing w.message) asked
-
-        letters : List Letter
-        letters = map letter_of sent
-
-        idle : (l : Letter) → Contains letters l → is_idle l.says ≡ true
-        idle l is =
-            let there = of_map letter_of sent l is in
-            let waited = of_map (λ (w : Waiting). failing w.message) asked there.0 there.1 in
-            let means = failing_means back waited.0.message in
-            subst (λ (k : Letter). is_idle k.says ≡ true) there.2
-            (subst (λ (k : Message). is_idle (meaning_of k) ≡ true) waited.2 (ap is_idle means))
-
-    pub committing_plays : (f : Fortune) → Plays gateway scene (committing f g)
-    committing_plays f = by_test g.book.is_broken refl
-      where
-        by_finding : (found : Reopening) → g.waiting ≡ [] → Plays gateway scene (with_book (reopened g.book found) g)
-        by_finding Whole none = firm_plays g.book.cuts
-        by_finding Gone none = gone_plays g.book.cuts none
-        by_finding Refused none = refused_plays (faulted g.book).cuts none
-
-        by_failing : (fails : Bool) → g.book.is_broken ≡ false → Plays gateway scene (with_book (if fails then faulted g.book else committed g.book) g)
-        by_failing true sound = torn_plays (faulted g.book).cuts
-        by_failing false sound = subst (λ (b : Bool). Plays gateway scene (with_book (whole_book g.book g.book.cuts b) g)) (sym sound) (firm_plays g.book.cuts)
-
-        by_test : (b : Bool) → g.book.is_broken ≡ b → Plays gateway scene (with_book (if b then reopened g.book f.reopening else tried f g.book) g)
-        by_test true e = by_finding f.reopening (stands.rightly.broken e)
-        by_test false e = by_failing f.fails e
-
-    pub readying_plays : (rules : Rules) (f : Fortune) → Plays gateway scene (readying rules f g)
-    readying_plays rules f = by_test (g.book.is_broken || rules.is_full g.book)
-      where
-        by_test : (b : Bool) → Plays gateway scene (if b then committing f g else still g)
-        by_test true = committing_plays f
-        by_test false = still_plays gateway scene g stands
-
-  -- ---- stops
+  -- an act is recorded by a happening that notes it
+  pub noted_plays : g.book.is_broken ≡ false → (now : ℕ) (a : HistoryAct) (next : Happening)
+      → happened scene next ≡ with_post gateway (noting now no_caller a (scene.posts gateway)) scene → Plays gateway scene (still (noted now a g))
+  noted_plays sound now a next is =
+      post_plays gateway scene (noting now no_caller a (scene.posts gateway)) next (noted now a g) is
+      (ap (noting now no_caller a) stands.post
+      ∙ ap (λ (h : List HistoryEntry). record { firm = g.book.firm; rest = g.book.rest ++ entry_by h now no_caller a ∷ []; waiting = waiting_letters g.waiting })
+      (sym (history_is g.book sound)))
+      (noted_rightly now a stands.rightly)
 
   -- so many of the entries behind the firm ones are left
-  kept_plays : (keep : ℕ) (left : List HistoryEntry) → take keep g.book.rest ≡ left
-      → Plays gateway scene (still (left_with g left))
-  kept_plays keep left is_left = record {
-    later = Keeps gateway keep ∷ [];
-    after = with_post gateway (keeping keep (scene.posts gateway)) scene;
-    is = refl;
-    goes = post_goes gateway (keeping keep (scene.posts gateway)) scene;
-    post =
-        at_same gateway (keeping keep (scene.posts gateway)) scene.posts ∙ ap (keeping keep) stands.post
-        ∙ ap (λ (r : List HistoryEntry). record { firm = g.book.firm; rest = r; waiting = [] }) is_left;
-    sends = λ m is speaking. absurd (in_none m is);
-    said = λ m is. absurd (in_none m is);
-    rightly = record { fronts = λ w is. absurd (in_none w is); said = λ w is. absurd (in_none w is); broken = λ e. refl };
-  }
+  cut_plays : (keep : ℕ) → Plays gateway scene (still (cut keep g))
+  cut_plays keep =
+      let count : ℕ = keep - length g.book.firm in
+      post_plays gateway scene (keeping count (scene.posts gateway)) (Keeps gateway count) (cut keep g) refl (ap (keeping count) stands.post) (none_waits refl)
 
-  pub cut_plays : (keep : ℕ) → Plays gateway scene (still (cut keep g))
-  cut_plays keep = kept_plays (keep - length g.book.firm) (take (keep - length g.book.firm) g.book.rest) refl
+-- what a journal holds becomes firm
+stood_plays : {gateway : ℕ} {scene : Scene} {g : Gateway} → Stands gateway scene g → Plays gateway scene (still (standing (history_of g.book)))
+stood_plays {gateway} {scene} {g} stands =
+    by_bool (λ (b : Bool). Plays gateway scene (still (standing (if b then g.book.firm else g.book.firm ++ g.book.rest)))) g.book.is_broken
+    (λ broken. held 0 (crash_to_firm g)) (λ sound. held (length (g.book.firm ++ g.book.rest)) (crash_to_all g))
+  where
+    held : (count : ℕ) {h : List HistoryEntry} → history_of (cut count g).book ≡ h → Plays gateway scene (still (standing h))
+    held count is =
+        let cuts = cut_plays stands count in
+        subst (λ (h : List HistoryEntry). Plays gateway scene (still (standing h))) is
+        (relabelled_plays false 0 (followed_plays (λ a. settling (record a { book = whole_book a.book 0 false })) cuts (firm_plays (stands_after cuts) 0)))
+
+-- the messages of a world are in a scene
+abbrev pub HasLetters : World → Scene → Type 0
+HasLetters w scene = (m : Message) → Contains w.messages m → speaks m ≡ true → Contains scene.letters (letter_of m)
+
+-- wherever the gateway in this place stands in such a scene, its move is played
+abbrev pub Played : World → ℕ → Gateway → Moved → Type 0
+Played w place g moved = (scene : Scene) → Stands place scene g → HasLetters w scene → Plays place scene moved
+
+pub parts_play : ReadsBack → (w : World) (place : ℕ) → PartsKeep (Played w place)
+parts_play back w place = record {
+  stays = λ g scene stands there. still_plays stands;
+  follows = λ g first next a b scene stands there.
+      let plays = a scene stands there in
+      followed_plays next plays (b plays.after (stands_after plays) (λ m is speaking. plays.goes.letters (letter_of m) (there m is speaking)));
+  firm = λ g cuts scene stands there. firm_plays stands cuts;
+  gone = λ g cuts broken scene stands there. gone_plays stands cuts broken;
+  torn = λ g cuts scene stands there. torn_plays stands back cuts;
+  notes = λ g note now sound due scene stands there. noted_plays stands sound now (act_noted note) (Notes place note now no_caller) refl;
+  cuts = λ g keep scene stands there. cut_plays stands keep;
+  stands = λ g scene stands there. stood_plays stands;
+}

@@ -1,9 +1,10 @@
--- What was filed under a key, by its state.
-use Rattle.std.proofs.Common.{◌≡◌, ℕ, zero, suc, ◌+◌, ◌==◌, ◌&&◌, ◌||◌, Bool, true, false, if◌then◌else◌, List, [], ◌∷◌, ◌++◌, Option, Some, None, option_and_then, refl, sym, ap, subst, ◌∙◌, arith}
+-- What was filed under a key, by its state, and which request brought it.
+use Rattle.std.proofs.Common.{◌≡◌, ℕ, zero, suc, ◌+◌, ◌==◌, ◌&&◌, ◌||◌, Bool, true, false, if◌then◌else◌, List, [], ◌∷◌, ◌++◌, Option, Some, option_and_then, refl, sym, ap, subst, ◌∙◌, arith, ⊎_elim, Contains, slice_get, append-nil, option_map}
 use Rattle.std.proofs.lemmas.Bool.{and_parts, and_right, eqb-true}
-use Rattle.std.proofs.lemmas.List.{append-nil}
-use Rattle.std.specs.List.{list_any}
+use Rattle.std.specs.List.{list_any, enumerate_from}
 use Rattle.std.specs.Option.{option_map_or}
+use Rattle.std.proofs.lemmas.List.Elements.{Contains-append_cases}
+use Rattle.std.proofs.lemmas.Option.{same_Some}
 use Rattle.gw_base.specs.EntryLaws.{key_naming-append, present_entries_are, present_state_is, state_of-append}
 use Rattle.gw_base.specs.History.{epoch_entries, epoch_of, given_state, last_naming, names, present_state, state_by, state_of}
 use Rattle.gw_base.specs.Lists.{once}
@@ -17,15 +18,21 @@ use Rattle.gw_base.specs.declared.history.PacketKey.{PacketKey}
 use Rattle.gw_base.specs.declared.key_state.KeyState.{KeyState}
 use Rattle.gw_base.specs.declared.key_state.KeyState.TheVariants.{Fresh, Filed, Held, Released}
 use Rattle.node_core.specs.declared.copy.Order.TheVariants as order
-use Rattle.gateway_book.specs.Filed.{filed, filed_by, filed_by_act, filed_under, held_packet, packet_of_hold, present_key, released_by, released_records}
+use Rattle.gateway_book.specs.Filed.{filed, filed_by, filed_under, held_packet, packet_of_hold, present_key, released_by, released_records, filed_by_act, filed_record, records_if}
 use Rattle.gateway_book.specs.FiledLaws.{along-append}
 use Rattle.gateway_book.specs.Once.{same_key, times_filed}
+use Rattle.gateway_book.specs.declared.filing.FiledRecord.{FiledRecord}
+use Rattle.gtpp_message.specs.Packet.{PacketForm, packet_of}
+use Rattle.gw_base.specs.CdrKind.{kind_of}
 use Rattle.once_core.specs.Epochs.{RisesBy, StartsRise, epoch_with}
 use Rattle.once_core.specs.Happenings.{Letter, Orders, Request, Sends}
 use Rattle.once_core.specs.Resting.{IsAsked, Rests, RestsBy}
 use Rattle.once_core.proofs.EachLemmas.{by_each, each_also}
 use Rattle.once_core.proofs.EpochLemmas.{epoch_stays, present_epoch}
-use Rattle.once_core.proofs.FiledLemmas.{none_of_packet, times-append, times_of_packet, within}
+use Rattle.once_core.proofs.FiledLemmas.{none_of_packet, times-append, times_of_packet, within, record_within}
+use Rattle.once_core.proofs.CaseLemmas.{by_bool, map_known, by_option}
+use Rattle.once_core.specs.FiledOnce.{kind_within, records_within}
+use Rattle.once_core.proofs.ListLemmas.{in_none, of_map}
 
 -- the starts rise in a history whose entries rest on messages
 pub starts_rise : (letters : List Letter) (gateway : ℕ) (h : List HistoryEntry) → Rests letters gateway h → StartsRise h
@@ -33,14 +40,14 @@ starts_rise letters gateway = each_also (λ before e. RestsBy letters gateway be
   where
     by_act : (h : List HistoryEntry) (a : HistoryAct) → RestsBy letters gateway h a → RisesBy h a
     by_act h (act.Path n port counter) rests = rests
-    by_act h act.Start rests = tt
-    by_act h (act.File n x packet) rests = tt
-    by_act h (act.Hold n x packet) rests = tt
-    by_act h (act.Seal n x) rests = tt
-    by_act h (act.Release n xs) rests = tt
-    by_act h (act.Cancel n xs) rests = tt
-    by_act h act.Tick rests = tt
-    by_act h act.Close rests = tt
+    by_act h _ rests = tt
+
+-- a record of a packet is filed in the packet's kind
+kept_kind : (k : PacketKey) (moment : ℕ) (octets : List ℕ) (r : FiledRecord) → Contains (filed_under k moment octets) r
+    → kind_within octets ≡ Some r.kind
+kept_kind k moment octets r = by_option (λ (form : Option PacketForm). Contains (records_if k moment form) r → option_map (λ (form : PacketForm). kind_of form.format form.version) form ≡ Some r.kind)
+    (packet_of octets) (λ none is. absurd (in_none r is))
+    (λ form there is. ap (λ (f : FiledRecord). Some f.kind) (of_map (filed_record k moment form.format form.version) (enumerate_from 0 form.records) r is).2)
 
 module _ (letters : List Letter) (gateway : ℕ) (key : PacketKey) where
   -- a request of the key's node in the start of its epoch
@@ -56,55 +63,68 @@ module _ (letters : List Letter) (gateway : ℕ) (key : PacketKey) where
   abbrev pub held_at : List HistoryEntry → Option (List ℕ)
   held_at h = option_and_then (λ e. packet_of_hold e.act) (last_naming key.node.0 key.number (epoch_entries key.node.0 key.epoch h))
 
-  -- whether the entry of a node names the key
-  abbrev pub named : List HistoryEntry → NodeId → Bool → Bool
-  named h n b = (epoch_of key.node.0 h == key.epoch) && ((n.0 == key.node.0) && b)
+  -- an entry that names a number of a node here
+  module _ (h : List HistoryEntry) (n : NodeId) (x : ℕ) where
+    -- whether it names the key, and what it means that it does
+    abbrev pub named : Bool
+    named = (epoch_of key.node.0 h == key.epoch) && ((n.0 == key.node.0) && (x == key.number))
 
-  -- what it means that it does
-  pub record IsHere (h : List HistoryEntry) (n : NodeId) (b : Bool) : Type 0 where
-    pub node : n.0 ≡ key.node.0
-    pub epoch : epoch_of n.0 h ≡ key.epoch
-    pub test : b ≡ true
+    pub record IsHere : Type 0 where
+      pub node : n.0 ≡ key.node.0
+      pub epoch : epoch_of n.0 h ≡ key.epoch
+      pub number : x ≡ key.number
 
-  pub is_here : (h : List HistoryEntry) (n : NodeId) (b : Bool) → named h n b ≡ true → IsHere h n b
-  is_here h n b e =
-      let outer = and_parts (epoch_of key.node.0 h == key.epoch) ((n.0 == key.node.0) && b) e in
-      let inner = and_parts (n.0 == key.node.0) b outer.1 in
-      let node = eqb-true n.0 key.node.0 inner.0 in
-      record { node = node; epoch = ap (λ (m : ℕ). epoch_of m h) node ∙ eqb-true (epoch_of key.node.0 h) key.epoch outer.0; test = inner.1 }
+    pub is_here : named ≡ true → IsHere
+    is_here e =
+        let outer = and_parts (epoch_of key.node.0 h == key.epoch) ((n.0 == key.node.0) && (x == key.number)) e in
+        let inner = and_parts (n.0 == key.node.0) (x == key.number) outer.1 in
+        let node = eqb-true n.0 key.node.0 inner.0 in
+        record {
+          node = node;
+          epoch = ap (λ (m : ℕ). epoch_of m h) node ∙ eqb-true (epoch_of key.node.0 h) key.epoch outer.0;
+          number = eqb-true x key.number inner.1;
+        }
 
-  pub state_here : (h : List HistoryEntry) (n : NodeId) (b : Bool) → IsHere h n b → state_of key h ≡ present_state n.0 key.number h
-  state_here h n b is =
-      ap (λ (k : ℕ). state_by (last_naming key.node.0 key.number (epoch_entries key.node.0 k h))) (sym is.epoch ∙ ap (λ (m : ℕ). epoch_of m h) is.node)
-      ∙ present_state_is key.node key.number h ∙ ap (λ (m : ℕ). present_state m key.number h) (sym is.node)
+    pub state_here : IsHere → state_of key h ≡ present_state n.0 x h
+    state_here is =
+        ap (λ (k : ℕ). state_by (last_naming key.node.0 key.number (epoch_entries key.node.0 k h))) (sym is.epoch ∙ ap (λ (m : ℕ). epoch_of m h) is.node)
+        ∙ present_state_is key.node key.number h
+        ∙ ap (λ (m : ℕ). present_state m key.number h) (sym is.node) ∙ ap (λ (y : ℕ). present_state n.0 y h) (sym is.number)
 
-  pub held_here : (h : List HistoryEntry) (n : NodeId) (b : Bool) → IsHere h n b → held_packet n.0 key.number h ≡ held_at h
-  held_here h n b is =
-      ap (λ (m : ℕ). held_packet m key.number h) is.node
-      ∙ ap (λ (es : List HistoryEntry). option_and_then (λ e. packet_of_hold e.act) (last_naming key.node.0 key.number es)) (sym (present_entries_are key.node.0 h))
-      ∙ ap (λ (k : ℕ). option_and_then (λ e. packet_of_hold e.act) (last_naming key.node.0 key.number (epoch_entries key.node.0 k h)))
-      (ap (λ (m : ℕ). epoch_of m h) (sym is.node) ∙ is.epoch)
+    pub held_here : IsHere → held_packet n.0 x h ≡ held_at h
+    held_here is =
+        ap (λ (y : ℕ). held_packet n.0 y h) is.number ∙ ap (λ (m : ℕ). held_packet m key.number h) is.node
+        ∙ ap (λ (es : List HistoryEntry). option_and_then (λ e. packet_of_hold e.act) (last_naming key.node.0 key.number es)) (sym (present_entries_are key.node.0 h))
+        ∙ ap (λ (k : ℕ). option_and_then (λ e. packet_of_hold e.act) (last_naming key.node.0 key.number (epoch_entries key.node.0 k h)))
+        (ap (λ (m : ℕ). epoch_of m h) (sym is.node) ∙ is.epoch)
 
-  begun_here : (h : List HistoryEntry) (n : NodeId) (b : Bool) → StartsRise h → IsHere h n b → epoch_with key.node.0 (start_of n.0 h) h ≡ Some key.epoch
-  begun_here h n b rise is =
-      ap (λ (m : ℕ). epoch_with m (start_of n.0 h) h) (sym is.node) ∙ present_epoch n.0 h rise ∙ ap (λ (k : ℕ). Some k) is.epoch
+    backed_here : (number : ℕ) (request : Request) → StartsRise h → IsHere → IsAsked letters n.0 (start_of n.0 h) gateway number request → IsBacked h number request
+    backed_here number request rise is asked = record {
+      start = start_of n.0 h;
+      begun = ap (λ (m : ℕ). epoch_with m (start_of n.0 h) h) (sym is.node) ∙ present_epoch n.0 h rise ∙ ap (λ (k : ℕ). Some k) is.epoch;
+      asked = subst (λ (m : ℕ). IsAsked letters m (start_of n.0 h) gateway number request) is.node asked;
+    }
 
-  backed_here : (h : List HistoryEntry) (n : NodeId) (b : Bool) (number : ℕ) (request : Request) → StartsRise h → IsHere h n b
-      → IsAsked letters n.0 (start_of n.0 h) gateway number request → IsBacked h number request
-  backed_here h n b number request rise is asked = record {
-    start = start_of n.0 h;
-    begun = begun_here h n b rise is;
-    asked = subst (λ (m : ℕ). IsAsked letters m (start_of n.0 h) gateway number request) is.node asked;
-  }
+    backed_at : (e : HistoryEntry) (request : Request) → StartsRise h → IsHere → IsAsked letters n.0 (start_of n.0 h) gateway x request
+        → IsBacked (h ++ e ∷ []) key.number request
+    backed_at e request rise is asked =
+        backed_stays h (e ∷ []) key.number request
+        (backed_here key.number request rise is (subst (λ (y : ℕ). IsAsked letters n.0 (start_of n.0 h) gateway y request) is.number asked))
 
-  -- the present key of the node is the key, or not
-  pub same_here : (h : List HistoryEntry) (n : NodeId) (x : ℕ) → same_key (present_key h n x) key ≡ named h n (x == key.number)
-  same_here h n x = by_test (n.0 == key.node.0) refl
-    where
-      by_test : (same : Bool) → (n.0 == key.node.0) ≡ same
-          → ((same && (epoch_of n.0 h == key.epoch)) && (x == key.number)) ≡ ((epoch_of key.node.0 h == key.epoch) && (same && (x == key.number)))
-      by_test true e = ap (λ (m : ℕ). (epoch_of m h == key.epoch) && (x == key.number)) (eqb-true n.0 key.node.0 e)
-      by_test false e = sym (and_right (epoch_of key.node.0 h == key.epoch) false refl)
+    -- the present key of the node is the key, or not
+    same_here : same_key (present_key h n x) key ≡ named
+    same_here =
+        by_bool (λ (same : Bool). ((same && (epoch_of n.0 h == key.epoch)) && (x == key.number)) ≡ ((epoch_of key.node.0 h == key.epoch) && (same && (x == key.number))))
+        (n.0 == key.node.0) (λ e. ap (λ (m : ℕ). (epoch_of m h == key.epoch) && (x == key.number)) (eqb-true n.0 key.node.0 e))
+        (λ e. sym (and_right (epoch_of key.node.0 h == key.epoch) false refl))
+
+  -- a list of one number
+  pub any_one : (xs : List ℕ) (x : ℕ) → xs ≡ x ∷ [] → list_any (λ y. y == key.number) xs ≡ (x == key.number)
+  any_one xs x alone =
+      ap (λ (ys : List ℕ). list_any (λ y. y == key.number) ys) alone ∙ by_bool (λ (b : Bool). (b || false) ≡ b) (x == key.number) (λ e. refl) (λ e. refl)
+
+  abbrev entry : ℕ → Caller → HistoryAct → HistoryEntry
+  entry moment who a = record { moment = moment; caller = who; act = a }
 
   module _ (index : ℕ) where
     abbrev times : List HistoryEntry → ℕ
@@ -135,56 +155,31 @@ module _ (letters : List Letter) (gateway : ℕ) (key : PacketKey) where
 
     -- ---- one entry more
 
-    held_stays : (h : List HistoryEntry) (e : HistoryEntry) → ((epoch_of key.node.0 h == key.epoch) && names key.node.0 key.number e.act) ≡ false → held_at (h ++ e ∷ []) ≡ held_at h
-    held_stays h e unnamed =
+    held_after : (h : List HistoryEntry) (e : HistoryEntry) (b : Bool) → ((epoch_of key.node.0 h == key.epoch) && names key.node.0 key.number e.act) ≡ b
+        → held_at (h ++ e ∷ []) ≡ option_and_then (λ d. packet_of_hold d.act) (if b then Some e else last_naming key.node.0 key.number (epoch_entries key.node.0 key.epoch h))
+    held_after h e b same =
         ap (λ (o : Option HistoryEntry). option_and_then (λ d. packet_of_hold d.act) o)
-        (key_naming-append key h e ∙ ap (λ (b : Bool). if b then Some e else last_naming key.node.0 key.number (epoch_entries key.node.0 key.epoch h)) unnamed)
-
-    held_begins : (h : List HistoryEntry) (e : HistoryEntry) → ((epoch_of key.node.0 h == key.epoch) && names key.node.0 key.number e.act) ≡ true → held_at (h ++ e ∷ []) ≡ packet_of_hold e.act
-    held_begins h e named =
-        ap (λ (o : Option HistoryEntry). option_and_then (λ d. packet_of_hold d.act) o)
-        (key_naming-append key h e ∙ ap (λ (b : Bool). if b then Some e else last_naming key.node.0 key.number (epoch_entries key.node.0 key.epoch h)) named)
+        (key_naming-append key h e ∙ ap (λ (c : Bool). if c then Some e else last_naming key.node.0 key.number (epoch_entries key.node.0 key.epoch h)) same)
 
     unnamed_step : (h : List HistoryEntry) (e : HistoryEntry) → ((epoch_of key.node.0 h == key.epoch) && names key.node.0 key.number e.act) ≡ false
         → times_filed key index (filed_by h e) ≡ 0 → Counted h (state_of key h) → Counted (h ++ e ∷ []) (state_of key (h ++ e ∷ []))
     unnamed_step h e unnamed none so_far =
         subst (Counted (h ++ e ∷ []))
         (sym (state_of-append key h e ∙ ap (λ (b : Bool). if b then given_state e.act else state_of key h) unnamed))
-        (kept h e (state_of key h) (grown h e ∙ omega (arith, none)) (held_stays h e unnamed) so_far)
+        (kept h e (state_of key h) (grown h e ∙ omega (arith, none)) (held_after h e false unnamed) so_far)
 
-    named_step : (h : List HistoryEntry) (e : HistoryEntry) (n : NodeId) (b : Bool)
-        → ((epoch_of key.node.0 h == key.epoch) && names key.node.0 key.number e.act) ≡ named h n b
-        → (named h n b ≡ true → IsHere h n b → Counted (h ++ e ∷ []) (given_state e.act)) → (named h n b ≡ false → times_filed key index (filed_by h e) ≡ 0)
+    named_step : (h : List HistoryEntry) (e : HistoryEntry) (n : NodeId) (x : ℕ) → names key.node.0 key.number e.act ≡ ((n.0 == key.node.0) && (x == key.number))
+        → (named h n x ≡ true → IsHere h n x → Counted (h ++ e ∷ []) (given_state e.act)) → (named h n x ≡ false → times_filed key index (filed_by h e) ≡ 0)
         → Counted h (state_of key h) → Counted (h ++ e ∷ []) (state_of key (h ++ e ∷ []))
-    named_step h e n b same here elsewhere so_far = by_test (named h n b) refl
-      where
-        by_test : (c : Bool) → named h n b ≡ c → Counted (h ++ e ∷ []) (state_of key (h ++ e ∷ []))
-        by_test true is =
-            subst (Counted (h ++ e ∷ []))
-            (sym (state_of-append key h e ∙ ap (λ (b : Bool). if b then given_state e.act else state_of key h) (same ∙ is)))
-            (here is (is_here h n b is))
-        by_test false isnt = unnamed_step h e (same ∙ isnt) (elsewhere isnt) so_far
+    named_step h e n x same here elsewhere so_far =
+        let at = ap (λ (b : Bool). (epoch_of key.node.0 h == key.epoch) && b) same in
+        by_bool (λ c. Counted (h ++ e ∷ []) (state_of key (h ++ e ∷ []))) (named h n x)
+        (λ is. subst (Counted (h ++ e ∷ [])) (sym (state_of-append key h e ∙ ap (λ (c : Bool). if c then given_state e.act else state_of key h) (at ∙ is))) (here is (is_here h n x is)))
+        (λ isnt. unnamed_step h e (at ∙ isnt) (elsewhere isnt) so_far)
 
     -- the state of a number that is named here
-    pub fresh_here : (h : List HistoryEntry) (n : NodeId) (x : ℕ) (s : KeyState) → IsHere h n (x == key.number) → present_state n.0 x h ≡ s → Counted h (state_of key h) → Counted h s
-    fresh_here h n x s is state so_far =
-        subst (Counted h) (state_here h n (x == key.number) is ∙ ap (λ (y : ℕ). present_state n.0 y h) (sym (eqb-true x key.number is.test)) ∙ state) so_far
-
-    pub backed_at : (h : List HistoryEntry) (e : HistoryEntry) (n : NodeId) (x : ℕ) (request : Request) → StartsRise h → IsHere h n (x == key.number)
-        → IsAsked letters n.0 (start_of n.0 h) gateway x request → IsBacked (h ++ e ∷ []) key.number request
-    backed_at h e n x request rise is asked =
-        backed_stays h (e ∷ []) key.number request
-        (backed_here h n (x == key.number) key.number request rise is
-        (subst (λ (y : ℕ). IsAsked letters n.0 (start_of n.0 h) gateway y request) (eqb-true x key.number is.test) asked))
-
-    abbrev entry : ℕ → Caller → HistoryAct → HistoryEntry
-    entry moment who a = record { moment = moment; caller = who; act = a }
-
-    nothing_here : (h : List HistoryEntry) (moment : ℕ) (who : Caller) (a : HistoryAct) → names key.node.0 key.number a ≡ false → filed_by_act h moment a ≡ []
-        → Counted h (state_of key h) → Counted (h ++ entry moment who a ∷ []) (state_of key (h ++ entry moment who a ∷ []))
-    nothing_here h moment who a unnamed none so_far =
-        unnamed_step h (entry moment who a) (and_right (epoch_of key.node.0 h == key.epoch) (names key.node.0 key.number a) unnamed)
-        (ap (λ rs. times_filed key index rs) none) so_far
+    pub counted_here : (h : List HistoryEntry) (n : NodeId) (x : ℕ) (s : KeyState) → IsHere h n x → present_state n.0 x h ≡ s → Counted h (state_of key h) → Counted h s
+    counted_here h n x s is state = subst (Counted h) (state_here h n x is ∙ state)
 
     -- what the release of one number files
     one_released : (h : List HistoryEntry) (moment : ℕ) (n : NodeId) (xs : List ℕ) (x : ℕ) → xs ≡ x ∷ []
@@ -193,75 +188,54 @@ module _ (letters : List Letter) (gateway : ℕ) (key : PacketKey) where
         ap (λ ys. times_filed key index (released_by h moment n (once (λ y z. y == z) ys))) alone
         ∙ ap (λ rs. times_filed key index rs) (append-nil (released_records h moment n x))
 
-    released_other : (h : List HistoryEntry) (moment : ℕ) (n : NodeId) (x : ℕ) → named h n (x == key.number) ≡ false → times_filed key index (released_records h moment n x) ≡ 0
-    released_other h moment n x isnt = by_held (held_packet n.0 x h)
-      where
-        by_held : (packet : Option (List ℕ)) → times_filed key index (option_map_or (filed_under (present_key h n x) moment) packet []) ≡ 0
-        by_held None = refl
-        by_held (Some octets) = none_of_packet key index (present_key h n x) moment octets (same_here h n x ∙ isnt)
+    released_other : (h : List HistoryEntry) (moment : ℕ) (n : NodeId) (x : ℕ) → named h n x ≡ false → times_filed key index (released_records h moment n x) ≡ 0
+    released_other h moment n x isnt = map_known (λ (rs : List FiledRecord). times_filed key index rs ≡ 0) (held_packet n.0 x h) (λ none. refl)
+        (λ octets held. none_of_packet key index (present_key h n x) moment octets (same_here h n x ∙ isnt))
 
-    released_this : (h : List HistoryEntry) (moment : ℕ) (n : NodeId) (x : ℕ) (octets : List ℕ) → named h n (x == key.number) ≡ true → IsHere h n (x == key.number)
+    released_this : (h : List HistoryEntry) (moment : ℕ) (n : NodeId) (x : ℕ) (octets : List ℕ) → named h n x ≡ true → IsHere h n x
         → held_at h ≡ Some octets → times_filed key index (released_records h moment n x) ≡ within index octets
     released_this h moment n x octets named is held =
-        ap (λ (o : Option (List ℕ)). times_filed key index (option_map_or (filed_under (present_key h n x) moment) o []))
-        (ap (λ (y : ℕ). held_packet n.0 y h) (eqb-true x key.number is.test) ∙ held_here h n (x == key.number) is ∙ held)
+        ap (λ (o : Option (List ℕ)). times_filed key index (option_map_or (filed_under (present_key h n x) moment) o [])) (held_here h n x is ∙ held)
         ∙ times_of_packet key index (present_key h n x) moment octets (same_here h n x ∙ named)
-
-    pub any_one : (xs : List ℕ) (x : ℕ) → xs ≡ x ∷ [] → list_any (λ y. y == key.number) xs ≡ (x == key.number)
-    any_one xs x alone = ap (λ (ys : List ℕ). list_any (λ y. y == key.number) ys) alone ∙ or_none (x == key.number)
-      where
-        or_none : (b : Bool) → (b || false) ≡ b
-        or_none true = refl
-        or_none false = refl
 
     step_act : (h : List HistoryEntry) (moment : ℕ) (who : Caller) (a : HistoryAct) → StartsRise h → RestsBy letters gateway h a
         → Counted h (state_of key h) → Counted (h ++ entry moment who a ∷ []) (state_of key (h ++ entry moment who a ∷ []))
-    step_act h moment who act.Start rise rests so_far = nothing_here h moment who act.Start refl refl so_far
-    step_act h moment who (act.Path n port counter) rise rests so_far = nothing_here h moment who (act.Path n port counter) refl refl so_far
-    step_act h moment who act.Tick rise rests so_far = nothing_here h moment who act.Tick refl refl so_far
-    step_act h moment who act.Close rise rests so_far = nothing_here h moment who act.Close refl refl so_far
     step_act h moment who (act.File n x packet) rise rests so_far =
         let e = entry moment who (act.File n x packet) in
-        named_step h e n (x == key.number) refl
+        named_step h e n x refl
         (λ named is. (
           packet,
-          grown h e ∙ (let before : times h ≡ 0 = fresh_here h n x Fresh is rests.0 so_far in
-              let more = times_of_packet key index (present_key h n x) moment packet (same_here h n x ∙ named) in
-              omega (arith, before, more)),
-          backed_at h e n x (Sends true packet) rise is rests.1,
+          grown h e ∙ (let before : times h ≡ 0 = counted_here h n x Fresh is rests.0 so_far in
+              omega (arith, before, times_of_packet key index (present_key h n x) moment packet (same_here h n x ∙ named))),
+          backed_at h n x e (Sends true packet) rise is rests.1,
         ))
-        (λ isnt. none_of_packet key index (present_key h n x) moment packet (same_here h n x ∙ isnt))
-        so_far
+        (λ isnt. none_of_packet key index (present_key h n x) moment packet (same_here h n x ∙ isnt)) so_far
     step_act h moment who (act.Hold n x packet) rise rests so_far =
         let e = entry moment who (act.Hold n x packet) in
-        named_step h e n (x == key.number) refl
+        named_step h e n x refl
         (λ named is. (
           packet,
-          grown h e ∙ (let before : times h ≡ 0 = fresh_here h n x Fresh is rests.0 so_far in omega (arith, before)),
-          held_begins h e named,
-          backed_at h e n x (Sends false packet) rise is rests.1,
+          grown h e ∙ (let before : times h ≡ 0 = counted_here h n x Fresh is rests.0 so_far in omega (arith, before)),
+          held_after h e true named,
+          backed_at h n x e (Sends false packet) rise is rests.1,
         ))
-        (λ isnt. refl)
-        so_far
+        (λ isnt. refl) so_far
     step_act h moment who (act.Seal n x) rise rests so_far =
         let e = entry moment who (act.Seal n x) in
-        named_step h e n (x == key.number) refl
-        (λ named is. grown h e ∙ (let before : times h ≡ 0 = fresh_here h n x Fresh is rests.0 so_far in omega (arith, before)))
-        (λ isnt. refl)
-        so_far
+        named_step h e n x refl
+        (λ named is. grown h e ∙ (let before : times h ≡ 0 = counted_here h n x Fresh is rests.0 so_far in omega (arith, before))) (λ isnt. refl) so_far
     step_act h moment who (act.Cancel n xs) rise rests so_far =
         let e = entry moment who (act.Cancel n xs) in
         let x = rests.number in
-        named_step h e n (x == key.number) (ap (λ (b : Bool). (epoch_of key.node.0 h == key.epoch) && ((n.0 == key.node.0) && b)) (any_one xs x rests.alone))
-        (λ named is. grown h e ∙ (let held = fresh_here h n x Held is rests.held so_far in let before : times h ≡ 0 = held.1 in omega (arith, before)))
-        (λ isnt. refl)
-        so_far
+        named_step h e n x (ap (λ (b : Bool). (n.0 == key.node.0) && b) (any_one xs x rests.alone))
+        (λ named is. grown h e ∙ (let held = counted_here h n x Held is rests.held so_far in let before : times h ≡ 0 = held.1 in omega (arith, before)))
+        (λ isnt. refl) so_far
     step_act h moment who (act.Release n xs) rise rests so_far =
         let e = entry moment who (act.Release n xs) in
         let x = rests.names.number in
-        named_step h e n (x == key.number) (ap (λ (b : Bool). (epoch_of key.node.0 h == key.epoch) && ((n.0 == key.node.0) && b)) (any_one xs x rests.names.alone))
+        named_step h e n x (ap (λ (b : Bool). (n.0 == key.node.0) && b) (any_one xs x rests.names.alone))
         (λ named is.
-        let held = fresh_here h n x Held is rests.names.held so_far in
+        let held = counted_here h n x Held is rests.names.held so_far in
         let before : times h ≡ 0 = held.1 in
         let more = one_released h moment n xs x rests.names.alone ∙ released_this h moment n x held.0 named is held.2 in (
           held.0,
@@ -269,22 +243,89 @@ module _ (letters : List Letter) (gateway : ℕ) (key : PacketKey) where
           backed_stays h (e ∷ []) key.number (Sends false held.0) held.3,
           rests.own,
           backed_stays h (e ∷ []) rests.own (Orders order.Release key.number)
-              (backed_here h n (x == key.number) rests.own (Orders order.Release key.number) rise is
-              (subst (λ (y : ℕ). IsAsked letters n.0 (start_of n.0 h) gateway rests.own (Orders order.Release y)) (eqb-true x key.number is.test) rests.asked)),
+              (backed_here h n x rests.own (Orders order.Release key.number) rise is
+              (subst (λ (y : ℕ). IsAsked letters n.0 (start_of n.0 h) gateway rests.own (Orders order.Release y)) is.number rests.asked)),
         ))
-        (λ isnt. one_released h moment n xs x rests.names.alone ∙ released_other h moment n x isnt)
-        so_far
+        (λ isnt. one_released h moment n xs x rests.names.alone ∙ released_other h moment n x isnt) so_far
+    step_act h moment who a rise rests so_far = unnamed_step h (entry moment who a) (and_right (epoch_of key.node.0 h == key.epoch) false refl) refl so_far
 
     -- what was filed under the key in a history whose entries rest on messages
     pub counted : (h : List HistoryEntry) → Rests letters gateway h → Counted h (state_of key h)
     counted =
         by_each (λ before e. RestsBy letters gateway before e.act) (λ h. Counted h (state_of key h))
-        (subst (Counted []) (sym none_yet) refl)
+        (subst (Counted []) (sym (none_yet key.epoch)) refl)
         (λ h e all rests so_far. step_act h e.moment e.caller e.act (starts_rise letters gateway h all) rests so_far)
       where
-        none_yet : state_of key [] ≡ Fresh
-        none_yet = by_epoch key.epoch
-          where
-            by_epoch : (k : ℕ) → state_by (last_naming key.node.0 key.number (epoch_entries key.node.0 k [])) ≡ Fresh
-            by_epoch zero = refl
-            by_epoch (suc k) = refl
+        none_yet : (k : ℕ) → state_by (last_naming key.node.0 key.number (epoch_entries key.node.0 k [])) ≡ Fresh
+        none_yet zero = refl
+        none_yet (suc k) = refl
+
+  -- ---- the request that brought a record
+
+  pub record IsBrought (h : List HistoryEntry) (filing : FiledRecord) : Type 0 where
+    pub plain : Bool
+    pub octets : List ℕ
+    pub backed : IsBacked h key.number (Sends plain octets)
+    pub at : slice_get (records_within octets) filing.index ≡ Some filing.octets
+    pub kind : kind_within octets ≡ Some filing.kind
+
+  brought_stays : (h g : List HistoryEntry) (filing : FiledRecord) → IsBrought h filing → IsBrought (h ++ g) filing
+  brought_stays h g filing is = record {
+    plain = is.plain;
+    octets = is.octets;
+    backed = backed_stays h g key.number (Sends is.plain is.octets) is.backed;
+    at = is.at;
+    kind = is.kind;
+  }
+
+  abbrev Brings : List HistoryEntry → List FiledRecord → Type 0
+  Brings h filings = (filing : FiledRecord) → Contains filings filing → same_key filing.key key ≡ true → IsBrought h filing
+
+  -- the key of a record of a packet is the key that it was filed under
+  key_here : (h : List HistoryEntry) (n : NodeId) (x : ℕ) (filing : FiledRecord) → filing.key ≡ present_key h n x → same_key filing.key key ≡ true → IsHere h n x
+  key_here h n x filing of same = is_here h n x (sym (same_here h n x) ∙ ap (λ (k : PacketKey). same_key k key) (sym of) ∙ same)
+
+  brings_release : (h : List HistoryEntry) (moment : ℕ) (who : Caller) (n : NodeId) (xs : List ℕ) (x : ℕ) → StartsRise h → xs ≡ x ∷ [] → present_state n.0 x h ≡ Held
+      → Counted 0 h (state_of key h) → Brings (h ++ entry moment who (act.Release n xs) ∷ []) (released_by h moment n (once (λ y z. y == z) xs))
+  brings_release h moment who n xs x rise alone held so_far filing kept same =
+      map_known (λ (rs : List FiledRecord). Contains rs filing → IsBrought (h ++ entry moment who (act.Release n xs) ∷ []) filing) (held_packet n.0 x h)
+      (λ none there. absurd (in_none filing there))
+      (λ octets some there.
+      let within = record_within (present_key h n x) moment octets filing there in
+      let is = key_here h n x filing within.1 same in
+      let as_held = counted_here 0 h n x Held is held so_far in
+      let octets_are : as_held.0 ≡ octets = same_Some as_held.0 octets (sym as_held.2 ∙ sym (held_here h n x is) ∙ some) in
+      record {
+        plain = false;
+        octets = as_held.0;
+        backed = backed_stays h (entry moment who (act.Release n xs) ∷ []) key.number (Sends false as_held.0) as_held.3;
+        at = ap (λ (os : List ℕ). slice_get (records_within os) filing.index) octets_are ∙ within.0;
+        kind = ap kind_within octets_are ∙ kept_kind (present_key h n x) moment octets filing there;
+      })
+      (subst (λ rs. Contains rs filing) (ap (λ ys. released_by h moment n (once (λ y z. y == z) ys)) alone ∙ append-nil (released_records h moment n x)) kept)
+
+  brings_act : (h : List HistoryEntry) (moment : ℕ) (who : Caller) (a : HistoryAct) → StartsRise h → RestsBy letters gateway h a → Counted 0 h (state_of key h)
+      → Brings (h ++ entry moment who a ∷ []) (filed_by_act h moment a)
+  brings_act h moment who (act.File n x packet) rise rests so_far filing kept same =
+      let there = record_within (present_key h n x) moment packet filing kept in
+      let is = key_here h n x filing there.1 same in
+      record {
+        plain = true;
+        octets = packet;
+        backed = backed_at h n x (entry moment who (act.File n x packet)) (Sends true packet) rise is rests.1;
+        at = there.0;
+        kind = kept_kind (present_key h n x) moment packet filing kept;
+      }
+  brings_act h moment who (act.Release n xs) rise rests so_far filing kept same =
+      brings_release h moment who n xs rests.names.number rise rests.names.alone rests.names.held so_far filing kept same
+  brings_act h moment who _ rise rests so_far filing kept same = absurd (in_none filing kept)
+
+  pub brought : (h : List HistoryEntry) → Rests letters gateway h → Brings h (filed h)
+  brought =
+      by_each (λ before e. RestsBy letters gateway before e.act) (λ h. Brings h (filed h))
+      (λ filing kept same. absurd (in_none filing kept))
+      (λ h e all rests so_far filing kept same. ⊎_elim
+      (λ old. brought_stays h (e ∷ []) filing (so_far filing old same))
+      (λ new. brings_act h e.moment e.caller e.act (starts_rise letters gateway h all) rests (counted 0 h all) filing new same)
+      (Contains-append_cases (filed h) (filed_by h e) filing
+      (subst (λ rs. Contains rs filing) (along-append filed_by [] h (e ∷ []) ∙ ap (λ rs. filed h ++ rs) (append-nil (filed_by h e))) kept)))

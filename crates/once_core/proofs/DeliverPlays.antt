@@ -1,276 +1,355 @@
--- What a gateway makes of a message that reaches it, of a mark and of an opening, is what happens in a scene.
-use Rattle.std.proofs.Common.{◌≡◌, ℕ, ◌%◌, ◌&&◌, ◌||◌, inl, inr, not, Bool, true, false, if◌then◌else◌, List, [], ◌∷◌, ◌++◌, length, Option, Some, None, Contains, refl, sym, ap, subst, ◌∙◌, arith, append-nil}
-use Rattle.std.proofs.lemmas.Bool.{false≢true}
-use Rattle.std.proofs.lemmas.List.{take_all}
-use Rattle.std.proofs.lemmas.List.Elements.{Contains-append_right}
-use Rattle.gw_base.specs.History.{is_close_due}
-use Rattle.gw_base.specs.TickDue.{is_tick_due}
-use Rattle.gw_base.specs.declared.cause.TheConstants.{CDR_DECODING_ERROR, SYSTEM_FAILURE}
-use Rattle.gw_base.specs.declared.history.HistoryAct.TheVariants as act
+-- What a gateway sends is what happens in a scene: its answer to a message that reaches it, what it tells of one where it breaks
+-- on the way, and the requests of a redirection, which tell nodes nothing of a copy.
+pub use Rattle.once_core.proofs.PartLemmas.{ready_history}
+use Rattle.std.proofs.Common.{◌≡◌, ℕ, ◌%◌, ◌==◌, ◌&&◌, not, nat_lt, Bool, true, false, List, [], ◌∷◌, ◌++◌, Option, Some, None, Contains, refl, sym, ap, subst, ◌∙◌, ◌≢◌, ◌≤◌, arith, map, ◌+◌, option_map}
+use Rattle.std.specs.Option.{option_map_or}
+use Rattle.std.proofs.lemmas.Bool.{and_from, not-false, or_parts, cond-true, eqb-false, lt-ltb, ltb-false}
+use Rattle.std.proofs.lemmas.Option.{same_Some}
+use Rattle.gw_base.specs.History.{top_of}
+use Rattle.gw_base.specs.Nearest.{nearest}
+use Rattle.gw_base.specs.Observed.{Observed, observed}
+use Rattle.gw_base.specs.Starts.{start_of, opening_of, start_by}
+use Rattle.gw_base.specs.declared.address.NodeId.{NodeId}
+use Rattle.gw_base.specs.declared.cause.TheConstants.{CDR_DECODING_ERROR, NO_RESOURCES, SYSTEM_FAILURE}
+use Rattle.gw_base.specs.declared.history.HistoryAct.{HistoryAct}
 use Rattle.gw_base.specs.declared.history.HistoryEntry.{HistoryEntry}
-use Rattle.gtpp_message.specs.Message.{MessageValue, EchoRequest, EchoResponse, VersionNotSupported, NodeAliveRequest, NodeAliveResponse, RedirectionRequest, RedirectionResponse, TransferRequest, TransferResponse}
+use Rattle.gtpp_message.specs.Message.{TransferRequest, TransferResponse, TransferValue, Send, Possible, Cancel, Release, MessageValue, EchoRequest, EchoResponse, NodeAliveRequest, RedirectionRequest}
+use Rattle.gtpp_message.specs.Packet.{Empty, Full}
+use Rattle.gtpp_message.specs.Writing.{written}
+use Rattle.gtpp_message.specs.declared.message_types.TheConstants.{TRANSFER_REQUEST}
+use Rattle.gtpp_message.specs.declared.role.Role.TheVariants as role
+use Rattle.gateway_book.specs.Answer.{Given, answer_by, asked_by, decided, listed, responding, tabled, Decided, failure_answer, opening_epoch, replying}
+use Rattle.gateway_book.specs.Answered.{entry_by, no_caller}
+use Rattle.gateway_book.specs.Preparing.{PreparedValue, Refused, Request, framed, prepared_of, sends_values, Path}
+use Rattle.gateway_book.specs.PreparingLaws.{RolesRead}
+use Rattle.gateway_book.specs.Value.{history_of, recorded_if, recorded}
 use Rattle.gtpp_message.specs.Reading.{Message}
 use Rattle.gtpp_message.specs.Role.{for_role}
-use Rattle.gtpp_message.specs.Writing.{written}
-use Rattle.gtpp_message.specs.declared.role.Role.TheVariants as role
-use Rattle.gateway_book.specs.Answer.{decided, failure_answer}
-use Rattle.gateway_book.specs.Answered.{no_caller}
-use Rattle.gateway_book.specs.Preparing as of
-use Rattle.gateway_book.specs.Preparing.{PreparedValue, framed, sends_values}
-use Rattle.gateway_book.specs.PreparingLaws.{RolesRead}
-use Rattle.gateway_book.specs.Value.{Fortune, committed, faulted, history_of, recorded, reopened, standing_for, tried}
-use Rattle.once_core.specs.Answers.{answered, closing, delivered, delivered_broken, delivered_running, failed, failed_by, if_broken, making_close, making_tick, marked, recorded_where, unless_expired}
-use Rattle.once_core.specs.Expired.{is_expired}
-use Rattle.once_core.specs.Gateway.{Gateway, Moved, Rules, committing, cut, followed, opened, opened_holding, readying, still, with_book}
-use Rattle.once_core.specs.Happenings.{Answers, Closes, Firms, Keeps, Letter, Note, Notes, Post, Scene, Starts, Ticks, act_noted}
+use Rattle.gw_base.specs.declared.history.HistoryAct.TheVariants as act
+use Rattle.gw_base.specs.declared.history.Opening.{Opening}
+use Rattle.gtpp_message.specs.PathMessages.{path_message, path_number}
+use Rattle.path_mgmt.specs.GatewayPath.{opened_by}
+use Rattle.path_mgmt.specs.declared.event.PathEvent.{PathEvent}
+use Rattle.path_mgmt.specs.declared.event.PathEvent.TheVariants.{EchoAsked, EchoTold, AliveAsked, AliveTold}
+use Rattle.byteorder.specs.Endian.{big_bytes}
+use Rattle.gateway_book.specs.Told.{paths_of}
+use Rattle.once_core.specs.Addresses.{node_address, node_id, node_ip, port_number, gateway_address}
+use Rattle.once_core.specs.Answers.{acting, answered, failed, failed_by}
+use Rattle.once_core.specs.Expired.{is_expired, is_expired_request, present_start, taken_for}
+use Rattle.once_core.specs.Gateway.{Gateway, Rules, still}
+use Rattle.once_core.specs.Happenings.{Answers, Comes, Happening, Letter, Meaning, Post, Scene, answer_of, given, history, is_timely, Opens, node_at}
 use Rattle.once_core.specs.Happenings as did
-use Rattle.once_core.specs.Meaning.{is_spoken, letter_of, meaning_of, speaks}
-use Rattle.once_core.specs.Messages.{answering}
-use Rattle.once_core.specs.Scenes.{firming, is_idle, keeping, with_post, with_settled}
-use Rattle.once_core.specs.Shown.{post_of}
+use Rattle.once_core.specs.Meaning.{is_spoken, letter_of, meaning_of, request_in, speaks, meaning_in}
+use Rattle.once_core.specs.Messages.{about, answering, has_type, is_request}
+use Rattle.once_core.specs.Scenes.{Settled, after_coming, coming, happened_all, noting_if, waiting_for, with_one, with_settled, is_idle, opening, with_post}
+use Rattle.once_core.specs.Scenes as scenes
+use Rattle.once_core.specs.Shown.{post_of, waiting_letters}
 use Rattle.once_core.specs.declared.message.Message as world
-use Rattle.once_core.proofs.CommitPlays.{cut_plays, readying_plays}
-use Rattle.once_core.proofs.ListLemmas.{in_cons, in_head, in_none}
-use Rattle.once_core.proofs.MeaningLemmas.{FromNode, IsWritten, NodeSaid, ReadsBack, Responds, Said, meaning_is, responds_means, responds_said, role_read_of, said_by_gateway}
-use Rattle.once_core.proofs.PathPlays.{Other, other_plays}
-use Rattle.once_core.proofs.PlayLemmas.{GoesOnAt, Plays, Stands, adds, followed_plays, goes_on_at, letters_go, post_goes, settled_goes, stands_after, still_plays, with_letters}
-use Rattle.once_core.proofs.ReplyPlays.{noted_plays}
-use Rattle.once_core.proofs.RequestPlays.{request_plays}
-use Rattle.once_core.proofs.SceneLemmas.{at_same}
-use Rattle.once_core.proofs.GrowingLemmas.{book_is}
+use Rattle.once_core.proofs.MeaningLemmas.{IsAbout, IsWritten, ReadsBack, meaning_is, responds_means, responds_said, role_read_of, type_of, FromNode, NodeSaid, Responds, Said, said_by_gateway, FromGateway}
+use Rattle.once_core.proofs.PlayLemmas.{Plays, Stands, still_plays, idle_plays, followed_plays, stands_after}
+use Rattle.once_core.proofs.ReplyPlays.{answer_plays, quiet_plays}
 use Rattle.once_core.proofs.StopLemmas.{history_is}
+use Rattle.once_core.proofs.CaseLemmas.{if_both, if_known}
+use Rattle.once_core.proofs.ListLemmas.{in_one, number_of, of_map}
+use Rattle.once_core.proofs.CommitPlays.{noted_rightly, noted_plays}
+use Rattle.once_core.specs.Answers as out
+use Rattle.once_core.proofs.PartLemmas.{noted}
 
--- ---- moves that come first
+-- ---- a message of path management means nothing here
 
--- a full batch that is committed leaves the history as it is
-pub ready_history : (rules : Rules) (f : Fortune) (g : Gateway) → g.book.is_broken ≡ false → (readying rules f g).gateway.book.is_broken ≡ false
-    → history_of (readying rules f g).gateway.book ≡ history_of g.book
-ready_history rules f g sound = by (g.book.is_broken || rules.is_full g.book)
-  where
-    whole : history_of (committed g.book) ≡ history_of g.book
-    whole = history_is (committed g.book) sound ∙ append-nil (g.book.firm ++ g.book.rest) ∙ sym (history_is g.book sound)
+path_written : (number : ℕ) (event : PathEvent) → IsWritten (written number (path_message event None)) number (path_message event None)
+path_written number (EchoAsked n) = record { is = refl; sendable = tt; short = omega arith }
+path_written number _ = record { is = refl; sendable = tt; short = omega arith }
 
-    by_failing : (fails : Bool) → (with_book (if fails then faulted g.book else committed g.book) g).gateway.book.is_broken ≡ false
-        → history_of (with_book (if fails then faulted g.book else committed g.book) g).gateway.book ≡ history_of g.book
-    by_failing true e = absurd (false≢true (sym e))
-    by_failing false e = ap history_of (book_is (committed g.book) g) ∙ whole
+path_fits : (m : world.Message) (number : ℕ) (event : PathEvent) → FromGateway m number (path_message event None)
+path_fits m number (EchoAsked n) = tt
+path_fits m number _ = tt
 
-    by_breaking : (b : Bool) → b ≡ false → (with_book (if b then reopened g.book f.reopening else tried f g.book) g).gateway.book.is_broken ≡ false
-        → history_of (with_book (if b then reopened g.book f.reopening else tried f g.book) g).gateway.book ≡ history_of g.book
-    by_breaking true e = absurd (false≢true (sym e))
-    by_breaking false e = by_failing f.fails
+path_else : (number : ℕ) (event : PathEvent) → is_spoken (meaning_in number (path_message event None)) ≡ false
+path_else number (EchoAsked n) = refl
+path_else number _ = refl
 
-    by : (b : Bool) → (if b then committing f g else still g).gateway.book.is_broken ≡ false → history_of (if b then committing f g else still g).gateway.book ≡ history_of g.book
-    by true e = by_breaking g.book.is_broken sound e
-    by false e = refl
+-- ---- a start that becomes known is greater than the one before
 
-module _ (back : ReadsBack) (gateway : ℕ) (scene : Scene) (g : Gateway) (stands : Stands gateway scene g) where
-  -- the journal is made ready, and then one of two moves follows
-  pub ready_plays : (rules : Rules) (f : Fortune) (breaks goes_on : Gateway → Moved)
-      → ((s : Scene) (a : Gateway) → GoesOnAt gateway scene s → Stands gateway s a → a.book.is_broken ≡ true → Plays gateway s (breaks a))
-      → ((s : Scene) (a : Gateway) → GoesOnAt gateway scene s → Stands gateway s a → a.book.is_broken ≡ false → a ≡ (readying rules f g).gateway → Plays gateway s (goes_on a))
-      → Plays gateway scene (followed (readying rules f g) (if_broken breaks goes_on))
-  ready_plays rules f breaks goes_on broken sound =
-      followed_plays gateway scene (readying rules f g) (if_broken breaks goes_on) first (by (readying rules f g).gateway.book.is_broken refl)
-    where
-      first : Plays gateway scene (readying rules f g)
-      first = readying_plays gateway scene g stands back rules f
+pub fresh_start : (h : List HistoryEntry) (m : world.Message) → is_expired h m ≡ false → start_of (node_ip m.node) h ≤ m.start
+fresh_start h m fresh =
+    ltb-false m.start (present_start h m) (or_parts (nat_lt m.start (present_start h m)) (is_request m && is_expired_request h m) fresh).0
 
-      by : (b : Bool) → (readying rules f g).gateway.book.is_broken ≡ b
-          → Plays gateway first.after (if b then breaks (readying rules f g).gateway else goes_on (readying rules f g).gateway)
-      by true e = broken first.after (readying rules f g).gateway first.goes (stands_after gateway scene (readying rules f g) first) e
-      by false e = sound first.after (readying rules f g).gateway first.goes (stands_after gateway scene (readying rules f g) first) e refl
+pub rises : (opening : Option Opening) (counter path : ℕ) → 1 ≤ counter → start_by opening ≤ counter
+    → opened_by (option_map (λ o. o.counter) opening) counter ≡ Some path → nat_lt (start_by opening) path ≡ true
+rises None counter path some low e = let same = same_Some counter path e in lt-ltb 0 path (omega (arith, some, same))
+rises (Some o) counter path some low e = if_known (λ (p : Option ℕ). p ≡ Some path → nat_lt o.counter path ≡ true) (o.counter == counter)
+    (λ equal e. absurd (cc))
+    (λ apart e.
+    let same = same_Some counter path e in
+    let differ : o.counter ≢ counter = eqb-false o.counter counter apart in
+    lt-ltb o.counter path (omega (arith, low, differ, same))) e
 
-  -- ---- marks and openings
+-- ---- what is answered
 
-  note_plays : (s : Scene) (a : Gateway) → Stands gateway s a → a.book.is_broken ≡ false → (note : Note) (now : ℕ) (is_due : Bool)
-      → Plays gateway s (recorded_where is_due now (act_noted note) a)
-  note_plays s a stands sound note now true = noted_plays gateway s a stands sound now (act_noted note) (Notes gateway note now no_caller) refl
-  note_plays s a stands sound note now false = still_plays gateway s a stands
+-- any other message than a request or a response
+abbrev pub Other : MessageValue → Type 0
+Other (TransferRequest body) = ⊥
+Other (TransferResponse cause responded) = ⊥
+Other _ = Unit {0}
 
-  pub ticked_plays : (rules : Rules) (f : Fortune) (now : ℕ) → Plays gateway scene (marked rules f (making_tick rules now) g)
-  ticked_plays rules f now = ready_plays rules f still (making_tick rules now)
-      (λ s a goes stands e. still_plays gateway s a stands)
-      (λ s a goes stands e same. note_plays s a stands e Ticks now (is_tick_due rules.open_time now (history_of a.book) && rules.room (history_of a.book) act.Tick))
+-- ---- the answer on octets is the answer on what they mean
 
-  closing_plays : (rules : Rules) (now : ℕ) (s : Scene) (a : Gateway) → Stands gateway s a → a.book.is_broken ≡ false → Plays gateway s (closing rules now a)
-  closing_plays rules now s a stands sound = by (rules.may_close (history_of a.book))
-    where
-      by : (b : Bool) → Plays gateway s (if b then making_close now a else still a)
-      by true = note_plays s a stands sound Closes now (is_close_due (history_of a.book))
-      by false = still_plays gateway s a stands
+prepared_request : ReadsBack → RolesRead → (octets : List ℕ) (number : ℕ) (body : TransferValue) → IsWritten octets number (TransferRequest body)
+    → sends_values body ≡ true → prepared_of octets ≡ Request number body
+prepared_request back roles octets number body w values =
+    ap framed (role_read_of back roles role.Gateway octets number (TransferRequest body) w)
+    ∙ cond-true (sends_values body) (Request number body) (Refused CDR_DECODING_ERROR number) values
 
-  pub closed_plays : (rules : Rules) (f : Fortune) (now : ℕ) → Plays gateway scene (marked rules f (closing rules now) g)
-  closed_plays rules f now = ready_plays rules f still (closing rules now)
-      (λ s a goes stands e. still_plays gateway s a stands)
-      (λ s a goes stands e same. closing_plays rules now s a stands e)
+same_answer : (m : world.Message) (o : Observed) (may : HistoryAct → Bool) (node : NodeId) (number : ℕ) (body : TransferValue) → IsAbout m body
+    → asked_by o may node number body ≡ answer_of o may node number (request_in (about m) body)
+same_answer m o may node number (Send Empty) is = refl
+same_answer m o may node number (Send (Full form value)) is = refl
+same_answer m o may node number (Possible Empty) is = refl
+same_answer m o may node number (Possible (Full form value)) is = refl
+same_answer m o may node number (Release numbers) is = ap (listed o may node number true) is
+same_answer m o may node number (Cancel numbers) is = ap (listed o may node number false) is
 
--- what a journal holds becomes firm
-module _ (gateway : ℕ) (scene : Scene) (g : Gateway) (stands : Stands gateway scene g) where
-  abbrev standing : List HistoryEntry → Gateway
-  standing h = record { book = standing_for h; waiting = []; is_down = false; redirects = 0 }
+about_is : (m : world.Message) (body : TransferValue) → IsAbout m body → did.about (request_in (about m) body) m.number ≡ about m
+about_is m (Send Empty) is = sym is
+about_is m (Send (Full form value)) is = sym is
+about_is m (Possible Empty) is = sym is
+about_is m (Possible (Full form value)) is = sym is
+about_is m (Release numbers) is = refl
+about_is m (Cancel numbers) is = refl
 
-  held_plays : (keep : ℕ) (h : List HistoryEntry) → g.book.firm ++ (keeping keep (post_of g)).rest ≡ h → Plays gateway scene (still (standing h))
-  held_plays keep h is_left = record {
-    later = Keeps gateway keep ∷ Firms gateway ∷ [];
-    after = with_settled gateway (firming ((kept_scene keep).posts gateway)) (kept_scene keep);
-    is = refl;
-    goes = goes_on_at gateway scene (kept_scene keep) (with_settled gateway (firming ((kept_scene keep).posts gateway)) (kept_scene keep))
-        (post_goes gateway (keeping keep (scene.posts gateway)) scene) (settled_goes gateway (firming ((kept_scene keep).posts gateway)) (kept_scene keep));
-    post =
-        at_same gateway (firming ((kept_scene keep).posts gateway)).post (kept_scene keep).posts
-        ∙ ap (λ (p : Post). (firming p).post) (at_same gateway (keeping keep (scene.posts gateway)) scene.posts ∙ ap (keeping keep) stands.post)
-        ∙ ap (λ (h : List HistoryEntry). record { firm = h; rest = []; waiting = [] }) is_left;
-    sends = λ m is speaking. absurd (in_none m is);
-    said = λ m is. absurd (in_none m is);
-    rightly = record { fronts = λ w is. absurd (in_none w is); said = λ w is. absurd (in_none w is); broken = λ e. refl };
-  }
-    where
-      kept_scene : ℕ → Scene
-      kept_scene keep = with_post gateway (keeping keep (scene.posts gateway)) scene
+-- an answer to a request is a response to it
+record IsResponse (number : ℕ) (answer : Given) : Type 0 where
+  cause : ℕ
+  recorded : Option HistoryAct
+  is : answer ≡ responding number cause recorded
 
-  stood_plays : Plays gateway scene (still (standing (history_of g.book)))
-  stood_plays = by g.book.is_broken
-    where
-      by : (b : Bool) → Plays gateway scene (still (standing (if b then g.book.firm else g.book.firm ++ g.book.rest)))
-      by true = held_plays 0 g.book.firm (append-nil g.book.firm)
-      by false = held_plays (length g.book.rest) (g.book.firm ++ g.book.rest)
-          (ap (λ (r : List HistoryEntry). g.book.firm ++ r) (take_all (length g.book.rest) g.book.rest (omega arith)))
+tabled_responds : (may : HistoryAct → Bool) (number cause : ℕ) (a : Option HistoryAct) → IsResponse number (tabled may number cause a)
+tabled_responds may number cause None = record { cause = cause; recorded = None; is = refl }
+tabled_responds may number cause (Some a) = if_both (IsResponse number) (may a)
+    (record { cause = cause; recorded = Some a; is = refl }) (record { cause = NO_RESOURCES; recorded = None; is = refl })
 
-  pub opened_plays : (rules : Rules) → Plays gateway scene (still (opened rules g))
-  opened_plays rules = by (rules.room (history_of (standing_for (history_of g.book))) act.Start)
-    where
-      by : (b : Bool) → Plays gateway scene (still (record {
-        book = if b then recorded (standing_for (history_of g.book)) 0 no_caller act.Start else standing_for (history_of g.book);
-        waiting = [];
-        is_down = false;
-        redirects = 0;
-      }))
-      by false = stood_plays
-      by true =
-          followed_plays gateway scene (still (standing (history_of g.book)))
-          (λ a. still (record a { book = recorded a.book 0 no_caller act.Start })) stood_plays
-          (noted_plays gateway stood_plays.after (standing (history_of g.book)) (stands_after gateway scene (still (standing (history_of g.book))) stood_plays) refl 0 act.Start
-          (Notes gateway Starts 0 no_caller) refl)
+asked_responds : (o : Observed) (may : HistoryAct → Bool) (node : NodeId) (number : ℕ) (body : TransferValue) → IsResponse number (asked_by o may node number body)
+asked_responds o may node number (Send packet) = tabled_responds may number _ _
+asked_responds o may node number _ = tabled_responds may number _ _
 
--- one that opens holds what it stopped with, or so many of these entries
-pub opened_holding_plays : (gateway : ℕ) (scene : Scene) (g : Gateway) → Stands gateway scene g → (rules : Rules) (held : Option ℕ)
-    → Plays gateway scene (still (opened_holding held rules g))
-opened_holding_plays gateway scene g stands rules None = opened_plays gateway scene g stands rules
-opened_holding_plays gateway scene g stands rules (Some keep) =
-    let cuts : Plays gateway scene (still (cut keep g)) = cut_plays gateway scene g stands keep in
-    followed_plays gateway scene (still (cut keep g)) (λ a. still (opened rules a)) cuts
-    (opened_plays gateway cuts.after (cut keep g) (stands_after gateway scene (still (cut keep g)) cuts) rules)
+-- ---- a request that isn't expired is timely
 
--- ---- messages
+pub is_a_request : (octets : List ℕ) (number : ℕ) (body : TransferValue) → octets ≡ written number (TransferRequest body) → has_type TRANSFER_REQUEST octets ≡ true
+is_a_request octets number body e = ap (λ (o : Option ℕ). option_map_or (λ k. k == TRANSFER_REQUEST) o false) (type_of octets number (TransferRequest body) e)
 
-module _ (back : ReadsBack) (roles : RolesRead) (rules : Rules) (now : ℕ) (f : Fortune) (m : world.Message) (to : m.to_gateway ≡ true) (said : NodeSaid m) where
+timely : (m : world.Message) (h : List HistoryEntry) (number : ℕ) (body : TransferValue) → m.octets ≡ written number (TransferRequest body) → IsAbout m body
+    → is_expired h m ≡ false → is_timely h (letter_of m) (request_in (about m) body) ≡ true
+timely m h number body e is fresh =
+    let parts = or_parts (nat_lt m.start (present_start h m)) (is_request m && is_expired_request h m) fresh in
+    let both = or_parts (not (m.start == present_start h m)) (not (taken_for h m == about m))
+    (sym (ap (λ (b : Bool). b && is_expired_request h m) (is_a_request m.octets number body e)) ∙ parts.1) in
+    and_from (m.start == start_of (node_ip m.node) h)
+    (nearest (top_of (node_ip m.node) h) (did.about (request_in (about m) body) m.number % 65536) == did.about (request_in (about m) body) m.number)
+    (not-false (m.start == present_start h m) both.0)
+    (ap (λ (n : ℕ). nearest (top_of (node_ip m.node) h) (n % 65536) == n) (about_is m body is) ∙ not-false (taken_for h m == about m) both.1)
+
+-- ---- it comes to a gateway whose book is sound
+
+module _ (back : ReadsBack) (roles : RolesRead) (rules : Rules) (now : ℕ) (m : world.Message) (to : m.to_gateway ≡ true) {g : Gateway} {scene : Scene}
+    (stands : Stands m.gateway scene g) (sound : g.book.is_broken ≡ false) where
+  abbrev seen : Observed
+  seen = observed (history_of g.book) (node_id m.node)
+
+  abbrev may : HistoryAct → Bool
+  may = rules.may (history_of g.book) (node_id m.node)
+
+  abbrev acts : Given → Type 0
+  acts given = Plays m.gateway scene (acting now g m (decided given))
+
+  abbrev path : ℕ → HistoryAct
+  path counter = act.Path (node_id m.node) (port_number m.port) counter
+
+  abbrev reply : PathEvent → world.Message
+  reply event = answering m (written (path_number event) (path_message event None))
+
+  reply_plays : {a : Gateway} {s : Scene} → Stands m.gateway s a → a.book.is_broken ≡ false → (event : PathEvent) → Plays m.gateway s (out.replying a (reply event))
+  reply_plays {a} {s} is whole event =
+      quiet_plays is.rightly (reply event) whole (ap not to) (record {
+        path = path_number event;
+        message = path_message event None;
+        written = path_written (path_number event) event;
+        fits = path_fits (reply event) (path_number event) event;
+      }) m.gateway s is.post
+      (ap is_spoken (meaning_is back (reply event) (path_number event) (path_message event None) (path_written (path_number event) event))
+      ∙ path_else (about (reply event)) event)
+
+  -- nothing is recorded
+  plain_plays : (event : PathEvent) → acts (replying (Some event) None)
+  plain_plays event = reply_plays stands sound event
+
+  module _ (fresh : is_expired (history_of g.book) m ≡ false) (started : 1 ≤ m.start) where
+    -- the node's start becomes known
+    path_plays : (event : PathEvent) (counter : ℕ) → nat_lt (start_of (node_ip m.node) (history_of g.book)) counter ≡ true
+        → acts (replying (Some event) (Some (path counter)))
+    path_plays event counter later =
+        let note : Plays m.gateway scene (still (noted now (path counter) g)) =
+        noted_plays stands sound now (path counter) (Opens m.gateway (node_at (node_ip m.node)) (port_number m.port) counter now no_caller)
+        (ap (λ (b : Bool). with_post m.gateway (opening now no_caller (path counter) b (scene.posts m.gateway)) scene)
+        (ap (λ (p : Post). nat_lt (start_of (node_ip m.node) (history p)) counter) stands.post
+        ∙ ap (λ (h : List HistoryEntry). nat_lt (start_of (node_ip m.node) h) counter) (sym (history_is g.book sound)) ∙ later)) in
+        followed_plays (λ a. out.replying a (reply event)) note (reply_plays (stands_after note) sound event)
+
+    opening_plays : (event : PathEvent) (o : Option ℕ) → ((counter : ℕ) → o ≡ Some counter → nat_lt (start_of (node_ip m.node) (history_of g.book)) counter ≡ true)
+        → acts (opening_epoch may (node_address m.node m.port) (Some event) o)
+    opening_plays event None rise = plain_plays event
+    opening_plays event (Some counter) rise = if_both acts (may (path counter)) (path_plays event counter (rise counter refl)) (still_plays stands)
+
+    event_plays : (event : PathEvent) → ((number counter : ℕ) → event ≡ EchoTold number counter → counter ≡ m.start)
+        → acts (answer_by seen (node_address m.node m.port) (Path event) may)
+    event_plays (EchoAsked number) is = plain_plays (EchoTold number seen.own)
+    event_plays (AliveAsked number) is = plain_plays (EchoAsked number)
+    event_plays (AliveTold number) is = still_plays stands
+    event_plays (EchoTold number counter) is =
+        let opening_is = opening_of (node_ip m.node) (history_of g.book) in
+        let same = is number counter refl in
+        opening_plays (AliveTold number) (opened_by (option_map (λ o. o.counter) opening_is) counter)
+        (λ path e. rises opening_is counter path (omega (arith, started, same)) (omega (arith, fresh_start (history_of g.book) m fresh, same)) e)
+
+    message_plays : (number : ℕ) (message : MessageValue) → FromNode m number message → Other message
+        → acts (answer_by seen (node_address m.node m.port) (framed (for_role role.Gateway (Message number message))) may)
+    message_plays number EchoRequest fits other = event_plays (EchoAsked number) (λ n counter e. absurd (cc))
+    message_plays number (EchoResponse counter) fits other = event_plays (EchoTold number counter)
+        (λ n told e. ap (λ (v : PathEvent). elim v [ EchoAsked n ↦ 0 | EchoTold n c ↦ c | AliveAsked n ↦ 0 | AliveTold n ↦ 0 ]) (sym e) ∙ fits)
+    message_plays number (NodeAliveRequest address) fits other = event_plays (AliveAsked number) (λ n counter e. absurd (cc))
+    message_plays number (TransferRequest body) fits other = absurd other
+    message_plays number (TransferResponse cause responded) fits other = absurd other
+    message_plays number _ fits other = still_plays stands
+
+    pub other_plays : (number : ℕ) (message : MessageValue) → IsWritten m.octets number message → FromNode m number message → Other message
+        → Plays m.gateway scene (answered rules now m g)
+    other_plays number message w fits other =
+        subst (λ (p : PreparedValue). acts (answer_by seen (node_address m.node m.port) p may))
+        (sym (ap framed (role_read_of back roles role.Gateway m.octets number message w))) (message_plays number message fits other)
+
+  -- a request comes
+  module _ (body : TransferValue) (w : IsWritten m.octets (m.number % 65536) (TransferRequest body)) (values : sends_values body ≡ true) (is : IsAbout m body)
+      (fresh : is_expired (history_of g.book) m ≡ false) (there : Contains scene.letters (letter_of m)) where
+    abbrev answer : ℕ → world.Message
+    answer cause = answering m (written (m.number % 65536) (TransferResponse cause (m.number % 65536 ∷ [])))
+
+    -- what the history answers
+    abbrev Answered : ℕ → Option HistoryAct → Type 0
+    Answered cause a = asked_by seen may (node_id m.node) (m.number % 65536) body ≡ responding (m.number % 65536) cause a
+
+    means : (cause : ℕ) → meaning_of (answer cause) ≡ Answers cause
+    means cause = responds_means back (answer cause) cause (record { octets = refl })
+
+    coming_is : (cause : ℕ) (a : Option HistoryAct) → Answered cause a → coming may now no_caller (letter_of m) (request_in (about m) body) (post_of g)
+        ≡ waiting_for (letter_of (answer cause)) (noting_if now no_caller a (post_of g))
+    coming_is cause a is_answer =
+        let request = request_in (about m) body in
+        cond-true (is_timely (history (post_of g)) (letter_of m) request) _ _
+        (subst (λ (h : List HistoryEntry). is_timely h (letter_of m) request ≡ true) (history_is g.book sound) (timely m (history_of g.book) (m.number % 65536) body w.is is fresh))
+        ∙ ap (λ (given : Given). scenes.answering now no_caller (letter_of m) given (post_of g))
+        (ap (λ (h : List HistoryEntry). given h may (letter_of m) request) (sym (history_is g.book sound))
+        ∙ sym (same_answer m seen may (node_id m.node) (m.number % 65536) body is) ∙ is_answer)
+        ∙ ap (λ (says : Meaning). waiting_for (record (letter_of m) { says = says }) (noting_if now no_caller a (post_of g))) (sym (means cause))
+
+    abbrev comes : Happening
+    comes = Comes (number_of scene.letters (letter_of m) there).0 may now no_caller
+
+    happens : (cause : ℕ) (a : Option HistoryAct) → Answered cause a → happened_all scene (comes ∷ [])
+        ≡ with_settled m.gateway (waiting_for (letter_of (answer cause)) (noting_if now no_caller a (post_of g))) scene
+    happens cause a is_answer =
+        ap (λ (l : Option Letter). with_one l (λ letter. after_coming may now no_caller letter letter.says) scene) (number_of scene.letters (letter_of m) there).1
+        ∙ ap (λ (says : Meaning). after_coming may now no_caller (letter_of m) says scene) (meaning_is back m (m.number % 65536) (TransferRequest body) w)
+        ∙ ap (λ (p : Post). with_settled m.gateway (coming may now no_caller (letter_of m) (request_in (about m) body) p) scene) stands.post
+        ∙ ap (λ (s : Settled). with_settled m.gateway s scene) (coming_is cause a is_answer)
+
+    answered_plays : (cause : ℕ) (a : Option HistoryAct) → Answered cause a → Plays m.gateway scene (out.replying (record g { book = recorded_if g.book now no_caller a }) (answer cause))
+    answered_plays cause None is_answer =
+        answer_plays stands.rightly (answer cause) sound (ap not to) (responds_said (answer cause) cause (record { octets = refl }))
+        m.gateway scene (comes ∷ []) (happens cause None is_answer) (ap is_spoken (means cause))
+    answered_plays cause (Some a) is_answer =
+        answer_plays (noted_rightly now a stands.rightly) (answer cause) sound (ap not to) (responds_said (answer cause) cause (record { octets = refl }))
+        m.gateway scene (comes ∷ [])
+        (happens cause (Some a) is_answer
+        ∙ ap (λ (h : List HistoryEntry). with_settled m.gateway (waiting_for (letter_of (answer cause)) (record {
+          firm = g.book.firm;
+          rest = g.book.rest ++ entry_by h now no_caller a ∷ [];
+          waiting = waiting_letters g.waiting;
+        })) scene) (sym (history_is g.book sound)))
+        (ap is_spoken (means cause))
+
+    pub request_plays : Plays m.gateway scene (answered rules now m g)
+    request_plays =
+        let answer_is = asked_responds seen may (node_id m.node) (m.number % 65536) body in
+        subst (λ (d : Decided). Plays m.gateway scene (acting now g m d))
+        (sym (ap (λ (p : PreparedValue). decided (answer_by seen (node_address m.node m.port) p may))
+        (prepared_request back roles m.octets (m.number % 65536) body w values) ∙ ap decided answer_is.is))
+        (answered_plays answer_is.cause answer_is.recorded answer_is.is)
+
+-- ---- a message comes
+
+module _ (back : ReadsBack) (roles : RolesRead) (m : world.Message) (to : m.to_gateway ≡ true) (said : NodeSaid m) {g : Gateway} {scene : Scene}
+    (stands : Stands m.gateway scene g) where
   -- what is answered
-  answers_play : (scene : Scene) (g : Gateway) → Stands m.gateway scene g → g.book.is_broken ≡ false → is_expired (history_of g.book) m ≡ false
+  pub answers_play : (rules : Rules) (now : ℕ) → g.book.is_broken ≡ false → is_expired (history_of g.book) m ≡ false
       → (speaks m ≡ true → Contains scene.letters (letter_of m)) → Plays m.gateway scene (answered rules now m g)
-  answers_play scene g stands sound fresh there = by said.message said.written said.fits
+  answers_play rules now sound fresh there = by said.message said.written said.fits
     where
-      other : (message : MessageValue) → IsWritten m.octets said.path message → FromNode m said.path message → Other message
-          → Plays m.gateway scene (answered rules now m g)
-      other message w fits is = other_plays back roles rules now m g scene stands sound to fresh said.started said.path message w fits is
-
       by : (message : MessageValue) → IsWritten m.octets said.path message → FromNode m said.path message → Plays m.gateway scene (answered rules now m g)
       by (TransferRequest body) w fits =
           let here : IsWritten m.octets (m.number % 65536) (TransferRequest body) = subst (λ (n : ℕ). IsWritten m.octets n (TransferRequest body)) fits.0 w in
-          request_plays back roles rules now m g scene stands sound to body here fits.1 fits.2 fresh
+          request_plays back roles rules now m to stands sound body here fits.1 fits.2 fresh
           (there (ap is_spoken (meaning_is back m (m.number % 65536) (TransferRequest body) here)))
       by (TransferResponse cause responded) w fits = absurd fits
-      by EchoRequest w fits = other EchoRequest w fits tt
-      by (EchoResponse counter) w fits = other (EchoResponse counter) w fits tt
-      by VersionNotSupported w fits = other VersionNotSupported w fits tt
-      by (NodeAliveRequest address) w fits = other (NodeAliveRequest address) w fits tt
-      by NodeAliveResponse w fits = other NodeAliveResponse w fits tt
-      by (RedirectionRequest cause to) w fits = other (RedirectionRequest cause to) w fits tt
-      by (RedirectionResponse cause) w fits = other (RedirectionResponse cause) w fits tt
-
-  unless_plays : (scene : Scene) (g : Gateway) (deliver : Gateway → Moved) → Stands m.gateway scene g
-      → (is_expired (history_of g.book) m ≡ false → Plays m.gateway scene (deliver g)) → Plays m.gateway scene (unless_expired m deliver g)
-  unless_plays scene g deliver stands plays = by (is_expired (history_of g.book) m) refl
-    where
-      by : (b : Bool) → is_expired (history_of g.book) m ≡ b → Plays m.gateway scene (if b then still g else deliver g)
-      by true e = still_plays m.gateway scene g stands
-      by false e = plays e
+      by message w fits = other_plays back roles rules now m to stands sound fresh said.started said.path message w fits tt
 
   -- a request that comes to a gateway that breaks is told
-  told_plays : (scene : Scene) (g : Gateway) → Stands m.gateway scene g → (number : ℕ) → number ≡ m.number % 65536
+  told_plays : (number : ℕ) → number ≡ m.number % 65536
       → Plays m.gateway scene (record { gateway = g; sends = answering m (written number (TransferResponse SYSTEM_FAILURE (number ∷ []))) ∷ [] })
-  told_plays scene g stands number same = record {
-    later = did.Adds (letter_of answer) ∷ [];
-    after = with_letters (letter_of answer ∷ []) scene;
-    is = adds (letter_of answer ∷ []) scene (λ l is. subst (λ (k : Letter). is_idle k.says ≡ true) (one l is) (ap is_idle means));
-    goes = letters_go m.gateway (letter_of answer ∷ []) scene;
-    post = stands.post;
-    sends = λ other is speaking. Contains-append_right scene.letters (letter_of answer ∷ []) (letter_of other)
-        (subst (λ (o : world.Message). Contains (letter_of answer ∷ []) (letter_of o)) (the_one other is) (in_head (letter_of answer) []));
-    said = λ other is. subst Said (the_one other is) (said_by_gateway answer (ap not to) (responds_said answer SYSTEM_FAILURE responds));
-    rightly = stands.rightly;
-  }
-    where
-      answer : world.Message
-      answer = answering m (written number (TransferResponse SYSTEM_FAILURE (number ∷ [])))
+  told_plays number same =
+      let told = answering m (written number (TransferResponse SYSTEM_FAILURE (number ∷ []))) in
+      let responds : Responds told SYSTEM_FAILURE = record { octets = ap (λ (n : ℕ). written n (TransferResponse SYSTEM_FAILURE (n ∷ []))) same } in
+      idle_plays stands (told ∷ [])
+      (λ k is. subst Said (in_one told k is) (said_by_gateway told (ap not to) (responds_said told SYSTEM_FAILURE responds)))
+      (λ k is. subst (λ (j : world.Message). is_idle (meaning_of j) ≡ true) (in_one told k is) (ap is_idle (responds_means back told SYSTEM_FAILURE responds)))
 
-      responds : Responds (answering m (written number (TransferResponse SYSTEM_FAILURE (number ∷ [])))) SYSTEM_FAILURE
-      responds = record { octets = ap (λ (n : ℕ). written n (TransferResponse SYSTEM_FAILURE (n ∷ []))) same }
-
-      means : meaning_of (answering m (written number (TransferResponse SYSTEM_FAILURE (number ∷ [])))) ≡ Answers SYSTEM_FAILURE
-      means = responds_means back (answering m (written number (TransferResponse SYSTEM_FAILURE (number ∷ [])))) SYSTEM_FAILURE responds
-
-      one : (l : Letter) → Contains (letter_of answer ∷ []) l → letter_of answer ≡ l
-      one l is = elim (in_cons (letter_of answer) l [] is) [ inl e ↦ e | inr none ↦ absurd (in_none l none) ]
-
-      the_one : (other : world.Message) → Contains (answer ∷ []) other → answer ≡ other
-      the_one other is = elim (in_cons answer other [] is) [ inl e ↦ e | inr none ↦ absurd (in_none other none) ]
-
-  failed_plays : (scene : Scene) (g : Gateway) → Stands m.gateway scene g → Plays m.gateway scene (failed m g)
-  failed_plays scene g stands =
+  pub failed_plays : Plays m.gateway scene (failed m g)
+  failed_plays =
       subst (λ (p : PreparedValue). Plays m.gateway scene (failed_by m g (decided (failure_answer p))))
       (sym (ap framed (role_read_of back roles role.Gateway m.octets said.path said.message said.written)))
       (by said.message said.fits)
     where
       by : (message : MessageValue) → FromNode m said.path message
           → Plays m.gateway scene (failed_by m g (decided (failure_answer (framed (for_role role.Gateway (Message said.path message))))))
-      by (TransferRequest body) fits = by_values (sends_values body)
-        where
-          by_values : (b : Bool) → Plays m.gateway scene (failed_by m g (decided (failure_answer (if b then of.Request said.path body else of.Refused CDR_DECODING_ERROR said.path))))
-          by_values true = told_plays scene g stands said.path fits.0
-          by_values false = told_plays scene g stands said.path fits.0
+      by (TransferRequest body) fits = if_both (λ (p : PreparedValue). Plays m.gateway scene (failed_by m g (decided (failure_answer p)))) (sends_values body)
+          (told_plays said.path fits.0) (told_plays said.path fits.0)
       by (TransferResponse cause responded) fits = absurd fits
-      by EchoRequest fits = still_plays m.gateway scene g stands
-      by (EchoResponse counter) fits = still_plays m.gateway scene g stands
-      by VersionNotSupported fits = still_plays m.gateway scene g stands
-      by (NodeAliveRequest address) fits = still_plays m.gateway scene g stands
-      by NodeAliveResponse fits = still_plays m.gateway scene g stands
-      by (RedirectionRequest cause to) fits = still_plays m.gateway scene g stands
-      by (RedirectionResponse cause) fits = still_plays m.gateway scene g stands
+      by _ fits = still_plays stands
 
-  pub delivered_plays : (scene : Scene) (g : Gateway) → Stands m.gateway scene g → (speaks m ≡ true → Contains scene.letters (letter_of m))
-      → Plays m.gateway scene (delivered rules now f m g)
-  delivered_plays scene g stands there = by g.is_down
-    where
-      running : g.book.is_broken ≡ false → Plays m.gateway scene (delivered_running rules now f m g)
-      running sound = unless_plays scene g (λ a. followed (readying rules f a) (if_broken (failed m) (answered rules now m))) stands (λ fresh.
-          ready_plays back m.gateway scene g stands rules f (failed m) (answered rules now m)
-          (λ s a goes stands e. failed_plays s a stands)
-          (λ s a goes stands e same. answers_play s a stands e
-          (subst (λ (h : List HistoryEntry). is_expired h m ≡ false)
-          (sym (ap (λ (v : Gateway). history_of v.book) same ∙ ready_history rules f g sound (ap (λ (v : Gateway). v.book.is_broken) (sym same) ∙ e))) fresh)
-          (λ speaking. goes.letters (letter_of m) (there speaking))))
+-- ---- a redirection
 
-      breaking : Plays m.gateway scene (delivered_broken rules now f m g)
-      breaking = ready_plays back m.gateway scene g stands rules f still (unless_expired m (answered rules now m))
-          (λ s a goes stands e. still_plays m.gateway s a stands)
-          (λ s a goes stands e same. unless_plays s a (answered rules now m) stands (λ fresh.
-          answers_play s a stands e fresh (λ speaking. goes.letters (letter_of m) (there speaking))))
+-- the address of the gateway that is recommended
+abbrev recommended : Option ℕ → Option (List ℕ)
+recommended to = option_map (λ other. big_bytes 4 (gateway_address other).ip) to
 
-      by : (b : Bool) → Plays m.gateway scene (if b then still g else if_broken (delivered_broken rules now f m) (delivered_running rules now f m) g)
-      by true = still_plays m.gateway scene g stands
-      by false = by_test g.book.is_broken refl
-        where
-          by_test : (b : Bool) → g.book.is_broken ≡ b → Plays m.gateway scene (if b then delivered_broken rules now f m g else delivered_running rules now f m g)
-          by_test true e = breaking
-          by_test false e = running e
+asks_written : (number cause : ℕ) (to : Option ℕ) → IsWritten (written number (RedirectionRequest cause (recommended to))) number (RedirectionRequest cause (recommended to))
+asks_written number cause None = record { is = refl; sendable = refl; short = omega arith }
+asks_written number cause (Some other) = record { is = refl; sendable = refl; short = omega arith }
+
+pub redirected_plays : ReadsBack → (gateway cause : ℕ) (to : Option ℕ) {g : Gateway} {scene : Scene} → Stands gateway scene g
+    → Plays gateway scene (out.redirected gateway cause to g)
+redirected_plays back gateway cause to {g} {scene} stands =
+    let again : Stands gateway scene (record g { redirects = g.redirects + 1 }) =
+    record { post = stands.post; rightly = record { fronts = stands.rightly.fronts; said = stands.rightly.said; broken = stands.rightly.broken } } in
+    idle_plays again
+    (map (out.redirecting gateway cause to g) (paths_of (history_of g.book)))
+    (λ m is.
+    let there = of_map (out.redirecting gateway cause to g) (paths_of (history_of g.book)) m is in
+    subst Said there.2 (said_by_gateway (out.redirecting gateway cause to g there.0) refl
+    (record { path = number; message = RedirectionRequest cause (recommended to); written = asks_written number cause to; fits = tt })))
+    (λ m is.
+    let there = of_map (out.redirecting gateway cause to g) (paths_of (history_of g.book)) m is in
+    subst (λ (k : world.Message). is_idle (meaning_of k) ≡ true) there.2
+    (ap is_idle (meaning_is back (out.redirecting gateway cause to g there.0) number (RedirectionRequest cause (recommended to)) (asks_written number cause to))))
+  where
+    number : ℕ
+    number = g.redirects % 65536

@@ -1,14 +1,14 @@
 -- What is due is of packets that are open, and they stay open.
-use Rattle.std.proofs.Common.{◌≡◌, ⊎_elim, ℕ, suc, ◌==◌, ◌&&◌, ◌||◌, Bool, true, false, if◌then◌else◌, List, [], ◌∷◌, ◌++◌, map, Option, Some, None, Contains, refl, sym, ap, ◌∙◌, arith}
-use Rattle.std.specs.List.{find, flat_map, list_all, list_any}
+use Rattle.std.proofs.Common.{◌≡◌, ⊎_elim, ℕ, suc, ◌==◌, ◌&&◌, ◌||◌, Bool, true, false, List, [], ◌∷◌, ◌++◌, map, Option, Some, None, Contains, refl, sym, ap, ◌∙◌, arith, subst, find, flat_map, eq-eqb}
+use Rattle.std.specs.List.{list_all, list_any}
 use Rattle.std.specs.Option.{option_map_or, option_or}
-use Rattle.std.proofs.lemmas.Bool.{eq-eqb}
+use Rattle.std.proofs.lemmas.Bool.{and_right}
 use Rattle.std.proofs.lemmas.List.Elements.{Contains-append_cases}
 use Rattle.gtpp_message.specs.Packet.{PacketForm}
 use Rattle.node_core.specs.Copies.{is_answered, is_filed, is_held, is_release, is_released, is_sealed, is_settled, new_copy}
-use Rattle.node_core.specs.Packets.{PacketState, chosen, commanded, copies_after, is_done, is_of, is_resolved, packet_after, packet_after_all, with_command}
+use Rattle.node_core.specs.Packets.{PacketState, chosen, commanded, copies_after, is_done, is_of, is_resolved, packet_after, packet_after_all}
 use Rattle.node_core.specs.Peers.{all_drawn, next_number}
-use Rattle.node_core.specs.Sendings.{again, asking, command_by, command_of, command_unless, copy_to, due_by_copies, due_by_verdict, due_for, due_for_all, probe_of, probes_from, releasing, repeating, settling, settling_beside, settling_by, test_of}
+use Rattle.node_core.specs.Sendings.{again, command_by, command_of, command_unless, copy_to, due_by_copies, due_by_verdict, due_for, due_for_all, probe_of, probes_from, releasing, repeating, settling, settling_beside, settling_by, test_of}
 use Rattle.node_core.specs.declared.copy.Command.{Command}
 use Rattle.node_core.specs.declared.copy.Order.{Order}
 use Rattle.node_core.specs.declared.copy.Order.TheVariants.{Release, Cancel}
@@ -19,85 +19,95 @@ use Rattle.node_core.specs.declared.peer.Peer.{Peer}
 use Rattle.node_core.specs.declared.sending.Sending.{Sending}
 use Rattle.node_core.specs.declared.sending.Sending.TheVariants as send
 use Rattle.path_mgmt.specs.NodePath.{PathsOfNode, is_alive}
-use Rattle.once_core.proofs.ListLemmas.{in_cons, in_head, in_none, in_tail}
+use Rattle.once_core.proofs.ListLemmas.{in_cons, in_head, in_none, in_tail, in_one, of_flat_map}
 use Rattle.once_core.proofs.NumberLemmas.{Numbered, numbered_in}
-use Rattle.once_core.proofs.SentPlays.{of_flat}
+use Rattle.once_core.proofs.CaseLemmas.{by_bool, by_option, if_both, if_known}
+
+-- ---- each sending that is due
+
+-- what holds of what may be due for a packet with this number: of a new copy at the favourite, which is up, of one that is
+-- sent again, of a test, and of a release or a cancel
+pub record EachKind (number favourite : ℕ) (up : Bool) (Q : Sending → Type 0) : Type 0 where
+  pub copies : (peers : List Peer) (is_plain : Bool) → up ≡ true → Q (send.Data number favourite (next_number peers favourite) is_plain true)
+  pub repeats : (copy : PacketCopy) → Q (again number copy)
+  pub tests : (copy : PacketCopy) → Q (test_of number copy)
+  pub commands : (command : Option Command) (peers : List Peer) (o : Order) (copy : PacketCopy) → Q (command_by command peers number o copy)
+
+module _ {number favourite : ℕ} {up : Bool} {Q : Sending → Type 0} (each : EachKind number favourite up Q) where
+  abbrev AllDo : List Sending → Type 0
+  AllDo sendings = (s : Sending) → Contains sendings s → Q s
+
+  none_due : AllDo []
+  none_due s is = absurd (in_none s is)
+
+  one_due : (only : Sending) → Q only → AllDo (only ∷ [])
+  one_due only holds s is = subst Q (in_one only s is) holds
+
+  copy_due : (b : Bool) → up ≡ b → (peers : List Peer) (is_plain : Bool) → AllDo (copy_to favourite b peers number is_plain)
+  copy_due true is peers is_plain = one_due _ (each.copies peers is_plain is)
+  copy_due false isnt peers is_plain = none_due
+
+  command_due : (peers : List Peer) (o : Order) (copy : PacketCopy) → AllDo (command_of peers number o copy)
+  command_due peers o copy = by_bool (λ (b : Bool). AllDo (command_unless b peers number o copy)) (is_answered copy)
+      (λ answered. none_due) (λ isnt. one_due _ (each.commands copy.command peers o copy))
+
+  settling_due : (verdict : Verdict) (peers : List Peer) (copy : PacketCopy) → AllDo (settling_by verdict peers number copy)
+  settling_due Unknown peers copy = one_due _ (each.tests copy)
+  settling_due Held peers copy = command_due peers Cancel copy
+  settling_due _ peers copy = none_due
+
+  all_settling : (peers : List Peer) (duplicates : List PacketCopy) → AllDo (flat_map (settling peers number) duplicates)
+  all_settling peers duplicates s is =
+      let there = of_flat_map (settling peers number) duplicates s is in settling_due there.0.verdict peers there.0 s there.2
+
+  releasing_due : (choice : Option PacketCopy) (peers : List Peer) (duplicates : List PacketCopy) → AllDo (releasing choice peers number duplicates)
+  releasing_due None peers duplicates s is = all_settling peers duplicates s is
+  releasing_due (Some choice) peers duplicates s is = ⊎_elim (command_due peers Release choice s)
+      (λ other.
+      let there = of_flat_map (settling_beside choice peers number) duplicates s other in
+      if_both AllDo (there.0.gateway == choice.gateway) none_due (settling_due there.0.verdict peers there.0) s there.2)
+      (Contains-append_cases (command_of peers number Release choice) (flat_map (settling_beside choice peers number) duplicates) s is)
+
+  repeating_due : (found : Option PacketCopy) (peers : List Peer) → AllDo (repeating found favourite up peers number)
+  repeating_due (Some copy) peers = one_due _ (each.repeats copy)
+  repeating_due None peers = copy_due up refl peers false
+
+  verdict_due : (verdict : Verdict) (peers : List Peer) (plain : PacketCopy) (duplicates : List PacketCopy) → AllDo (due_by_verdict verdict favourite up peers number plain duplicates)
+  verdict_due Unknown peers plain duplicates = if_both AllDo (list_any (λ copy. is_held copy.verdict) duplicates) (one_due _ (each.tests plain))
+      (repeating_due (find (λ copy. copy.gateway == favourite) (plain ∷ duplicates)) peers)
+  verdict_due Sealed peers plain duplicates = releasing_due (chosen duplicates) peers duplicates
+  verdict_due _ peers plain duplicates = all_settling peers duplicates
+
+  copies_due : (peers : List Peer) (copies : List PacketCopy) → AllDo (due_by_copies favourite up peers number copies)
+  copies_due peers [] = copy_due up refl peers true
+  copies_due peers (plain ∷ duplicates) = verdict_due plain.verdict peers plain duplicates
+
+pub all_due : (favourite : ℕ) (up : Bool) (Q : Sending → Type 0) (packets : List PacketState)
+    → ((p : PacketState) → Contains packets p → is_done p.copies ≡ false → EachKind p.number favourite up Q)
+    → (peers : List Peer) (s : Sending) → Contains (due_for_all favourite up peers packets) s → Q s
+all_due favourite up Q [] each peers s is = absurd (in_none s is)
+all_due favourite up Q (packet ∷ packets) each peers s is = ⊎_elim
+    (if_known (λ (due : List Sending). Contains due s → Q s) (is_done packet.copies) (λ done none. absurd (in_none s none))
+    (λ open_yet. copies_due (each packet (in_head packet packets) open_yet) peers packet.copies s))
+    (all_due favourite up Q packets (λ p there. each p (in_tail packet p packets there)) (all_drawn (due_for favourite up peers packet) peers) s)
+    (Contains-append_cases (due_for favourite up peers packet) (due_for_all favourite up (all_drawn (due_for favourite up peers packet) peers) packets) s is)
 
 -- ---- what is due for a packet is of it
 
-module _ (number : ℕ) where
-  abbrev AllOf : List Sending → Type 0
-  AllOf sendings = (s : Sending) → Contains sendings s → is_of number s ≡ true
+each_of : (number favourite : ℕ) (up : Bool) (Q : Sending → Type 0) → ((s : Sending) → is_of number s ≡ true → Q s) → EachKind number favourite up Q
+each_of number favourite up Q holds = record {
+  copies = λ peers is_plain is. holds _ own;
+  repeats = λ copy. holds _ own;
+  tests = λ copy. holds _ own;
+  commands = λ command peers o copy. holds _ (by command peers o copy);
+}
+  where
+    own : (number == number) ≡ true
+    own = eq-eqb number number refl
 
-  none_of : AllOf []
-  none_of s is = absurd (in_none s is)
-
-  one_of : (only : Sending) → is_of number only ≡ true → AllOf (only ∷ [])
-  one_of only of s is = ⊎_elim (λ e. ap (is_of number) (sym e) ∙ of) (λ none. absurd (in_none s none)) (in_cons only s [] is)
-
-  both_of : (first second : List Sending) → AllOf first → AllOf second → AllOf (first ++ second)
-  both_of first second a b s is = ⊎_elim (a s) (b s) (Contains-append_cases first second s is)
-
-  own : (number == number) ≡ true
-  own = eq-eqb number number refl
-
-  copy_of : (favourite : ℕ) (up : Bool) (peers : List Peer) (is_plain : Bool) → AllOf (copy_to favourite up peers number is_plain)
-  copy_of favourite false peers is_plain = none_of
-  copy_of favourite true peers is_plain = one_of (send.Data number favourite (next_number peers favourite) is_plain true) own
-
-  command_by_of : (command : Option Command) (peers : List Peer) (o : Order) (copy : PacketCopy) → is_of number (command_by command peers number o copy) ≡ true
-  command_by_of None peers o copy = own
-  command_by_of (Some command) peers o copy = own
-
-  command_is_of : (peers : List Peer) (o : Order) (copy : PacketCopy) → AllOf (command_of peers number o copy)
-  command_is_of peers o copy = by (is_answered copy)
-    where
-      by : (b : Bool) → AllOf (command_unless b peers number o copy)
-      by true = none_of
-      by false = one_of (command_by copy.command peers number o copy) (command_by_of copy.command peers o copy)
-
-  settling_of : (verdict : Verdict) (peers : List Peer) (copy : PacketCopy) → AllOf (settling_by verdict peers number copy)
-  settling_of Unknown peers copy = one_of (test_of number copy) own
-  settling_of Held peers copy = command_is_of peers Cancel copy
-  settling_of _ peers copy = none_of
-
-  beside_of : (choice : PacketCopy) (peers : List Peer) (copy : PacketCopy) → AllOf (settling_beside choice peers number copy)
-  beside_of choice peers copy = by (copy.gateway == choice.gateway)
-    where
-      by : (b : Bool) → AllOf (if b then [] else settling peers number copy)
-      by true = none_of
-      by false = settling_of copy.verdict peers copy
-
-  all_settling_of : (peers : List Peer) (duplicates : List PacketCopy) → AllOf (flat_map (settling peers number) duplicates)
-  all_settling_of peers duplicates s is =
-      of_flat (settling peers number) (λ (t : Sending). is_of number t ≡ true) (λ copy t there. settling_of copy.verdict peers copy t there) duplicates s is
-
-  repeating_of : (found : Option PacketCopy) (favourite : ℕ) (up : Bool) (peers : List Peer) → AllOf (repeating found favourite up peers number)
-  repeating_of (Some copy) favourite up peers = one_of (again number copy) own
-  repeating_of None favourite up peers = copy_of favourite up peers false
-
-  asking_of : (favourite : ℕ) (up : Bool) (peers : List Peer) (plain : PacketCopy) (duplicates : List PacketCopy) → AllOf (asking favourite up peers number plain duplicates)
-  asking_of favourite up peers plain duplicates = by (list_any (λ copy. is_held copy.verdict) duplicates)
-    where
-      by : (b : Bool) → AllOf (if b then test_of number plain ∷ [] else repeating (find (λ copy. copy.gateway == favourite) (plain ∷ duplicates)) favourite up peers number)
-      by true = one_of (test_of number plain) own
-      by false = repeating_of (find (λ copy. copy.gateway == favourite) (plain ∷ duplicates)) favourite up peers
-
-  releasing_of : (choice : Option PacketCopy) (peers : List Peer) (duplicates : List PacketCopy) → AllOf (releasing choice peers number duplicates)
-  releasing_of None peers duplicates = all_settling_of peers duplicates
-  releasing_of (Some choice) peers duplicates =
-      both_of (command_of peers number Release choice) (flat_map (settling_beside choice peers number) duplicates) (command_is_of peers Release choice)
-      (λ s is. of_flat (settling_beside choice peers number) (λ (t : Sending). is_of number t ≡ true) (λ copy t there. beside_of choice peers copy t there) duplicates s is)
-
-  verdict_of : (verdict : Verdict) (favourite : ℕ) (up : Bool) (peers : List Peer) (plain : PacketCopy) (duplicates : List PacketCopy)
-      → AllOf (due_by_verdict verdict favourite up peers number plain duplicates)
-  verdict_of Unknown favourite up peers plain duplicates = asking_of favourite up peers plain duplicates
-  verdict_of Sealed favourite up peers plain duplicates = releasing_of (chosen duplicates) peers duplicates
-  verdict_of _ favourite up peers plain duplicates = all_settling_of peers duplicates
-
-  copies_of : (favourite : ℕ) (up : Bool) (peers : List Peer) (copies : List PacketCopy) → AllOf (due_by_copies favourite up peers number copies)
-  copies_of favourite up peers [] = copy_of favourite up peers true
-  copies_of favourite up peers (plain ∷ duplicates) = verdict_of plain.verdict favourite up peers plain duplicates
+    by : (command : Option Command) (peers : List Peer) (o : Order) (copy : PacketCopy) → is_of number (command_by command peers number o copy) ≡ true
+    by None peers o copy = own
+    by (Some command) peers o copy = own
 
 -- a sending is of an open one of these packets
 pub record IsOfOpen (packets : List PacketState) (s : Sending) : Type 0 where
@@ -106,21 +116,9 @@ pub record IsOfOpen (packets : List PacketState) (s : Sending) : Type 0 where
   pub open_yet : is_done state.copies ≡ false
   pub of : is_of state.number s ≡ true
 
-due_of_open : (favourite : ℕ) (up : Bool) (peers : List Peer) (packet : PacketState) (packets : List PacketState) → Contains packets packet
-    → (s : Sending) → Contains (due_for favourite up peers packet) s → IsOfOpen packets s
-due_of_open favourite up peers packet packets kept s is = by (is_done packet.copies) refl is
-  where
-    by : (b : Bool) → is_done packet.copies ≡ b → Contains (if b then [] else due_by_copies favourite up peers packet.number packet.copies) s → IsOfOpen packets s
-    by true e is = absurd (in_none s is)
-    by false e is = record { state = packet; kept = kept; open_yet = e; of = copies_of packet.number favourite up peers packet.copies s is }
-
-pub all_of_open : (favourite : ℕ) (up : Bool) (packets all : List PacketState) (peers : List Peer) → ((p : PacketState) → Contains packets p → Contains all p)
-    → (s : Sending) → Contains (due_for_all favourite up peers packets) s → IsOfOpen all s
-all_of_open favourite up [] all peers within s is = absurd (in_none s is)
-all_of_open favourite up (packet ∷ packets) all peers within s is = ⊎_elim
-    (λ here. due_of_open favourite up peers packet all (within packet (in_head packet packets)) s here)
-    (λ later. all_of_open favourite up packets all (all_drawn (due_for favourite up peers packet) peers) (λ p there. within p (in_tail packet p packets there)) s later)
-    (Contains-append_cases (due_for favourite up peers packet) (due_for_all favourite up (all_drawn (due_for favourite up peers packet) peers) packets) s is)
+pub all_of_open : (favourite : ℕ) (up : Bool) (packets : List PacketState) (peers : List Peer) (s : Sending) → Contains (due_for_all favourite up peers packets) s → IsOfOpen packets s
+all_of_open favourite up packets = all_due favourite up (IsOfOpen packets) packets (λ p kept open_yet.
+    each_of p.number favourite up (IsOfOpen packets) (λ s of. record { state = p; kept = kept; open_yet = open_yet; of = of }))
 
 -- a probe is of no packet
 abbrev pub is_probe : Sending → Bool
@@ -130,72 +128,42 @@ is_probe _ = false
 pub probes_are : (gateway : ℕ) (paths : PathsOfNode) (peers : List Peer) (s : Sending) → Contains (probes_from gateway paths peers) s → is_probe s ≡ true
 probes_are gateway paths [] s is = absurd (in_none s is)
 probes_are gateway paths (peer ∷ peers) s is = ⊎_elim
-    (λ here. by (is_alive paths gateway) here)
-    (λ later. probes_are (suc gateway) paths peers s later)
+    (by_bool (λ (b : Bool). Contains (probe_of b gateway peer) s → is_probe s ≡ true) (is_alive paths gateway) (λ alive none. absurd (in_none s none))
+    (λ isnt here. ap is_probe (sym (in_one (send.Probe gateway peer.path) s here))))
+    (probes_are (suc gateway) paths peers s)
     (Contains-append_cases (probe_of (is_alive paths gateway) gateway peer) (probes_from (suc gateway) paths peers) s is)
-  where
-    by : (b : Bool) → Contains (probe_of b gateway peer) s → is_probe s ≡ true
-    by true here = absurd (in_none s here)
-    by false here = ⊎_elim (λ e. ap is_probe (sym e)) (λ none. absurd (in_none s none)) (in_cons (send.Probe gateway peer.path) s [] here)
 
 -- ---- an open packet stays open
 
 -- the copies are open, one more that is new or a command that is new leaves them so
 more_open : (copies : List PacketCopy) (gateway number : ℕ) (is_plain : Bool) → is_done (copies ++ new_copy gateway number is_plain ∷ []) ≡ false
 more_open [] gateway number is_plain = refl
-more_open (plain ∷ duplicates) gateway number is_plain = by (is_resolved (plain ∷ (duplicates ++ new_copy gateway number is_plain ∷ []))) (last duplicates)
+more_open (plain ∷ duplicates) gateway number is_plain = and_right (is_resolved (plain ∷ (duplicates ++ new_copy gateway number is_plain ∷ []))) _ (last duplicates)
   where
     last : (copies : List PacketCopy) → list_all is_settled (copies ++ new_copy gateway number is_plain ∷ []) ≡ false
     last [] = refl
-    last (copy ∷ copies) = by_first (is_settled copy) (last copies)
-      where
-        by_first : (b : Bool) → list_all is_settled (copies ++ new_copy gateway number is_plain ∷ []) ≡ false → (b && list_all is_settled (copies ++ new_copy gateway number is_plain ∷ [])) ≡ false
-        by_first true rest = rest
-        by_first false rest = refl
-
-    by : (b : Bool) → list_all is_settled (duplicates ++ new_copy gateway number is_plain ∷ []) ≡ false
-        → (b && list_all is_settled (duplicates ++ new_copy gateway number is_plain ∷ [])) ≡ false
-    by true rest = rest
-    by false rest = refl
+    last (copy ∷ copies) = and_right (is_settled copy) _ (last copies)
 
 module _ (gateway : ℕ) (o : Order) (number : ℕ) where
   abbrev given : Command
   given = record { order = o; number = number; is_answered = false }
 
-  answered_same : (copy : PacketCopy) → is_answered (commanded gateway given copy) ≡ is_answered copy
-  answered_same copy = by (copy.gateway == gateway)
-    where
-      by_command : (there : Option Command) → option_map_or (λ (c : Command). c.is_answered) (option_or there (Some given)) false ≡ option_map_or (λ (c : Command). c.is_answered) there false
-      by_command None = refl
-      by_command (Some c) = refl
+  abbrev answered_in : Option Command → Bool
+  answered_in there = option_map_or (λ (c : Command). c.is_answered) there false
 
-      by : (b : Bool) → is_answered (if b then with_command given copy else copy) ≡ is_answered copy
-      by true = by_command copy.command
-      by false = refl
+  abbrev released_in : Option Command → Bool
+  released_in there = option_map_or (λ (c : Command). is_release c.order) there false && answered_in there
+
+  answered_same : (copy : PacketCopy) → is_answered (commanded gateway given copy) ≡ is_answered copy
+  answered_same copy = if_both (λ (c : PacketCopy). is_answered c ≡ is_answered copy) (copy.gateway == gateway)
+      (by_option (λ (there : Option Command). answered_in (option_or there (Some given)) ≡ answered_in there) copy.command (λ none. refl) (λ c e. refl)) refl
 
   verdict_same : (copy : PacketCopy) → (commanded gateway given copy).verdict ≡ copy.verdict
-  verdict_same copy = by (copy.gateway == gateway)
-    where
-      by : (b : Bool) → (if b then with_command given copy else copy).verdict ≡ copy.verdict
-      by true = refl
-      by false = refl
+  verdict_same copy = if_both (λ (c : PacketCopy). c.verdict ≡ copy.verdict) (copy.gateway == gateway) refl refl
 
   released_same : (copy : PacketCopy) → is_released (commanded gateway given copy) ≡ is_released copy
-  released_same copy = by (copy.gateway == gateway)
-    where
-      by_command : (there : Option Command)
-          → (option_map_or (λ (c : Command). is_release c.order) (option_or there (Some given)) false && option_map_or (λ (c : Command). c.is_answered) (option_or there (Some given)) false)
-          ≡ (option_map_or (λ (c : Command). is_release c.order) there false && option_map_or (λ (c : Command). c.is_answered) there false)
-      by_command None = no_and (is_release o)
-        where
-          no_and : (b : Bool) → (b && false) ≡ false
-          no_and true = refl
-          no_and false = refl
-      by_command (Some c) = refl
-
-      by : (b : Bool) → is_released (if b then with_command given copy else copy) ≡ is_released copy
-      by true = by_command copy.command
-      by false = refl
+  released_same copy = if_both (λ (c : PacketCopy). is_released c ≡ is_released copy) (copy.gateway == gateway)
+      (by_option (λ (there : Option Command). released_in (option_or there (Some given)) ≡ released_in there) copy.command (λ none. and_right (is_release o) false refl) (λ c e. refl)) refl
 
   settled_same : (copies : List PacketCopy) → list_all is_settled (map (commanded gateway given) copies) ≡ list_all is_settled copies
   settled_same [] = refl
@@ -223,11 +191,8 @@ still_open _ copies open_yet = open_yet
 
 pub stays_open : (sendings : List Sending) (packet : PacketState) → is_done packet.copies ≡ false → is_done (packet_after_all sendings packet).copies ≡ false
 stays_open [] packet open_yet = open_yet
-stays_open (s ∷ sendings) packet open_yet = stays_open sendings (packet_after s packet) (by (is_of packet.number s))
-  where
-    by : (b : Bool) → is_done (if b then record packet { copies = copies_after s packet.copies } else packet).copies ≡ false
-    by true = still_open s packet.copies open_yet
-    by false = open_yet
+stays_open (s ∷ sendings) packet open_yet = stays_open sendings (packet_after s packet)
+    (if_both (λ (p : PacketState). is_done p.copies ≡ false) (is_of packet.number s) (still_open s packet.copies open_yet) open_yet)
 
 -- ---- a number is that of one packet
 
@@ -235,19 +200,10 @@ pub one_packet : (n : ℕ) (packets : List PacketState) (forms : List PacketForm
 one_packet n [] forms p q is there other same = absurd (in_none p there)
 one_packet n (first ∷ packets) [] p q is there other same = absurd is
 one_packet n (first ∷ packets) (f ∷ forms) p q is there other same = ⊎_elim
-    (λ e. ⊎_elim
-    (λ d. sym e ∙ d)
-    (λ later. absurd (above p q e later same))
-    (in_cons first q packets other))
-    (λ later. ⊎_elim
-    (λ d. absurd (above q p d later (sym same)))
-    (λ behind. one_packet (suc n) packets forms p q is.1 later behind same)
-    (in_cons first q packets other))
+    (λ e. ⊎_elim (λ d. sym e ∙ d) (λ later. absurd (above p q e later same)) (in_cons first q packets other))
+    (λ later. ⊎_elim (λ d. absurd (above q p d later (sym same))) (λ behind. one_packet (suc n) packets forms p q is.1 later behind same) (in_cons first q packets other))
     (in_cons first p packets there)
   where
     above : (a b : PacketState) → first ≡ a → Contains packets b → a.number ≡ b.number → ⊥
     above a b e later equal =
-        let there = numbered_in (suc n) packets forms b is.1 later in
-        let number = there.number in
-        let head : first.number ≡ a.number = ap (λ (x : PacketState). x.number) e in
-        absurd (omega (arith, is.0, number, head, equal))
+        absurd (omega (arith, is.0, (numbered_in (suc n) packets forms b is.1 later).number, ap (λ (x : PacketState). x.number) e, equal))

@@ -1,7 +1,7 @@
 -- Where a node's starts rise, the start of an epoch tells the epoch.
-use Rattle.std.proofs.Common.{◌≡◌, ◌⊎◌, inl, inr, ⊎_elim, ℕ, ◌+◌, ◌<◌, ◌≤◌, ◌==◌, Bool, true, false, cond, if◌then◌else◌, List, [], ◌∷◌, ◌++◌, length, length-append, map, find, option_map, Option, Some, None, refl, sym, ap, subst, ◌∙◌, arith}
-use Rattle.std.proofs.lemmas.Bool.{eqb-true, eq-eqb}
-use Rattle.std.proofs.lemmas.List.{append-nil}
+use Rattle.std.proofs.Common.{◌≡◌, ◌⊎◌, inl, inr, ⊎_elim, ℕ, ◌+◌, ◌<◌, ◌≤◌, ◌==◌, Bool, true, false, cond, if◌then◌else◌, List, [], ◌∷◌, ◌++◌, length, length-append, map, find, option_map, Option, Some, None, refl, sym, ap, subst, ◌∙◌, arith, eqb-true, eq-eqb, append-nil}
+use Rattle.std.proofs.lemmas.Bool.{cond-true, cond-false}
+use Rattle.std.proofs.lemmas.List.{map-append}
 use Rattle.std.proofs.lemmas.List.Elements.{filter_map-append}
 use Rattle.std.proofs.lemmas.Option.{none-some, same_Some}
 use Rattle.std.specs.List.{cons_option, enumerate_from}
@@ -15,75 +15,55 @@ use Rattle.gw_base.specs.declared.history.HistoryEntry.{HistoryEntry}
 use Rattle.gw_base.specs.declared.history.Opening.{Opening}
 use Rattle.once_core.specs.Epochs.{RisesBy, StartsRise, epoch_with}
 use Rattle.once_core.proofs.EachLemmas.{by_each}
+use Rattle.once_core.proofs.CaseLemmas.{by_bool, if_both, if_known}
 
 -- ---- the first place of a number
 
+-- the place of what was found
+abbrev place_in : Option (ℕ × ℕ) → Option ℕ
+place_in o = option_map (λ placed. placed.0) o
+
 -- the first place of a number in a list, counted from k
 abbrev first_at : ℕ → ℕ → List ℕ → Option ℕ
-first_at k s xs = option_map (λ placed. placed.0) (find (λ placed. placed.1 == s) (enumerate_from k xs))
-
-is_some_of : Option ℕ → Bool
-is_some_of None = false
-is_some_of (Some n) = true
+first_at k s xs = place_in (find (λ placed. placed.1 == s) (enumerate_from k xs))
 
 found_low : (k s j : ℕ) (xs : List ℕ) → first_at k s xs ≡ Some j → k ≤ j
 found_low k s j [] e = absurd (none-some j e)
-found_low k s j (x ∷ xs) e = by_test (x == s) (λ f. found_low (k + 1) s j xs f) e
-  where
-    by_test : (b : Bool) → (first_at (k + 1) s xs ≡ Some j → k + 1 ≤ j) → option_map (λ placed. placed.0) (cond b (Some (k, x)) (find (λ placed. placed.1 == s) (enumerate_from (k + 1) xs))) ≡ Some j → k ≤ j
-    by_test true low e = omega (arith, same_Some k j e)
-    by_test false low e = omega (arith, low e)
+found_low k s j (x ∷ xs) e = if_both (λ (o : Option (ℕ × ℕ)). place_in o ≡ Some j → k ≤ j) (x == s)
+    (λ f. omega (arith, same_Some k j f)) (λ f. omega (arith, found_low (k + 1) s j xs f)) e
 
 pub found_stays : (k s j : ℕ) (xs ys : List ℕ) → first_at k s xs ≡ Some j → first_at k s (xs ++ ys) ≡ Some j
 found_stays k s j [] ys e = absurd (none-some j e)
-found_stays k s j (x ∷ xs) ys e = by_test (x == s) (λ f. found_stays (k + 1) s j xs ys f) e
-  where
-    by_test : (b : Bool) → (first_at (k + 1) s xs ≡ Some j → first_at (k + 1) s (xs ++ ys) ≡ Some j) → option_map (λ placed. placed.0) (cond b (Some (k, x)) (find (λ placed. placed.1 == s) (enumerate_from (k + 1) xs))) ≡ Some j
-        → option_map (λ placed. placed.0) (cond b (Some (k, x)) (find (λ placed. placed.1 == s) (enumerate_from (k + 1) (xs ++ ys)))) ≡ Some j
-    by_test true rest e = e
-    by_test false rest e = rest e
+found_stays k s j (x ∷ xs) ys e = if_known (λ (o : Option (ℕ × ℕ)). place_in o ≡ Some j → first_at k s ((x ∷ xs) ++ ys) ≡ Some j) (x == s)
+    (λ is f. ap place_in (cond-true (x == s) (Some (k, x)) _ is) ∙ f) (λ isnt f. ap place_in (cond-false (x == s) (Some (k, x)) _ isnt) ∙ found_stays (k + 1) s j xs ys f) e
 
 found_last : (k s y : ℕ) (xs : List ℕ) → first_at k s xs ≡ None → first_at k s (xs ++ y ∷ []) ≡ (if y == s then Some (k + length xs) else None)
-found_last k s y [] e = by_test (y == s)
-  where
-    by_test : (b : Bool) → option_map (λ (placed : ℕ × ℕ). placed.0) (cond b (Some (k, y)) None) ≡ (if b then Some (k + 0) else None)
-    by_test true = ap (λ (n : ℕ). Some n) (omega arith)
-    by_test false = refl
-found_last k s y (x ∷ xs) e = by_test (x == s) (λ f. found_last (k + 1) s y xs f) e
-  where
-    by_test : (b : Bool) → (first_at (k + 1) s xs ≡ None → first_at (k + 1) s (xs ++ y ∷ []) ≡ (if y == s then Some ((k + 1) + length xs) else None))
-        → option_map (λ placed. placed.0) (cond b (Some (k, x)) (find (λ placed. placed.1 == s) (enumerate_from (k + 1) xs))) ≡ None
-        → option_map (λ placed. placed.0) (cond b (Some (k, x)) (find (λ placed. placed.1 == s) (enumerate_from (k + 1) (xs ++ y ∷ [])))) ≡ (if y == s then Some (k + length (x ∷ xs)) else None)
-    by_test true rest e = absurd (none-some k (sym e))
-    by_test false rest e =
-        let longer : (k + 1) + length xs ≡ k + length (x ∷ xs) = omega arith in
-        rest e ∙ ap (λ (n : ℕ). if y == s then Some n else None) longer
+found_last k s y [] e = by_bool (λ (b : Bool). place_in (cond b (Some (k, y)) None) ≡ (if b then Some (k + 0) else None)) (y == s) (λ is. ap (λ (n : ℕ). Some n) (omega arith)) (λ isnt. refl)
+found_last k s y (x ∷ xs) e = if_known (λ (o : Option (ℕ × ℕ)). place_in o ≡ None → first_at k s ((x ∷ xs) ++ y ∷ []) ≡ (if y == s then Some (k + length (x ∷ xs)) else None)) (x == s)
+    (λ is f. absurd (none-some k (sym f)))
+    (λ isnt f.
+    let longer : (k + 1) + length xs ≡ k + length (x ∷ xs) = omega arith in
+    ap place_in (cond-false (x == s) (Some (k, x)) _ isnt) ∙ found_last (k + 1) s y xs f ∙ ap (λ (n : ℕ). if y == s then Some n else None) longer) e
 
 found_one : (k s t j : ℕ) (xs : List ℕ) → first_at k s xs ≡ Some j → first_at k t xs ≡ Some j → s ≡ t
 found_one k s t j [] e f = absurd (none-some j e)
-found_one k s t j (x ∷ xs) e f = by_tests (x == s) (x == t) (λ p q. found_one (k + 1) s t j xs p q) refl refl e f
-  where
-    by_tests : (b c : Bool) → (first_at (k + 1) s xs ≡ Some j → first_at (k + 1) t xs ≡ Some j → s ≡ t) → (x == s) ≡ b → (x == t) ≡ c
-        → option_map (λ placed. placed.0) (cond b (Some (k, x)) (find (λ placed. placed.1 == s) (enumerate_from (k + 1) xs))) ≡ Some j
-        → option_map (λ placed. placed.0) (cond c (Some (k, x)) (find (λ placed. placed.1 == t) (enumerate_from (k + 1) xs))) ≡ Some j → s ≡ t
-    by_tests true true rest p q e f = sym (eqb-true x s p) ∙ eqb-true x t q
-    by_tests true false rest p q e f = let low = found_low (k + 1) t j xs f in absurd (omega (arith, low, same_Some k j e))
-    by_tests false true rest p q e f = let low = found_low (k + 1) s j xs e in absurd (omega (arith, low, same_Some k j f))
-    by_tests false false rest p q e f = rest e f
+found_one k s t j (x ∷ xs) e f = if_known (λ (o : Option (ℕ × ℕ)). place_in o ≡ Some j → s ≡ t) (x == s)
+    (λ is first. if_known (λ (o : Option (ℕ × ℕ)). place_in o ≡ Some j → s ≡ t) (x == t)
+    (λ also second. sym (eqb-true x s is) ∙ eqb-true x t also)
+    (λ isnt second. absurd (omega (arith, found_low (k + 1) t j xs second, same_Some k j first))) f)
+    (λ isnt first. if_known (λ (o : Option (ℕ × ℕ)). place_in o ≡ Some j → s ≡ t) (x == t)
+    (λ also second. absurd (omega (arith, found_low (k + 1) s j xs first, same_Some k j second)))
+    (λ neither. found_one (k + 1) s t j xs first) f) e
 
 -- ---- the starts of a history
 
 abbrev counters : ℕ → List HistoryEntry → List ℕ
 counters node h = 0 ∷ map (λ (o : Opening). o.counter) (openings_of node h)
 
-map_more : (os ps : List Opening) → map (λ (o : Opening). o.counter) (os ++ ps) ≡ map (λ (o : Opening). o.counter) os ++ map (λ (o : Opening). o.counter) ps
-map_more [] ps = refl
-map_more (o ∷ os) ps = ap (λ (xs : List ℕ). o.counter ∷ xs) (map_more os ps)
-
 counters_more : (node : ℕ) (h g : List HistoryEntry) → counters node (h ++ g) ≡ counters node h ++ map (λ (o : Opening). o.counter) (openings_of node g)
 counters_more node h g =
     ap (λ (os : List Opening). 0 ∷ map (λ (o : Opening). o.counter) os) (filter_map-append (λ (d : HistoryEntry). opening_by node d.act) h g)
-    ∙ ap (λ (xs : List ℕ). 0 ∷ xs) (map_more (openings_of node h) (openings_of node g))
+    ∙ ap (λ (xs : List ℕ). 0 ∷ xs) (map-append (λ (o : Opening). o.counter) (openings_of node h) (openings_of node g))
 
 pub epoch_stays : (node start epoch : ℕ) (h g : List HistoryEntry) → epoch_with node start h ≡ Some epoch → epoch_with node start (h ++ g) ≡ Some epoch
 epoch_stays node start epoch h g e =
@@ -124,20 +104,16 @@ by_entry node h e = by_act e.act refl
       counter = counter;
       counters_are =
           counters_more node h (e ∷ [])
-          ∙ ap (λ (a : HistoryAct). counters node h ++ map (λ (p : Opening). p.counter) (cons_option (opening_by node a) [])) act
-          ∙ ap (λ (b : Bool). counters node h ++ map (λ (p : Opening). p.counter) (cons_option (if b then Some (record { port = port; counter = counter }) else None) [])) is;
-      start_is =
-          ap start_by (opening_of-append node h e ∙ ap (opening_after node (opening_of node h)) act
-          ∙ ap (λ (b : Bool). if b then Some (record { port = port; counter = counter }) else opening_of node h) is);
-      epoch_is = epoch_of-append node h e ∙ ap (λ (a : HistoryAct). epoch_of node h + (if begins_epoch node a then 1 else 0)) act ∙ ap (λ (b : Bool). epoch_of node h + (if b then 1 else 0)) is;
+          ∙ ap (λ (o : Option Opening). counters node h ++ map (λ (p : Opening). p.counter) (cons_option o [])) (ap (opening_by node) act ∙ cond-true (n.0 == node) _ None is);
+      start_is = ap start_by (opening_of-append node h e ∙ ap (opening_after node (opening_of node h)) act ∙ cond-true (n.0 == node) _ (opening_of node h) is);
+      epoch_is = epoch_of-append node h e ∙ ap (λ (b : Bool). epoch_of node h + (if b then 1 else 0)) (ap (begins_epoch node) act ∙ is);
       rises = λ rising.
           let at : start_of n.0 h < counter = subst (RisesBy h) act rising in
-          let same : start_of n.0 h ≡ start_of node h = ap (λ (m : ℕ). start_of m h) (eqb-true n.0 node is) in
-          omega (arith, at, same);
+          omega (arith, at, ap (λ (m : ℕ). start_of m h) (eqb-true n.0 node is));
     })
     by_path n port counter false is act = inr (stays
-        (ap (opening_by node) act ∙ ap (λ (b : Bool). if b then Some (record { port = port; counter = counter }) else None) is)
-        (ap (opening_after node (opening_of node h)) act ∙ ap (λ (b : Bool). if b then Some (record { port = port; counter = counter }) else opening_of node h) is)
+        (ap (opening_by node) act ∙ cond-false (n.0 == node) _ None is)
+        (ap (opening_after node (opening_of node h)) act ∙ cond-false (n.0 == node) _ (opening_of node h) is)
         (ap (begins_epoch node) act ∙ is))
 
     by_act : (a : HistoryAct) → e.act ≡ a → Begins node h e ⊎ Stays node h e
@@ -156,7 +132,7 @@ last_goes_on node h e rising last = ⊎_elim begun stayed (by_entry node h e)
     stayed : Stays node h e → IsLast node (h ++ e ∷ [])
     stayed is = record {
       size = ap (λ (xs : List ℕ). length xs) is.counters_are ∙ last.size ∙ ap (λ (n : ℕ). n + 1) (sym is.epoch_is);
-      bound = λ s j found. let low = last.bound s j (ap (first_at 0 s) (sym is.counters_are) ∙ found) in omega (arith, low, is.start_is);
+      bound = λ s j found. omega (arith, last.bound s j (ap (first_at 0 s) (sym is.counters_are) ∙ found), is.start_is);
       present =
           ap (λ (xs : List ℕ). first_at 0 (start_of node (h ++ e ∷ [])) xs) is.counters_are
           ∙ ap (λ (s : ℕ). first_at 0 s (counters node h)) is.start_is
@@ -177,30 +153,25 @@ last_goes_on node h e rising last = ⊎_elim begun stayed (by_entry node h e)
       where
         by_found : start_of node h < is.counter → (s j : ℕ) (o : Option ℕ) → first_at 0 s (counters node h) ≡ o
             → first_at 0 s (counters node h ++ is.counter ∷ []) ≡ Some j → s ≤ start_of node (h ++ e ∷ [])
-        by_found above s j (Some i) there found = let low = last.bound s i there in omega (arith, low, above, is.start_is)
-        by_found above s j None none found = by_test (is.counter == s) refl (sym (found_last 0 s is.counter (counters node h) none) ∙ found)
-          where
-            by_test : (b : Bool) → (is.counter == s) ≡ b → (if b then Some (0 + length (counters node h)) else None) ≡ Some j → s ≤ start_of node (h ++ e ∷ [])
-            by_test true same found = omega (arith, eqb-true is.counter s same, is.start_is)
-            by_test false same found = absurd (none-some j found)
+        by_found above s j (Some i) there found = omega (arith, last.bound s i there, above, is.start_is)
+        by_found above s j None none found = if_known (λ (o : Option ℕ). o ≡ Some j → s ≤ start_of node (h ++ e ∷ [])) (is.counter == s)
+            (λ same f. omega (arith, eqb-true is.counter s same, is.start_is)) (λ apart f. absurd (none-some j f)) (sym (found_last 0 s is.counter (counters node h) none) ∙ found)
 
         by_new : start_of node h < is.counter → (o : Option ℕ) → first_at 0 is.counter (counters node h) ≡ o
             → first_at 0 is.counter (counters node h ++ is.counter ∷ []) ≡ Some (epoch_of node (h ++ e ∷ []))
-        by_new above (Some i) there = let low = last.bound is.counter i there in absurd (omega (arith, low, above))
+        by_new above (Some i) there = absurd (omega (arith, last.bound is.counter i there, above))
         by_new above None none =
-            found_last 0 is.counter is.counter (counters node h) none
-            ∙ ap (λ (b : Bool). if b then Some (0 + length (counters node h)) else None) (eq-eqb is.counter is.counter refl)
+            found_last 0 is.counter is.counter (counters node h) none ∙ cond-true (is.counter == is.counter) _ None (eq-eqb is.counter is.counter refl)
             ∙ ap (λ (n : ℕ). Some n) (omega (arith, last.size, is.epoch_is))
 
 is_last : (node : ℕ) (h : List HistoryEntry) → StartsRise h → IsLast node h
-is_last node =
-    by_each (λ before e. RisesBy before e.act) (IsLast node)
-    (record { size = refl; bound = λ s j found. at_first s j (0 == s) refl found; present = refl })
+is_last node = by_each (λ before e. RisesBy before e.act) (IsLast node)
+    (record {
+      size = refl;
+      bound = λ s j found. if_known (λ (o : Option (ℕ × ℕ)). place_in o ≡ Some j → s ≤ 0) (0 == s) (λ same f. omega (arith, eqb-true 0 s same)) (λ apart f. absurd (none-some j f)) found;
+      present = refl;
+    })
     (λ h e before rising last. last_goes_on node h e rising last)
-  where
-    at_first : (s j : ℕ) (b : Bool) → (0 == s) ≡ b → option_map (λ (placed : ℕ × ℕ). placed.0) (cond b (Some (0, 0)) None) ≡ Some j → s ≤ 0
-    at_first s j true same found = omega (arith, eqb-true 0 s same)
-    at_first s j false same found = absurd (none-some j found)
 
 -- a node's present epoch is the one with its present start
 pub present_epoch : (node : ℕ) (h : List HistoryEntry) → StartsRise h → epoch_with node (start_of node h) h ≡ Some (epoch_of node h)

@@ -1,12 +1,12 @@
 -- The files with the records as they were filed are the files of the history's items: a division asks nothing of what it
 -- carries.
-use Rattle.std.proofs.Common.{◌≡◌, ℕ, suc, ◌+◌, ◌==◌, Bool, true, false, cond, List, [], ◌∷◌, ◌++◌, map, filter, Option, Some, None, refl, sym, ap, ◌∙◌}
-use Rattle.std.proofs.lemmas.List.{map-append}
+use Rattle.std.proofs.Common.{◌≡◌, ℕ, ◌+◌, ◌==◌, Bool, cond, List, [], ◌∷◌, ◌++◌, map, filter, Option, Some, None, refl, sym, ap, ◌∙◌, nat_le, length, sum_by, if◌then◌else◌}
+use Rattle.std.proofs.lemmas.List.{map-append, length-map}
 use Rattle.std.proofs.lemmas.List.Concat.{flat_map-append}
 use Rattle.std.proofs.lemmas.List.Elements.{filter-append}
 use Rattle.std.proofs.lemmas.List.Sums.{sum_by-cons}
-use Rattle.std.specs.Prelude.{nat_le, length, sum_by, if◌then◌else◌}
 use Rattle.std.specs.List.{flat_map}
+use Rattle.std.proofs.lemmas.List.Recursion.{is_sum_by}
 use Rattle.cdr_file.specs.CdrFile.{header_length}
 use Rattle.cdr_file.specs.declared.closure.ClosureReason.{ClosureReason}
 use Rattle.cdr_file.specs.declared.closure.ClosureReason.TheVariants.{SizeLimit, CountLimit}
@@ -23,6 +23,7 @@ use Rattle.gw_base.specs.declared.history.HistoryAct.TheVariants as act
 use Rattle.gw_base.specs.declared.history.HistoryEntry.{HistoryEntry}
 use Rattle.route_filter.specs.Rules.{stream_of}
 use Rattle.once_core.specs.FilePlaces.{filed_item, filed_items, filed_items_by, filed_runs, goes_to}
+use Rattle.once_core.proofs.CaseLemmas.{by_bool}
 
 -- ---- what a division carries
 
@@ -37,19 +38,11 @@ module _ {A B : Type 0} (f : A → B) where
   carried_item (Close moment) = Close moment
 
   lengths : (run : List (Filed A)) → sum_by cdr_length (map carried run) ≡ sum_by cdr_length run
-  lengths [] = refl
-  lengths (r ∷ run) =
-      sum_by-cons cdr_length (carried r) (map carried run)
-      ∙ ap (λ (n : ℕ). cdr_length r + n) (lengths run)
-      ∙ sym (sum_by-cons cdr_length r run)
+  lengths = is_sum_by (λ (run : List (Filed A)). sum_by cdr_length (map carried run)) cdr_length refl (λ r run. sum_by-cons cdr_length (carried r) (map carried run))
 
   run_lengths : (run : List (Filed A)) → run_length (map carried run) ≡ run_length run
   run_lengths [] = refl
   run_lengths (r ∷ run) = ap (λ (n : ℕ). header_length r.kind + n) (lengths (r ∷ run))
-
-  counts : (run : List (Filed A)) → length (map carried run) ≡ length run
-  counts [] = refl
-  counts (r ∷ run) = ap (λ (n : ℕ). suc n) (counts run)
 
   limits_same : (limits : Limits) (run : List (Filed A)) → run_limit_reached limits (map carried run) ≡ run_limit_reached limits run
   unfolding run_limit_reached
@@ -57,7 +50,7 @@ module _ {A B : Type 0} (f : A → B) where
       ap (λ (n : ℕ). if nat_le limits.size n then Some SizeLimit
       else if nat_le limits.count (length (map carried run)) then Some CountLimit else None) (run_lengths run)
       ∙ ap (λ (n : ℕ). if nat_le limits.size (run_length run) then Some SizeLimit
-      else if nat_le limits.count n then Some CountLimit else None) (counts run)
+      else if nat_le limits.count n then Some CountLimit else None) (length-map run carried)
 
   before_same : (limits : Limits) (run : List (Filed A)) (item : Item A)
       → ends_before limits (map carried run) (carried_item item) ≡ ends_before limits run item
@@ -89,55 +82,23 @@ module _ {A B : Type 0} (f : A → B) where
   first_same None run one other same = same
   first_same (Some reason) run one other same = ap (λ (runs : List (List (Filed B))). map carried run ∷ runs) same
 
-  -- by the reasons before the item and behind it, and by what holds of the items that follow
-  module _ (limits : Limits) (run : List (Filed A)) (item : Item A) (items : List (Item A))
-      (rest : (r : List (Filed A)) → runs_of (divided_from limits (map carried r) (map carried_item items)) ≡ map (map carried) (runs_of (divided_from limits r items))) where
-    abbrev first_reason : Option ClosureReason
-    first_reason = ends_before limits run item
-
-    abbrev mine : List (Filed A)
-    mine = joined first_reason run item
-
-    abbrev last_reason : Option ClosureReason
-    last_reason = ends_after limits mine item
-
-    abbrev more : List (Filed B) → Division B
-    more r = divided_from limits r (map carried_item items)
-
-    -- the runs where these are the reasons, and this is the run that the item joins
-    abbrev runs_by : Option ClosureReason → Option ClosureReason → List (Filed B) → List (List (Filed B))
-    runs_by b a r = runs_of (closed_first b (map carried run) (closed_first a r (more (still a r []))))
-
-    abbrev wanted : List (List (Filed B))
-    wanted = map (map carried) (runs_of (closed_first first_reason run (closed_first last_reason mine (divided_from limits (still last_reason mine []) items))))
-
-    with_mine : runs_by first_reason last_reason (map carried mine) ≡ wanted
-    with_mine =
-        ap (λ (q : List (Filed B)). runs_of (closed_first first_reason (map carried run) (closed_first last_reason (map carried mine) (more q)))) (still_same last_reason mine)
-        ∙ first_same first_reason run (closed_first last_reason (map carried mine) (more (map carried (still last_reason mine []))))
-        (closed_first last_reason mine (divided_from limits (still last_reason mine []) items))
-        (first_same last_reason mine (more (map carried (still last_reason mine []))) (divided_from limits (still last_reason mine []) items)
-        (rest (still last_reason mine [])))
-
-    behind : (r : List (Filed B)) → r ≡ map carried mine → (a : Option ClosureReason) → a ≡ last_reason → runs_by first_reason a r ≡ wanted
-    behind r is a same =
-        ap (λ (o : Option ClosureReason). runs_by first_reason o r) same ∙ ap (λ (q : List (Filed B)). runs_by first_reason last_reason q) is ∙ with_mine
-
-    pub item_same : (b : Option ClosureReason) → b ≡ first_reason
-        → runs_by b (ends_after limits (joined b (map carried run) (carried_item item)) (carried_item item)) (joined b (map carried run) (carried_item item)) ≡ wanted
-    item_same b same =
-        let joins : List (Filed B) = joined first_reason (map carried run) (carried_item item) in
-        let is : joins ≡ map carried mine = joined_same first_reason run item in
-        ap (λ (o : Option ClosureReason). runs_by o (ends_after limits (joined o (map carried run) (carried_item item)) (carried_item item))
-        (joined o (map carried run) (carried_item item))) same
-        ∙ behind joins is (ends_after limits joins (carried_item item))
-        (ap (λ (q : List (Filed B)). ends_after limits q (carried_item item)) is ∙ after_same limits mine item)
-
   pub divided_same : (limits : Limits) (run : List (Filed A)) (items : List (Item A))
       → runs_of (divided_from limits (map carried run) (map carried_item items)) ≡ map (map carried) (runs_of (divided_from limits run items))
   divided_same limits run [] = refl
   divided_same limits run (item ∷ items) =
-      item_same limits run item items (λ r. divided_same limits r items) (ends_before limits (map carried run) (carried_item item)) (before_same limits run item)
+      let b = ends_before limits run item in
+      let mine = joined b run item in
+      let a = ends_after limits mine item in
+      let more : List (Filed B) → Division B = λ r. divided_from limits r (map carried_item items) in
+      let by : Option ClosureReason → Option ClosureReason → List (Filed B) → List (List (Filed B)) =
+      λ c d r. runs_of (closed_first c (map carried run) (closed_first d r (more (still d r [])))) in
+      ap (λ (c : Option ClosureReason). by c (ends_after limits (joined c (map carried run) (carried_item item)) (carried_item item)) (joined c (map carried run) (carried_item item)))
+      (before_same limits run item)
+      ∙ ap (λ (r : List (Filed B)). by b (ends_after limits r (carried_item item)) r) (joined_same b run item)
+      ∙ ap (λ (d : Option ClosureReason). by b d (map carried mine)) (after_same limits mine item)
+      ∙ ap (λ (q : List (Filed B)). runs_of (closed_first b (map carried run) (closed_first a (map carried mine) (more q)))) (still_same a mine)
+      ∙ first_same b run (closed_first a (map carried mine) (more (map carried (still a mine [])))) (closed_first a mine (divided_from limits (still a mine []) items))
+      (first_same a mine (more (map carried (still a mine []))) (divided_from limits (still a mine []) items) (divided_same limits (still a mine []) items))
 
 -- ---- the items of a stream
 
@@ -153,13 +114,11 @@ module _ (settings : Settings) (s : ℕ) where
 
   records_same : (rs : List FiledRecord) → flat_map (stream_item settings.profile settings.rules s) (map part_of rs) ≡ of_stream (map (filed_item settings.profile) rs)
   records_same [] = refl
-  records_same (r ∷ rs) = by (stream_of settings.rules r.tag r.kind.format == s) (records_same rs)
-    where
-      by : (b : Bool) → flat_map (stream_item settings.profile settings.rules s) (map part_of rs) ≡ of_stream (map (filed_item settings.profile) rs)
-          → record_if b (stream_record settings.profile r.kind r.octets r.moment) ++ flat_map (stream_item settings.profile settings.rules s) (map part_of rs)
-          ≡ map plain_item (cond b (filed_item settings.profile r ∷ filter (goes_to settings s) (map (filed_item settings.profile) rs)) (filter (goes_to settings s) (map (filed_item settings.profile) rs)))
-      by true rest = ap (λ (is : List (Item (List ℕ))). Record (stream_record settings.profile r.kind r.octets r.moment) ∷ is) rest
-      by false rest = rest
+  records_same (r ∷ rs) =
+      let rest = filter (goes_to settings s) (map (filed_item settings.profile) rs) in
+      by_bool (λ (b : Bool). record_if b (stream_record settings.profile r.kind r.octets r.moment) ++ flat_map (stream_item settings.profile settings.rules s) (map part_of rs)
+      ≡ map plain_item (cond b (filed_item settings.profile r ∷ rest) rest)) (stream_of settings.rules r.tag r.kind.format == s)
+      (λ e. ap (λ (is : List (Item (List ℕ))). Record (stream_record settings.profile r.kind r.octets r.moment) ∷ is) (records_same rs)) (λ e. records_same rs)
 
   act_same : (before : List HistoryEntry) (moment : ℕ) (a : HistoryAct)
       → flat_map (stream_item settings.profile settings.rules s) (items_by_act before moment a) ≡ of_stream (filed_items_by settings.profile before moment a)

@@ -1,60 +1,40 @@
 -- How a world begins is what happens in a scene: each gateway notes its start.
-use Rattle.std.proofs.Common.{◌≡◌, ⊎_elim, ℕ, zero, suc, ◌<◌, ◌≤◌, Bool, true, false, if◌then◌else◌, List, [], ◌∷◌, ◌++◌, length, Option, Some, None, Contains, slice_get, refl, sym, ap, subst, ◌∙◌, arith}
+pub use Rattle.once_core.proofs.PartLemmas.{new_gateway}
+use Rattle.std.proofs.Common.{◌≡◌, ⊎_elim, ℕ, zero, suc, ◌<◌, ◌≤◌, false, List, [], ◌∷◌, ◌++◌, length, Option, Some, slice_get, refl, sym, ap, subst, ◌∙◌, arith}
 use Rattle.std.specs.Option.{option_map_or}
 use Rattle.std.proofs.lemmas.Bool.{cases_lt, ne_eqb}
+use Rattle.std.proofs.lemmas.Option.{same_Some, slice_get_past, slice_get_within}
 use Rattle.gw_base.specs.declared.history.HistoryAct.TheVariants as act
 use Rattle.gateway_book.specs.Answered.{no_caller}
-use Rattle.gateway_book.specs.Value.{committed, history_of, recorded, standing_for}
+use Rattle.gateway_book.specs.Value.{committed, history_of, standing_for, BookValue}
 use Rattle.node_core.specs.Log.{LogEntry, Began}
 use Rattle.once_core.specs.Addresses.{node_ip}
 use Rattle.once_core.specs.Beginning.{beginning, first_gateway, first_world, gateways_by, times_of, world_of}
 use Rattle.once_core.specs.Deeds.{deeds_of}
 use Rattle.once_core.specs.Gateway.{Gateway, Rules, settling, still}
-use Rattle.once_core.specs.Happenings.{Happening, Notes, Scene, Starts}
+use Rattle.once_core.specs.Happenings.{Happening, Notes, Scene, Starts, Post}
 use Rattle.once_core.specs.Scenes.{happened_all, nothing_yet, scene_after}
 use Rattle.once_core.specs.Shown.{post_of}
-use Rattle.once_core.proofs.CommitPlays.{firm_plays, whole_book}
+use Rattle.once_core.proofs.CommitPlays.{firm_plays, whole_book, noted_plays}
 use Rattle.once_core.proofs.ListLemmas.{in_none}
-use Rattle.once_core.proofs.LogLemmas.{counts_first}
 use Rattle.once_core.proofs.NodePlays.{NodeRightly}
-use Rattle.once_core.proofs.PlayLemmas.{Plays, Rightly, Stands, followed_plays, happened_more, stands_after}
-use Rattle.once_core.proofs.ReplyPlays.{noted, noted_plays}
-use Rattle.once_core.proofs.WorldPlays.{Made, no_post}
+use Rattle.once_core.proofs.PlayLemmas.{Plays, Rightly, Stands, followed_plays, happened_more, stands_after, none_waits}
+use Rattle.once_core.proofs.WorldPlays.{Made}
+use Rattle.once_core.proofs.CaseLemmas.{if_both, map_known}
+
+abbrev no_post : Post
+no_post = record { firm = []; rest = []; waiting = [] }
 
 -- ---- one gateway
 
-abbrev pub new_gateway : Gateway
-new_gateway = record { book = standing_for []; waiting = []; is_down = false; redirects = 0 }
-
-none_waits : (g : Gateway) → g.waiting ≡ [] → Rightly g
-none_waits g none = record {
-  fronts = λ w is. absurd (in_none w (subst (λ ws. Contains ws w) none is));
-  said = λ w is. absurd (in_none w (subst (λ ws. Contains ws w) none is));
-  broken = λ e. none;
-}
-
-new_stands : (place : ℕ) (scene : Scene) → scene.posts place ≡ no_post → Stands place scene new_gateway
-new_stands place scene post = record { post = post; rightly = none_waits new_gateway refl }
-
 first_plays : (rules : Rules) (place : ℕ) (scene : Scene) → scene.posts place ≡ no_post → Plays place scene (still (first_gateway rules))
-first_plays rules place scene post = by (rules.room (history_of (standing_for [])) act.Start)
-  where
-    stands : Stands place scene new_gateway
-    stands = new_stands place scene post
-
-    note : Plays place scene (still (noted 0 act.Start new_gateway))
-    note = noted_plays place scene new_gateway stands refl 0 act.Start (Notes place Starts 0 no_caller) refl
-
-    by : (b : Bool) → Plays place scene (still (record {
-      book = committed (if b then recorded (standing_for []) 0 no_caller act.Start else standing_for []);
-      waiting = [];
-      is_down = false;
-      redirects = 0;
-    }))
-    by true =
-        followed_plays place scene (still (noted 0 act.Start new_gateway)) (λ a. settling (record a { book = whole_book a.book 0 false })) note
-        (firm_plays place note.after (noted 0 act.Start new_gateway) (stands_after place scene (still (noted 0 act.Start new_gateway)) note) 0)
-    by false = firm_plays place scene new_gateway stands 0
+first_plays rules place scene post =
+    let stands : Stands place scene new_gateway = record { post = post; rightly = none_waits refl } in
+    let note = noted_plays stands refl 0 act.Start (Notes place Starts 0 no_caller) refl in
+    if_both (λ (v : BookValue). Plays place scene (still (record { book = committed v; waiting = []; is_down = false; redirects = 0 })))
+    (rules.room (history_of (standing_for [])) act.Start)
+    (followed_plays (λ a. settling (record a { book = whole_book a.book 0 false })) note (firm_plays (stands_after note) 0))
+    (firm_plays stands 0)
 
 -- ---- all of them
 
@@ -83,24 +63,14 @@ first_scene rules (suc count) =
       scene = plays.after;
       is = happened_more nothing_yet s.happenings plays.later ∙ ap (λ (t : Scene). happened_all t plays.later) s.is ∙ plays.is;
       before = λ q lt. ⊎_elim
-          (λ less. plays.goes.others q (ne_eqb q count (λ same. absurd (omega (arith, same, less)))) ∙ s.before q less)
+          (λ less. plays.goes.others q (ne_eqb q count (λ same. omega (arith, same, less))) ∙ s.before q less)
           (λ more. let same : count ≡ q = omega (arith, lt, more) in subst (λ (k : ℕ). plays.after.posts k ≡ post_of (first_gateway (rules k))) same plays.post)
           (cases_lt q count);
-      behind = λ q le. plays.goes.others q (ne_eqb q count (λ same. absurd (omega (arith, same, le)))) ∙ s.behind q (omega (arith, le));
+      behind = λ q le. plays.goes.others q (ne_eqb q count (λ same. omega (arith, same, le))) ∙ s.behind q (omega (arith, le));
       deeds = λ node. plays.goes.deeds node ∙ s.deeds node;
     }
 
 -- ---- the world
-
-times_within : {A : Type 0} (n : ℕ) (x : A) (k : ℕ) → k < n → slice_get (times_of n x) k ≡ Some x
-times_within zero x k lt = absurd (omega (arith, lt))
-times_within (suc n) x zero lt = refl
-times_within (suc n) x (suc k) lt = times_within n x k (omega (arith, lt))
-
-times_behind : {A : Type 0} (n : ℕ) (x : A) (k : ℕ) → n ≤ k → slice_get (times_of n x) k ≡ None
-times_behind zero x k le = refl
-times_behind (suc n) x zero le = absurd (omega (arith, le))
-times_behind (suc n) x (suc k) le = times_behind n x k (omega (arith, le))
 
 pub times_each : {A : Type 0} (n : ℕ) (x : A) (k : ℕ) (y : A) → slice_get (times_of n x) k ≡ Some y → x ≡ y
 times_each zero x k y e = absurd (cc)
@@ -112,19 +82,14 @@ gateways_within rules zero k lt = absurd (omega (arith, lt))
 gateways_within rules (suc n) zero lt = refl
 gateways_within rules (suc n) (suc k) lt = gateways_within (λ place. rules (suc place)) n k (omega (arith, lt))
 
-gateways_behind : (rules : ℕ → Rules) (n k : ℕ) → n ≤ k → slice_get (gateways_by rules n) k ≡ None
-gateways_behind rules zero k le = refl
-gateways_behind rules (suc n) zero le = absurd (omega (arith, le))
-gateways_behind rules (suc n) (suc k) le = gateways_behind (λ place. rules (suc place)) n k (omega (arith, le))
-
-pub gateways_each : (rules : ℕ → Rules) (n k : ℕ) (g : Gateway) → slice_get (gateways_by rules n) k ≡ Some g → first_gateway (rules k) ≡ g
-gateways_each rules zero k g e = absurd (cc)
-gateways_each rules (suc n) zero g e = ap (λ (o : Option Gateway). option_map_or (λ a. a) o (first_gateway (rules zero))) e
-gateways_each rules (suc n) (suc k) g e = gateways_each (λ place. rules (suc place)) n k g e
-
 gateways_many : (rules : ℕ → Rules) (n : ℕ) → length (gateways_by rules n) ≡ n
 gateways_many rules zero = refl
 gateways_many rules (suc n) = let rest = gateways_many (λ place. rules (suc place)) n in omega (arith, rest)
+
+pub gateways_each : (rules : ℕ → Rules) (n k : ℕ) (g : Gateway) → slice_get (gateways_by rules n) k ≡ Some g → first_gateway (rules k) ≡ g
+gateways_each rules n k g e =
+    same_Some (first_gateway (rules k)) g
+    (sym (gateways_within rules n k (omega (arith, slice_get_within (gateways_by rules n) k g e, gateways_many rules n))) ∙ e)
 
 -- where all are opened by the same rules
 gateways_same : (rules : Rules) (n : ℕ) → gateways_by (λ place. rules) n ≡ times_of n (first_gateway rules)
@@ -132,37 +97,33 @@ gateways_same rules zero = refl
 gateways_same rules (suc n) = ap (λ (gs : List Gateway). first_gateway rules ∷ gs) (gateways_same rules n)
 
 pub same_world : (rules : Rules) (gateways nodes : ℕ) → first_world (λ place. rules) gateways nodes ≡ world_of rules gateways nodes
-same_world rules gateways nodes =
-    ap (λ (gs : List Gateway). beginning gs nodes) (gateways_same rules gateways)
-
-first_node : (gateways place : ℕ) → NodeRightly gateways place (Began ∷ [])
-first_node gateways place = record { calls = []; is = refl; counts = counts_first; few = omega arith; forms = λ form is. absurd (in_none form is) }
+same_world rules gateways nodes = ap (λ (gs : List Gateway). beginning gs nodes) (gateways_same rules gateways)
 
 pub first_made : (values : ℕ → ℕ → List ℕ) (rules : ℕ → Rules) (gateways nodes : ℕ) → 1 ≤ gateways → Made values (first_world rules gateways nodes)
-first_made values rules gateways nodes some = record {
-  happenings = first.happenings;
-  scene = first.scene;
-  is = first.is;
-  shows = record {
-    posts = λ q. ⊎_elim
-        (λ lt. first.before q lt ∙ ap (λ (o : Option Gateway). option_map_or post_of o no_post) (sym (gateways_within rules gateways q lt)))
-        (λ le. first.behind q le ∙ ap (λ (o : Option Gateway). option_map_or post_of o no_post) (sym (gateways_behind rules gateways q le)))
-        (cases_lt q gateways);
-    deeds = λ p. ⊎_elim
-        (λ lt. first.deeds (node_ip p) ∙ ap (λ (o : Option (List LogEntry)). deeds_of (node_ip p) (values p) (option_map_or (λ log. log) o [])) (sym (times_within nodes (Began ∷ []) p lt)))
-        (λ le. first.deeds (node_ip p) ∙ ap (λ (o : Option (List LogEntry)). deeds_of (node_ip p) (values p) (option_map_or (λ log. log) o [])) (sym (times_behind nodes (Began ∷ []) p le)))
-        (cases_lt p nodes);
-    letters = λ m is speaking. absurd (in_none m is);
-  };
-  strangers = λ node less. first.deeds node;
-  sound = record {
-    some = let many = gateways_many rules gateways in omega (arith, some, many);
-    gateways = λ place g is. subst Rightly (gateways_each rules gateways place g is) (none_waits (first_gateway (rules place)) refl);
-    nodes = λ place log is. subst (NodeRightly (length (gateways_by rules gateways)) place) (times_each nodes (Began ∷ []) place log is)
-        (first_node (length (gateways_by rules gateways)) place);
-    messages = λ m is. absurd (in_none m is);
-  };
-}
-  where
-    first : FirstScene rules gateways
-    first = first_scene rules gateways
+first_made values rules gateways nodes some =
+    let first = first_scene rules gateways in
+    let many = gateways_many rules gateways in
+    record {
+      happenings = first.happenings;
+      scene = first.scene;
+      is = first.is;
+      shows = record {
+        posts = λ q. ⊎_elim
+            (λ lt. first.before q lt ∙ ap (λ (o : Option Gateway). option_map_or post_of o no_post) (sym (gateways_within rules gateways q lt)))
+            (λ le. first.behind q le ∙ ap (λ (o : Option Gateway). option_map_or post_of o no_post)
+            (sym (slice_get_past (gateways_by rules gateways) q (omega (arith, le, many)))))
+            (cases_lt q gateways);
+        deeds = λ p. first.deeds (node_ip p)
+            ∙ map_known (λ (log : List LogEntry). [] ≡ deeds_of (node_ip p) (values p) log) (slice_get (times_of nodes (Began ∷ [])) p) (λ none. refl)
+            (λ log e. ap (deeds_of (node_ip p) (values p)) (times_each nodes (Began ∷ []) p log e));
+        letters = λ m is speaking. in_none m is;
+      };
+      strangers = λ node less. first.deeds node;
+      sound = record {
+        some = omega (arith, some, many);
+        gateways = λ place g is. subst Rightly (gateways_each rules gateways place g is) (none_waits refl);
+        nodes = λ place log is. subst (NodeRightly (length (gateways_by rules gateways)) place) (times_each nodes (Began ∷ []) place log is)
+            (record { calls = []; is = refl; counts = record { some = refl; one = omega arith; counter = λ few. refl }; few = omega arith; forms = λ form is. in_none form is });
+        messages = λ m is. in_none m is;
+      };
+    }

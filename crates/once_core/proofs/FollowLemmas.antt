@@ -1,8 +1,9 @@
 -- The packets of each start of a node only grow, and what it may send goes on being of them.
-use Rattle.std.proofs.Common.{◌≡◌, ⊎_elim, ℕ, suc, ◌==◌, Bool, true, false, cond, List, [], ◌∷◌, ◌++◌, length, map, zip, filter, Option, Some, None, Contains, refl, sym, ap, subst, ◌∙◌, arith, length-append}
-use Rattle.std.proofs.lemmas.Bool.{eq-eqb, eqb-true}
+use Rattle.std.proofs.Common.{◌≡◌, ⊎_elim, ℕ, suc, ◌==◌, Bool, true, false, if◌then◌else◌, List, [], ◌∷◌, ◌++◌, length, map, zip, filter, Option, Some, None, Contains, refl, sym, ap, subst, ◌∙◌, arith, length-append}
+use Rattle.std.proofs.lemmas.Bool.{cond-false, cond-true, eq-eqb, eqb-true}
 use Rattle.std.proofs.lemmas.List.{append-nil, length-map, map-append}
 use Rattle.std.proofs.lemmas.List.Elements.{Contains-append_right, filter-append}
+use Rattle.std.proofs.lemmas.Slice.Zip.{firsts-zip}
 use Rattle.gtpp_message.specs.Packet.{PacketForm}
 use Rattle.node_core.specs.Growing.{CommandGrows, CopyGrows, Extends, PacketGrows, is_within_start}
 use Rattle.node_core.specs.Log.{LogEntry, Began, Halted, Submitted, Appointed, Ticked, Heard, Saying, Responds, forms_of, packets_of, submitted}
@@ -17,6 +18,7 @@ use Rattle.once_core.specs.Following.{AnyHasCopyAt, MaySend}
 use Rattle.once_core.specs.Happenings.{Asks, Letter, Meaning, Orders, Sends, Tests}
 use Rattle.once_core.proofs.ListLemmas.{in_cons, in_head, in_none, in_tail}
 use Rattle.once_core.proofs.LogLemmas.{starts_same}
+use Rattle.once_core.proofs.CaseLemmas.{by_bool, if_both}
 
 -- ---- lists that grow
 
@@ -26,7 +28,7 @@ record GoesOn {A : Type 0} (R : A → A → Type 0) (ys : List A) (x : A) : Type
   grows : R x later
 
 goes_on : {A : Type 0} (R : A → A → Type 0) (xs ys : List A) → Extends R xs ys → (x : A) → Contains xs x → GoesOn R ys x
-goes_on R [] ys grows x is = absurd (in_none x is)
+goes_on R [] ys grows x is = in_none x is
 goes_on R (first ∷ xs) [] grows x is = absurd grows
 goes_on {A} R (first ∷ xs) (next ∷ ys) grows x is = ⊎_elim
     (λ e. record { later = next; among = in_head next ys; grows = subst (λ (z : A). R z next) e grows.0 })
@@ -55,22 +57,18 @@ same_packet packet = record { number = refl; copies = extends_itself CopyGrows s
 
 -- ---- what may be sent goes on
 
-abbrev command_now : Order → ℕ → Bool → Command
+abbrev pub command_now : Order → ℕ → Bool → Command
 command_now order number answered = record { order = order; number = number; is_answered = answered }
 
 command_on : (copy later : PacketCopy) (order : Order) (number : ℕ) (answered : Bool) → CopyGrows copy later → copy.command ≡ Some (command_now order number answered) →
     (answered_now : Bool) × (later.command ≡ Some (command_now order number answered_now))
 command_on copy later order number answered grows is =
-    by later.command refl (subst (λ (o : Option Command). CommandGrows o later.command) is grows.command)
+    by later.command (subst (λ (o : Option Command). CommandGrows o later.command) is grows.command)
   where
-    by : (there : Option Command) → later.command ≡ there → CommandGrows (Some (command_now order number answered)) there →
-        (answered_now : Bool) × (later.command ≡ Some (command_now order number answered_now))
-    by None e grown = absurd grown
-    by (Some command) e grown =
-        let order_is : command.order ≡ order = grown.0 in
-        let number_is : command.number ≡ number = grown.1 in
-        let same : command ≡ command_now order number command.is_answered = λ i. command_now (order_is i) (number_is i) command.is_answered in
-        (command.is_answered, e ∙ ap (λ (c : Command). Some c) same)
+    by : (there : Option Command) → CommandGrows (Some (command_now order number answered)) there →
+        (answered_now : Bool) × (there ≡ Some (command_now order number answered_now))
+    by None grown = absurd grown
+    by (Some command) grown = (command.is_answered, λ i. Some (command_now (grown.0 i) (grown.1 i) command.is_answered))
 
 record CopyOn (after : List PacketState) (gateway number packet : ℕ) (copy : PacketCopy) : Type 0 where
   now : AnyHasCopyAt after gateway number
@@ -137,26 +135,19 @@ states_append start one two =
     ap (λ (ps : List Followed). map (λ (p : Followed). p.state) ps) (filter-append (λ (p : Followed). p.start == start) one two)
     ∙ map-append (λ (p : Followed). p.state) (filter (λ (p : Followed). p.start == start) one) (filter (λ (p : Followed). p.start == start) two)
 
-abbrev followed_as : ℕ → List PacketState → List PacketForm → List Followed
-followed_as start packets forms = map (λ (p : PacketState × PacketForm). record { start = start; state = p.0; form = p.1 }) (zip packets forms)
+abbrev followed_one : ℕ → PacketState × PacketForm → Followed
+followed_one start z = record { start = start; state = z.0; form = z.1 }
 
-states_same : (start : ℕ) (packets : List PacketState) (forms : List PacketForm) → length forms ≡ length packets → states_at start (followed_as start packets forms) ≡ packets
-states_same start [] forms same = refl
-states_same start (packet ∷ packets) [] same = absurd (omega (arith, same))
-states_same start (packet ∷ packets) (form ∷ forms) same =
-    let one : Followed = record { start = start; state = packet; form = form } in
-    let rest : List Followed = filter (λ (p : Followed). p.start == start) (followed_as start packets forms) in
-    ap (λ (b : Bool). map (λ (p : Followed). p.state) (cond b (one ∷ rest) rest)) (eq-eqb start start refl)
-    ∙ ap (λ (ps : List PacketState). packet ∷ ps) (states_same start packets forms (omega (arith, same)))
-
-states_other : (start other : ℕ) → (other == start) ≡ false → (packets : List PacketState) (forms : List PacketForm) →
-    states_at start (followed_as other packets forms) ≡ []
-states_other start other isnt (packet ∷ packets) (form ∷ forms) =
-    let one : Followed = record { start = other; state = packet; form = form } in
-    let rest : List Followed = filter (λ (p : Followed). p.start == start) (followed_as other packets forms) in
-    ap (λ (b : Bool). map (λ (p : Followed). p.state) (cond b (one ∷ rest) rest)) isnt
-    ∙ states_other start other isnt packets forms
-states_other start other isnt _ _ = refl
+-- those of one start are all of the start that is asked for, or none is
+states_as : (start other : ℕ) (zs : List (PacketState × PacketForm))
+    → states_at start (map (followed_one other) zs) ≡ (if other == start then map (λ (z : PacketState × PacketForm). z.0) zs else [])
+states_as start other [] = if_both (λ (ps : List PacketState). [] ≡ ps) (other == start) refl refl
+states_as start other (z ∷ zs) =
+    let rest = filter (λ (p : Followed). p.start == start) (map (followed_one other) zs) in
+    by_bool (λ (b : Bool). map (λ (p : Followed). p.state) (if b then followed_one other z ∷ rest else rest)
+        ≡ (if b then z.0 ∷ map (λ (y : PacketState × PacketForm). y.0) zs else [])) (other == start)
+    (λ e. ap (λ (ps : List PacketState). z.0 ∷ ps) (states_as start other zs ∙ cond-true (other == start) _ _ e))
+    (λ e. states_as start other zs ∙ cond-false (other == start) _ _ e)
 
 as_many_heard : (port : Port) (gateway : ℕ) (saying : Saying) (log : List LogEntry) → length (forms_of log) ≡ length (packets_of log) →
     length (forms_of log) ≡ length (packets_of (Heard port gateway saying ∷ log))
@@ -174,13 +165,15 @@ as_many_forms _ = refl
 pub in_present : (start : ℕ) (log : List LogEntry) → starts_in log ≡ start → packets_in start log ≡ states_at start (followed_before log) ++ packets_of log
 in_present start log is =
     states_append start (followed_before log) (following log)
-    ∙ ap (λ (n : ℕ). states_at start (followed_before log) ++ states_at start (followed_as n (packets_of log) (forms_of log))) is
-    ∙ ap (λ (ps : List PacketState). states_at start (followed_before log) ++ ps) (states_same start (packets_of log) (forms_of log) (as_many_forms log))
+    ∙ ap (λ (ps : List PacketState). states_at start (followed_before log) ++ ps)
+    (states_as start (starts_in log) (zip (packets_of log) (forms_of log)) ∙ cond-true (starts_in log == start) _ _ (eq-eqb (starts_in log) start is)
+    ∙ firsts-zip (packets_of log) (forms_of log) (as_many_forms log))
 
 pub in_other : (start : ℕ) (log : List LogEntry) → (starts_in log == start) ≡ false → packets_in start log ≡ states_at start (followed_before log)
 in_other start log isnt =
     states_append start (followed_before log) (following log)
-    ∙ ap (λ (ps : List PacketState). states_at start (followed_before log) ++ ps) (states_other start (starts_in log) isnt (packets_of log) (forms_of log))
+    ∙ ap (λ (ps : List PacketState). states_at start (followed_before log) ++ ps)
+    (states_as start (starts_in log) (zip (packets_of log) (forms_of log)) ∙ cond-false (starts_in log == start) _ _ isnt)
     ∙ append-nil (states_at start (followed_before log))
 
 -- ---- one more entry
@@ -191,15 +184,9 @@ began_same start log = ap (states_at start) (append-nil (followed_before log ++ 
 pub halted_same : (start : ℕ) (log : List LogEntry) → packets_in start (Halted ∷ log) ≡ packets_in start log
 halted_same start log = ap (states_at start) (append-nil (followed_before log ++ following log))
 
-pub starts_halted : (log : List LogEntry) → starts_in (Halted ∷ log) ≡ starts_in log
-starts_halted log = starts_same Halted log refl
-
 pub starts_within : (entry : LogEntry) (log : List LogEntry) → is_within_start entry ≡ true → starts_in (entry ∷ log) ≡ starts_in log
-starts_within (Submitted form) log is = starts_same (Submitted form) log refl
-starts_within (Appointed gateway) log is = starts_same (Appointed gateway) log refl
-starts_within (Ticked sendings) log is = starts_same (Ticked sendings) log refl
-starts_within (Heard port gateway saying) log is = starts_same (Heard port gateway saying) log refl
-starts_within _ log is = absurd (cc)
+starts_within Began log is = absurd (cc)
+starts_within entry log is = starts_same entry log refl
 
 pub before_within : (entry : LogEntry) (log : List LogEntry) → is_within_start entry ≡ true → followed_before (entry ∷ log) ≡ followed_before log
 before_within Began log is = absurd (cc)
@@ -219,17 +206,12 @@ Grows = (entry : LogEntry) (log : List LogEntry) → is_within_start entry ≡ t
 -- within a start the packets of each start grow
 pub packets_grow : Grows → (start : ℕ) (entry : LogEntry) (log : List LogEntry) → is_within_start entry ≡ true →
     Extends PacketGrows (packets_in start log) (packets_in start (entry ∷ log))
-packets_grow grow start entry log is = by (starts_in log == start) refl
-  where
-    present : starts_in log ≡ start → Extends PacketGrows (packets_in start log) (packets_in start (entry ∷ log))
-    present at =
-        let after : packets_in start (entry ∷ log) ≡ states_at start (followed_before log) ++ packets_of (entry ∷ log) =
-        in_present start (entry ∷ log) (starts_within entry log is ∙ at)
-        ∙ ap (λ (ps : List Followed). states_at start ps ++ packets_of (entry ∷ log)) (before_within entry log is) in
-        subst (λ (ps : List PacketState). Extends PacketGrows ps (packets_in start (entry ∷ log))) (sym (in_present start log at))
-        (subst (Extends PacketGrows (states_at start (followed_before log) ++ packets_of log)) (sym after)
-        (extends_behind PacketGrows same_packet (states_at start (followed_before log)) (packets_of log) (packets_of (entry ∷ log)) (grow entry log is)))
-
-    by : (b : Bool) → (starts_in log == start) ≡ b → Extends PacketGrows (packets_in start log) (packets_in start (entry ∷ log))
-    by true e = present (eqb-true (starts_in log) start e)
-    by false e = subst (Extends PacketGrows (packets_in start log)) (sym (other_same start entry log is e)) (extends_itself PacketGrows same_packet (packets_in start log))
+packets_grow grow start entry log is = by_bool (λ b. Extends PacketGrows (packets_in start log) (packets_in start (entry ∷ log))) (starts_in log == start)
+    (λ e.
+    let at = eqb-true (starts_in log) start e in
+    let after = in_present start (entry ∷ log) (starts_within entry log is ∙ at)
+    ∙ ap (λ (ps : List Followed). states_at start ps ++ packets_of (entry ∷ log)) (before_within entry log is) in
+    subst (λ (ps : List PacketState). Extends PacketGrows ps (packets_in start (entry ∷ log))) (sym (in_present start log at))
+    (subst (Extends PacketGrows (states_at start (followed_before log) ++ packets_of log)) (sym after)
+    (extends_behind PacketGrows same_packet (states_at start (followed_before log)) (packets_of log) (packets_of (entry ∷ log)) (grow entry log is))))
+    (λ e. subst (Extends PacketGrows (packets_in start log)) (sym (other_same start entry log is e)) (extends_itself PacketGrows same_packet (packets_in start log)))

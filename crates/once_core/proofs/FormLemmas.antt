@@ -1,17 +1,17 @@
 -- What a draft is can be sent, and is read back as it was submitted.
-use Rattle.std.proofs.Common.{◌≡◌, ◌↔◌, ℕ, ◌+◌, ◌*◌, ◌/◌, ◌%◌, ◌≤◌, ◌==◌, ◌&&◌, not, nat_lt, Bool, true, false, if◌then◌else◌, List, [], ◌∷◌, ◌++◌, length, Option, Some, None, Ok, Err, Result, is_ok, refl, sym, ap, subst, ◌∙◌, arith, append_assoc, append-nil}
-use Rattle.std.specs.Prelude.{option_map, option_and_then}
-use Rattle.std.specs.List.{flat_map, list_all}
-use Rattle.std.proofs.lemmas.Bool.{and_parts, false≢true, ltb-false, ne_eqb}
+use Rattle.std.proofs.Common.{◌≡◌, ◌↔◌, ℕ, ◌+◌, ◌*◌, ◌/◌, ◌%◌, ◌≤◌, ◌==◌, ◌&&◌, not, nat_lt, Bool, true, if◌then◌else◌, List, [], ◌∷◌, ◌++◌, length, Option, Some, None, Ok, Err, Result, is_ok, refl, sym, ap, subst, ◌∙◌, arith, append_assoc, append-nil, option_map, flat_map, ltb-false, ne_eqb}
+use Rattle.std.specs.List.{list_all}
+use Rattle.std.proofs.lemmas.Bool.{and_parts, false≢true}
 use Rattle.gw_base.specs.declared.tag.Tag.{Tag}
 use Rattle.ber_frame.specs.Checked.{checked, is_one_value}
 use Rattle.ber_frame.specs.declared.fault.BerFault.{BerFault}
 use Rattle.gtpp_message.specs.Packet.{PacketForm, Full, SpellRecords, packet_of, records_at}
 use Rattle.gtpp_message.specs.PacketWriting.{record_octets, value_of, with_record}
 use Rattle.gateway_book.specs.Preparing.{has_values}
-use Rattle.node_core.specs.Drafts.{addition_fault, ber_fault_of, ber_refusal, is_without_records, most_datagram_octets, most_records, packet_anew, packet_of_form, packet_of_records, request_length, value_octets, value_octets_of}
-use Rattle.node_core.specs.declared.fault.DraftFault.TheVariants.{Count, TooBig}
+use Rattle.node_core.specs.Drafts.{addition_fault, ber_fault_of, is_without_records, most_datagram_octets, most_records, packet_anew, packet_of_form, packet_of_records, request_length, value_octets, value_octets_of}
 use Rattle.once_core.specs.World.{draft_of, is_draft, is_fault_free, takes_all}
+use Rattle.once_core.proofs.CaseLemmas.{by_bool, if_both, if_known}
+use Rattle.std.proofs.lemmas.Option.{cond_some, option_and_then_some}
 
 -- what the law of packets says: records are read where octets spell them
 abbrev pub RecordsSpelled : Type 0
@@ -76,45 +76,27 @@ checked_is (Ok tag) free = refl
 checked_is (Err fault) free = absurd (false≢true free)
 
 taken : (form : PacketForm) (r : List ℕ) → Fits form → is_fault_free (addition_fault form r) ≡ true → Fits (with_record form r)
-taken form r fits free = by_count (length form.records == most_records) free
-  where
-    by_format : (b : Bool) → (if b then list_all is_one_value form.records else true) ≡ true → is_fault_free (if b then ber_fault_of (checked r) else None) ≡ true
-        → (if b then list_all is_one_value (form.records ++ r ∷ []) else true) ≡ true
-    by_format true all free = more_values form.records r all (checked_is (checked r) free)
-    by_format false all free = refl
-
-    by_size : (b : Bool) → nat_lt most_datagram_octets (request_length (with_record form r)) ≡ b
-        → is_fault_free (if b then Some TooBig else ber_refusal form.format r) ≡ true → Fits (with_record form r)
-    by_size true e free = absurd (false≢true free)
-    by_size false e free =
-        let le = ltb-false most_datagram_octets (request_length (with_record form r)) e in
-        record { short = omega (arith, le); values = by_format (form.format == 1) fits.values free }
-
-    by_count : (b : Bool) → is_fault_free (if b then Some Count else (if nat_lt most_datagram_octets (request_length (with_record form r)) then Some TooBig else ber_refusal form.format r)) ≡ true
-        → Fits (with_record form r)
-    by_count true free = absurd (false≢true free)
-    by_count false free = by_size (nat_lt most_datagram_octets (request_length (with_record form r))) refl free
+taken form r fits = if_both (λ fault. is_fault_free fault ≡ true → Fits (with_record form r)) (length form.records == most_records) (λ free. absurd (false≢true free))
+    (if_known (λ fault. is_fault_free fault ≡ true → Fits (with_record form r)) (nat_lt most_datagram_octets (request_length (with_record form r))) (λ big free. absurd (false≢true free))
+    (λ fine free. record {
+      short = omega (arith, ltb-false most_datagram_octets (request_length (with_record form r)) fine);
+      values = by_bool (λ (b : Bool). (if b then list_all is_one_value form.records else true) ≡ true → is_fault_free (if b then ber_fault_of (checked r) else None) ≡ true
+          → (if b then list_all is_one_value (form.records ++ r ∷ []) else true) ≡ true) (form.format == 1)
+          (λ is all one. more_values form.records r all (checked_is (checked r) one)) (λ isnt all one. refl) fits.values free;
+    }))
 
 all_taken : (records : List (List ℕ)) (form : PacketForm) → Fits form → takes_all form records ≡ true → Fits (record form { records = form.records ++ records })
 all_taken [] form fits takes = subst (λ (rs : List (List ℕ)). Fits (record form { records = rs })) (sym (append-nil form.records)) fits
-all_taken (r ∷ records) form fits takes = by (is_fault_free (addition_fault form r)) refl takes (λ next later. all_taken records (with_record form r) next later)
-  where
-    by : (b : Bool) → is_fault_free (addition_fault form r) ≡ b → (if b then takes_all (with_record form r) records else false) ≡ true
-        → (Fits (with_record form r) → takes_all (with_record form r) records ≡ true → Fits (record form { records = (form.records ++ r ∷ []) ++ records }))
-        → Fits (record form { records = form.records ++ (r ∷ records) })
-    by true e takes rest = subst (λ (rs : List (List ℕ)). Fits (record form { records = rs })) (append_assoc form.records (r ∷ []) records) (rest (taken form r fits e) takes)
-    by false e takes rest = absurd (false≢true takes)
+all_taken (r ∷ records) form fits takes = if_known (λ (b : Bool). b ≡ true → Fits (record form { records = form.records ++ (r ∷ records) })) (is_fault_free (addition_fault form r))
+    (λ e more. subst (λ (rs : List (List ℕ)). Fits (record form { records = rs })) (append_assoc form.records (r ∷ []) records)
+    (all_taken records (with_record form r) (taken form r fits e) more)) (λ e none. absurd (false≢true none)) takes
 
 some_records : (records : List (List ℕ)) → not (length records == 0) ≡ true → 1 ≤ length records
 some_records [] e = absurd (false≢true e)
 some_records (r ∷ records) e = omega arith
 
 values_none : (format : ℕ) → has_values (packet_anew format 0) ≡ true
-values_none format = by (format == 1)
-  where
-    by : (b : Bool) → (if b then true else true) ≡ true
-    by true = refl
-    by false = refl
+values_none format = if_both (λ (b : Bool). b ≡ true) (format == 1) refl refl
 
 pub draft_is_good : RecordsSpelled → (form : PacketForm) → is_draft form ≡ true → GoodForm form
 draft_is_good law form draft =
@@ -130,15 +112,5 @@ draft_is_good law form draft =
 
 -- what is submitted is a draft
 pub submitted_is_draft : (octets : List ℕ) (form : PacketForm) → draft_of octets ≡ Some form → is_draft form ≡ true
-submitted_is_draft octets form e = by (packet_of octets) e
-  where
-    by_draft : (f : PacketForm) (b : Bool) → is_draft f ≡ b → (if b then Some f else None) ≡ Some form → is_draft form ≡ true
-    by_draft f true is same = subst (λ (g : PacketForm). is_draft g ≡ true) (the_form f same) is
-      where
-        the_form : (f : PacketForm) → Some f ≡ Some form → f ≡ form
-        the_form f same = ap (λ (o : Option PacketForm). elim o [ None ↦ f | Some g ↦ g ]) same
-    by_draft f false is same = absurd (cc)
-
-    by : (o : Option PacketForm) → option_and_then (λ (f : PacketForm). if is_draft f then Some f else None) o ≡ Some form → is_draft form ≡ true
-    by None same = absurd (cc)
-    by (Some f) same = by_draft f (is_draft f) refl same
+submitted_is_draft octets form e = option_and_then_some _ (packet_of octets) form e
+    (λ f there same. let parts = cond_some (is_draft f) f form same in subst (λ (g : PacketForm). is_draft g ≡ true) parts.1 parts.0)

@@ -1,6 +1,6 @@
 -- States that end stay, and what an answer tells stays true.
-use Rattle.std.proofs.Common.{◌≡◌, ℕ, ◌==◌, ◌&&◌, Bool, true, false, if◌then◌else◌, List, [], ◌∷◌, ◌++◌, Contains, refl, sym, ap, subst, ◌∙◌, append_assoc, append-nil}
-use Rattle.std.proofs.lemmas.Bool.{and_parts, and_from, eqb-true, eq-eqb, false≢true}
+use Rattle.std.proofs.Common.{◌≡◌, ℕ, ◌==◌, ◌&&◌, Bool, true, false, if◌then◌else◌, List, [], ◌∷◌, ◌++◌, Contains, refl, sym, ap, subst, ◌∙◌, append_assoc, append-nil, eq-eqb}
+use Rattle.std.proofs.lemmas.Bool.{and_parts, and_from, false≢true}
 use Rattle.gw_base.specs.EntryLaws.{present_state_is, state_of-append}
 use Rattle.gw_base.specs.History.{epoch_of, given_state, names, present_state, state_of}
 use Rattle.gw_base.specs.Starts.{start_of}
@@ -20,6 +20,7 @@ use Rattle.once_core.specs.Resting.{IsAsked, IsKnown, IsState, Rests, RestsBy, T
 use Rattle.once_core.proofs.CountLemmas.{IsHere, any_one, is_here, state_here}
 use Rattle.once_core.proofs.EachLemmas.{by_each_from, each_also}
 use Rattle.once_core.proofs.EpochLemmas.{epoch_stays, present_epoch}
+use Rattle.once_core.proofs.CaseLemmas.{if_known}
 
 -- no request changes a state that ends
 abbrev pub is_final : KeyState → Bool
@@ -30,36 +31,31 @@ is_final _ = true
 module _ (letters : List Letter) (gateway : ℕ) where
   -- a key whose state ends isn't named by an entry that keeps to the table
   not_named : (key : PacketKey) (h : List HistoryEntry) (n : NodeId) (x : ℕ) (s : KeyState) → is_final s ≡ false → present_state n.0 x h ≡ s
-      → is_final (state_of key h) ≡ true → IsHere letters gateway key h n (x == key.number) → ⊥
+      → is_final (state_of key h) ≡ true → IsHere letters gateway key h n x → ⊥
   not_named key h n x s unended state ends is =
-      let at : state_of key h ≡ s =
-      state_here letters gateway key h n (x == key.number) is ∙ ap (λ (y : ℕ). present_state n.0 y h) (sym (eqb-true x key.number is.test)) ∙ state in
-      false≢true (sym unended ∙ ap is_final (sym at) ∙ ends)
+      false≢true (sym unended ∙ ap is_final (sym (state_here letters gateway key h n x is ∙ state)) ∙ ends)
 
   never_named : (key : PacketKey) (h : List HistoryEntry) (a : HistoryAct) → RestsBy letters gateway h a → is_final (state_of key h) ≡ true
       → ((epoch_of key.node.0 h == key.epoch) && names key.node.0 key.number a) ≡ true → ⊥
-  never_named key h (act.File n x packet) rests ends e = not_named key h n x Fresh refl rests.0 ends (is_here letters gateway key h n (x == key.number) e)
-  never_named key h (act.Hold n x packet) rests ends e = not_named key h n x Fresh refl rests.0 ends (is_here letters gateway key h n (x == key.number) e)
-  never_named key h (act.Seal n x) rests ends e = not_named key h n x Fresh refl rests.0 ends (is_here letters gateway key h n (x == key.number) e)
+  never_named key h (act.File n x packet) rests ends e = not_named key h n x Fresh refl rests.0 ends (is_here letters gateway key h n x e)
+  never_named key h (act.Hold n x packet) rests ends e = not_named key h n x Fresh refl rests.0 ends (is_here letters gateway key h n x e)
+  never_named key h (act.Seal n x) rests ends e = not_named key h n x Fresh refl rests.0 ends (is_here letters gateway key h n x e)
   never_named key h (act.Release n xs) rests ends e =
-      let same = any_one letters gateway key 0 xs rests.names.number rests.names.alone in
+      let same = any_one letters gateway key xs rests.names.number rests.names.alone in
       not_named key h n rests.names.number Held refl rests.names.held ends
-      (is_here letters gateway key h n (rests.names.number == key.number)
+      (is_here letters gateway key h n rests.names.number
       (ap (λ (b : Bool). (epoch_of key.node.0 h == key.epoch) && ((n.0 == key.node.0) && b)) (sym same) ∙ e))
   never_named key h (act.Cancel n xs) rests ends e =
-      let same = any_one letters gateway key 0 xs rests.number rests.alone in
+      let same = any_one letters gateway key xs rests.number rests.alone in
       not_named key h n rests.number Held refl rests.held ends
-      (is_here letters gateway key h n (rests.number == key.number)
+      (is_here letters gateway key h n rests.number
       (ap (λ (b : Bool). (epoch_of key.node.0 h == key.epoch) && ((n.0 == key.node.0) && b)) (sym same) ∙ e))
   never_named key h _ rests ends e = absurd (false≢true (and_parts (epoch_of key.node.0 h == key.epoch) false e).1)
 
   end_stays : (key : PacketKey) (h : List HistoryEntry) (e : HistoryEntry) → RestsBy letters gateway h e.act → is_final (state_of key h) ≡ true
       → state_of key (h ++ e ∷ []) ≡ state_of key h
-  end_stays key h e rests ends = state_of-append key h e ∙ by_test ((epoch_of key.node.0 h == key.epoch) && names key.node.0 key.number e.act) refl
-    where
-      by_test : (b : Bool) → ((epoch_of key.node.0 h == key.epoch) && names key.node.0 key.number e.act) ≡ b → (if b then given_state e.act else state_of key h) ≡ state_of key h
-      by_test true is = absurd (never_named key h e.act rests ends is)
-      by_test false isnt = refl
+  end_stays key h e rests ends = state_of-append key h e ∙ if_known (λ (s : KeyState). s ≡ state_of key h) ((epoch_of key.node.0 h == key.epoch) && names key.node.0 key.number e.act)
+      (λ is. absurd (never_named key h e.act rests ends is)) (λ isnt. refl)
 
   pub state_stays : (h g : List HistoryEntry) (node start number : ℕ) (state : KeyState) → is_final state ≡ true → Rests letters gateway (h ++ g)
       → IsState h node start number state → IsState (h ++ g) node start number state
@@ -93,12 +89,9 @@ gives_none node number _ named = refl
 
 known_more : (key : PacketKey) (h : List HistoryEntry) (e : HistoryEntry) → is_fresh (state_of key h) ≡ false → is_fresh (state_of key (h ++ e ∷ [])) ≡ false
 known_more key h e known =
-    ap is_fresh (state_of-append key h e) ∙ by_names (epoch_of key.node.0 h == key.epoch) (names key.node.0 key.number e.act) refl
-  where
-    by_names : (b c : Bool) → names key.node.0 key.number e.act ≡ c → is_fresh (if b && c then given_state e.act else state_of key h) ≡ false
-    by_names true true is = gives_none key.node.0 key.number e.act is
-    by_names true false is = known
-    by_names false c is = known
+    let here = epoch_of key.node.0 h == key.epoch in
+    let named = names key.node.0 key.number e.act in
+    ap is_fresh (state_of-append key h e) ∙ if_known (λ (s : KeyState). is_fresh s ≡ false) (here && named) (λ is. gives_none key.node.0 key.number e.act (and_parts here named is).1) (λ isnt. known)
 
 pub known_on : (h g : List HistoryEntry) (node start number : ℕ) → IsKnown h node start number → IsKnown (h ++ g) node start number
 known_on h g node start number is = record {
@@ -126,7 +119,6 @@ rests_on letters more grows gateway =
     each_also (λ before e. RestsBy letters gateway before e.act) (λ before e. RestsBy more gateway before e.act) (λ h e rests. by_act h e.act rests) []
   where
     by_act : (h : List HistoryEntry) (a : HistoryAct) → RestsBy letters gateway h a → RestsBy more gateway h a
-    by_act h (act.Path n port counter) rests = rests
     by_act h (act.File n x packet) rests = (rests.0, asked_on letters more grows n.0 (start_of n.0 h) gateway x (Sends true packet) rests.1)
     by_act h (act.Hold n x packet) rests = (rests.0, asked_on letters more grows n.0 (start_of n.0 h) gateway x (Sends false packet) rests.1)
     by_act h (act.Seal n x) rests = (rests.0, asked_on letters more grows n.0 (start_of n.0 h) gateway x Tests rests.1)
@@ -135,10 +127,7 @@ rests_on letters more grows gateway =
       own = rests.own;
       asked = asked_on letters more grows n.0 (start_of n.0 h) gateway rests.own (Orders order.Release rests.names.number) rests.asked;
     }
-    by_act h (act.Cancel n xs) rests = rests
-    by_act h act.Start rests = tt
-    by_act h act.Tick rests = tt
-    by_act h act.Close rests = tt
+    by_act h _ rests = rests
 
 -- ---- the present epoch
 
@@ -161,11 +150,13 @@ state_given_now h e node number rise named = record {
       (and_from (epoch_of node h == epoch_of node h) (names node number e.act) (eq-eqb (epoch_of node h) (epoch_of node h) refl) named);
 }
 
+-- a state that isn't fresh is one of a number that is known
+known_of : (h : List HistoryEntry) (node start number : ℕ) (state : KeyState) → is_fresh state ≡ false → IsState h node start number state → IsKnown h node start number
+known_of h node start number state known is = record { epoch = is.epoch; begun = is.begun; state_is = ap is_fresh is.state_is ∙ known }
+
 pub known_now : (h : List HistoryEntry) (node number : ℕ) (state : KeyState) → StartsRise h → present_state node number h ≡ state → is_fresh state ≡ false
     → IsKnown h node (start_of node h) number
-known_now h node number state rise is known = let there = state_now h node number state rise is in
-    record { epoch = there.epoch; begun = there.begun; state_is = ap is_fresh there.state_is ∙ known }
+known_now h node number state rise is known = known_of h node (start_of node h) number state known (state_now h node number state rise is)
 
 pub known_given_now : (h : List HistoryEntry) (e : HistoryEntry) (node number : ℕ) → StartsRise h → names node number e.act ≡ true → IsKnown (h ++ e ∷ []) node (start_of node h) number
-known_given_now h e node number rise named = let there = state_given_now h e node number rise named in
-    record { epoch = there.epoch; begun = there.begun; state_is = ap is_fresh there.state_is ∙ gives_none node number e.act named }
+known_given_now h e node number rise named = known_of (h ++ e ∷ []) node (start_of node h) number (given_state e.act) (gives_none node number e.act named) (state_given_now h e node number rise named)

@@ -1,29 +1,35 @@
 -- Moves of a gateway whose journal never fails, one after the other.
-use Rattle.std.proofs.Common.{◌≡◌, ℕ, ◌+◌, ◌-◌, ◌≤◌, max, min, Bool, true, false, ◌||◌, if◌then◌else◌, List, [], ◌++◌, length, take, drop, refl, ap, sym, ◌∙◌, subst, arith, append_assoc}
-use Rattle.std.proofs.lemmas.Bool.{ltb-false, ltb-true}
+use Rattle.std.proofs.Common.{◌≡◌, ℕ, ◌+◌, ◌-◌, ◌≤◌, max, min, Bool, true, false, ◌||◌, if◌then◌else◌, List, [], ◌++◌, length, take, drop, refl, ap, sym, ◌∙◌, subst, arith, append_assoc, nat_lt, OnOk, Result, Ok, Err}
+use Rattle.std.proofs.lemmas.Bool.{ltb-false, ltb-true, cond-false}
 use Rattle.std.proofs.lemmas.List.{drop-take, drop_all, length-drop, length-take-le, take-append-drop, take-take, take_all}
-use Rattle.std.specs.Prelude.{nat_lt, OnOk, Result, Ok, Err}
 use Rattle.gw_base.specs.declared.address.Addr.{Addr}
 use Rattle.gw_base.specs.declared.history.HistoryEntry.{HistoryEntry}
 use Rattle.gateway_book.specs.Answer.{decided}
 use Rattle.gateway_book.specs.Answered.{answer}
 use Rattle.gateway_book.specs.Value.{BookValue, Whole, committed, history_of, reopened, standing_for}
 use Rattle.once_core.specs.Addresses.{node_address}
-use Rattle.once_core.specs.Answers.{answer_at, answered, delivered, delivered_broken, delivered_running, failed, if_broken}
+use Rattle.once_core.specs.Answers.{answer_at, answered, delivered, failed, if_broken}
 use Rattle.once_core.specs.Beginning.{default_rules}
 use Rattle.once_core.specs.Expired.{is_expired}
-use Rattle.once_core.specs.Gateway.{Gateway, Moved, book_committing, committing, cut, followed, opened, readying, still}
+use Rattle.once_core.specs.Gateway.{Gateway, Moved, book_committing, committing, cut, followed, opened, readying}
+use Rattle.once_core.specs.GatewayFields.{gateway_value}
+use Rattle.once_core.specs.declared.gateway.KeptGateway.TheInside.{Inside}
 use Rattle.once_core.specs.Moves.{HasMoved, once_started}
 use Rattle.once_core.specs.Standing.{quiet}
 use Rattle.once_core.specs.declared.message.Message.{Message}
 use Rattle.once_core.specs.declared.message.Waiting.{Waiting}
 use Rattle.once_core.proofs.GrowingLemmas.{book_is}
+use Rattle.once_core.proofs.CaseLemmas.{if_both}
 
 pub ok_maps : {A E P Q : Type 0} (r : Result A E) → (P → Q) → OnOk r P → OnOk r Q
 ok_maps (Ok a) f is = f is
 ok_maps (Err e) f is = is
 
 -- ---- what the history answers
+
+-- the history that a gateway stores is that of its book
+pub stored : (i : Inside) {g : Gateway} {h : List HistoryEntry} → gateway_value i ≡ g → h ≡ i.history.items → h ≡ history_of g.book
+stored i is same = same ∙ sym (take-append-drop i.firm i.history.items) ∙ ap (λ (g : Gateway). history_of g.book) is
 
 pub decided_at : (g : Gateway) (h : List HistoryEntry) (from : Addr) (octets : List ℕ) (m : Message)
     → h ≡ history_of g.book → from ≡ node_address m.node m.port → octets ≡ m.octets
@@ -38,11 +44,7 @@ commit_sound g sound =
     ∙ (ap (λ b. (if b then reopened g.book Whole else committed g.book).is_broken) sound ∙ sound)
 
 ready_sound : (g : Gateway) → g.book.is_broken ≡ false → (readying default_rules quiet g).gateway.book.is_broken ≡ false
-ready_sound g sound = by_test (g.book.is_broken || default_rules.is_full g.book)
-  where
-    by_test : (b : Bool) → (if b then committing quiet g else still g).gateway.book.is_broken ≡ false
-    by_test true = commit_sound g sound
-    by_test false = sound
+ready_sound g sound = if_both (λ (m : Moved). m.gateway.book.is_broken ≡ false) (g.book.is_broken || default_rules.is_full g.book) (commit_sound g sound) sound
 
 -- ---- two moves, of which the second is asked only of a sound journal
 
@@ -67,9 +69,7 @@ pub delivers : (now : ℕ) (m : Message) (g g1 g2 : Gateway) (s0 s1 s2 : List Me
     → HasMoved (answered default_rules now m g1) g2 s1 s2 → HasMoved (delivered default_rules now quiet m g) g2 s0 s2
 delivers now m g g1 g2 s0 s1 s2 sound up fresh first second =
     let is : delivered default_rules now quiet m g ≡ followed (readying default_rules quiet g) (if_broken (failed m) (answered default_rules now m)) =
-    ap (λ b. if b then still g else if_broken (delivered_broken default_rules now quiet m) (delivered_running default_rules now quiet m) g) up
-    ∙ (ap (λ b. if b then delivered_broken default_rules now quiet m g else delivered_running default_rules now quiet m g) sound
-    ∙ ap (λ b. if b then still g else followed (readying default_rules quiet g) (if_broken (failed m) (answered default_rules now m))) fresh) in
+    cond-false g.is_down _ _ up ∙ cond-false g.book.is_broken _ _ sound ∙ cond-false (is_expired (history_of g.book) m) _ _ fresh in
     subst (λ (x : Moved). HasMoved x g2 s0 s2) (sym is)
     (then_moves (failed m) (answered default_rules now m) g g1 g2 s0 s1 s2 sound first second)
 

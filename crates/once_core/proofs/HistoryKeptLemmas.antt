@@ -1,13 +1,10 @@
 -- What holds of the entries of a gateway in a world: it goes on with each act that is kept, and no number is too big.
-use Rattle.std.proofs.Common.{◌≡◌, ℕ, ◌-◌, ◌<◌, Bool, true, false, ◌&&◌, if◌then◌else◌, List, [], ◌∷◌, ◌++◌, Option, Some, None, map, refl, ap, sym, ◌∙◌, subst, arith, append_assoc, max, ◌==◌, take, drop}
-use Rattle.std.proofs.lemmas.Bool.{and_parts, eqb-true, lt-ltb, ltb-true}
-use Rattle.std.proofs.lemmas.List.{append-nil, take-append-drop}
+use Rattle.std.proofs.Common.{◌≡◌, ℕ, ◌-◌, ◌<◌, Bool, true, false, ◌&&◌, if◌then◌else◌, List, [], ◌∷◌, ◌++◌, Option, Some, None, map, refl, ap, sym, ◌∙◌, arith, append_assoc, max, ◌==◌, take, drop, nat_le, nat_lt, IfOk, Result, Ok, Err, append-nil, take-append-drop}
+use Rattle.std.proofs.lemmas.Bool.{and_parts, eqb-true, lt-ltb, ltb-true, and_from}
 use Rattle.std.proofs.lemmas.List.Folds.{list_all-append}
 use Rattle.std.specs.List.{list_all}
-use Rattle.std.specs.Prelude.{nat_le, nat_lt, IfOk, Result, Ok, Err}
 use Rattle.std.specs.Option.{option_map, option_map_or}
-use Rattle.gtpp_message.specs.declared.reading.Why.TheVariants.{NoRoom}
-use Rattle.gtpp_message.specs.Message.{TransferValue, Send, Possible, Cancel, Release}
+use Rattle.gtpp_message.specs.Message.{TransferValue, Cancel, Release}
 use Rattle.gw_base.specs.EntryLaws.{opening_of-append, top_of-append}
 use Rattle.gw_base.specs.History.{top_after, top_of}
 use Rattle.gw_base.specs.Lists.{raised}
@@ -19,7 +16,7 @@ use Rattle.gw_base.specs.Nearest.{nearest}
 use Rattle.gw_base.specs.Observed.{Observed}
 use Rattle.gw_base.specs.declared.address.Addr.{Addr}
 use Rattle.gw_base.specs.declared.address.NodeId.{NodeId}
-use Rattle.gw_base.specs.declared.cause.TheConstants.{ACCEPTED, NO_RESOURCES}
+use Rattle.gw_base.specs.declared.cause.TheConstants.{ACCEPTED}
 use Rattle.gw_base.specs.declared.history.HistoryAct.{HistoryAct}
 use Rattle.gw_base.specs.declared.history.HistoryAct.TheVariants as act
 use Rattle.gw_base.specs.declared.history.HistoryEntry.{HistoryEntry}
@@ -33,129 +30,112 @@ use Rattle.transfer_cmd.specs.Table.{answer_cause, state_given}
 use Rattle.transfer_cmd.specs.declared.decision.Ask.{Ask}
 use Rattle.transfer_cmd.specs.declared.decision.Ask.TheVariants as ask
 use Rattle.transfer_cmd.specs.declared.verdict.Verdict.{Verdict}
-use Rattle.transfer_cmd.specs.declared.verdict.Verdict.TheVariants.{Wrong, Before, Change}
-use Rattle.gateway_book.specs.Answer.{Decided, Given, Drops, answer_within, asked_by, changes, decided, held_ones, listed, may_record, node_of, opening_epoch, path_given, recorded_as, recording, replying, responding, tabled}
+use Rattle.transfer_cmd.specs.declared.verdict.Verdict.TheVariants.{Change}
+use Rattle.gateway_book.specs.Answer.{Decided, Given, answer_within, asked_by, changes, decided, held_ones, listed, may_record, node_of, opening_epoch, path_given, recorded_as, recording, tabled}
 use Rattle.gateway_book.specs.Limits.{has_place, is_in_range, may_hold, numbers_end, least_number, within_limits}
 use Rattle.gateway_book.specs.Plain.{IsBounded, answer_view}
 use Rattle.gateway_book.specs.Preparing.{PreparedValue, Path, Request}
 use Rattle.once_core.specs.Addresses.{first_node_ip}
 use Rattle.once_core.specs.HistoryKept.{AllKept, is_kept_act, is_kept_answer, is_of_world}
+use Rattle.once_core.proofs.CaseLemmas.{if_both, if_known}
 
--- ---- one more entry
+abbrev kept : HistoryEntry → Bool
+kept e = is_kept_act e.act
 
 pub kept_take : (n : ℕ) (h : List HistoryEntry) → AllKept h → AllKept (take n h)
-kept_take n h kept =
-    (and_parts (list_all (λ e. is_kept_act e.act) (take n h)) (list_all (λ e. is_kept_act e.act) (drop n h))
-    (sym (list_all-append (λ e. is_kept_act e.act) (take n h) (drop n h))
-    ∙ (ap (λ xs. list_all (λ (e : HistoryEntry). is_kept_act e.act) xs) (take-append-drop n h) ∙ kept))).0
+kept_take n h all =
+    (and_parts (list_all kept (take n h)) (list_all kept (drop n h))
+    (sym (list_all-append kept (take n h) (drop n h)) ∙ ap (list_all kept) (take-append-drop n h) ∙ all)).0
+
+-- what goes on with each act that is kept holds of what entries that are kept make
+kept_on : {A : Type 0} (ok : A → Bool) (f : List HistoryEntry → A) (after : A → HistoryAct → A)
+    → ((before : List HistoryEntry) (e : HistoryEntry) → f (before ++ e ∷ []) ≡ after (f before) e.act)
+    → ((x : A) (a : HistoryAct) → ok x ≡ true → is_kept_act a ≡ true → ok (after x a) ≡ true)
+    → (before h : List HistoryEntry) → ok (f before) ≡ true → AllKept h → ok (f (before ++ h)) ≡ true
+kept_on ok f after step keeps before [] is all = ap (λ (xs : List HistoryEntry). ok (f xs)) (append-nil before) ∙ is
+kept_on ok f after step keeps before (e ∷ h) is all =
+    let parts = and_parts (kept e) (list_all kept h) all in
+    ap (λ (xs : List HistoryEntry). ok (f xs)) (sym (append_assoc before (e ∷ []) h))
+    ∙ kept_on ok f after step keeps (before ++ e ∷ []) h (ap ok (step before e) ∙ keeps (f before) e.act is parts.0) parts.1
 
 -- ---- no number is too big
 
 abbrev below : Option ℕ → Bool
 below top = option_map_or (λ t. nat_lt t numbers_end) top true
 
-below_max : (t x : ℕ) → nat_lt t numbers_end ≡ true → nat_lt x numbers_end ≡ true → nat_lt (max t x) numbers_end ≡ true
-below_max t x a b =
-    let c = ltb-true t numbers_end a in let d = ltb-true x numbers_end b in
-    lt-ltb (max t x) numbers_end (omega (arith, c, d))
-
 below_raised : (top : Option ℕ) (x : ℕ) → below top ≡ true → nat_lt x numbers_end ≡ true → below (raised top x) ≡ true
 below_raised None x is here = here
-below_raised (Some t) x is here = below_max t x is here
-
-below_by : (b : Bool) (top : Option ℕ) (x : ℕ) → below top ≡ true → nat_lt x numbers_end ≡ true → below (if b then raised top x else top) ≡ true
-below_by true top x is here = below_raised top x is here
-below_by false top x is here = is
-
-below_none : (b : Bool) (top : Option ℕ) → below top ≡ true → below (if b then None else top) ≡ true
-below_none true top is = refl
-below_none false top is = is
+below_raised (Some t) x is here =
+    let a = ltb-true t numbers_end is in let b = ltb-true x numbers_end here in
+    lt-ltb (max t x) numbers_end (omega (arith, a, b))
 
 below_after : (node : ℕ) (top : Option ℕ) (a : HistoryAct) → below top ≡ true → is_kept_act a ≡ true → below (top_after node top a) ≡ true
-below_after node top (act.Path n port counter) is kept = below_none (n.0 == node) top is
-below_after node top (act.File n x packet) is kept = below_by (n.0 == node) top x is (and_parts (is_of_world n) (nat_lt x numbers_end) kept).1
-below_after node top (act.Hold n x packet) is kept = below_by (n.0 == node) top x is (and_parts (is_of_world n) (nat_lt x numbers_end) kept).1
-below_after node top (act.Seal n x) is kept = below_by (n.0 == node) top x is (and_parts (is_of_world n) (nat_lt x numbers_end) kept).1
-below_after node top _ is kept = is
+below_after node top a is = by a
+  where
+    raises : (n : NodeId) (x : ℕ) → (is_of_world n && nat_lt x numbers_end) ≡ true → below (if n.0 == node then raised top x else top) ≡ true
+    raises n x near = if_both (λ (o : Option ℕ). below o ≡ true) (n.0 == node) (below_raised top x is (and_parts (is_of_world n) (nat_lt x numbers_end) near).1) is
 
-below_on : (node : ℕ) (before h : List HistoryEntry) → below (top_of node before) ≡ true → AllKept h → below (top_of node (before ++ h)) ≡ true
-below_on node before [] is kept = subst (λ (xs : List HistoryEntry). below (top_of node xs) ≡ true) (sym (append-nil before)) is
-below_on node before (e ∷ h) is kept =
-    let parts = and_parts (is_kept_act e.act) (list_all (λ (x : HistoryEntry). is_kept_act x.act) h) kept in
-    let one : below (top_of node (before ++ e ∷ [])) ≡ true =
-    ap below (top_of-append node before e) ∙ below_after node (top_of node before) e.act is parts.0 in
-    subst (λ (xs : List HistoryEntry). below (top_of node xs) ≡ true) (append_assoc before (e ∷ []) h)
-    (below_on node (before ++ e ∷ []) h one parts.1)
+    by : (a : HistoryAct) → is_kept_act a ≡ true → below (top_after node top a) ≡ true
+    by (act.Path n port counter) near = if_both (λ (o : Option ℕ). below o ≡ true) (n.0 == node) refl is
+    by (act.File n x packet) near = raises n x near
+    by (act.Hold n x packet) near = raises n x near
+    by (act.Seal n x) near = raises n x near
+    by _ near = is
 
 pub kept_is_bounded : (h : List HistoryEntry) → AllKept h → IsBounded h
-kept_is_bounded h kept = λ node x is.
-    ltb-true x numbers_end (subst (λ (o : Option ℕ). below o ≡ true) is (below_on node [] h refl kept))
+kept_is_bounded h all = λ node x is.
+    ltb-true x numbers_end (ap below (sym is) ∙ kept_on below (top_of node) (top_after node) (top_of-append node) (below_after node) [] h refl all)
 
 -- ---- what an answer records
 
-abbrev keeps : Given → Bool
-keeps given = is_kept_answer (decided given)
+abbrev Keeps : Given → Type 0
+Keeps given = is_kept_answer (decided given) ≡ true
 
 module _ (o : Observed) (room : HistoryAct → Bool) (number : ℕ) where
-  recorded : (a : HistoryAct) (cause : ℕ) → (within_limits o a ≡ true → is_kept_act a ≡ true) → keeps (recording (may_record o room) number cause a) ≡ true
-  recorded a cause kept = by_test (within_limits o a) (room a) refl
-    where
-      by_test : (within has : Bool) → within_limits o a ≡ within →
-          keeps (if within && has then responding number cause (Some a) else responding number NO_RESOURCES None) ≡ true
-      by_test true true e = kept e
-      by_test _ _ e = refl
+  recorded : (a : HistoryAct) (cause : ℕ) → (within_limits o a ≡ true → is_kept_act a ≡ true) → Keeps (recording (may_record o room) number cause a)
+  recorded a cause keeps = if_known Keeps (within_limits o a && room a) (λ e. keeps (and_parts (within_limits o a) (room a) e).0) (λ e. refl)
 
-  numbered : (n : NodeId) (x : ℕ) (rest : Bool) → is_of_world n ≡ true → (rest ≡ (has_place o && is_in_range x)) → rest ≡ true → (is_of_world n && nat_lt x numbers_end) ≡ true
-  numbered n x rest near is e =
-      let parts = and_parts (has_place o) (is_in_range x) (sym is ∙ e) in
-      let below = and_parts (nat_le least_number x) (nat_lt x numbers_end) parts.1 in
-      ap (λ b. b && nat_lt x numbers_end) near ∙ below.1
+  numbered : (n : NodeId) (x : ℕ) → is_of_world n ≡ true → (has_place o && is_in_range x) ≡ true → (is_of_world n && nat_lt x numbers_end) ≡ true
+  numbered n x near e =
+      and_from (is_of_world n) (nat_lt x numbers_end) near
+      (and_parts (nat_le least_number x) (nat_lt x numbers_end) (and_parts (has_place o) (is_in_range x) e).1).1
 
   by_table : (node : NodeId) (meant : ℕ) (packet : List ℕ) (asked : Ask) (state : KeyState) → is_of_world node ≡ true
-      → keeps (tabled (may_record o room) number (answer_cause asked state) (recorded_as asked node meant packet (state_given asked state))) ≡ true
-  by_table node meant packet ask.Send Fresh near =
-      recorded (act.File node meant packet) ACCEPTED (numbered node meant (has_place o && is_in_range meant) near refl)
-  by_table node meant packet ask.Possible Fresh near =
-      recorded (act.Hold node meant packet) ACCEPTED
-      (λ e. numbered node meant (has_place o && is_in_range meant) near refl (and_parts (has_place o && is_in_range meant) (may_hold o) e).0)
-  by_table node meant packet ask.Empty Fresh near =
-      recorded (act.Seal node meant) ACCEPTED (numbered node meant (has_place o && is_in_range meant) near refl)
+      → Keeps (tabled (may_record o room) number (answer_cause asked state) (recorded_as asked node meant packet (state_given asked state)))
+  by_table node meant packet ask.Send Fresh near = recorded (act.File node meant packet) ACCEPTED (numbered node meant near)
+  by_table node meant packet ask.Possible Fresh near = recorded (act.Hold node meant packet) ACCEPTED
+      (λ e. numbered node meant near (and_parts (has_place o && is_in_range meant) (may_hold o) e).0)
+  by_table node meant packet ask.Empty Fresh near = recorded (act.Seal node meant) ACCEPTED (numbered node meant near)
   by_table node meant packet ask.Send _ near = refl
   by_table node meant packet ask.Possible _ near = refl
   by_table node meant packet ask.Empty _ near = refl
 
-  by_verdict : (node : NodeId) (release : Bool) (held : List ℕ) (verdict : Verdict) → keeps (tabled (may_record o room) number (verdict_cause verdict) (changes verdict release node held)) ≡ true
-  by_verdict node release held Wrong = refl
-  by_verdict node release held Before = refl
+  by_verdict : (node : NodeId) (release : Bool) (held : List ℕ) (verdict : Verdict) → Keeps (tabled (may_record o room) number (verdict_cause verdict) (changes verdict release node held))
   by_verdict node true held Change = recorded (act.Release node held) ACCEPTED (λ e. refl)
   by_verdict node false held Change = recorded (act.Cancel node held) ACCEPTED (λ e. refl)
+  by_verdict node release held _ = refl
 
-  by_list : (node : NodeId) (release : Bool) (numbers : List ℕ) → keeps (listed o (may_record o room) node number release numbers) ≡ true
+  by_list : (node : NodeId) (release : Bool) (numbers : List ℕ) → Keeps (listed o (may_record o room) node number release numbers)
   by_list node release numbers =
       by_verdict node release (held_ones o (map (nearest o.top) numbers)) (verdict_of release (map o.state (map (nearest o.top) numbers)))
 
-  by_request : (node : NodeId) (body : TransferValue) → is_of_world node ≡ true → keeps (asked_by o (may_record o room) node number body) ≡ true
+  by_request : (node : NodeId) (body : TransferValue) → is_of_world node ≡ true → Keeps (asked_by o (may_record o room) node number body)
   by_request node (Cancel numbers) near = by_list node false numbers
   by_request node (Release numbers) near = by_list node true numbers
   by_request node _ near = by_table node (nearest o.top number) _ _ (o.state (nearest o.top number)) near
 
-module _ (o : Observed) (room : HistoryAct → Bool) (from : Addr) (near : is_of_world (node_of from) ≡ true) where
-  by_opening : (number : ℕ) (changed : Option ℕ) → keeps (opening_epoch (may_record o room) from (Some (AliveTold number)) changed) ≡ true
-  by_opening number None = refl
-  by_opening number (Some counter) = by_test (may_record o room (act.Path (node_of from) from.port counter))
-    where
-      by_test : (b : Bool) → keeps (if b then replying (Some (AliveTold number)) (Some (act.Path (node_of from) from.port counter)) else Drops NoRoom) ≡ true
-      by_test true = near
-      by_test false = refl
-
-  by_path : (event : PathEvent) → keeps (path_given o (may_record o room) from event) ≡ true
-  by_path (EchoTold number counter) = by_opening number (opened_by (option_map (λ path. path.counter) o.opening) counter)
-  by_path _ = refl
-
 -- an answer to a node of the world records what is kept
 pub answers_keep : (o : Observed) (from : Addr) (datagram : PreparedValue) (room : HistoryAct → Bool) → is_of_world (node_of from) ≡ true
     → is_kept_answer (decided (answer_within o from datagram room)) ≡ true
-answers_keep o from (Path event) room near = by_path o room from near event
+answers_keep o from (Path event) room near = by_path event
+  where
+    by_opening : (number : ℕ) (changed : Option ℕ) → Keeps (opening_epoch (may_record o room) from (Some (AliveTold number)) changed)
+    by_opening number None = refl
+    by_opening number (Some counter) = if_both Keeps (may_record o room (act.Path (node_of from) from.port counter)) near refl
+
+    by_path : (event : PathEvent) → Keeps (path_given o (may_record o room) from event)
+    by_path (EchoTold number counter) = by_opening number (opened_by (option_map (λ path. path.counter) o.opening) counter)
+    by_path _ = refl
 answers_keep o from (Request number body) room near = by_request o room number (node_of from) body near
 answers_keep o from _ room near = refl
 
@@ -164,28 +144,16 @@ answers_keep o from _ room near = refl
 abbrev near_if : ℕ → Option Opening → Bool
 near_if node o = option_map_or (λ (opening : Opening). nat_lt (node - first_node_ip) 256) o true
 
-near_same : (n : NodeId) (node : ℕ) (port counter : ℕ) (b : Bool) (o : Option Opening) → (b ≡ true → n.0 ≡ node) → near_if node o ≡ true → is_of_world n ≡ true
-    → near_if node (if b then Some (record { port = port; counter = counter }) else o) ≡ true
-near_same n node port counter true o same is near = ap (λ (ip : ℕ). nat_lt (ip - first_node_ip) 256) (sym (same refl)) ∙ near
-near_same n node port counter false o same is near = is
-
 near_after : (node : ℕ) (o : Option Opening) (a : HistoryAct) → near_if node o ≡ true → is_kept_act a ≡ true → near_if node (opening_after node o a) ≡ true
-near_after node o (act.Path n port counter) is kept = near_same n node port counter (n.0 == node) o (λ e. eqb-true n.0 node e) is kept
-near_after node o _ is kept = is
-
-near_on : (node : ℕ) (before h : List HistoryEntry) → near_if node (opening_of node before) ≡ true → AllKept h → near_if node (opening_of node (before ++ h)) ≡ true
-near_on node before [] is kept = subst (λ (xs : List HistoryEntry). near_if node (opening_of node xs) ≡ true) (sym (append-nil before)) is
-near_on node before (e ∷ h) is kept =
-    let parts = and_parts (is_kept_act e.act) (list_all (λ (x : HistoryEntry). is_kept_act x.act) h) kept in
-    let one : near_if node (opening_of node (before ++ e ∷ [])) ≡ true =
-    ap (near_if node) (opening_of-append node before e) ∙ near_after node (opening_of node before) e.act is parts.0 in
-    subst (λ (xs : List HistoryEntry). near_if node (opening_of node xs) ≡ true) (append_assoc before (e ∷ []) h)
-    (near_on node (before ++ e ∷ []) h one parts.1)
+near_after node o (act.Path n port counter) is near = if_known (λ (x : Option Opening). near_if node x ≡ true) (n.0 == node)
+    (λ e. ap (λ (ip : ℕ). nat_lt (ip - first_node_ip) 256) (sym (eqb-true n.0 node e)) ∙ near) (λ e. is)
+near_after node o _ is near = is
 
 -- a node with a path is one of the world
 pub path_is_near : (node : ℕ) (h : List HistoryEntry) (opening : Opening) → AllKept h → opening_of node h ≡ Some opening → node - first_node_ip < 256
-path_is_near node h opening kept is =
-    ltb-true (node - first_node_ip) 256 (subst (λ (o : Option Opening). near_if node o ≡ true) is (near_on node [] h refl kept))
+path_is_near node h opening all is =
+    ltb-true (node - first_node_ip) 256
+    (ap (near_if node) (sym is) ∙ kept_on (near_if node) (opening_of node) (opening_after node) (opening_of-append node) (near_after node) [] h refl all)
 
 -- ---- the node of an answer
 

@@ -1,16 +1,18 @@
 -- What a node knows is so in the firm parts of the gateways' histories.
-use Rattle.std.proofs.Common.{◌≡◌, ◌⊎◌, inl, inr, ⊎_elim, ℕ, ◌==◌, ◌&&◌, ◌||◌, Bool, true, false, if◌then◌else◌, List, [], ◌∷◌, Option, Some, None, IfSome, Contains, refl, sym, ap, subst, ◌∙◌}
-use Rattle.std.proofs.lemmas.Bool.{eqb-true, false≢true}
+use Rattle.std.proofs.Common.{◌≡◌, ◌⊎◌, inl, inr, ⊎_elim, ℕ, ◌==◌, ◌&&◌, ◌||◌, Bool, true, false, List, [], ◌∷◌, Option, Some, None, IfSome, Contains, refl, sym, ap, subst, ◌∙◌, eqb-true}
+use Rattle.std.proofs.lemmas.Bool.{false≢true, and_parts, or_cases, or_left, or_right}
 use Rattle.std.proofs.lemmas.List.Elements.{All-contains, Contains-append_cases}
 use Rattle.std.specs.Option.{option_map_or}
+use Rattle.std.specs.List.{list_all, list_any}
+use Rattle.std.proofs.lemmas.List.Sums.{AllPass-from_list_all}
 use Rattle.gw_base.specs.declared.cause.TheConstants.{ACCEPTED, ALREADY_FULFILLED, DUPLICATE_ALREADY_FULFILLED}
 use Rattle.gw_base.specs.declared.history.HistoryEntry.{HistoryEntry}
 use Rattle.gw_base.specs.declared.key_state.KeyState.TheVariants as state
 use Rattle.node_core.specs.Choosing.{IsChoice, ReleasesChoice}
-use Rattle.node_core.specs.Copies.{is_chosen, is_filing, is_fulfilled, is_release, is_released, is_unknown, names, told}
+use Rattle.node_core.specs.Copies.{is_chosen, is_filing, is_fulfilled, is_release, is_released, is_unknown, names, told, is_answered, is_filed, is_sealed as says_sealed, is_settled}
 use Rattle.node_core.specs.Log as log
-use Rattle.node_core.specs.Log.{Responds}
-use Rattle.node_core.specs.Packets.{PacketState}
+use Rattle.node_core.specs.Log.{Responds, LogEntry}
+use Rattle.node_core.specs.Packets.{PacketState, is_done}
 use Rattle.node_core.specs.Resting.{AllRestOn, IsFulfilled, RestsOn}
 use Rattle.node_core.specs.Roles.{IsPlainFirst}
 use Rattle.node_core.specs.declared.copy.Command.{Command}
@@ -20,12 +22,14 @@ use Rattle.node_core.specs.declared.copy.PacketCopy.{PacketCopy}
 use Rattle.node_core.specs.declared.copy.Verdict.TheVariants as verdict
 use Rattle.node_core.specs.declared.port.Port.{Port}
 use Rattle.node_core.specs.declared.port.Port.TheVariants.{First, Second}
+use Rattle.node_core.specs.declared.copy.Verdict.{Verdict}
 use Rattle.once_core.specs.Following.{AnyHasCopyAt, Follows, IsCommandSent, MaySend, entries_by, entries_of, heard_in}
 use Rattle.once_core.specs.Happenings.{Answers, Asks, Deed, Heard, Letter, Meaning, Orders, Request, Scene, Sends, Sent, Tests, about}
 use Rattle.once_core.specs.Resting.{IsKnown, IsState, SceneHolds, Tells}
 use Rattle.once_core.specs.Scenes.{is_telling}
 use Rattle.once_core.proofs.RoleLemmas.{IsCopyOf, command_use, not_both, own_use, same_user}
-use Rattle.once_core.proofs.ListLemmas.{in_cons, in_head, in_none, in_tail}
+use Rattle.once_core.proofs.ListLemmas.{any_at, in_head, in_none, in_tail, in_one, in_cons}
+use Rattle.once_core.proofs.CaseLemmas.{if_both, if_known}
 
 -- ---- what was heard is a message
 
@@ -34,41 +38,31 @@ pub record WasHeard (deeds : List Deed) (start : ℕ) (port : Port) (gateway cau
   pub node : ℕ
   pub kept : Contains deeds (Heard (record { node = node; start = start; gateway = gateway; port = port; number = number; says = Answers cause }))
 
-named_one : (y x : ℕ) → ((y == x) || false) ≡ true → y ≡ x
-named_one y x e = by (y == x) refl e
-  where
-    by : (b : Bool) → (y == x) ≡ b → (b || false) ≡ true → y ≡ x
-    by true is e = eqb-true y x is
-    by false is e = absurd (false≢true e)
-
 by_letter : (deeds : List Deed) (start : ℕ) (letter : Letter) (port : Port) (gateway cause number : ℕ) (numbers : List ℕ) → Contains deeds (Heard letter) → letter.start ≡ start
     → names numbers number ≡ true → (says : Meaning) → letter.says ≡ says
     → Contains (entries_by letter says) (log.Heard port gateway (Responds cause numbers)) → WasHeard deeds start port gateway cause number
-by_letter deeds start letter port gateway cause number numbers kept of_start named (Answers said) says is = ⊎_elim
-    (λ same.
-    let port_is : letter.port ≡ port = cc in
-    let gateway_is : letter.gateway ≡ gateway = cc in
-    let cause_is : said ≡ cause = cc in
-    let numbers_are : letter.number ∷ [] ≡ numbers = cc in
-    let number_is : letter.number ≡ number = named_one letter.number number (ap (λ (ns : List ℕ). names ns number) numbers_are ∙ named) in
+by_letter deeds start letter port gateway cause number numbers kept of_start named (Answers said) says is =
+    let same = in_one (log.Heard letter.port letter.gateway (Responds said (letter.number ∷ []))) (log.Heard port gateway (Responds cause numbers)) is in
+    let port_is : letter.port ≡ port = cc same in
+    let gateway_is : letter.gateway ≡ gateway = cc same in
+    let cause_is : said ≡ cause = cc same in
+    let numbers_are : letter.number ∷ [] ≡ numbers = cc same in
+    let one : names (letter.number ∷ []) number ≡ true = ap (λ (ns : List ℕ). names ns number) numbers_are ∙ named in
+    let number_is : letter.number ≡ number = ⊎_elim (eqb-true letter.number number) (λ none. absurd (false≢true none)) (or_cases (letter.number == number) false one) in
     let says_is : letter.says ≡ Answers cause = says ∙ ap Answers cause_is in
     record {
       node = letter.node;
       kept = subst (λ (l : Letter). Contains deeds (Heard l))
           (λ i. record { node = letter.node; start = of_start i; gateway = gateway_is i; port = port_is i; number = number_is i; says = says_is i }) kept;
-    })
-    (λ none. absurd (in_none (log.Heard port gateway (Responds cause numbers)) none))
-    (in_cons (log.Heard letter.port letter.gateway (Responds said (letter.number ∷ []))) (log.Heard port gateway (Responds cause numbers)) [] is)
+    }
 by_letter deeds start letter port gateway cause number numbers kept of_start named _ says is = absurd (in_none (log.Heard port gateway (Responds cause numbers)) is)
 
 heard_one : (deeds : List Deed) (start : ℕ) (letter : Letter) (port : Port) (gateway cause number : ℕ) (numbers : List ℕ) → Contains deeds (Heard letter)
     → names numbers number ≡ true → Contains (entries_of start (Heard letter)) (log.Heard port gateway (Responds cause numbers)) → WasHeard deeds start port gateway cause number
-heard_one deeds start letter port gateway cause number numbers kept named is = by (letter.start == start) refl is
-  where
-    by : (b : Bool) → (letter.start == start) ≡ b → Contains (if b then entries_by letter letter.says else []) (log.Heard port gateway (Responds cause numbers))
-        → WasHeard deeds start port gateway cause number
-    by true e is = by_letter deeds start letter port gateway cause number numbers kept (eqb-true letter.start start e) named letter.says refl is
-    by false e is = absurd (in_none (log.Heard port gateway (Responds cause numbers)) is)
+heard_one deeds start letter port gateway cause number numbers kept named is =
+    if_known (λ (entries : List LogEntry). Contains entries (log.Heard port gateway (Responds cause numbers)) → WasHeard deeds start port gateway cause number) (letter.start == start)
+    (λ e. by_letter deeds start letter port gateway cause number numbers kept (eqb-true letter.start start e) named letter.says refl)
+    (λ e none. absurd (in_none (log.Heard port gateway (Responds cause numbers)) none)) is
 
 heard_among : (all deeds : List Deed) (start : ℕ) (port : Port) (gateway cause number : ℕ) (numbers : List ℕ) → ((deed : Deed) → Contains deeds deed → Contains all deed)
     → names numbers number ≡ true → Contains (heard_in start deeds) (log.Heard port gateway (Responds cause numbers)) → WasHeard all start port gateway cause number
@@ -83,51 +77,61 @@ heard_among all (Heard letter ∷ deeds) start port gateway cause number numbers
 -- ---- verdicts by port and cause
 
 sealed_by : (port : Port) (cause : ℕ) → told port true cause ≡ verdict.Sealed → (port ≡ Second) × (cause ≡ ACCEPTED)
-sealed_by First cause e = by (is_filing cause) e
-  where
-    by : (b : Bool) → (if b then verdict.Filed else verdict.Unknown) ≡ verdict.Sealed → (First ≡ Second) × (cause ≡ ACCEPTED)
-    by true e = absurd (cc)
-    by false e = absurd (cc)
-sealed_by Second cause e = by (cause == ALREADY_FULFILLED) (cause == ACCEPTED) refl e
-  where
-    by : (b c : Bool) → (cause == ACCEPTED) ≡ c → (if b then verdict.Filed else if c then verdict.Sealed else verdict.Unknown) ≡ verdict.Sealed → (Second ≡ Second) × (cause ≡ ACCEPTED)
-    by true c is e = absurd (cc)
-    by false true is e = (refl, eqb-true cause ACCEPTED is)
-    by false false is e = absurd (cc)
+sealed_by First cause e = absurd (if_both (λ v. v ≡ verdict.Sealed → ⊥) (is_filing cause) (λ same. absurd (cc)) (λ same. absurd (cc)) e)
+sealed_by Second cause e = if_both (λ v. v ≡ verdict.Sealed → (Second ≡ Second) × (cause ≡ ACCEPTED)) (cause == ALREADY_FULFILLED) (λ same. absurd (cc))
+    (if_known (λ v. v ≡ verdict.Sealed → (Second ≡ Second) × (cause ≡ ACCEPTED)) (cause == ACCEPTED) (λ is same. (refl, eqb-true cause ACCEPTED is)) (λ isnt same. absurd (cc))) e
 
 filed_by : (port : Port) (cause : ℕ) → told port true cause ≡ verdict.Filed → ((port ≡ First) × (is_filing cause ≡ true)) ⊎ ((port ≡ Second) × (cause ≡ ALREADY_FULFILLED))
-filed_by First cause e = by (is_filing cause) refl e
-  where
-    by : (b : Bool) → is_filing cause ≡ b → (if b then verdict.Filed else verdict.Unknown) ≡ verdict.Filed
-        → ((First ≡ First) × (is_filing cause ≡ true)) ⊎ ((First ≡ Second) × (cause ≡ ALREADY_FULFILLED))
-    by true is e = inl (refl, is)
-    by false is e = absurd (cc)
-filed_by Second cause e = by (cause == ALREADY_FULFILLED) (cause == ACCEPTED) refl e
-  where
-    by : (b c : Bool) → (cause == ALREADY_FULFILLED) ≡ b → (if b then verdict.Filed else if c then verdict.Sealed else verdict.Unknown) ≡ verdict.Filed
-        → ((Second ≡ First) × (is_filing cause ≡ true)) ⊎ ((Second ≡ Second) × (cause ≡ ALREADY_FULFILLED))
-    by true c is e = inr (refl, eqb-true cause ALREADY_FULFILLED is)
-    by false true is e = absurd (cc)
-    by false false is e = absurd (cc)
+filed_by First cause e = if_known (λ v. v ≡ verdict.Filed → ((First ≡ First) × (is_filing cause ≡ true)) ⊎ ((First ≡ Second) × (cause ≡ ALREADY_FULFILLED)))
+    (is_filing cause) (λ is same. inl (refl, is)) (λ isnt same. absurd (cc)) e
+filed_by Second cause e = if_known (λ v. v ≡ verdict.Filed → ((Second ≡ First) × (is_filing cause ≡ true)) ⊎ ((Second ≡ Second) × (cause ≡ ALREADY_FULFILLED)))
+    (cause == ALREADY_FULFILLED) (λ is same. inr (refl, eqb-true cause ALREADY_FULFILLED is))
+    (λ isnt. if_both (λ v. v ≡ verdict.Filed → ((Second ≡ First) × (is_filing cause ≡ true)) ⊎ ((Second ≡ Second) × (cause ≡ ALREADY_FULFILLED)))
+    (cause == ACCEPTED) (λ same. absurd (cc)) (λ same. absurd (cc))) e
 
-or_three_first : (a b c : Bool) → (a || b) ≡ true → (a || b || c) ≡ true
-or_three_first false false c e = absurd (false≢true e)
-or_three_first _ _ c e = refl
-
-or_three_ends : (a b c : Bool) → (a || c) ≡ true → (a || b || c) ≡ true
-or_three_ends false false c e = e
-or_three_ends _ _ c e = refl
+telling : (cause : ℕ) → ((cause == ACCEPTED) ≡ true) ⊎ (((cause == ALREADY_FULFILLED) ≡ true) ⊎ ((cause == DUPLICATE_ALREADY_FULFILLED) ≡ true)) → is_telling cause ≡ true
+telling cause (inl is) = or_left ((cause == ACCEPTED) || (cause == ALREADY_FULFILLED)) _ (or_left (cause == ACCEPTED) _ is)
+telling cause (inr (inl is)) = or_left ((cause == ACCEPTED) || (cause == ALREADY_FULFILLED)) _ (or_right (cause == ACCEPTED) _ is)
+telling cause (inr (inr is)) = or_right ((cause == ACCEPTED) || (cause == ALREADY_FULFILLED)) _ is
 
 pub filing_tells : (cause : ℕ) → is_filing cause ≡ true → is_telling cause ≡ true
-filing_tells cause e = or_three_first (cause == ACCEPTED) (cause == ALREADY_FULFILLED) (cause == DUPLICATE_ALREADY_FULFILLED) e
+filing_tells cause e = ⊎_elim (λ is. telling cause (inl is)) (λ is. telling cause (inr (inl is))) (or_cases (cause == ACCEPTED) (cause == ALREADY_FULFILLED) e)
 
 pub fulfilled_tells : (cause : ℕ) → is_fulfilled cause ≡ true → is_telling cause ≡ true
-fulfilled_tells cause e = or_three_ends (cause == ACCEPTED) (cause == ALREADY_FULFILLED) (cause == DUPLICATE_ALREADY_FULFILLED) e
+fulfilled_tells cause e =
+    ⊎_elim (λ is. telling cause (inl is)) (λ is. telling cause (inr (inr is))) (or_cases (cause == ACCEPTED) (cause == DUPLICATE_ALREADY_FULFILLED) e)
 
 not_first : Second ≡ First → ⊥
 not_first e = absurd (cc)
 
-module _ (scene : Scene) (holds : SceneHolds scene) (node start : ℕ) (values : ℕ → List ℕ) (packets : List PacketState) (follows : Follows (scene.deeds node) start values packets) where
+release_is : (o : Order) → is_release o ≡ true → o ≡ order.Release
+release_is order.Release e = refl
+release_is order.Cancel e = absurd (false≢true e)
+
+-- a verdict is told by a cause that tells
+abbrev IfKnown : ℕ → Verdict → Type 0
+IfKnown cause v = is_unknown v ≡ false → is_telling cause ≡ true
+
+unknown_not : {P : Type 0} → is_unknown verdict.Unknown ≡ false → P
+unknown_not e = absurd (false≢true (sym e))
+
+told_telling : (port : Port) (is_plain : Bool) (cause : ℕ) → IfKnown cause (told port is_plain cause)
+told_telling First true cause = if_known (IfKnown cause) (is_filing cause) (λ is e. filing_tells cause is) (λ isnt. unknown_not)
+told_telling First false cause = if_known (IfKnown cause) (is_fulfilled cause) (λ is e. fulfilled_tells cause is) (λ isnt. unknown_not)
+told_telling Second true cause = if_known (IfKnown cause) (cause == ALREADY_FULFILLED) (λ is e. telling cause (inr (inl is)))
+    (λ isnt. if_known (IfKnown cause) (cause == ACCEPTED) (λ is e. telling cause (inl is)) (λ neither. unknown_not))
+told_telling Second false cause = if_known (IfKnown cause) (cause == DUPLICATE_ALREADY_FULFILLED) (λ is e. telling cause (inr (inr is)))
+    (λ isnt. if_known (IfKnown cause) (cause == ACCEPTED) (λ is e. telling cause (inl is)) (λ neither. unknown_not))
+
+sealed_is_known : (v : Verdict) → says_sealed v ≡ true → is_unknown v ≡ false
+sealed_is_known verdict.Unknown e = absurd (false≢true e)
+sealed_is_known _ e = refl
+
+filed_is_known : (v : Verdict) → is_filed v ≡ true → is_unknown v ≡ false
+filed_is_known verdict.Unknown e = absurd (false≢true e)
+filed_is_known _ e = refl
+
+module _ {scene : Scene} (holds : SceneHolds scene) (node : ℕ) {start : ℕ} {values : ℕ → List ℕ} {packets : List PacketState} (follows : Follows (scene.deeds node) start values packets) where
   abbrev pub firm : ℕ → List HistoryEntry
   firm gateway = (scene.posts gateway).firm
 
@@ -236,55 +240,53 @@ module _ (scene : Scene) (holds : SceneHolds scene) (node start : ℕ) (values :
 
   -- ---- a copy whose release is answered is released
 
-  pub by_release_answer : (packet : PacketState) (copy : PacketCopy) (command : Command) (cause : ℕ) (port : Port) → is_fulfilled cause ≡ true → IsCopyOf packets packet copy
-      → copy.command ≡ Some command → command.order ≡ order.Release → IsAnswered copy.gateway port command.number cause → IsState (firm copy.gateway) node start copy.number state.Released
-  by_release_answer packet copy command cause port fulfilled is e release answer = by answer.request answer.may answer.tells
+  -- the request under a command's number is that command
+  pub command_request : (packet : PacketState) (copy : PacketCopy) (command : Command) (port : Port) → IsCopyOf packets packet copy → copy.command ≡ Some command
+      → (request : Request) → MaySend packets values (letter_of copy.gateway port command.number (Asks request)) (Asks request) → request ≡ Orders command.order copy.number
+  command_request packet copy command port is e request may = by request may
     where
       mixed : AnyHasCopyAt packets copy.gateway command.number → ⊥
       mixed at =
           not_both copy.gateway command.number packets (follows.roles copy.gateway command.number) at.packet packet at.copy copy command
           (record { kept = at.kept; among = at.among }) is at.gateway_is at.number_is refl e refl
 
-      by_order : (which : Order) (named : ℕ) (answered_before : Bool)
-          → IsCommandSent packets copy.gateway named (record { order = which; number = command.number; is_answered = answered_before })
-          → Tells (firm copy.gateway) (letter_of copy.gateway port command.number (Answers cause)) (Orders which named) cause → IsState (firm copy.gateway) node start copy.number state.Released
-      by_order which named answered_before sent tells =
-          let other : Command = record { order = which; number = command.number; is_answered = answered_before } in
+      by : (request : Request) → MaySend packets values (letter_of copy.gateway port command.number (Asks request)) (Asks request) → request ≡ Orders command.order copy.number
+      by Tests may = absurd (mixed may.1)
+      by (Orders which named) may =
+          let sent = may.2 in
+          let other : Command = record { order = which; number = command.number; is_answered = may.1 } in
           let same : copy ≡ sent.at.copy =
           (same_user copy.gateway command.number packets (follows.roles copy.gateway command.number) packet sent.at.packet copy sent.at.copy is
           (record { kept = sent.at.kept; among = sent.at.among }) (command_use copy.gateway command.number copy command refl e refl)
           (command_use copy.gateway command.number sent.at.copy other sent.at.gateway_is sent.sent refl)).1 in
           let both : Some command ≡ Some other = sym e ∙ ap (λ (c : PacketCopy). c.command) same ∙ sent.sent in
           let one : command ≡ other = cc in
-          let is_release : which ≡ order.Release = sym (ap (λ (c : Command). c.order) one) ∙ release in
           let number_is : named ≡ copy.number = sym sent.at.number_is ∙ ap (λ (c : PacketCopy). c.number) (sym same) in
-          let told : Tells (firm copy.gateway) (letter_of copy.gateway port command.number (Answers cause)) (Orders order.Release named) cause =
-          subst (λ (o : Order). Tells (firm copy.gateway) (letter_of copy.gateway port command.number (Answers cause)) (Orders o named) cause) is_release tells in
-          subst (λ (n : ℕ). IsState (firm copy.gateway) node start n state.Released) number_is (told fulfilled)
+          ap (λ (c : Command). Orders c.order named) (sym one) ∙ ap (Orders command.order) number_is
+      by _ may = absurd (mixed may.1.at)
 
-      by : (request : Request) → MaySend packets values (letter_of copy.gateway port command.number (Asks request)) (Asks request)
-          → Tells (firm copy.gateway) (letter_of copy.gateway port command.number (Answers cause)) request cause → IsState (firm copy.gateway) node start copy.number state.Released
-      by Tests may tells = absurd (mixed may.1)
-      by (Orders which named) may tells = by_order which named may.1 may.2 tells
-      by _ may tells = absurd (mixed may.1.at)
+  pub by_release_answer : (packet : PacketState) (copy : PacketCopy) (command : Command) (cause : ℕ) (port : Port) → is_fulfilled cause ≡ true → IsCopyOf packets packet copy
+      → copy.command ≡ Some command → command.order ≡ order.Release → IsAnswered copy.gateway port command.number cause → IsState (firm copy.gateway) node start copy.number state.Released
+  by_release_answer packet copy command cause port fulfilled is e release answer =
+      let request : answer.request ≡ Orders order.Release copy.number =
+      command_request packet copy command port is e answer.request answer.may ∙ ap (λ (o : Order). Orders o copy.number) release in
+      let tells : Tells (firm copy.gateway) (letter_of copy.gateway port command.number (Answers cause)) (Orders order.Release copy.number) cause =
+      subst (λ (r : Request). Tells (firm copy.gateway) (letter_of copy.gateway port command.number (Answers cause)) r cause) request answer.tells in
+      tells fulfilled
 
   pub is_released_there : (packet : PacketState) (copy : PacketCopy) → IsCopyOf packets packet copy → is_released copy ≡ true → IsState (firm copy.gateway) node start copy.number state.Released
   is_released_there packet copy is released = by copy.command refl released (rests_of packet copy is).command
     where
-      by_command : (command : Command) → copy.command ≡ Some command → (which : Order) → command.order ≡ which → (is_release which && command.is_answered) ≡ true
-          → (command.is_answered ≡ true → IsFulfilled (heard_in start (scene.deeds node)) copy.gateway command.number) → IsState (firm copy.gateway) node start copy.number state.Released
-      by_command command e order.Release release told rests =
-          let of = rests told in
-          by_release_answer packet copy command of.cause of.port of.tells is e release
-          (answered copy.gateway of.port command.number of.cause of.numbers of.heard of.named (fulfilled_tells of.cause of.tells))
-      by_command command e order.Cancel cancel told rests = absurd (false≢true told)
-
       by : (there : Option Command) → copy.command ≡ there
           → (option_map_or (λ (command : Command). is_release command.order) there false && option_map_or (λ (command : Command). command.is_answered) there false) ≡ true
           → IfSome there (λ (command : Command). command.is_answered ≡ true → IsFulfilled (heard_in start (scene.deeds node)) copy.gateway command.number)
           → IsState (firm copy.gateway) node start copy.number state.Released
       by None e released rests = absurd (false≢true released)
-      by (Some command) e released rests = by_command command e command.order refl released rests
+      by (Some command) e released rests =
+          let parts = and_parts (is_release command.order) command.is_answered released in
+          let of = rests parts.1 in
+          by_release_answer packet copy command of.cause of.port of.tells is e (release_is command.order parts.0)
+          (answered copy.gateway of.port command.number of.cause of.numbers of.heard of.named (fulfilled_tells of.cause of.tells))
 
   -- ---- a copy that is chosen
 
@@ -295,3 +297,67 @@ module _ (scene : Scene) (holds : SceneHolds scene) (node start : ℕ) (values :
 
   pub plain_first : (packet : PacketState) → Contains packets packet → IsPlainFirst packet.copies
   plain_first packet kept = All-contains (λ (p : PacketState). IsPlainFirst p.copies) packets packet follows.plain kept
+
+  -- ---- the numbers of all copies of a packet that is done are known to their gateways
+
+  abbrev Known : PacketCopy → Type 0
+  Known copy = IsKnown (firm copy.gateway) node start copy.number
+
+  by_verdict : (packet : PacketState) (copy : PacketCopy) → IsCopyOf packets packet copy → is_unknown copy.verdict ≡ false → Known copy
+  by_verdict packet copy is known =
+      let of = (rests_of packet copy is).verdict known in
+      let answer = answered copy.gateway of.port copy.number of.cause of.numbers of.heard of.named
+      (told_telling of.port copy.is_plain of.cause (ap is_unknown of.tells ∙ known)) in
+      by of.port answer.request answer.may answer.known
+    where
+      by : (port : Port) (request : Request) → MaySend packets values (letter_of copy.gateway port copy.number (Asks request)) (Asks request)
+          → IsKnown (firm copy.gateway) node start (about request copy.number) → Known copy
+      by port (Sends is_plain octets) may is_known = is_known
+      by port Tests may is_known = is_known
+      by port (Orders which named) may is_known =
+          absurd (no_command packet copy named (record { order = which; number = copy.number; is_answered = may.1 }) is may.2 refl)
+
+  by_command : (packet : PacketState) (copy : PacketCopy) (command : Command) → IsCopyOf packets packet copy → copy.command ≡ Some command
+      → IsFulfilled (heard_in start (scene.deeds node)) copy.gateway command.number → Known copy
+  by_command packet copy command is e of =
+      let answer = answered copy.gateway of.port command.number of.cause of.numbers of.heard of.named (fulfilled_tells of.cause of.tells) in
+      subst (λ (r : Request). IsKnown (firm copy.gateway) node start (about r command.number))
+      (command_request packet copy command of.port is e answer.request answer.may) answer.known
+
+  -- a copy whose command is answered
+  answered_known : (packet : PacketState) (copy : PacketCopy) → IsCopyOf packets packet copy → is_answered copy ≡ true → Known copy
+  answered_known packet copy is answered = by copy.command refl answered (rests_of packet copy is).command
+    where
+      by : (there : Option Command) → copy.command ≡ there → option_map_or (λ (command : Command). command.is_answered) there false ≡ true
+          → IfSome there (λ (command : Command). command.is_answered ≡ true → IsFulfilled (heard_in start (scene.deeds node)) copy.gateway command.number) → Known copy
+      by None e answered rests = absurd (false≢true answered)
+      by (Some command) e answered rests = by_command packet copy command is e (rests answered)
+
+  settled_known : (packet : PacketState) (copy : PacketCopy) → IsCopyOf packets packet copy → is_settled copy ≡ true → Known copy
+  settled_known packet copy is settled = ⊎_elim
+      (λ sealed. by_verdict packet copy is (sealed_is_known copy.verdict sealed)) (answered_known packet copy is)
+      (or_cases (says_sealed copy.verdict) (is_answered copy) settled)
+
+  -- ---- a packet that is done
+
+  pub done_known : (packet : PacketState) → Contains packets packet → is_done packet.copies ≡ true → (copy : PacketCopy) → Contains packet.copies copy → Known copy
+  done_known packet kept done copy among = by packet.copies refl done among
+    where
+      by : (copies : List PacketCopy) → packet.copies ≡ copies → is_done copies ≡ true → Contains copies copy → Known copy
+      by [] e done among = absurd (false≢true done)
+      by (plain ∷ duplicates) e done among =
+          let parts = and_parts (is_filed plain.verdict || list_any is_released duplicates) (list_all is_settled duplicates) done in
+          let whole : (c : PacketCopy) → Contains (plain ∷ duplicates) c → IsCopyOf packets packet c = λ c there. record { kept = kept; among = subst (λ (cs : List PacketCopy). Contains cs c) (sym e) there } in
+          ⊎_elim
+          (λ same. subst (λ (c : PacketCopy). IsKnown (firm c.gateway) node start c.number) same
+          (by_verdict packet plain (whole plain (in_head plain duplicates))
+          (⊎_elim (filed_is_known plain.verdict)
+          (λ any.
+          let one = any_at is_released duplicates any in
+          let chosen = (and_parts (is_chosen one.0) (is_answered one.0) one.2).0 in
+          let choice = choice_of packet one.0 (whole one.0 (in_tail plain one.0 duplicates one.1)) chosen in
+          let first : choice.plain ≡ plain = ap (λ (cs : List PacketCopy). elim cs [ [] ↦ plain | c ∷ rest ↦ c ]) (sym choice.whole ∙ e) in
+          ap (λ (c : PacketCopy). is_unknown c.verdict) (sym first) ∙ ap is_unknown choice.sealed)
+          (or_cases (is_filed plain.verdict) (list_any is_released duplicates) parts.0))))
+          (λ later. settled_known packet copy (whole copy (in_tail plain copy duplicates later)) (All-contains (λ (c : PacketCopy). is_settled c ≡ true) duplicates copy (AllPass-from_list_all is_settled duplicates parts.1) later))
+          (in_cons plain copy duplicates among)

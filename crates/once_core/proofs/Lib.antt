@@ -1,10 +1,11 @@
 -- Steps of proofs.
+pub mod CaseLemmas
 pub mod ListLemmas
+pub mod TurnLemmas
 pub mod EachLemmas
 pub mod EpochLemmas
 pub mod FiledLemmas
 pub mod CountLemmas
-pub mod ContentLemmas
 pub mod GrowingLemmas
 pub mod StopLemmas
 pub mod StateLemmas
@@ -24,15 +25,13 @@ pub mod OnceLemmas
 pub mod StoryLemmas
 pub mod DeedLemmas
 pub mod NodeLemmas
+pub mod CallLemmas
 pub mod MeaningLemmas
-pub mod WaitingLemmas
+pub mod PartLemmas
 pub mod PlayLemmas
 pub mod CommitPlays
 pub mod ReplyPlays
-pub mod RequestPlays
-pub mod PathPlays
 pub mod DeliverPlays
-pub mod RedirectPlays
 pub mod FormLemmas
 pub mod LogLemmas
 pub mod NumberLemmas
@@ -42,8 +41,6 @@ pub mod SendingPlays
 pub mod FollowLemmas
 pub mod FollowSentLemmas
 pub mod FollowKnownLemmas
-pub mod TickPlays
-pub mod HearPlays
 pub mod WorldPlays
 pub mod TurnPlays
 pub mod FirstPlays
@@ -51,7 +48,6 @@ pub mod SubmittedLemmas
 pub mod WorldOnceLemmas
 pub mod ReachedLemmas
 pub mod TopLemmas
-pub mod SettledLemmas
 pub mod NearestLemmas
 pub mod MeantLemmas
 pub mod DueLemmas

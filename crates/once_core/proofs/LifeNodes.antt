@@ -1,7 +1,7 @@
 -- A gateway is alive to a node only where the node's start is firm: what a node's calls leave of that.
-use Rattle.std.proofs.Common.{◌≡◌, ⊎_elim, ℕ, ◌≤◌, ◌==◌, ◌&&◌, ◌||◌, inl, inr, not, Bool, true, false, if◌then◌else◌, List, [], ◌∷◌, ◌++◌, map, Option, Some, None, Contains, refl, sym, ap, subst, ◌∙◌, arith}
+use Rattle.std.proofs.Common.{◌≡◌, ⊎_elim, ℕ, ◌≤◌, ◌==◌, ◌&&◌, ◌||◌, not, Bool, true, false, if◌then◌else◌, List, [], ◌∷◌, ◌++◌, map, Option, Some, None, Contains, refl, sym, ap, subst, ◌∙◌, arith, eqb-true}
 use Rattle.std.specs.Option.{option_map_or}
-use Rattle.std.proofs.lemmas.Bool.{eqb-true, false≢true, not-false, or_parts}
+use Rattle.std.proofs.lemmas.Bool.{false≢true, not-false, or_parts}
 use Rattle.gtpp_message.specs.Message.{MessageValue, EchoRequest, EchoResponse, NodeAliveResponse, RedirectionRequest, RedirectionResponse, TransferRequest, TransferResponse}
 use Rattle.gtpp_message.specs.Packet.{PacketForm}
 use Rattle.gtpp_message.specs.Reading.{Message, ReadingValue}
@@ -20,7 +20,7 @@ use Rattle.node_core.specs.Moving.{appointing, moved_at_tick, moved_by}
 use Rattle.node_core.specs.Octets.{outgoing}
 use Rattle.node_core.specs.Peers.{last_number, place_of}
 use Rattle.node_core.specs.Reached as call
-use Rattle.node_core.specs.Ticks.{due, tick_entries}
+use Rattle.node_core.specs.Ticks.{due}
 use Rattle.node_core.specs.Value.{NodeValue, logged}
 use Rattle.node_core.specs.declared.sending.Sending.{Sending}
 use Rattle.once_core.specs.Addresses.{gateway_address}
@@ -30,11 +30,11 @@ use Rattle.once_core.specs.World.{Called, answers_of, called, delivered_to_node,
 use Rattle.once_core.specs.declared.message.Message as world
 use Rattle.once_core.proofs.AliveLemmas.{none_alive, told_cases}
 use Rattle.once_core.proofs.LifeMoves.{tells_alive}
-use Rattle.once_core.proofs.ListLemmas.{in_cons, in_none}
+use Rattle.once_core.proofs.ListLemmas.{in_none, in_one, of_map}
 use Rattle.once_core.proofs.LogLemmas.{place_is, starts_again, starts_same}
 use Rattle.once_core.proofs.MeaningLemmas.{FromGateway, GatewaySaid, IsWritten, ReadsBack, role_read_of, type_of}
-use Rattle.once_core.proofs.NodePlays.{NodeRightly, appointed_paths, appointed_starts, either}
-use Rattle.once_core.proofs.WaitingLemmas.{of_map}
+use Rattle.once_core.proofs.NodePlays.{NodeRightly, appointed_starts, either, appointed}
+use Rattle.once_core.proofs.CaseLemmas.{if_both}
 
 -- Where a gateway is alive to the node of this log, the node's starts are at most those that the gateway knows firmly.
 abbrev pub LifeIn : (ℕ → ℕ) → List LogEntry → Type 0
@@ -60,26 +60,20 @@ module _ (known : ℕ → ℕ) (place : ℕ) (log : List LogEntry) (life : LifeI
 
   -- an entry that neither begins the node nor is heard
   entry_life : (entry : LogEntry) → starts_in (entry ∷ log) ≡ starts_in log → paths_of 1 (entry ∷ log) ≡ paths_of 1 log → LifeIn known (entry ∷ log)
-  entry_life entry starts paths gateway alive = let low = life gateway (ap (λ p. is_alive p gateway) (sym paths) ∙ alive) in omega (arith, starts, low)
+  entry_life entry starts paths gateway alive = omega (arith, starts, life gateway (ap (λ p. is_alive p gateway) (sym paths) ∙ alive))
 
   -- ---- what the driver asks
 
-  pub halt_life : (gateways : ℕ) → LifeCalled known place log (called gateways place call.Halt log)
-  halt_life gateways = by (runs log)
-    where
-      halted : LifeCalled known place log (record { log = Halted ∷ log; sends = [] })
-      halted = quiet_life (Halted ∷ log) (let same = starts_same Halted log refl in omega (arith, same)) (anew_life (Halted ∷ log) _ refl)
+  abbrev Leaves : List LogEntry → Type 0
+  Leaves entries = LifeCalled known place log (record { log = logged entries log; sends = [] })
 
-      by : (b : Bool) → LifeCalled known place log (record { log = logged (if b then Halted ∷ [] else Halted ∷ []) log; sends = [] })
-      by true = halted
-      by false = halted
+  pub halt_life : (gateways : ℕ) → LifeCalled known place log (called gateways place call.Halt log)
+  halt_life gateways =
+      let halted : Leaves (Halted ∷ []) = quiet_life (Halted ∷ log) (omega (arith, starts_same Halted log refl)) (anew_life (Halted ∷ log) _ refl) in
+      if_both Leaves (runs log) halted halted
 
   pub start_life : (gateways : ℕ) → LifeCalled known place log (called gateways place call.Start log)
-  start_life gateways = by (runs log)
-    where
-      by : (b : Bool) → LifeCalled known place log (record { log = logged (if b then [] else Began ∷ []) log; sends = [] })
-      by true = same_life
-      by false = quiet_life (Began ∷ log) (let more = starts_again log in omega (arith, more)) (anew_life (Began ∷ log) _ refl)
+  start_life gateways = if_both Leaves (runs log) same_life (quiet_life (Began ∷ log) (omega (arith, starts_again log)) (anew_life (Began ∷ log) _ refl))
 
   pub submit_life : (gateways : ℕ) → NodeRightly gateways place log → (octets : List ℕ) → LifeCalled known place log (submitting gateways place octets log)
   submit_life gateways rightly octets = by (draft_of octets)
@@ -87,41 +81,33 @@ module _ (known : ℕ → ℕ) (place : ℕ) (log : List LogEntry) (life : LifeI
       by : (o : Option PacketForm) → LifeCalled known place log (submitting_form gateways place o log)
       by None = same_life
       by (Some form) =
+          let same = starts_same (Submitted form) log refl in
           either gateways place log rightly (λ l. LifeCalled known place log (record { log = l; sends = [] })) form same_life
-          (let same = starts_same (Submitted form) log refl in quiet_life (Submitted form ∷ log) (omega (arith, same)) (entry_life (Submitted form) same refl))
+          (quiet_life (Submitted form ∷ log) (omega (arith, same)) (entry_life (Submitted form) same refl))
 
-  pub tick_life : (gateways : ℕ) → LifeCalled known place log (ticking gateways place log)
-  tick_life gateways = by (runs log)
-    where
-      all_sent : (after : List LogEntry) → starts_in log ≤ starts_in after → (m : world.Message)
-          → Contains (map (λ s. message_of place log (outgoing (node_value gateways place log) s)) (due (node_value gateways place log))) m
-          → (m.to_gateway ≡ true) × (m.node ≡ place) × (m.start ≤ starts_in after)
-      all_sent after grows m is =
-          let there = of_map (λ (s : Sending). message_of place log (outgoing (node_value gateways place log) s)) (due (node_value gateways place log)) m is in
-          subst (λ (k : world.Message). (k.to_gateway ≡ true) × (k.node ≡ place) × (k.start ≤ starts_in after)) there.2 (refl, refl, grows)
+  module _ (gateways : ℕ) where
+    abbrev node : NodeValue
+    node = node_value gateways place log
 
-      one : (after : List LogEntry) → starts_in after ≡ starts_in log → paths_of 1 after ≡ paths_of 1 log
-          → LifeCalled known place log (record { log = after; sends = map (λ s. message_of place log (outgoing (node_value gateways place log) s)) (due (node_value gateways place log)) })
-      one after starts paths = record {
-        grows = omega (arith, starts);
-        alive = λ gateway alive. let low = life gateway (ap (λ p. is_alive p gateway) (sym paths) ∙ alive) in omega (arith, starts, low);
-        sends = all_sent after (omega (arith, starts));
-      }
+    abbrev sent : List world.Message
+    sent = map (λ s. message_of place log (outgoing (node_value gateways place log) s)) (due (node_value gateways place log))
 
-      moved : (o : Option ℕ) (sendings : List Sending) → LifeCalled known place log (record {
-        log = logged (appointing o ++ Ticked sendings ∷ []) log;
-        sends = map (λ s. message_of place log (outgoing (node_value gateways place log) s)) (due (node_value gateways place log));
-      })
-      moved None sendings = one (Ticked sendings ∷ log) (starts_same (Ticked sendings) log refl) refl
-      moved (Some gateway) sendings = one (Ticked sendings ∷ Appointed gateway ∷ log)
-          (starts_same (Ticked sendings) (Appointed gateway ∷ log) refl ∙ starts_same (Appointed gateway) log refl) refl
+    sent_life : (after : List LogEntry) → starts_in after ≡ starts_in log → paths_of 1 after ≡ paths_of 1 log → LifeCalled known place log (record { log = after; sends = sent })
+    sent_life after starts paths = record {
+      grows = omega (arith, starts);
+      alive = λ gateway alive. omega (arith, starts, life gateway (ap (λ p. is_alive p gateway) (sym paths) ∙ alive));
+      sends = λ m is. subst (λ (k : world.Message). (k.to_gateway ≡ true) × (k.node ≡ place) × (k.start ≤ starts_in after))
+          (of_map (λ (s : Sending). message_of place log (outgoing node s)) (due node) m is).2 (refl, refl, omega (arith, starts));
+    }
 
-      by : (b : Bool) → LifeCalled known place log (record {
-        log = logged (if b then tick_entries (node_value gateways place log) else []) log;
-        sends = map (λ s. message_of place log (outgoing (node_value gateways place log) s)) (due (node_value gateways place log));
-      })
-      by true = moved (moved_at_tick (node_value gateways place log)) (due (node_value gateways place log))
-      by false = one log refl refl
+    moved_life : (o : Option ℕ) (sendings : List Sending) → LifeCalled known place log (record { log = logged (appointing o ++ Ticked sendings ∷ []) log; sends = sent })
+    moved_life None sendings = sent_life (Ticked sendings ∷ log) (starts_same (Ticked sendings) log refl) refl
+    moved_life (Some gateway) sendings = sent_life (Ticked sendings ∷ Appointed gateway ∷ log)
+        (starts_same (Ticked sendings) (Appointed gateway ∷ log) refl ∙ starts_same (Appointed gateway) log refl) refl
+
+    pub tick_life : LifeCalled known place log (ticking gateways place log)
+    tick_life = if_both (λ (entries : List LogEntry). LifeCalled known place log (record { log = logged entries log; sends = sent })) (runs log)
+        (moved_life (moved_at_tick node) (due node)) (sent_life log refl refl)
 
 -- ---- what a node hears
 
@@ -138,24 +124,28 @@ module _ (known : ℕ → ℕ) (gateways : ℕ) (m : world.Message) (log : List 
         → Contains (option_map_or (λ octets. answering m octets ∷ []) reply []) k → (k.to_gateway ≡ true) × (k.node ≡ m.node) × (k.start ≤ starts_in after)
     answers_life None after grows k is = absurd (in_none k is)
     answers_life (Some octets) after grows k is =
-        subst (λ (j : world.Message). (j.to_gateway ≡ true) × (j.node ≡ m.node) × (j.start ≤ starts_in after))
-        (elim (in_cons (answering m octets) k [] is) [ inl e ↦ e | inr none ↦ absurd (in_none k none) ]) (ap not from, refl, omega (arith, start, grows))
+        subst (λ (j : world.Message). (j.to_gateway ≡ true) × (j.node ≡ m.node) × (j.start ≤ starts_in after)) (in_one (answering m octets) k is)
+        (ap not from, refl, omega (arith, start, grows))
+
+    abbrev behind : Saying → List LogEntry
+    behind saying = logged (appointing (moved_by value m.port m.gateway saying)) (Heard m.port m.gateway saying ∷ log)
 
     -- what is heard leaves the starts as they are; the gateways that are alive then were alive, or told so
     heard_life : (saying : Saying) (reply : Option (List ℕ))
         → ((gateway : ℕ) → is_alive (paths_of 1 (Heard m.port m.gateway saying ∷ log)) gateway ≡ true → starts_in log ≤ known gateway)
         → (sends : List world.Message) → sends ≡ option_map_or (λ octets. answering m octets ∷ []) reply []
-        → LifeCalled known m.node log (record { log = logged (appointing (moved_by value m.port m.gateway saying)) (Heard m.port m.gateway saying ∷ log); sends = sends })
+        → LifeCalled known m.node log (record { log = behind saying; sends = sends })
     heard_life saying reply alive sends e = record {
       grows = omega (arith, starts);
-      alive = λ gateway is.
-          let low = alive gateway (ap (λ p. is_alive p gateway) (sym (appointed_paths 1 (moved_by value m.port m.gateway saying) (Heard m.port m.gateway saying ∷ log))) ∙ is) in
-          omega (arith, low, starts);
-      sends = λ k is. answers_life reply (logged (appointing (moved_by value m.port m.gateway saying)) (Heard m.port m.gateway saying ∷ log)) (omega (arith, starts)) k
-          (subst (λ (ks : List world.Message). Contains ks k) e is);
+      alive = λ gateway is. omega (
+        arith,
+        alive gateway (ap (λ p. is_alive p gateway) (sym (appointed (paths_of 1) (λ gateway log. refl) (moved_by value m.port m.gateway saying) (Heard m.port m.gateway saying ∷ log))) ∙ is),
+        starts,
+      );
+      sends = λ k is. answers_life reply (behind saying) (omega (arith, starts)) k (subst (λ (ks : List world.Message). Contains ks k) e is);
     }
       where
-        starts : starts_in (logged (appointing (moved_by value m.port m.gateway saying)) (Heard m.port m.gateway saying ∷ log)) ≡ starts_in log
+        starts : starts_in (behind saying) ≡ starts_in log
         starts = appointed_starts (moved_by value m.port m.gateway saying) (Heard m.port m.gateway saying ∷ log) ∙ starts_same (Heard m.port m.gateway saying) log refl
 
     abbrev taking : Taken → Called
@@ -175,13 +165,11 @@ module _ (known : ℕ → ℕ) (gateways : ℕ) (m : world.Message) (log : List 
     message_life (EchoResponse counter) w fits = quiet_heard (Path (EchoTold said.path counter)) None refl
     message_life NodeAliveResponse w fits = heard_life (Path (AliveTold said.path)) None
         (λ gateway is. ⊎_elim
-        (λ same. let low = tells in subst (λ (q : ℕ). starts_in log ≤ known q) (sym same) (omega (arith, low, start)))
-        (λ was. life gateway was)
+        (λ same. subst (λ (q : ℕ). starts_in log ≤ known q) (sym same) (omega (arith, start, told
+        (ap (λ (o : Option ℕ). option_map_or (λ k. k == NODE_ALIVE_RESPONSE) o false) (type_of m.octets said.path NodeAliveResponse w.is)))))
+        (life gateway)
         (told_cases (paths_of 1 log) m.gateway said.path gateway is))
         [] refl
-      where
-        tells : m.start ≤ known m.gateway
-        tells = told (ap (λ (o : Option ℕ). option_map_or (λ k. k == NODE_ALIVE_RESPONSE) o false) (type_of m.octets said.path NodeAliveResponse w.is))
     message_life (TransferRequest body) w fits = absurd fits
     message_life _ w fits = nothing_life
 

@@ -1,7 +1,7 @@
 -- What holds goes on with each move of a gateway, and so with whatever happens.
-use Rattle.std.proofs.Common.{◌≡◌, ◌⊎◌, inl, ⊎_elim, ℕ, ◌+◌, ◌≤◌, ◌==◌, nat_le, nat_lt, not, Bool, true, false, if◌then◌else◌, List, [], ◌∷◌, ◌++◌, length, length-append, filter, take, drop, take-append-drop, slice_get, Option, Some, None, Contains, refl, sym, ap, subst, ◌∙◌, arith, append_assoc}
+use Rattle.std.proofs.Common.{◌≡◌, ⊎_elim, ℕ, ◌==◌, nat_le, nat_lt, not, Bool, true, false, List, [], ◌∷◌, ◌++◌, length, length-append, filter, take, drop, take-append-drop, slice_get, Option, Some, None, Contains, refl, sym, ap, subst, ◌∙◌, arith, append_assoc}
 use Rattle.std.proofs.lemmas.Bool.{eqb-true, false≢true, leb-true, ltb-true}
-use Rattle.std.proofs.lemmas.List.{append-nil}
+use Rattle.std.proofs.lemmas.List.{append-nil, nil_from_length}
 use Rattle.std.proofs.lemmas.List.Elements.{Contains-append_cases, Contains-append_left, Contains-push_cases}
 use Rattle.gw_base.specs.Starts.{start_of}
 use Rattle.gw_base.specs.declared.address.NodeId.{NodeId}
@@ -14,68 +14,28 @@ use Rattle.gateway_book.specs.Answered.{act_given, entry_by, with_act}
 use Rattle.node_core.specs.declared.copy.Order.TheVariants as order
 use Rattle.once_core.specs.Happenings.{Adds, Asks, Comes, Firms, Happening, Hears, Keeps, Letter, Meaning, Note, Notes, Opens, Orders, Post, Request, Scene, Sends, Starts, WaitingLetter, about, act_noted, cause_of, given, history, is_timely, reply}
 use Rattle.once_core.specs.Resting.{IsBorneOut, IsKnown, IsSent, PostHolds, Rests, RestsBy, SceneHolds, Tells, Waits}
-use Rattle.once_core.specs.Scenes.{Settled, after_coming, after_hearing, answering, at, coming, firming, happened, happened_all, is_answer, is_idle, is_request, keeping, nothing_yet, noting, noting_if, opening, scene_after, waiting_for, with_one}
+use Rattle.once_core.specs.Scenes.{Settled, after_coming, after_hearing, at, coming, firming, happened, happened_all, is_answer, is_idle, is_request, keeping, nothing_yet, noting, noting_if, opening, scene_after, waiting_for, with_one, with_post, with_settled}
 use Rattle.once_core.specs.Happenings as happens
-use Rattle.once_core.proofs.AnswerLemmas.{IsSound, answer_is_sound}
+use Rattle.once_core.proofs.AnswerLemmas.{answer_is_sound}
 use Rattle.once_core.proofs.CountLemmas.{starts_rise}
 use Rattle.once_core.proofs.EachLemmas.{each_front, each_more}
-use Rattle.once_core.proofs.ForwardLemmas.{Grows, rests_on}
-use Rattle.once_core.proofs.ListLemmas.{filtered, get_contains, in_none}
-use Rattle.once_core.proofs.SceneLemmas.{adding, at_same, hearing, mapped, post_on, sending, told_later, told_on, waits_on}
+use Rattle.once_core.proofs.ForwardLemmas.{Grows}
+use Rattle.once_core.proofs.ListLemmas.{filtered, get_contains, in_none, in_one, of_map}
+use Rattle.once_core.proofs.SceneLemmas.{adding, at_same, firm_rests, hearing, post_on, sending, told_later, told_on}
+use Rattle.once_core.proofs.CaseLemmas.{by_option, if_known}
 
 -- ---- a gateway's move
 
 -- a gateway becomes this one, its firm part with more behind it, and sends answers that mean what they say in it
-record Moves (scene : Scene) (gateway : ℕ) (letters sends : List Letter) (post : Post) : Type 0 where
-  grows : Grows scene.letters letters
-  back : (l : Letter) → Contains letters l → Contains scene.letters l ⊎ Contains sends l
-  holds : PostHolds letters gateway post
+record Moves (scene : Scene) (gateway : ℕ) (s : Settled) : Type 0 where
+  holds : PostHolds (scene.letters ++ s.sends) gateway s.post
   more : List HistoryEntry
-  firm : post.firm ≡ (scene.posts gateway).firm ++ more
-  sent : (l : Letter) → Contains sends l → (l.gateway ≡ gateway) × (is_answer l.says ≡ true) × IsBorneOut letters post.firm l l.says
+  firm : s.post.firm ≡ (scene.posts gateway).firm ++ more
+  sent : (l : Letter) → Contains s.sends l → (l.gateway ≡ gateway) × (is_answer l.says ≡ true) × IsBorneOut (scene.letters ++ s.sends) s.post.firm l l.says
 
 not_a_request : (deeds : ℕ → List happens.Deed) (l : Letter) (says : Meaning) → is_answer says ≡ true → IsSent deeds l says
 not_a_request deeds l (Asks request) e = absurd (false≢true e)
 not_a_request deeds l _ e = tt
-
-moved : (scene : Scene) (gateway : ℕ) (letters sends : List Letter) (post : Post) → SceneHolds scene → Moves scene gateway letters sends post
-    → SceneHolds (record scene { posts = at gateway post scene.posts; letters = letters })
-moved scene gateway letters sends post holds moves = record {
-  posts = λ g. at_post g (g == gateway) refl;
-  told = λ l kept. ⊎_elim (λ old. old_told l (told_on scene.letters letters moves.grows (scene.posts l.gateway).firm l l.says (holds.told l old)) (l.gateway == gateway) refl) (new_told l) (moves.back l kept);
-  sent = λ l kept. ⊎_elim (λ old. holds.sent l old) (λ new. let is = moves.sent l new in not_a_request scene.deeds l l.says is.1) (moves.back l kept);
-  heard = λ node l kept. let there = holds.heard node l kept in (there.0, moves.grows l there.1);
-}
-  where
-    at_post : (g : ℕ) (b : Bool) → (g == gateway) ≡ b → PostHolds letters g (if b then post else scene.posts g)
-    at_post g true e = subst (λ (k : ℕ). PostHolds letters k post) (sym (eqb-true g gateway e)) moves.holds
-    at_post g false e = post_on scene.letters letters moves.grows g (scene.posts g) (holds.posts g)
-
-    firm_rests : Rests letters gateway post.firm
-    firm_rests = each_front (λ before e. RestsBy letters gateway before e.act) [] post.firm post.rest moves.holds.rests
-
-    old_told : (l : Letter) → IsBorneOut letters (scene.posts l.gateway).firm l l.says → (b : Bool) → (l.gateway == gateway) ≡ b
-        → IsBorneOut letters (if b then post else scene.posts l.gateway).firm l l.says
-    old_told l told true e =
-        let here : IsBorneOut letters (scene.posts gateway).firm l l.says = subst (λ (k : ℕ). IsBorneOut letters (scene.posts k).firm l l.says) (eqb-true l.gateway gateway e) told in
-        let later = told_later letters gateway (scene.posts gateway).firm moves.more l l.says (subst (Rests letters gateway) moves.firm firm_rests) here in
-        subst (λ (h : List HistoryEntry). IsBorneOut letters h l l.says) (sym moves.firm) later
-    old_told l told false e = told
-
-    new_told : (l : Letter) → Contains sends l → IsBorneOut letters (at gateway post scene.posts l.gateway).firm l l.says
-    new_told l new =
-        let is = moves.sent l new in
-        let same : at gateway post scene.posts l.gateway ≡ post = ap (at gateway post scene.posts) is.0 ∙ at_same gateway post scene.posts in
-        subst (λ (p : Post). IsBorneOut letters p.firm l l.says) (sym same) is.2
-
--- one that sends nothing
-quietly : (scene : Scene) (gateway : ℕ) (post : Post) → SceneHolds scene → PostHolds scene.letters gateway post → (more : List HistoryEntry)
-    → post.firm ≡ (scene.posts gateway).firm ++ more → SceneHolds (record scene { posts = at gateway post scene.posts })
-quietly scene gateway post holds is more firm =
-    moved scene gateway scene.letters [] post holds
-    (record { grows = λ l kept. kept; back = λ l kept. inl kept; holds = is; more = more; firm = firm; sent = λ l new. absurd (in_none l new) })
-
--- ---- the moves
 
 noted : (letters : List Letter) (gateway : ℕ) (post : Post) (now : ℕ) (who : Caller) (a : HistoryAct) → PostHolds letters gateway post
     → RestsBy letters gateway (history post) a → PostHolds letters gateway (noting now who a post)
@@ -87,67 +47,21 @@ noted letters gateway post now who a holds one =
       rests = subst (Rests letters gateway) longer rests;
       waits = λ w kept.
           let is = holds.waits w kept in
-          record {
+          subst (λ (h : List HistoryEntry). Waits letters gateway h w.letter) longer (record {
             gateway_is = is.gateway_is;
             answers = is.answers;
-            told = subst (λ (h : List HistoryEntry). IsBorneOut letters h w.letter w.letter.says) longer (told_later letters gateway (history post) (e ∷ []) w.letter w.letter.says rests is.told);
-          };
+            told = told_later letters gateway (history post) (e ∷ []) w.letter w.letter.says rests is.told;
+          });
     }
 
 kept_back : (letters : List Letter) (gateway keep : ℕ) (post : Post) → PostHolds letters gateway post → PostHolds letters gateway (keeping keep post)
-kept_back letters gateway keep post holds =
-    let whole : (post.firm ++ take keep post.rest) ++ drop keep post.rest ≡ post.firm ++ post.rest =
-    append_assoc post.firm (take keep post.rest) (drop keep post.rest) ∙ ap (λ (r : List HistoryEntry). post.firm ++ r) (take-append-drop keep post.rest) in
-    record {
-      rests =
-          each_front (λ before e. RestsBy letters gateway before e.act) [] (post.firm ++ take keep post.rest) (drop keep post.rest)
-          (subst (Rests letters gateway) (sym whole) holds.rests);
-      waits = λ w kept. absurd (in_none w kept);
-    }
-
-firmed : (scene : Scene) (gateway : ℕ) → SceneHolds scene
-    → Moves scene gateway (scene.letters ++ (firming (scene.posts gateway)).sends) (firming (scene.posts gateway)).sends (firming (scene.posts gateway)).post
-firmed scene gateway holds = record {
-  grows = grows;
-  back = λ l kept. Contains-append_cases scene.letters sends l kept;
-  holds = record {
-    rests = subst (Rests letters gateway) (sym (append-nil (history post))) (rests_on scene.letters letters grows gateway (history post) before.rests);
-    waits = λ w kept.
-        let is = waits_on scene.letters letters grows gateway (history post) w.letter (before.waits w (filtered (λ v. not (nat_le v.front (length (history post)))) post.waiting w kept)) in
-        record {
-          gateway_is = is.gateway_is;
-          answers = is.answers;
-          told = subst (λ (h : List HistoryEntry). IsBorneOut letters h w.letter w.letter.says) (sym (append-nil (history post))) is.told;
-        };
-  };
-  more = post.rest;
-  firm = refl;
-  sent = λ l new.
-      let there = mapped (filter (λ v. nat_le v.front (length (history post))) post.waiting) l new in
-      let is = waits_on scene.letters letters grows gateway (history post) there.0.letter (before.waits there.0 (filtered (λ v. nat_le v.front (length (history post))) post.waiting there.0 there.1)) in
-      subst (λ (m : Letter). (m.gateway ≡ gateway) × (is_answer m.says ≡ true) × IsBorneOut letters (history post) m m.says) there.2 (is.gateway_is, is.answers, is.told);
+kept_back letters gateway keep post holds = record {
+  rests =
+      each_front (λ before e. RestsBy letters gateway before e.act) [] (post.firm ++ take keep post.rest) (drop keep post.rest)
+      (subst (Rests letters gateway) (sym (append_assoc post.firm (take keep post.rest) (drop keep post.rest)
+      ∙ ap (λ (r : List HistoryEntry). post.firm ++ r) (take-append-drop keep post.rest))) holds.rests);
+  waits = λ w kept. in_none w kept;
 }
-  where
-    post : Post
-    post = scene.posts gateway
-
-    sends : List Letter
-    sends = (firming post).sends
-
-    letters : List Letter
-    letters = scene.letters ++ sends
-
-    grows : Grows scene.letters letters
-    grows l kept = Contains-append_left scene.letters sends l kept
-
-    before : PostHolds scene.letters gateway post
-    before = holds.posts gateway
-
--- ---- an answer
-
-none_left : {A : Type 0} (xs : List A) → length xs ≤ 0 → xs ≡ []
-none_left [] le = refl
-none_left (x ∷ xs) le = absurd (omega (arith, le))
 
 -- the answer to where a message came from speaks of the same number
 tells_reply : (h : List HistoryEntry) (letter : Letter) (answer : Given) (request : Request) (cause : ℕ) → Tells h letter request cause → Tells h (reply letter answer) request cause
@@ -155,121 +69,157 @@ tells_reply h letter answer (Sends false packet) cause told = tt
 tells_reply h letter answer (Orders order.Cancel named) cause told = tt
 tells_reply h letter answer _ cause told = told
 
--- an answer waits or is sent
-waited : (scene : Scene) (l : Letter) (post : Post) → SceneHolds scene → PostHolds scene.letters l.gateway post → (more : List HistoryEntry)
-    → post.firm ≡ (scene.posts l.gateway).firm ++ more → is_answer l.says ≡ true → IsBorneOut scene.letters (history post) l l.says
-    → SceneHolds (record scene { posts = at l.gateway (waiting_for l post).post scene.posts; letters = scene.letters ++ (waiting_for l post).sends })
-waited scene l post holds is more firm answers told = by (nat_le (length (history post)) (length post.firm)) refl
-  where
-    settled : Bool → Settled
-    settled b =
-        if b then record { post = post; sends = l ∷ [] }
-        else record { post = record post { waiting = post.waiting ++ record { front = length (history post); letter = l } ∷ [] }; sends = [] }
+-- what an act that is recorded leaves of a gateway
+record AsNoted (letters : List Letter) (gateway now : ℕ) (who : Caller) (recorded : Option HistoryAct) (post : Post) : Type 0 where
+  holds : PostHolds letters gateway (noting_if now who recorded post)
+  firm : (noting_if now who recorded post).firm ≡ post.firm
+  same : with_act (history post) now who recorded ≡ history (noting_if now who recorded post)
 
-    by : (b : Bool) → nat_le (length (history post)) (length post.firm) ≡ b
-        → SceneHolds (record scene { posts = at l.gateway (settled b).post scene.posts; letters = scene.letters ++ (settled b).sends })
-    by true e =
-        let short = leb-true (length (history post)) (length post.firm) e in
-        let size : length (history post) ≡ length post.firm + length post.rest = length-append post.firm post.rest in
-        let none : post.rest ≡ [] = none_left post.rest (omega (arith, short, size)) in
-        let all : history post ≡ post.firm = ap (λ (r : List HistoryEntry). post.firm ++ r) none ∙ append-nil post.firm in
-        let grows : Grows scene.letters (scene.letters ++ l ∷ []) = λ m kept. Contains-append_left scene.letters (l ∷ []) m kept in
-        moved scene l.gateway (scene.letters ++ l ∷ []) (l ∷ []) post holds (record {
-          grows = grows;
-          back = λ m kept. Contains-append_cases scene.letters (l ∷ []) m kept;
-          holds = post_on scene.letters (scene.letters ++ l ∷ []) grows l.gateway post is;
-          more = more;
-          firm = firm;
-          sent = λ m new. ⊎_elim
-              (λ old. absurd (in_none m old))
-              (λ same. subst (λ (x : Letter). (x.gateway ≡ l.gateway) × (is_answer x.says ≡ true) × IsBorneOut (scene.letters ++ l ∷ []) post.firm x x.says) same
-              (refl, answers, told_on scene.letters (scene.letters ++ l ∷ []) grows post.firm l l.says (subst (λ (h : List HistoryEntry). IsBorneOut scene.letters h l l.says) all told)))
-              (Contains-push_cases [] l m new);
-        })
-    by false e =
-        let grows : Grows scene.letters (scene.letters ++ []) = λ m kept. Contains-append_left scene.letters [] m kept in
-        let later = post_on scene.letters (scene.letters ++ []) grows l.gateway post is in
-        moved scene l.gateway (scene.letters ++ []) [] (settled false).post holds (record {
-          grows = grows;
-          back = λ m kept. Contains-append_cases scene.letters [] m kept;
-          holds = record {
-            rests = later.rests;
-            waits = λ w kept. ⊎_elim
-                (λ old. later.waits w old)
-                (λ same. subst (λ (x : WaitingLetter). Waits (scene.letters ++ []) l.gateway (history post) x.letter) same
-                (record { gateway_is = refl; answers = answers; told = told_on scene.letters (scene.letters ++ []) grows (history post) l l.says told }))
-                (Contains-push_cases post.waiting (record { front = length (history post); letter = l }) w kept);
-          };
-          more = more;
-          firm = firm;
-          sent = λ m new. absurd (in_none m new);
-        })
+as_noted : (letters : List Letter) (gateway now : ℕ) (who : Caller) (recorded : Option HistoryAct) (post : Post) → PostHolds letters gateway post
+    → ((a : HistoryAct) → recorded ≡ Some a → RestsBy letters gateway (history post) a) → AsNoted letters gateway now who recorded post
+as_noted letters gateway now who None post holds rests = record { holds = holds; firm = refl; same = refl }
+as_noted letters gateway now who (Some a) post holds rests = record {
+  holds = noted letters gateway post now who a holds (rests a refl);
+  firm = refl;
+  same = append_assoc post.firm post.rest (entry_by (history post) now who a ∷ []);
+}
 
--- a request comes
-came : (scene : Scene) (letter : Letter) (request : Request) (may : HistoryAct → Bool) (now : ℕ) (who : Caller) → SceneHolds scene → Contains scene.letters letter
-    → letter.says ≡ Asks request
-    → SceneHolds (record scene {
-      posts = at letter.gateway (coming may now who letter request (scene.posts letter.gateway)).post scene.posts;
-      letters = scene.letters ++ (coming may now who letter request (scene.posts letter.gateway)).sends;
-    })
-came scene letter request may now who holds kept says = by (is_timely (history post) letter request) refl
-  where
-    post : Post
-    post = scene.posts letter.gateway
+module _ {scene : Scene} (holds : SceneHolds scene) where
+  abbrev with_sends : Settled → List Letter
+  with_sends s = scene.letters ++ s.sends
 
-    before : PostHolds scene.letters letter.gateway post
-    before = holds.posts letter.gateway
+  grows : (s : Settled) → Grows scene.letters (with_sends s)
+  grows s l kept = Contains-append_left scene.letters s.sends l kept
 
-    settled : Bool → Settled
-    settled b = if b then answering now who letter (given (history post) may letter request) post else record { post = post; sends = [] }
+  moved : (gateway : ℕ) (s : Settled) → Moves scene gateway s → SceneHolds (with_settled gateway s scene)
+  moved gateway s moves = record {
+    posts = λ g. if_known (PostHolds (with_sends s) g) (g == gateway)
+        (λ e. subst (λ (k : ℕ). PostHolds (with_sends s) k s.post) (sym (eqb-true g gateway e)) moves.holds)
+        (λ e. post_on scene.letters (with_sends s) (grows s) g (scene.posts g) (holds.posts g));
+    told = λ l kept. ⊎_elim (λ old. old_told l (told_on scene.letters (with_sends s) (grows s) (scene.posts l.gateway).firm l l.says (holds.told l old)))
+        (new_told l) (Contains-append_cases scene.letters s.sends l kept);
+    sent = λ l kept. ⊎_elim (holds.sent l) (λ new. not_a_request scene.deeds l l.says (moves.sent l new).1) (Contains-append_cases scene.letters s.sends l kept);
+    heard = λ node l kept. let there = holds.heard node l kept in (there.0, grows s l there.1);
+  }
+    where
+      old_told : (l : Letter) → IsBorneOut (with_sends s) (scene.posts l.gateway).firm l l.says → IsBorneOut (with_sends s) (at gateway s.post scene.posts l.gateway).firm l l.says
+      old_told l told = if_known (λ (p : Post). IsBorneOut (with_sends s) p.firm l l.says) (l.gateway == gateway)
+          (λ e.
+          let here : IsBorneOut (with_sends s) (scene.posts gateway).firm l l.says = subst (λ (k : ℕ). IsBorneOut (with_sends s) (scene.posts k).firm l l.says) (eqb-true l.gateway gateway e) told in
+          let rests = firm_rests (with_sends s) gateway s.post moves.holds in
+          subst (λ (h : List HistoryEntry). IsBorneOut (with_sends s) h l l.says) (sym moves.firm)
+          (told_later (with_sends s) gateway (scene.posts gateway).firm moves.more l l.says (subst (Rests (with_sends s) gateway) moves.firm rests) here))
+          (λ e. told)
 
-    lost : SceneHolds (record scene { posts = at letter.gateway post scene.posts; letters = scene.letters ++ [] })
-    lost =
-        let grows : Grows scene.letters (scene.letters ++ []) = λ m kept. Contains-append_left scene.letters [] m kept in
-        moved scene letter.gateway (scene.letters ++ []) [] post holds (record {
-          grows = grows;
-          back = λ m kept. Contains-append_cases scene.letters [] m kept;
-          holds = post_on scene.letters (scene.letters ++ []) grows letter.gateway post before;
-          more = [];
-          firm = sym (append-nil post.firm);
-          sent = λ m new. absurd (in_none m new);
-        })
+      new_told : (l : Letter) → Contains s.sends l → IsBorneOut (with_sends s) (at gateway s.post scene.posts l.gateway).firm l l.says
+      new_told l new =
+          let is = moves.sent l new in
+          subst (λ (p : Post). IsBorneOut (with_sends s) p.firm l l.says) (sym (ap (at gateway s.post scene.posts) is.0 ∙ at_same gateway s.post scene.posts)) is.2
 
-    answered : (answer : Given) → IsSound scene.letters (history post) letter request answer
-        → SceneHolds (record scene {
-          posts = at letter.gateway (answering now who letter answer post).post scene.posts;
-          letters = scene.letters ++ (answering now who letter answer post).sends;
-        })
-    answered answer sound =
-        waited scene (reply letter answer) (noting_if now who (act_given answer) post) holds
-        (after (act_given answer) sound.rests) [] (firm_stays (act_given answer) ∙ sym (append-nil post.firm)) refl
-        (λ telling. record {
-          request = request;
-          asked = subst (Contains scene.letters) (λ i. record letter { says = says i }) kept;
-          tells = tells_reply (history (noting_if now who (act_given answer) post)) letter answer request (cause_of answer)
-              (subst (λ (h : List HistoryEntry). Tells h letter request (cause_of answer)) (same (act_given answer)) (sound.tells now who));
-          known = subst (λ (h : List HistoryEntry). IsKnown h letter.node letter.start (about request letter.number)) (same (act_given answer)) (sound.known telling now who);
-        })
-      where
-        after : (recorded : Option HistoryAct) → ((a : HistoryAct) → recorded ≡ Some a → RestsBy scene.letters letter.gateway (history post) a)
-            → PostHolds scene.letters letter.gateway (noting_if now who recorded post)
-        after None rests = before
-        after (Some a) rests = noted scene.letters letter.gateway post now who a before (rests a refl)
+  -- one that sends nothing
+  silently : (gateway : ℕ) (post : Post) → PostHolds scene.letters gateway post → post.firm ≡ (scene.posts gateway).firm
+      → SceneHolds (with_settled gateway (record { post = post; sends = [] }) scene)
+  silently gateway post is firm = moved gateway (record { post = post; sends = [] }) (record {
+    holds = post_on scene.letters (scene.letters ++ []) (grows (record { post = post; sends = [] })) gateway post is;
+    more = [];
+    firm = firm ∙ sym (append-nil (scene.posts gateway).firm);
+    sent = λ l new. in_none l new;
+  })
 
-        firm_stays : (recorded : Option HistoryAct) → (noting_if now who recorded post).firm ≡ post.firm
-        firm_stays None = refl
-        firm_stays (Some a) = refl
+  quietly : (gateway : ℕ) (post : Post) → PostHolds scene.letters gateway post → post.firm ≡ (scene.posts gateway).firm → SceneHolds (with_post gateway post scene)
+  quietly gateway post is firm =
+      subst (λ (ls : List Letter). SceneHolds (record scene { posts = at gateway post scene.posts; letters = ls })) (append-nil scene.letters) (silently gateway post is firm)
 
-        same : (recorded : Option HistoryAct) → with_act (history post) now who recorded ≡ history (noting_if now who recorded post)
-        same None = refl
-        same (Some a) = append_assoc post.firm post.rest (entry_by (history post) now who a ∷ [])
+  firmed : (gateway : ℕ) → Moves scene gateway (firming (scene.posts gateway))
+  firmed gateway =
+      let post = scene.posts gateway in
+      let size = length (history post) in
+      let settled = firming post in
+      let whole : history post ≡ history post ++ [] = sym (append-nil (history post)) in
+      let before = post_on scene.letters (with_sends settled) (grows settled) gateway post (holds.posts gateway) in
+      record {
+        holds = record {
+          rests = subst (Rests (with_sends settled) gateway) whole before.rests;
+          waits = λ w kept. subst (λ (h : List HistoryEntry). Waits (with_sends settled) gateway h w.letter) whole
+              (before.waits w (filtered (λ v. not (nat_le v.front size)) post.waiting w kept));
+        };
+        more = post.rest;
+        firm = refl;
+        sent = λ l new.
+            let there = of_map (λ (w : WaitingLetter). w.letter) (filter (λ v. nat_le v.front size) post.waiting) l new in
+            let is = before.waits there.0 (filtered (λ v. nat_le v.front size) post.waiting there.0 there.1) in
+            subst (λ (m : Letter). (m.gateway ≡ gateway) × (is_answer m.says ≡ true) × IsBorneOut (with_sends settled) (history post) m m.says) there.2 (is.gateway_is, is.answers, is.told);
+      }
 
-    by : (b : Bool) → is_timely (history post) letter request ≡ b
-        → SceneHolds (record scene { posts = at letter.gateway (settled b).post scene.posts; letters = scene.letters ++ (settled b).sends })
-    by false e = lost
-    by true e =
-        answered (given (history post) may letter request)
-        (answer_is_sound scene.letters (history post) letter request may (starts_rise scene.letters letter.gateway (history post) before.rests) kept says e)
+  -- an answer waits or is sent
+  waited : (l : Letter) (post : Post) → PostHolds scene.letters l.gateway post → post.firm ≡ (scene.posts l.gateway).firm → is_answer l.says ≡ true
+      → IsBorneOut scene.letters (history post) l l.says → SceneHolds (with_settled l.gateway (waiting_for l post) scene)
+  waited l post is firm answers told =
+      if_known (λ (s : Settled). SceneHolds (with_settled l.gateway s scene)) (nat_le (length (history post)) (length post.firm))
+      (λ e.
+      let short = leb-true (length (history post)) (length post.firm) e in
+      let all : history post ≡ post.firm =
+      ap (λ (r : List HistoryEntry). post.firm ++ r) (nil_from_length post.rest (omega (arith, short, length-append post.firm post.rest))) ∙ append-nil post.firm in
+      let sent : Settled = record { post = post; sends = l ∷ [] } in
+      moved l.gateway sent (record {
+        holds = post_on scene.letters (with_sends sent) (grows sent) l.gateway post is;
+        more = [];
+        firm = firm ∙ sym (append-nil (scene.posts l.gateway).firm);
+        sent = λ m new. subst (λ (x : Letter). (x.gateway ≡ l.gateway) × (is_answer x.says ≡ true) × IsBorneOut (with_sends sent) post.firm x x.says) (in_one l m new)
+            (refl, answers, told_on scene.letters (with_sends sent) (grows sent) post.firm l l.says (subst (λ (h : List HistoryEntry). IsBorneOut scene.letters h l l.says) all told));
+      }))
+      (λ e.
+      let last : WaitingLetter = record { front = length (history post); letter = l } in
+      silently l.gateway (record post { waiting = post.waiting ++ last ∷ [] })
+      (record {
+        rests = is.rests;
+        waits = λ w kept. ⊎_elim (is.waits w)
+            (λ same. subst (λ (x : WaitingLetter). Waits scene.letters l.gateway (history post) x.letter) same (record { gateway_is = refl; answers = answers; told = told }))
+            (Contains-push_cases post.waiting last w kept);
+      }) firm)
+
+  -- a request comes
+  came : (letter : Letter) (request : Request) (may : HistoryAct → Bool) (now : ℕ) (who : Caller) → Contains scene.letters letter → letter.says ≡ Asks request
+      → SceneHolds (with_settled letter.gateway (coming may now who letter request (scene.posts letter.gateway)) scene)
+  came letter request may now who kept says =
+      let post = scene.posts letter.gateway in
+      let before = holds.posts letter.gateway in
+      if_known (λ (s : Settled). SceneHolds (with_settled letter.gateway s scene)) (is_timely (history post) letter request)
+      (λ timely.
+      let answer = given (history post) may letter request in
+      let sound = answer_is_sound scene.letters (history post) letter request may (starts_rise scene.letters letter.gateway (history post) before.rests) kept says timely in
+      let after = as_noted scene.letters letter.gateway now who (act_given answer) post before sound.rests in
+      waited (reply letter answer) (noting_if now who (act_given answer) post) after.holds after.firm refl
+      (λ telling. record {
+        request = request;
+        asked = subst (Contains scene.letters) (λ i. record letter { says = says i }) kept;
+        tells = tells_reply (history (noting_if now who (act_given answer) post)) letter answer request (cause_of answer)
+            (subst (λ (h : List HistoryEntry). Tells h letter request (cause_of answer)) after.same (sound.tells now who));
+        known = subst (λ (h : List HistoryEntry). IsKnown h letter.node letter.start (about request letter.number)) after.same (sound.known telling now who);
+      }))
+      (λ lost. silently letter.gateway post before refl)
+
+  coming_on : (letter : Letter) (says : Meaning) (may : HistoryAct → Bool) (now : ℕ) (who : Caller) → letter.says ≡ says → Contains scene.letters letter
+      → SceneHolds (after_coming may now who letter says scene)
+  coming_on letter (Asks request) may now who says kept = came letter request may now who kept says
+  coming_on letter _ may now who says kept = holds
+
+  -- an entry more
+  notes : (gateway now : ℕ) (who : Caller) (a : HistoryAct) → RestsBy scene.letters gateway (history (scene.posts gateway)) a
+      → SceneHolds (with_post gateway (noting now who a (scene.posts gateway)) scene)
+  notes gateway now who a rests =
+      quietly gateway (noting now who a (scene.posts gateway)) (noted scene.letters gateway (scene.posts gateway) now who a (holds.posts gateway) rests) refl
+
+  opened : (gateway now : ℕ) (who : Caller) (node : NodeId) (port counter : ℕ) (b : Bool) → nat_lt (start_of node.0 (history (scene.posts gateway))) counter ≡ b
+      → SceneHolds (with_post gateway (opening now who (act.Path node port counter) b (scene.posts gateway)) scene)
+  opened gateway now who node port counter false e = quietly gateway (scene.posts gateway) (holds.posts gateway) refl
+  opened gateway now who node port counter true e =
+      notes gateway now who (act.Path node port counter) (ltb-true (start_of node.0 (history (scene.posts gateway))) counter e)
+
+  one_on : (k : ℕ) (f : Letter → Scene → Scene) → ((letter : Letter) → Contains scene.letters letter → SceneHolds (f letter scene))
+      → SceneHolds (with_one (slice_get scene.letters k) f scene)
+  one_on k f goes = by_option (λ (o : Option Letter). SceneHolds (with_one o f scene)) (slice_get scene.letters k)
+      (λ none. holds) (λ letter there. goes letter (get_contains scene.letters k letter there))
 
 -- ---- whatever happens
 
@@ -277,52 +227,27 @@ note_rests : (letters : List Letter) (gateway : ℕ) (h : List HistoryEntry) (no
 note_rests letters gateway h Starts = tt
 note_rests letters gateway h _ = tt
 
-opened : (scene : Scene) (gateway : ℕ) (node : NodeId) (port counter now : ℕ) (who : Caller) (b : Bool)
-    → nat_lt (start_of node.0 (history (scene.posts gateway))) counter ≡ b → SceneHolds scene
-    → SceneHolds (record scene { posts = at gateway (opening now who (act.Path node port counter) b (scene.posts gateway)) scene.posts })
-opened scene gateway node port counter now who false e holds =
-    quietly scene gateway (scene.posts gateway) holds (holds.posts gateway) [] (sym (append-nil (scene.posts gateway).firm))
-opened scene gateway node port counter now who true e holds =
-    quietly scene gateway (noting now who (act.Path node port counter) (scene.posts gateway)) holds
-    (noted scene.letters gateway (scene.posts gateway) now who (act.Path node port counter) (holds.posts gateway)
-    (ltb-true (start_of node.0 (history (scene.posts gateway))) counter e))
-    [] (sym (append-nil (scene.posts gateway).firm))
-
-coming_on : (scene : Scene) (letter : Letter) (says : Meaning) (may : HistoryAct → Bool) (now : ℕ) (who : Caller) → letter.says ≡ says → Contains scene.letters letter
-    → SceneHolds scene → SceneHolds (after_coming may now who letter says scene)
-coming_on scene letter (Asks request) may now who says kept holds = came scene letter request may now who holds kept says
-coming_on scene letter _ may now who says kept holds = holds
-
-one_on : (scene : Scene) (there : Option Letter) (f : Letter → Scene → Scene) → ((letter : Letter) → there ≡ Some letter → SceneHolds (f letter scene)) → SceneHolds scene
-    → SceneHolds (with_one there f scene)
-one_on scene None f goes holds = holds
-one_on scene (Some letter) f goes holds = goes letter refl
-
 pub holds_on : (scene : Scene) (next : Happening) → SceneHolds scene → SceneHolds (happened scene next)
 holds_on scene (happens.Sends letter) holds = sending scene letter (is_request letter.says) refl holds
 holds_on scene (Hears k) holds =
-    one_on scene (slice_get scene.letters k) (λ letter. after_hearing (is_answer letter.says) letter) (λ letter there. hearing scene letter (is_answer letter.says) (get_contains scene.letters k letter there) holds) holds
+    one_on holds k (λ letter. after_hearing (is_answer letter.says) letter) (λ letter there. hearing scene letter (is_answer letter.says) there holds)
 holds_on scene (Comes k may now who) holds =
-    one_on scene (slice_get scene.letters k) (λ letter. after_coming may now who letter letter.says)
-    (λ letter there. coming_on scene letter letter.says may now who refl (get_contains scene.letters k letter there) holds) holds
+    one_on holds k (λ letter. after_coming may now who letter letter.says) (λ letter there. coming_on holds letter letter.says may now who refl there)
 holds_on scene (Opens gateway node port counter now who) holds =
-    opened scene gateway node port counter now who (nat_lt (start_of node.0 (history (scene.posts gateway))) counter) refl holds
+    opened holds gateway now who node port counter (nat_lt (start_of node.0 (history (scene.posts gateway))) counter) refl
 holds_on scene (Notes gateway note now who) holds =
-    quietly scene gateway (noting now who (act_noted note) (scene.posts gateway)) holds
-    (noted scene.letters gateway (scene.posts gateway) now who (act_noted note) (holds.posts gateway) (note_rests scene.letters gateway (history (scene.posts gateway)) note))
-    [] (sym (append-nil (scene.posts gateway).firm))
-holds_on scene (Firms gateway) holds =
-    moved scene gateway (scene.letters ++ (firming (scene.posts gateway)).sends) (firming (scene.posts gateway)).sends (firming (scene.posts gateway)).post holds (firmed scene gateway holds)
+    notes holds gateway now who (act_noted note) (note_rests scene.letters gateway (history (scene.posts gateway)) note)
+holds_on scene (Firms gateway) holds = moved holds gateway (firming (scene.posts gateway)) (firmed holds gateway)
 holds_on scene (Keeps gateway keep) holds =
-    quietly scene gateway (keeping keep (scene.posts gateway)) holds (kept_back scene.letters gateway keep (scene.posts gateway) (holds.posts gateway)) [] (sym (append-nil (scene.posts gateway).firm))
+    quietly holds gateway (keeping keep (scene.posts gateway)) (kept_back scene.letters gateway keep (scene.posts gateway) (holds.posts gateway)) refl
 holds_on scene (Adds letter) holds = adding scene letter (is_idle letter.says) refl holds
 
 pub holds_yet : SceneHolds nothing_yet
 holds_yet = record {
-  posts = λ gateway. record { rests = tt; waits = λ w kept. absurd (in_none w kept) };
-  told = λ letter kept. absurd (in_none letter kept);
-  sent = λ letter kept. absurd (in_none letter kept);
-  heard = λ node letter kept. absurd (in_none (happens.Heard letter) kept);
+  posts = λ gateway. record { rests = tt; waits = λ w kept. in_none w kept };
+  told = λ letter kept. in_none letter kept;
+  sent = λ letter kept. in_none letter kept;
+  heard = λ node letter kept. in_none (happens.Heard letter) kept;
 }
 
 all_on : (scene : Scene) (later : List Happening) → SceneHolds scene → SceneHolds (happened_all scene later)

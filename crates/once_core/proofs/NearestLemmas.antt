@@ -1,6 +1,6 @@
 -- The number of an open copy is read as it is meant, where the gateway's present epoch is that of the node's start.
-use Rattle.std.proofs.Common.{◌≡◌, ◌⊎◌, inl, inr, ℕ, ◌+◌, ◌<◌, ◌≤◌, ◌%◌, ◌↔◌, Bool, true, false, List, [], Option, Some, None, Contains, refl, sym, ap, subst, ◌∙◌, arith}
-use Rattle.std.proofs.lemmas.Option.{same_Some}
+use Rattle.std.proofs.Common.{◌↔◌, ◌≡◌, ◌⊎◌, inl, inr, ℕ, ◌+◌, ◌<◌, ◌≤◌, ◌%◌, Bool, false, List, [], Option, Some, None, Contains, refl, sym, ap, subst, ◌∙◌, arith}
+use Rattle.std.proofs.lemmas.Option.{same_Some, none-some}
 use Rattle.gateway_book.specs.Fit.{is_fresh}
 use Rattle.gw_base.specs.EntryLaws.{present_state_is}
 use Rattle.gw_base.specs.History.{epoch_of, state_of, top_of}
@@ -20,8 +20,8 @@ use Rattle.once_core.proofs.EachLemmas.{each_front}
 use Rattle.once_core.proofs.EpochLemmas.{present_epoch}
 use Rattle.once_core.proofs.ForwardLemmas.{known_on}
 use Rattle.once_core.proofs.KnownLemmas as knows
-use Rattle.once_core.proofs.SettledLemmas.{done_known}
 use Rattle.once_core.proofs.TopLemmas.{IsCovered, covers, top_asked}
+use Rattle.once_core.proofs.CaseLemmas.{by_bool}
 
 -- what the law of numbers says: from 32,768 on the nearest number is the one of the window
 abbrev pub NearestIsTheOne : Type 0
@@ -74,23 +74,21 @@ module _ (law : NearestIsTheOne) (scene : Scene) (holds : SceneHolds scene) (nod
 
   -- a copy above it is of an open packet
   above_top : (bound : ℕ) → ((number : ℕ) → IsCovered (top_of node h) number → number ≤ bound) → (later : ℕ) → HasCopy packets gateway later → bound < later → HasOpenCopy packets gateway later
-  above_top bound least later is above = by (is_done is.packet.copies) refl
-    where
-      by : (b : Bool) → is_done is.packet.copies ≡ b → HasOpenCopy packets gateway later
-      by false e = open_copy packets gateway later is e
-      by true e =
-          let known = done_known scene holds node start values packets follows is.packet is.kept e is.copy is.sent in
-          let here : IsKnown (scene.posts gateway).firm node start later =
-          subst (λ (n : ℕ). IsKnown (scene.posts gateway).firm node start n) is.number_is
-          (subst (λ (g : ℕ). IsKnown (scene.posts g).firm node start is.copy.number) is.gateway_is known) in
-          absurd (omega (arith, least later (below_top later here), above))
+  above_top bound least later is above = by_bool (λ (b : Bool). HasOpenCopy packets gateway later) (is_done is.packet.copies)
+      (λ e.
+      let known = knows.done_known holds node follows is.packet is.kept e is.copy is.sent in
+      let here : IsKnown (scene.posts gateway).firm node start later =
+      subst (λ (n : ℕ). IsKnown (scene.posts gateway).firm node start n) is.number_is
+      (subst (λ (g : ℕ). IsKnown (scene.posts g).firm node start is.copy.number) is.gateway_is known) in
+      absurd (omega (arith, least later (below_top later here), above)))
+      (open_copy packets gateway later is)
 
   -- the greatest number is that of a copy
   top_copy : (t : ℕ) → top_of node h ≡ Some t → HasCopy packets gateway t
   top_copy t e =
       let asked = top_asked scene.letters gateway node h rests t e in
       by asked.request asked.own asked.asked.port asked.about_is
-      (knows.may_send scene holds node start values packets follows gateway asked.asked.port asked.own asked.request
+      (knows.may_send holds node follows gateway asked.asked.port asked.own asked.request
       (subst (λ (s : ℕ). Contains scene.letters (record { node = node; start = s; gateway = gateway; port = asked.asked.port; number = asked.own; says = Asks asked.request })) present asked.asked.kept))
     where
       of : (number : ℕ) → number ≡ t → AnyHasCopyAt packets gateway number → HasCopy packets gateway t
@@ -109,15 +107,9 @@ module _ (law : NearestIsTheOne) (scene : Scene) (holds : SceneHolds scene) (nod
       mine = near.range number (copy_of_open packets gateway number is)
 
       by : (top : Option ℕ) → top_of node h ≡ top → nearest top (number % 65536) ≡ number
-      by None e =
-          let high = near.settled_near 65535 (inl refl) (above_top 65535 (λ n covered. absurd (not_none covered.greatest (sym e ∙ covered.is)))) in
-          near_none number mine.0 (omega (arith, mine.1, high))
-        where
-          not_none : (n : ℕ) → None ≡ Some n → ⊥
-          not_none n e = absurd (cc)
+      by None e = near_none number mine.0
+          (omega (arith, mine.1, near.settled_near 65535 (inl refl) (above_top 65535 (λ n covered. absurd (none-some covered.greatest (sym e ∙ covered.is))))))
       by (Some t) e =
           let copy = top_copy t e in
-          let range = near.range t copy in
-          let high = near.settled_near t (inr copy) (above_top t (λ n covered. let same = same_Some t covered.greatest (sym e ∙ covered.is) in let below = covered.below in omega (arith, same, below))) in
-          let low = near.open_near number is in
-          near_some law t number range.0 (omega (arith, range.1, low)) (omega (arith, mine.1, high))
+          let high = near.settled_near t (inr copy) (above_top t (λ n covered. omega (arith, same_Some t covered.greatest (sym e ∙ covered.is), covered.below))) in
+          near_some law t number (near.range t copy).0 (omega (arith, (near.range t copy).1, near.open_near number is)) (omega (arith, mine.1, high))

@@ -1,11 +1,10 @@
 -- What is kept of a node moves as its log grows.
-use Rattle.std.proofs.Common.{◌≡◌, ℕ, ◌+◌, ◌≤◌, Bool, true, false, ◌||◌, not, if◌then◌else◌, List, [], ◌∷◌, ◌++◌, Option, Some, None, refl, ap, sym, ◌∙◌, arith, true≢false}
+use Rattle.std.proofs.Common.{◌≡◌, ℕ, ◌+◌, ◌≤◌, Bool, true, false, ◌||◌, not, if◌then◌else◌, List, [], ◌∷◌, ◌++◌, Option, Some, None, refl, ap, sym, ◌∙◌, arith, true≢false, nat_lt}
 use Rattle.std.specs.List.{list_all}
-use Rattle.std.specs.Prelude.{nat_lt}
 use Rattle.gtpp_message.specs.Packet.{PacketForm}
 use Rattle.gw_base.specs.declared.address.Addr.{Addr}
 use Rattle.node_core.specs.Hearing.{Dropped, Says, Taken, entries_from, heard_entries, heeds, taken, taken_entries}
-use Rattle.node_core.specs.Log.{LogEntry, Began, Halted, Submitted, Appointed, Ticked, Heard, NodeSetup, runs}
+use Rattle.node_core.specs.Log.{LogEntry, Began, Halted, Ticked, NodeSetup, runs}
 use Rattle.node_core.specs.Moving.{appointing, moved_at_tick, moved_by}
 use Rattle.node_core.specs.Peers.{place_of}
 use Rattle.node_core.specs.Reached.{NodeCall, Submit, Hear, Halt, Start, call_entries, entries_halted, entries_running, most_submissions, submit_entries}
@@ -22,6 +21,8 @@ use Rattle.once_core.specs.Standing.{NodeKept, node_kept}
 use Rattle.once_core.specs.World.{Called, answers_of, called, delivered_to_node, draft_of, hearing, node_value, submitting, submitting_form}
 use Rattle.once_core.specs.declared.message.Message.{Message}
 use Rattle.once_core.proofs.LogLemmas.{starts_again}
+use Rattle.std.proofs.lemmas.Bool.{not-false, or_parts}
+use Rattle.once_core.proofs.CaseLemmas.{by_bool, by_option, if_both}
 
 -- what node_core says of logs
 abbrev pub NodeLaw : Type 0
@@ -36,49 +37,30 @@ are_plain entries = list_all (λ e. not (begins e)) entries
 follow_all : (entries log : List LogEntry) → are_plain entries ≡ true → CanFollowAll entries log
 follow_all [] log p = tt
 follow_all (Began ∷ es) log p = absurd (true≢false (sym p))
-follow_all (Halted ∷ es) log p = (tt, follow_all es (Halted ∷ log) p)
-follow_all (Submitted form ∷ es) log p = (tt, follow_all es (Submitted form ∷ log) p)
-follow_all (Appointed gateway ∷ es) log p = (tt, follow_all es (Appointed gateway ∷ log) p)
-follow_all (Ticked sendings ∷ es) log p = (tt, follow_all es (Ticked sendings ∷ log) p)
-follow_all (Heard port gateway saying ∷ es) log p = (tt, follow_all es (Heard port gateway saying ∷ log) p)
+follow_all (entry ∷ es) log p = (tt, follow_all es (entry ∷ log) p)
 
 starts_stay : (entries log : List LogEntry) → are_plain entries ≡ true → starts_in (logged entries log) ≡ starts_in log
 starts_stay [] log p = refl
 starts_stay (Began ∷ es) log p = absurd (true≢false (sym p))
-starts_stay (Halted ∷ es) log p = starts_stay es (Halted ∷ log) p
-starts_stay (Submitted form ∷ es) log p = starts_stay es (Submitted form ∷ log) p
-starts_stay (Appointed gateway ∷ es) log p = starts_stay es (Appointed gateway ∷ log) p
-starts_stay (Ticked sendings ∷ es) log p = starts_stay es (Ticked sendings ∷ log) p
-starts_stay (Heard port gateway saying ∷ es) log p = starts_stay es (Heard port gateway saying ∷ log) p
+starts_stay (entry ∷ es) log p = starts_stay es (entry ∷ log) p
 
 plain_appointing : (gateway : Option ℕ) → are_plain (appointing gateway) ≡ true
 plain_appointing None = refl
 plain_appointing (Some gateway) = refl
 
 pub plain_tick : (node : NodeValue) → are_plain (tick_entries node) ≡ true
-plain_tick node = by_moved (moved_at_tick node)
-  where
-    by_moved : (gateway : Option ℕ) → are_plain (appointing gateway ++ Ticked (due node) ∷ []) ≡ true
-    by_moved None = refl
-    by_moved (Some gateway) = refl
+plain_tick node = by_option (λ (to : Option ℕ). are_plain (appointing to ++ Ticked (due node) ∷ []) ≡ true) (moved_at_tick node) (λ none. refl) (λ gateway is. refl)
 
 plain_heard : (node : NodeValue) (port : Port) (from : Addr) (octets : List ℕ) → are_plain (heard_entries node port from octets) ≡ true
-plain_heard node port from octets = by_place (place_of node.gateways from.ip)
+plain_heard node port from octets = by_option (λ (place : Option ℕ). are_plain (entries_from node port place octets) ≡ true) (place_of node.gateways from.ip)
+    (λ none. refl) (λ gateway is. by_taken gateway (taken node gateway octets))
   where
     by_taken : (gateway : ℕ) (t : Taken) → are_plain (taken_entries node port gateway t) ≡ true
     by_taken gateway (Dropped why) = refl
     by_taken gateway (Says saying reply) = plain_appointing (moved_by node port gateway saying)
 
-    by_place : (place : Option ℕ) → are_plain (entries_from node port place octets) ≡ true
-    by_place None = refl
-    by_place (Some gateway) = by_taken gateway (taken node gateway octets)
-
 plain_submitted : (node : NodeValue) (fault : Option SubmitFault) (form : PacketForm) → are_plain (submit_entries node fault form) ≡ true
-plain_submitted node None form = by_test (nat_lt node.submissions most_submissions)
-  where
-    by_test : (b : Bool) → are_plain (if b then Submitted form ∷ [] else []) ≡ true
-    by_test true = refl
-    by_test false = refl
+plain_submitted node None form = if_both (λ (entries : List LogEntry). are_plain entries ≡ true) (nat_lt node.submissions most_submissions) refl refl
 plain_submitted node (Some fault) form = refl
 
 -- ---- calls
@@ -113,14 +95,9 @@ module _ (law : NodeLaw) (gateways place : ℕ) where
 
   pub calls_submit : (packet : List ℕ) (log : List LogEntry) → runs log ≡ true
       → CallsKept gateways place (submitting gateways place packet) (λ n. with_entries (submitted_entries n.node (draft_of packet)) n) nothing log
-  calls_submit packet log up = by_form (draft_of packet)
-    where
-      by_form : (form : Option PacketForm) → CallsKept gateways place (submitting_form gateways place form) (λ n. with_entries (submitted_entries n.node form) n) nothing log
-      by_form None = record { node = refl; sent = refl }
-      by_form (Some form) = record {
-        node = kept_called (Submit form) log up (plain_submitted (value log) (refusal (value log) form) form);
-        sent = refl;
-      }
+  calls_submit packet log up = by_option (λ (form : Option PacketForm). CallsKept gateways place (submitting_form gateways place form) (λ n. with_entries (submitted_entries n.node form) n) nothing log)
+      (draft_of packet) (λ none. record { node = refl; sent = refl })
+      (λ form is. record { node = kept_called (Submit form) log up (plain_submitted (value log) (refusal (value log) form) form); sent = refl })
 
   pub calls_halt : (log : List LogEntry) → runs log ≡ true → CallsKept gateways place (called gateways place Halt) (with_entries (Halted ∷ [])) nothing log
   calls_halt log up = record { node = kept_called Halt log up refl; sent = refl }
@@ -143,24 +120,11 @@ module _ (law : NodeLaw) (gateways place : ℕ) where
 
   -- a message that reaches the node
   pub calls_hear : (m : Message) (log : List LogEntry) → CallsKept gateways place (delivered_to_node gateways place m) (λ n. heard_by n m) (λ n. answered_by n m) log
-  calls_hear m log = by_running (runs log) refl
-    where
-      node_by : (b : Bool) → (b ≡ false → runs log ≡ true) →
-          (if b then node_kept gateways place log else with_entries (heard_entries (value log) m.port (gateway_address m.gateway) m.octets) (node_kept gateways place log))
-          ≡ node_kept gateways place (after_hearing m log b).log
-      node_by true up = refl
-      node_by false up = kept_called (Hear m.port (gateway_address m.gateway) m.octets) log (up refl) (plain_heard (value log) m.port (gateway_address m.gateway) m.octets)
-
-      sent_by : (b : Bool) → (if b then [] else answers_of m (heeds (value log) m.port (gateway_address m.gateway) m.octets)) ≡ (after_hearing m log b).sends
-      sent_by true = refl
-      sent_by false = refl
-
-      up_where : (r b : Bool) → (not r || b) ≡ false → r ≡ true
-      up_where true b e = refl
-      up_where false b e = absurd (true≢false e)
-
-      by_running : (b : Bool) → runs log ≡ b → CallsKept gateways place (delivered_to_node gateways place m) (λ n. heard_by n m) (λ n. answered_by n m) log
-      by_running b is = record {
-        node = node_by (not (runs log) || is_expired_at_node log (value log) m) (λ e. up_where (runs log) (is_expired_at_node log (value log) m) e);
-        sent = sent_by (not (runs log) || is_expired_at_node log (value log) m);
-      }
+  calls_hear m log = record {
+    node = by_bool (λ (b : Bool). (if b then node_kept gateways place log else with_entries (heard_entries (value log) m.port (gateway_address m.gateway) m.octets) (node_kept gateways place log))
+        ≡ node_kept gateways place (after_hearing m log b).log) (not (runs log) || is_expired_at_node log (value log) m) (λ deaf. refl)
+        (λ hears. kept_called (Hear m.port (gateway_address m.gateway) m.octets) log (not-false (runs log) (or_parts (not (runs log)) (is_expired_at_node log (value log) m) hears).0)
+        (plain_heard (value log) m.port (gateway_address m.gateway) m.octets));
+    sent = by_bool (λ (b : Bool). (if b then [] else answers_of m (heeds (value log) m.port (gateway_address m.gateway) m.octets)) ≡ (after_hearing m log b).sends)
+        (not (runs log) || is_expired_at_node log (value log) m) (λ deaf. refl) (λ hears. refl);
+  }

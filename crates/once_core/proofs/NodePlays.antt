@@ -1,27 +1,47 @@
--- What a node of a world does is what happens in a scene: what is submitted, a halt and a start are nothing there.
-use Rattle.std.proofs.Common.{◌≡◌, ⊎_elim, ℕ, suc, ◌≤◌, ◌==◌, nat_lt, Bool, true, false, if◌then◌else◌, List, [], ◌∷◌, Option, Some, None, Contains, refl, sym, ap, subst, ◌∙◌, arith}
+-- What a node of a world does is what happens in a scene: what it hears; what is submitted, a halt and a start are nothing there.
+use Rattle.std.proofs.Common.{◌≡◌, ⊎_elim, ℕ, suc, ◌≤◌, ◌==◌, nat_lt, true, false, List, [], ◌∷◌, Option, Some, None, Contains, refl, sym, ap, subst, ◌∙◌, arith, ◌%◌, ◌&&◌, ◌||◌, not, Bool, if◌then◌else◌, ◌++◌, map, append-nil}
 use Rattle.std.proofs.lemmas.List.Elements.{Contains-push_cases}
+use Rattle.std.proofs.lemmas.Bool.{both_ways, eqb-true, not-false, or_parts, cond-false}
+use Rattle.std.specs.Option.{option_map_or}
+use Rattle.std.proofs.lemmas.Option.{same_Some}
 use Rattle.gtpp_message.specs.Packet.{PacketForm}
-use Rattle.node_core.specs.Log.{LogEntry, Began, Halted, Submitted, Appointed, forms_of, paths_of, runs, submitted}
-use Rattle.node_core.specs.Moving.{appointing}
+use Rattle.node_core.specs.Log.{LogEntry, Halted, Submitted, Appointed, runs, Heard, Saying, Path, Redirects, Responds, Other}
+use Rattle.node_core.specs.Moving.{appointing, moved_by}
 use Rattle.node_core.specs.Reached.{NodeCall, call_entries, log_of, most_submissions, submit_entries}
 use Rattle.node_core.specs.Reached as call
 use Rattle.node_core.specs.Submitting.{refusal}
-use Rattle.node_core.specs.Value.{logged}
+use Rattle.node_core.specs.Value.{logged, NodeValue}
 use Rattle.node_core.specs.declared.fault.SubmitFault.{SubmitFault}
-use Rattle.once_core.specs.Addresses.{node_ip, node_setup}
-use Rattle.once_core.specs.Deeds.{deeds_of}
-use Rattle.once_core.specs.Expired.{starts_in}
-use Rattle.once_core.specs.Happenings.{Happening, Letter, Scene}
-use Rattle.once_core.specs.Meaning.{letter_of, speaks}
-use Rattle.once_core.specs.Scenes.{happened_all}
+use Rattle.gtpp_message.specs.Message.{MessageValue, EchoRequest, EchoResponse, NodeAliveResponse, RedirectionRequest, RedirectionResponse, TransferRequest, TransferResponse}
+use Rattle.gtpp_message.specs.Reading.{Message, ReadingValue}
+use Rattle.gtpp_message.specs.Role.{for_role}
+use Rattle.gtpp_message.specs.Writing.{written}
+use Rattle.gtpp_message.specs.declared.message_types.TheConstants.{TRANSFER_RESPONSE}
+use Rattle.gtpp_message.specs.declared.role.Role.TheVariants as role
+use Rattle.gateway_book.specs.PreparingLaws.{RolesRead}
+use Rattle.gw_base.specs.Nearest.{nearest}
+use Rattle.gw_base.specs.declared.cause.TheConstants.{ACCEPTED}
+use Rattle.path_mgmt.specs.declared.event.PathEvent.TheVariants.{EchoAsked, EchoTold, AliveTold}
+use Rattle.node_core.specs.Hearing.{Dropped, Says, Taken, entries_from, heard_entries, heeding, heeds, heeds_from, saying_entries, taken, taken_entries, taken_of}
+use Rattle.node_core.specs.Peers.{last_number, place_of}
+use Rattle.once_core.specs.Addresses.{node_ip, node_setup, gateway_address}
+use Rattle.once_core.specs.Deeds.{deeds_of, told_by}
+use Rattle.once_core.specs.Expired.{starts_in, is_expired_at_node, is_taken_for_another}
+use Rattle.once_core.specs.Happenings.{Happening, Letter, Scene, Answers, Hears, Meaning, Deed}
+use Rattle.once_core.specs.Meaning.{letter_of, speaks, is_spoken, meaning_in, meaning_of}
+use Rattle.once_core.specs.Scenes.{happened_all, after_hearing, is_answer, with_deed, with_one}
 use Rattle.once_core.specs.Shown.{forms_ever}
-use Rattle.once_core.specs.World.{Called, called, draft_of, log_after, node_value, submitting, submitting_form}
-use Rattle.once_core.specs.declared.message.Message.{Message}
+use Rattle.once_core.specs.World.{Called, called, draft_of, log_after, node_value, submitting, submitting_form, answers_of, delivered_to_node}
 use Rattle.once_core.proofs.FormLemmas.{GoodForm, RecordsSpelled, draft_is_good, submitted_is_draft}
-use Rattle.once_core.proofs.ListLemmas.{in_none}
-use Rattle.once_core.proofs.LogLemmas.{Counts, counts_logged, starts_again, starts_same}
-use Rattle.once_core.proofs.MeaningLemmas.{Said}
+use Rattle.once_core.proofs.ListLemmas.{in_none, in_one, number_of}
+use Rattle.once_core.proofs.LogLemmas.{Counts, counts_logged, starts_again, starts_same, counter_is, place_is}
+use Rattle.once_core.proofs.MeaningLemmas.{Said, FromGateway, FromNode, GatewaySaid, IsWritten, ReadsBack, meaning_is, role_read_of, said_by_node, type_of}
+use Rattle.once_core.proofs.CaseLemmas.{by_option, if_both, if_known, map_known}
+use Rattle.once_core.specs.Deeds as did
+use Rattle.once_core.specs.Happenings as happens
+use Rattle.once_core.specs.Messages.{about, answering, is_response}
+use Rattle.once_core.specs.declared.message.Message as world
+use Rattle.once_core.proofs.SceneLemmas.{at_same}
 
 -- what holds of the log of each node: it is one of a node's calls, its starts are counted, and each packet can be sent
 pub record NodeRightly (gateways place : ℕ) (log : List LogEntry) : Type 0 where
@@ -30,6 +50,11 @@ pub record NodeRightly (gateways place : ℕ) (log : List LogEntry) : Type 0 whe
   pub counts : Counts log
   pub few : starts_in log ≤ 255
   pub forms : (form : PacketForm) → Contains (forms_ever log) form → GoodForm form
+
+-- the node stands in the scene as it is
+pub record NodeStands (gateways place : ℕ) (values : ℕ → List ℕ) (scene : Scene) (log : List LogEntry) : Type 0 where
+  pub rightly : NodeRightly gateways place log
+  pub deeds : scene.deeds (node_ip place) ≡ deeds_of (node_ip place) values log
 
 -- some happenings are what a node did, and what it sends is among the messages
 pub record NodePlays (node : ℕ) (values : ℕ → List ℕ) (scene : Scene) (call : Called) : Type 0 where
@@ -40,145 +65,248 @@ pub record NodePlays (node : ℕ) (values : ℕ → List ℕ) (scene : Scene) (c
   pub others : (other : ℕ) → (other == node) ≡ false → after.deeds other ≡ scene.deeds other
   pub deeds : after.deeds node ≡ deeds_of node values call.log
   pub letters : (l : Letter) → Contains scene.letters l → Contains after.letters l
-  pub sends : (m : Message) → Contains call.sends m → speaks m ≡ true → Contains after.letters (letter_of m)
-  pub said : (m : Message) → Contains call.sends m → Said m
+  pub sends : (m : world.Message) → Contains call.sends m → speaks m ≡ true → Contains after.letters (letter_of m)
+  pub said : (m : world.Message) → Contains call.sends m → Said m
 
 -- nothing happens
-pub quiet_node : (node : ℕ) (values : ℕ → List ℕ) (scene : Scene) (log after : List LogEntry) (sends : List Message)
-    → scene.deeds node ≡ deeds_of node values log → deeds_of node values after ≡ deeds_of node values log
-    → ((m : Message) → Contains sends m → speaks m ≡ false) → ((m : Message) → Contains sends m → Said m)
-    → NodePlays node values scene (record { log = after; sends = sends })
-quiet_node node values scene log after sends deeds same silent said = record {
+pub quiet_node : {gateways place : ℕ} {values : ℕ → List ℕ} {scene : Scene} {log : List LogEntry} → NodeStands gateways place values scene log
+    → (after : List LogEntry) (sends : List world.Message) → deeds_of (node_ip place) values after ≡ deeds_of (node_ip place) values log
+    → ((m : world.Message) → Contains sends m → (speaks m ≡ false) × Said m) → NodePlays (node_ip place) values scene (record { log = after; sends = sends })
+quiet_node {scene = scene} stands after sends same fine = record {
   later = [];
   after = scene;
   is = refl;
   posts = λ gateway. refl;
   others = λ other e. refl;
-  deeds = deeds ∙ sym same;
+  deeds = stands.deeds ∙ sym same;
   letters = λ l is. is;
-  sends = λ m is speaking. let isnt = silent m is in absurd (cc);
-  said = said;
+  sends = λ m is speaking. absurd (both_ways (speaks m) (fine m is).0 speaking);
+  said = λ m is. (fine m is).1;
 }
 
 -- ---- appointments
 
+pub appointed : {A : Type 0} (f : List LogEntry → A) → ((gateway : ℕ) (log : List LogEntry) → f (Appointed gateway ∷ log) ≡ f log)
+    → (o : Option ℕ) (log : List LogEntry) → f (logged (appointing o) log) ≡ f log
+appointed f same None log = refl
+appointed f same (Some gateway) log = same gateway log
+
 pub appointed_deeds : (node : ℕ) (values : ℕ → List ℕ) (o : Option ℕ) (log : List LogEntry) → deeds_of node values (logged (appointing o) log) ≡ deeds_of node values log
-appointed_deeds node values None log = refl
-appointed_deeds node values (Some gateway) log = refl
+appointed_deeds node values = appointed (deeds_of node values) (λ gateway log. refl)
 
 pub appointed_starts : (o : Option ℕ) (log : List LogEntry) → starts_in (logged (appointing o) log) ≡ starts_in log
-appointed_starts None log = refl
-appointed_starts (Some gateway) log = starts_same (Appointed gateway) log refl
-
-pub appointed_ever : (o : Option ℕ) (log : List LogEntry) → forms_ever (logged (appointing o) log) ≡ forms_ever log
-appointed_ever None log = refl
-appointed_ever (Some gateway) log = refl
-
-pub appointed_forms : (o : Option ℕ) (log : List LogEntry) → forms_of (logged (appointing o) log) ≡ forms_of log
-appointed_forms None log = refl
-appointed_forms (Some gateway) log = refl
-
-pub appointed_submitted : (o : Option ℕ) (log : List LogEntry) → submitted (logged (appointing o) log) ≡ submitted log
-appointed_submitted None log = refl
-appointed_submitted (Some gateway) log = refl
-
-pub appointed_runs : (o : Option ℕ) (log : List LogEntry) → runs (logged (appointing o) log) ≡ runs log
-appointed_runs None log = refl
-appointed_runs (Some gateway) log = refl
-
-pub appointed_paths : (first : ℕ) (o : Option ℕ) (log : List LogEntry) → paths_of first (logged (appointing o) log) ≡ paths_of first log
-appointed_paths first None log = refl
-appointed_paths first (Some gateway) log = refl
+appointed_starts = appointed starts_in (λ gateway log. starts_same (Appointed gateway) log refl)
 
 -- ---- calls
 
-module _ (gateways place : ℕ) (log : List LogEntry) (is : NodeRightly gateways place log) where
-  -- the log after a call
-  pub after_call : (call : NodeCall) → starts_in (log_after gateways place call log) ≤ 255
-      → ((form : PacketForm) → Contains (forms_ever (log_after gateways place call log)) form → GoodForm form)
-      → NodeRightly gateways place (log_after gateways place call log)
-  after_call call few forms = record {
-    calls = call ∷ is.calls;
-    is = ap (log_after gateways place call) is.is;
-    counts = counts_logged (call_entries (node_value gateways place log) call) log is.counts;
-    few = few;
-    forms = forms;
-  }
+-- the log after a call
+pub after_call : {gateways place : ℕ} {log : List LogEntry} → NodeRightly gateways place log → (call : NodeCall) → starts_in (log_after gateways place call log) ≤ 255
+    → ((form : PacketForm) → Contains (forms_ever (log_after gateways place call log)) form → GoodForm form)
+    → NodeRightly gateways place (log_after gateways place call log)
+after_call {gateways} {place} {log} is call few forms = record {
+  calls = call ∷ is.calls;
+  is = ap (log_after gateways place call) is.is;
+  counts = counts_logged (call_entries (node_value gateways place log) call) log is.counts;
+  few = few;
+  forms = forms;
+}
 
-  -- a packet that is taken, or not
-  pub either : (P : List LogEntry → Type 0) (form : PacketForm) → P log → P (Submitted form ∷ log) → P (log_after gateways place (call.Submit form) log)
-  either P form none one = by (runs log)
-    where
-      by_number : (b : Bool) → P (logged (if b then Submitted form ∷ [] else []) log)
-      by_number true = one
-      by_number false = none
+-- a packet that is taken, or not
+pub either : (gateways place : ℕ) (log : List LogEntry) → NodeRightly gateways place log → (P : List LogEntry → Type 0) (form : PacketForm) → P log → P (Submitted form ∷ log)
+    → P (log_after gateways place (call.Submit form) log)
+either gateways place log is P form none one =
+    let node = node_value gateways place log in
+    if_both (λ (entries : List LogEntry). P (logged entries log)) (runs log)
+    (by_option (λ (o : Option SubmitFault). P (logged (submit_entries node o form) log)) (refusal node form)
+    (λ free. if_both (λ (entries : List LogEntry). P (logged entries log)) (nat_lt node.submissions most_submissions) one none)
+    (λ fault refused. none))
+    none
 
-      by_fault : (o : Option SubmitFault) → P (logged (submit_entries (node_value gateways place log) o form) log)
-      by_fault None = by_number (nat_lt (node_value gateways place log).submissions most_submissions)
-      by_fault (Some fault) = none
+module _ {gateways place : ℕ} {values : ℕ → List ℕ} {scene : Scene} {log : List LogEntry} (stands : NodeStands gateways place values scene log) where
+  abbrev Turns : Called → Type 0
+  Turns called = NodePlays (node_ip place) values scene called × NodeRightly gateways place called.log
 
-      by : (b : Bool) → P (logged (if b then submit_entries (node_value gateways place log) (refusal (node_value gateways place log) form) form else []) log)
-      by true = by_fault (refusal (node_value gateways place log) form)
-      by false = none
+  -- a log that tells gateways nothing more
+  record Quietly (after : List LogEntry) : Type 0 where
+    few : starts_in after ≤ 255
+    forms : (form : PacketForm) → Contains (forms_ever after) form → GoodForm form
+    deeds : deeds_of (node_ip place) values after ≡ deeds_of (node_ip place) values log
 
-  pub submit_plays : (values : ℕ → List ℕ) (scene : Scene) (octets : List ℕ) → scene.deeds (node_ip place) ≡ deeds_of (node_ip place) values log
-      → NodePlays (node_ip place) values scene (submitting gateways place octets log)
-  submit_plays values scene octets deeds = by (draft_of octets)
-    where
-      by : (o : Option PacketForm) → NodePlays (node_ip place) values scene (submitting_form gateways place o log)
-      by None = quiet_node (node_ip place) values scene log log [] deeds refl (λ m there. absurd (in_none m there)) (λ m there. absurd (in_none m there))
-      by (Some form) = quiet_node (node_ip place) values scene log (log_after gateways place (call.Submit form) log) [] deeds
-          (either (λ l. deeds_of (node_ip place) values l ≡ deeds_of (node_ip place) values log) form refl refl)
-          (λ m there. absurd (in_none m there)) (λ m there. absurd (in_none m there))
+  same_log : Quietly log
+  same_log = record { few = stands.rightly.few; forms = stands.rightly.forms; deeds = refl }
 
-  pub submit_rightly : RecordsSpelled → (octets : List ℕ) → NodeRightly gateways place (submitting gateways place octets log).log
-  submit_rightly law octets = by (draft_of octets) refl
-    where
-      by : (o : Option PacketForm) → draft_of octets ≡ o → NodeRightly gateways place (submitting_form gateways place o log).log
-      by None e = is
-      by (Some form) e =
-          after_call (call.Submit form)
-          (either (λ l. starts_in l ≤ 255) form is.few (let same = starts_same (Submitted form) log refl in let few = is.few in omega (arith, same, few)))
-          (either (λ l. (f : PacketForm) → Contains (forms_ever l) f → GoodForm f) form is.forms
-          (λ f there. ⊎_elim (λ old. is.forms f old) (λ same. subst GoodForm same (draft_is_good law form (submitted_is_draft octets form e))) (Contains-push_cases (forms_ever log) form f there)))
+  quiet_turn : (call : NodeCall) → Quietly (log_after gateways place call log) → Turns (called gateways place call log)
+  quiet_turn call quiet =
+      (quiet_node stands (log_after gateways place call log) [] quiet.deeds (λ m there. in_none m there), after_call stands.rightly call quiet.few quiet.forms)
+
+  pub submit_turns : RecordsSpelled → (octets : List ℕ) → Turns (submitting gateways place octets log)
+  submit_turns law octets = by_option (λ (o : Option PacketForm). Turns (submitting_form gateways place o log)) (draft_of octets)
+      (λ none. (quiet_node stands log [] refl (λ m there. in_none m there), stands.rightly))
+      (λ form e. quiet_turn (call.Submit form) (either gateways place log stands.rightly Quietly form same_log (record {
+        few = let same = starts_same (Submitted form) log refl in let few = stands.rightly.few in omega (arith, same, few);
+        forms = λ f there. ⊎_elim (stands.rightly.forms f)
+            (λ same. subst GoodForm same (draft_is_good law form (submitted_is_draft octets form e))) (Contains-push_cases (forms_ever log) form f there);
+        deeds = refl;
+      })))
 
   -- a halt, and a start of one that is halted
-  pub halt_plays : (values : ℕ → List ℕ) (scene : Scene) → scene.deeds (node_ip place) ≡ deeds_of (node_ip place) values log
-      → NodePlays (node_ip place) values scene (called gateways place call.Halt log)
-  halt_plays values scene deeds =
-      quiet_node (node_ip place) values scene log (log_after gateways place call.Halt log) [] deeds (by (runs log)) (λ m there. absurd (in_none m there)) (λ m there. absurd (in_none m there))
+  pub halt_turns : Turns (called gateways place call.Halt log)
+  halt_turns =
+      let halted : Quietly (Halted ∷ log) = record {
+        few = let same = starts_same Halted log refl in let few = stands.rightly.few in omega (arith, same, few);
+        forms = stands.rightly.forms;
+        deeds = refl;
+      } in
+      quiet_turn call.Halt (if_both (λ (entries : List LogEntry). Quietly (logged entries log)) (runs log) halted halted)
+
+  pub start_turns : suc (starts_in log) ≤ 255 → Turns (called gateways place call.Start log)
+  start_turns fewer = quiet_turn call.Start (if_both (λ (entries : List LogEntry). Quietly (logged entries log)) (runs log) same_log
+      (record { few = let more = starts_again log in omega (arith, more, fewer); forms = stands.rightly.forms; deeds = refl }))
+
+-- ---- what it hears
+
+module _ (back : ReadsBack) (roles : RolesRead) (m : world.Message) (from : m.to_gateway ≡ false) (said : GatewaySaid m) {gateways : ℕ} {values : ℕ → List ℕ} {scene : Scene}
+    {log : List LogEntry} (stands : NodeStands gateways m.node values scene log) (there : speaks m ≡ true → Contains scene.letters (letter_of m)) where
+  abbrev value : NodeValue
+  value = node_value gateways m.node log
+
+  -- what is heard is one entry, with an appointment or not, or nothing
+  hear_either : (P : List LogEntry → Type 0) → P log → ((p : ℕ) (saying : Saying) (o : Option ℕ) → P (logged (appointing o) (Heard m.port p saying ∷ log)))
+      → P (log_after gateways m.node (call.Hear m.port (gateway_address m.gateway) m.octets) log)
+  hear_either P none one =
+      if_both (λ (entries : List LogEntry). P (logged entries log)) (runs log)
+      (by_option (λ (o : Option ℕ). P (logged (entries_from value m.port o m.octets) log)) (place_of value.gateways (gateway_address m.gateway).ip)
+      (λ e. none) (λ p e. by p (taken value p m.octets)))
+      none
     where
-      by : (b : Bool) → deeds_of (node_ip place) values (logged (if b then Halted ∷ [] else Halted ∷ []) log) ≡ deeds_of (node_ip place) values log
-      by true = refl
-      by false = refl
+      by : (p : ℕ) (t : Taken) → P (logged (taken_entries value m.port p t) log)
+      by p (Dropped why) = none
+      by p (Says saying reply) = one p saying (moved_by value m.port p saying)
 
-  pub halt_rightly : NodeRightly gateways place (called gateways place call.Halt log).log
-  halt_rightly = after_call call.Halt (by_starts (runs log)) (by_forms (runs log))
-    where
-      by_starts : (b : Bool) → starts_in (logged (if b then Halted ∷ [] else Halted ∷ []) log) ≤ 255
-      by_starts true = let same = starts_same Halted log refl in let few = is.few in omega (arith, same, few)
-      by_starts false = let same = starts_same Halted log refl in let few = is.few in omega (arith, same, few)
+  hear_rightly : NodeRightly gateways m.node (delivered_to_node gateways m.node m log).log
+  hear_rightly =
+      if_both (λ (c : Called). NodeRightly gateways m.node c.log) (not (runs log) || is_expired_at_node log value m) stands.rightly
+      (after_call stands.rightly (call.Hear m.port (gateway_address m.gateway) m.octets)
+      (hear_either (λ l. starts_in l ≤ 255) stands.rightly.few (λ p saying o.
+      let one = appointed_starts o (Heard m.port p saying ∷ log) in
+      let two = starts_same (Heard m.port p saying) log refl in
+      let few = stands.rightly.few in
+      omega (arith, one, two, few)))
+      (hear_either (λ l. (form : PacketForm) → Contains (forms_ever l) form → GoodForm form) stands.rightly.forms (λ p saying o form is.
+      stands.rightly.forms form (subst (λ (fs : List PacketForm). Contains fs form) (appointed forms_ever (λ gateway log. refl) o (Heard m.port p saying ∷ log)) is))))
 
-      by_forms : (b : Bool) (form : PacketForm) → Contains (forms_ever (logged (if b then Halted ∷ [] else Halted ∷ []) log)) form → GoodForm form
-      by_forms true form there = is.forms form there
-      by_forms false form there = is.forms form there
+  -- ---- what is heard
 
-  pub start_plays : (values : ℕ → List ℕ) (scene : Scene) → scene.deeds (node_ip place) ≡ deeds_of (node_ip place) values log
-      → NodePlays (node_ip place) values scene (called gateways place call.Start log)
-  start_plays values scene deeds =
-      quiet_node (node_ip place) values scene log (log_after gateways place call.Start log) [] deeds (by (runs log)) (λ m there. absurd (in_none m there)) (λ m there. absurd (in_none m there))
-    where
-      by : (b : Bool) → deeds_of (node_ip place) values (logged (if b then [] else Began ∷ []) log) ≡ deeds_of (node_ip place) values log
-      by true = refl
-      by false = refl
+  -- the log and the messages by what was taken
+  abbrev taking : Taken → Called
+  taking t = record { log = logged (taken_entries value m.port m.gateway t) log; sends = answers_of m (heeding value m.port m.gateway t) }
 
-  pub start_rightly : suc (starts_in log) ≤ 255 → NodeRightly gateways place (called gateways place call.Start log).log
-  start_rightly fewer = after_call call.Start (by_starts (runs log)) (by_forms (runs log))
-    where
-      by_starts : (b : Bool) → starts_in (logged (if b then [] else Began ∷ []) log) ≤ 255
-      by_starts true = is.few
-      by_starts false = let more = starts_again log in omega (arith, more, fewer)
+  abbrev Plays : Called → Type 0
+  Plays c = NodePlays (node_ip m.node) values scene c
 
-      by_forms : (b : Bool) (form : PacketForm) → Contains (forms_ever (logged (if b then [] else Began ∷ []) log)) form → GoodForm form
-      by_forms true form there = is.forms form there
-      by_forms false form there = is.forms form there
+  -- a message that says nothing here
+  abbrev Silent : world.Message → Type 0
+  Silent k = (speaks k ≡ false) × Said k
+
+  nothing_plays : Plays (record { log = log; sends = [] })
+  nothing_plays = quiet_node stands log [] refl (λ k is. in_none k is)
+
+  -- something that tells of no copy
+  quiet_plays : (saying : Saying) (reply : Option (List ℕ)) → told_by (node_ip m.node) (starts_in log) m.port m.gateway saying ≡ []
+      → ((octets : List ℕ) → reply ≡ Some octets → Silent (answering m octets)) → Plays (taking (Says saying reply))
+  quiet_plays saying reply none fine =
+      quiet_node stands (logged (saying_entries value m.port m.gateway saying) log) (option_map_or (λ octets. answering m octets ∷ []) reply [])
+      (appointed_deeds (node_ip m.node) values (moved_by value m.port m.gateway saying) (Heard m.port m.gateway saying ∷ log)
+      ∙ ap (λ (ls : List Letter). deeds_of (node_ip m.node) values log ++ map (λ l. happens.Heard l) ls) none
+      ∙ append-nil (deeds_of (node_ip m.node) values log))
+      (map_known (λ (sends : List world.Message). (k : world.Message) → Contains sends k → Silent k) reply (λ e k is. in_none k is)
+      (λ octets e k is. subst Silent (in_one (answering m octets) k is) (fine octets e)))
+
+  module _ (start : m.start ≡ starts_in log) where
+    -- a reply of a node that is no request
+    reply_fine : (number : ℕ) (message : MessageValue) → IsWritten (written number message) number message → FromNode (answering m (written number message)) number message
+        → is_spoken (meaning_in (about (answering m (written number message))) message) ≡ false
+        → (octets : List ℕ) → Some (written number message) ≡ Some octets → Silent (answering m octets)
+    reply_fine number message w fits silent octets e =
+        let one = stands.rightly.counts.one in
+        subst (λ (x : List ℕ). Silent (answering m x)) (same_Some (written number message) octets e) (
+          ap is_spoken (meaning_is back (answering m (written number message)) number message w) ∙ silent,
+          said_by_node (answering m (written number message)) (ap not from)
+              (record { started = omega (arith, one, start); path = number; message = message; written = w; fits = fits }),
+        )
+
+    none_fine : (octets : List ℕ) → None ≡ Some octets → Silent (answering m octets)
+    none_fine octets e = absurd (cc)
+
+    counter : value.paths.counter ≡ m.start
+    counter = let is = stands.rightly.counts.counter stands.rightly.few in let path = counter_is 1 log in omega (arith, is, path, start)
+
+    -- the number for which that of an answer is taken
+    abbrev number : ℕ
+    number = nearest (Some (last_number value.gateways m.gateway)) (m.number % 65536)
+
+    answer_plays : (cause : ℕ) → meaning_of m ≡ Answers cause → number ≡ m.number → Plays (taking (Says (Responds cause (number ∷ [])) None))
+    answer_plays cause means same =
+        let kept = number_of scene.letters (letter_of m) (there (ap is_spoken means)) in
+        let letter_is : letter_of m ≡ did.letter_of (node_ip m.node) (starts_in log) m.gateway m.port number (Answers cause) =
+        λ i. did.letter_of (node_ip m.node) (start i) m.gateway m.port (sym same i) (means i) in
+        record {
+          later = Hears kept.0 ∷ [];
+          after = with_deed (node_ip m.node) (happens.Heard (letter_of m)) scene;
+          is =
+              ap (λ (o : Option Letter). with_one o (λ letter. after_hearing (is_answer letter.says) letter) scene) kept.1
+              ∙ ap (λ (says : Meaning). after_hearing (is_answer says) (letter_of m) scene) means;
+          posts = λ gateway. refl;
+          others = λ other apart. cond-false (other == node_ip m.node) (scene.deeds (node_ip m.node) ++ happens.Heard (letter_of m) ∷ []) (scene.deeds other) apart;
+          deeds =
+              at_same (node_ip m.node) (scene.deeds (node_ip m.node) ++ happens.Heard (letter_of m) ∷ []) scene.deeds
+              ∙ ap (λ (ds : List Deed). ds ++ happens.Heard (letter_of m) ∷ []) stands.deeds
+              ∙ ap (λ (l : Letter). deeds_of (node_ip m.node) values log ++ happens.Heard l ∷ []) letter_is
+              ∙ sym (appointed_deeds (node_ip m.node) values (moved_by value m.port m.gateway (Responds cause (number ∷ [])))
+              (Heard m.port m.gateway (Responds cause (number ∷ [])) ∷ log));
+          letters = λ l is. is;
+          sends = λ k is speaking. in_none k is;
+          said = λ k is. in_none k is;
+        }
+
+    abbrev read : MessageValue → Called
+    read message = taking (taken_of value.paths.counter (last_number value.gateways m.gateway) (for_role role.Node (Message said.path message)))
+
+    message_plays : (message : MessageValue) → IsWritten m.octets said.path message → FromGateway m said.path message
+        → (is_response m ≡ true → number ≡ m.number) → Plays (read message)
+    message_plays (TransferResponse cause responded) w fits near =
+        subst (λ (ns : List ℕ). Plays (read (TransferResponse cause ns))) (sym fits.1)
+        (answer_plays cause (meaning_is back m said.path (TransferResponse cause responded) w)
+        (near (ap (λ (o : Option ℕ). option_map_or (λ k. k == TRANSFER_RESPONSE) o false) (type_of m.octets said.path (TransferResponse cause responded) w.is))))
+    message_plays (RedirectionRequest cause to) w fits near = quiet_plays (Redirects to) (Some (written said.path (RedirectionResponse ACCEPTED))) refl
+        (reply_fine said.path (RedirectionResponse ACCEPTED) (record { is = refl; sendable = tt; short = omega arith }) tt refl)
+    message_plays (RedirectionResponse cause) w fits near = quiet_plays Other None refl none_fine
+    message_plays EchoRequest w fits near = quiet_plays (Path (EchoAsked said.path)) (Some (written said.path (EchoResponse value.paths.counter))) refl
+        (reply_fine said.path (EchoResponse value.paths.counter) (record { is = refl; sendable = tt; short = omega arith }) counter refl)
+    message_plays (EchoResponse told) w fits near = quiet_plays (Path (EchoTold said.path told)) None refl none_fine
+    message_plays NodeAliveResponse w fits near = quiet_plays (Path (AliveTold said.path)) None refl none_fine
+    message_plays (TransferRequest body) w fits near = absurd fits
+    message_plays _ w fits near = nothing_plays
+
+  abbrev heard_from : Option ℕ → Called
+  heard_from o = record { log = logged (entries_from value m.port o m.octets) log; sends = answers_of m (heeds_from value m.port o m.octets) }
+
+  hear_plays : Plays (delivered_to_node gateways m.node m log)
+  hear_plays = if_known Plays (not (runs log) || is_expired_at_node log value m) (λ deaf. nothing_plays) (λ isnt.
+      let parts = or_parts (not (runs log)) (is_expired_at_node log value m) isnt in
+      let both = or_parts (not (m.start == starts_in log)) (is_response m && is_taken_for_another value m) parts.1 in
+      let read_as = nearest (Some (last_number value.gateways m.gateway)) (m.number % 65536) in
+      let near : is_response m ≡ true → read_as ≡ m.number = λ response.
+      eqb-true read_as m.number (not-false (read_as == m.number) (sym (ap (λ (b : Bool). b && is_taken_for_another value m) response) ∙ both.1)) in
+      subst (λ (b : Bool). Plays (record {
+        log = logged (if b then heard_entries value m.port (gateway_address m.gateway) m.octets else []) log;
+        sends = answers_of m (heeds value m.port (gateway_address m.gateway) m.octets);
+      })) (sym (not-false (runs log) parts.0))
+      (by_option (λ (o : Option ℕ). Plays (heard_from o)) (place_of value.gateways (gateway_address m.gateway).ip) (λ e. nothing_plays) (λ p e.
+      subst (λ (q : ℕ). Plays (heard_from (Some q))) (sym (place_is gateways log m.gateway p e))
+      (subst (λ (r : ReadingValue). Plays (taking (taken_of value.paths.counter (last_number value.gateways m.gateway) r)))
+      (sym (role_read_of back roles role.Node m.octets said.path said.message said.written))
+      (message_plays (eqb-true m.start (starts_in log) (not-false (m.start == starts_in log) both.0)) said.message said.written said.fits near)))))
+
+  pub hear_turns : NodePlays (node_ip m.node) values scene (delivered_to_node gateways m.node m log) × NodeRightly gateways m.node (delivered_to_node gateways m.node m log).log
+  hear_turns = (hear_plays, hear_rightly)

@@ -1,8 +1,7 @@
 -- The messages of a tick go to the gateways of the world.
-use Rattle.std.proofs.Common.{◌≡◌, ℕ, zero, suc, ◌+◌, ◌<◌, ◌≤◌, true, List, [], ◌∷◌, map, Option, Some, None, refl, ap, sym, ◌∙◌, subst, arith}
+use Rattle.std.proofs.Common.{◌≡◌, ℕ, zero, suc, ◌+◌, ◌<◌, ◌≤◌, true, List, [], ◌∷◌, map, Option, refl, ap, sym, ◌∙◌, subst, arith, option_map, slice_get}
 use Rattle.std.proofs.lemmas.Option.{slice_get-map}
-use Rattle.std.specs.Option.{option_map, option_map_or}
-use Rattle.std.specs.Prelude.{slice_get}
+use Rattle.std.specs.Option.{option_map_or}
 use Rattle.gw_base.specs.declared.address.Addr.{Addr}
 use Rattle.node_core.specs.Log.{LogEntry, peers_of, runs}
 use Rattle.node_core.specs.Octets.{gateway_of, outgoing}
@@ -11,7 +10,6 @@ use Rattle.node_core.specs.Reached.{Tick}
 use Rattle.node_core.specs.Ticks.{due, tick_entries}
 use Rattle.node_core.specs.declared.peer.Peer.{Peer}
 use Rattle.node_core.specs.declared.sending.Sending.{Sending}
-use Rattle.node_core.specs.declared.sending.Sending.TheVariants as send
 use Rattle.once_core.proofs.LogLemmas.{addresses, addresses_stay}
 use Rattle.once_core.proofs.NodeCallLemmas.{CallsKept, NodeLaw, kept_called, plain_tick}
 use Rattle.once_core.proofs.RedirectLemmas.{same_byte}
@@ -19,6 +17,7 @@ use Rattle.once_core.specs.Addresses.{addresses_from, gateway_at}
 use Rattle.once_core.specs.Expired.{starts_in}
 use Rattle.once_core.specs.NodeMoves.{due_messages, message_kept, with_entries}
 use Rattle.once_core.specs.World.{message_of, node_value, ticking}
+use Rattle.once_core.proofs.CaseLemmas.{by_option}
 
 -- ---- the addresses of a node's gateways are near
 
@@ -38,11 +37,9 @@ near_from first (suc count) zero few = omega (arith, few)
 near_from first (suc count) (suc k) few = near_from (suc first) count k (omega (arith, few))
 
 address_is : (peers : List Peer) (k : ℕ) → address_at peers k ≡ or_nowhere (slice_get (addresses peers) k)
-address_is peers k = by_found (slice_get peers k) ∙ ap or_nowhere (sym (slice_get-map (λ (p : Peer). p.address) peers k))
-  where
-    by_found : (o : Option Peer) → option_map_or (λ (p : Peer). p.address) o nowhere ≡ or_nowhere (option_map (λ (p : Peer). p.address) o)
-    by_found None = refl
-    by_found (Some p) = refl
+address_is peers k =
+    by_option (λ (o : Option Peer). option_map_or (λ (p : Peer). p.address) o nowhere ≡ or_nowhere (option_map (λ (p : Peer). p.address) o)) (slice_get peers k) (λ none. refl) (λ p there. refl)
+    ∙ ap or_nowhere (sym (slice_get-map (λ (p : Peer). p.address) peers k))
 
 near : (gateways k : ℕ) (log : List LogEntry) → gateways ≤ 256 → gateway_at (address_at (peers_of (addresses_from 0 gateways) log) k) < 256
 near gateways k log few =

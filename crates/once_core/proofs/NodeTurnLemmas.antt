@@ -1,14 +1,13 @@
 -- A node of a world, in loops: addresses, messages and records, one after the other.
-use Rattle.std.proofs.Common.{◌≡◌, ℕ, zero, suc, ◌+◌, Bool, true, false, ◌&&◌, not, if◌then◌else◌, List, [], ◌∷◌, ◌++◌, Option, Some, None, option_and_then, refl, ap, sym, ◌∙◌, arith, append_assoc, length, true≢false}
-use Rattle.std.specs.Prelude.{option_map}
-use Rattle.std.proofs.lemmas.List.{append-nil}
-use Rattle.gtpp_message.specs.Packet.{PacketForm, Empty, Full, is_empty_packet, packet_of, records_at, packet_reading, full_packet}
+use Rattle.std.proofs.Common.{◌≡◌, ℕ, zero, suc, ◌+◌, Bool, true, false, ◌&&◌, not, if◌then◌else◌, List, [], ◌∷◌, ◌++◌, Option, Some, None, option_and_then, refl, ap, sym, ◌∙◌, arith, append_assoc, length, true≢false, option_map, append-nil}
+use Rattle.gtpp_message.specs.Packet.{PacketForm, Full, is_empty_packet, packet_of, records_at, packet_reading}
 use Rattle.gtpp_header.specs.Header.{two_octets}
 use Rattle.gtpp_message.specs.PacketWriting.{with_record}
 use Rattle.node_core.specs.Drafts.{addition_fault, is_without_records, packet_anew}
 use Rattle.once_core.specs.Addresses.{addresses_from, gateway_address}
 use Rattle.once_core.specs.NodeMoves.{draft_of_packet, with_all}
 use Rattle.once_core.specs.World.{draft_of, is_draft, is_fault_free, takes_all}
+use Rattle.once_core.proofs.CaseLemmas.{by_bool, by_option, if_both, if_known}
 
 pub addresses_none : addresses_from 0 0 ≡ []
 addresses_none = refl
@@ -21,9 +20,7 @@ addresses_split first (suc count) =
 
 pub addresses_more : (count : ℕ) → addresses_from 0 (count + 1) ≡ addresses_from 0 count ++ gateway_address count ∷ []
 addresses_more count =
-    let e : count + 1 ≡ suc count = omega arith in
-    let z : 0 + count ≡ count = omega arith in
-    ap (addresses_from 0) e ∙ (addresses_split 0 count ∙ ap (λ (n : ℕ). addresses_from 0 count ++ gateway_address n ∷ []) z)
+    ap (addresses_from 0) {y = suc count} (omega arith) ∙ (addresses_split 0 count ∙ ap (λ (n : ℕ). addresses_from 0 count ++ gateway_address n ∷ []) (omega arith))
 
 -- ---- a draft, record by record
 
@@ -49,19 +46,10 @@ all_or_none form (r ∷ records) = by_test (all_or_none (with_record form r) rec
     by_test rest false = refl
 
 draft_of_form : (form : PacketForm) → with_all (packet_anew form.format form.version) form.records ≡ (if is_draft form then Some form else None)
-draft_of_form form =
-    all_or_none (packet_anew form.format form.version) form.records
-    ∙ (ap (λ (f : PacketForm). if takes_all (packet_anew form.format form.version) form.records then (if is_without_records f then None else Some f) else None) same
-    ∙ by_tests (is_without_records form) (takes_all (packet_anew form.format form.version) form.records))
-  where
-    same : with_records (packet_anew form.format form.version) form.records ≡ form
-    same = refl
-
-    by_tests : (a b : Bool) → (if b then (if a then None else Some form) else None) ≡ (if not a && b then Some form else None)
-    by_tests true true = refl
-    by_tests true false = refl
-    by_tests false true = refl
-    by_tests false false = refl
+draft_of_form form = all_or_none (packet_anew form.format form.version) form.records
+    ∙ by_bool (λ (a : Bool). (if takes_all (packet_anew form.format form.version) form.records then (if a then None else Some form) else None)
+    ≡ (if not a && takes_all (packet_anew form.format form.version) form.records then Some form else None)) (is_without_records form)
+    (λ none. if_both (λ (o : Option PacketForm). o ≡ None) (takes_all (packet_anew form.format form.version) form.records) refl refl) (λ some. refl)
 
 abbrev form_with : ℕ → ℕ → List (List ℕ) → PacketForm
 form_with format version records = record { format = format; version = version; records = records }
@@ -73,17 +61,10 @@ none_of_empty (a ∷ b ∷ c ∷ d ∷ e ∷ octets) is = absurd (true≢false (
 none_of_empty _ is = refl
 
 pub draft_reading : (octets : List ℕ) → option_and_then draft_of_packet (packet_reading octets) ≡ draft_of octets
-draft_reading octets = by_test (is_empty_packet octets) refl
-  where
-    by_form : (o : Option PacketForm) → option_and_then draft_of_packet (option_map (λ form. Full form octets) o)
-        ≡ option_and_then (λ form. if is_draft form then Some form else None) o
-    by_form None = refl
-    by_form (Some form) = draft_of_form form
-
-    by_test : (b : Bool) → is_empty_packet octets ≡ b →
-        option_and_then draft_of_packet (if b then Some Empty else full_packet octets) ≡ draft_of octets
-    by_test true is = ap (λ (o : Option PacketForm). option_and_then (λ form. if is_draft form then Some form else None) o) (sym (none_of_empty octets is))
-    by_test false is = by_form (packet_of octets)
+draft_reading octets = if_known (λ o. option_and_then draft_of_packet o ≡ draft_of octets) (is_empty_packet octets)
+    (λ is. ap (λ (o : Option PacketForm). option_and_then (λ form. if is_draft form then Some form else None) o) (sym (none_of_empty octets is)))
+    (λ isnt. by_option (λ (o : Option PacketForm). option_and_then draft_of_packet (option_map (λ form. Full form octets) o)
+    ≡ option_and_then (λ form. if is_draft form then Some form else None) o) (packet_of octets) (λ none. refl) (λ form is. draft_of_form form))
 
 pub addresses_length : (first count : ℕ) → length (addresses_from first count) ≡ count
 addresses_length first zero = refl

@@ -1,12 +1,11 @@
 -- The packets of a node bear the numbers by which they were submitted.
-use Rattle.std.proofs.Common.{◌≡◌, ⊎_elim, ℕ, zero, suc, ◌+◌, ◌-◌, ◌<◌, ◌≤◌, ◌==◌, Bool, true, false, if◌then◌else◌, List, [], ◌∷◌, ◌++◌, length, length-append, map, filter, zip, Option, Some, Contains, slice_get, refl, sym, ap, subst, ◌∙◌, arith, append_assoc, append-nil}
+use Rattle.std.proofs.Common.{◌≡◌, ⊎_elim, ℕ, zero, suc, ◌+◌, ◌-◌, ◌<◌, ◌≤◌, ◌==◌, true, List, [], ◌∷◌, ◌++◌, length, length-append, map, filter, zip, Option, Some, Contains, slice_get, refl, sym, ap, subst, ◌∙◌, arith, append_assoc, append-nil, eqb-true}
 use Rattle.std.specs.Option.{option_map_or}
-use Rattle.std.proofs.lemmas.Bool.{eqb-true}
 use Rattle.std.proofs.lemmas.List.Elements.{Contains-append_cases}
 use Rattle.gtpp_message.specs.Packet.{PacketForm}
 use Rattle.node_core.specs.Drafts.{value_octets}
 use Rattle.node_core.specs.Log.{LogEntry, Began, Halted, Submitted, Appointed, Ticked, Heard, Saying, Responds, forms_of, packets_hearing, packets_of, runs, submitted}
-use Rattle.node_core.specs.Packets.{PacketState, copies_after, is_done, is_of, packet_after, packet_after_all, packet_hearing, while_open}
+use Rattle.node_core.specs.Packets.{PacketState, is_done, is_of, packet_after, packet_after_all, packet_hearing, while_open}
 use Rattle.node_core.specs.Value.{logged}
 use Rattle.node_core.specs.declared.port.Port.{Port}
 use Rattle.node_core.specs.declared.sending.Sending.{Sending}
@@ -15,9 +14,9 @@ use Rattle.once_core.specs.Followed.{Followed, all_followed, followed_before, fo
 use Rattle.once_core.specs.Growing.{GrowsTo}
 use Rattle.once_core.specs.Shown.{forms_ever, values_of}
 use Rattle.once_core.proofs.GrowingLemmas.{on, on_on, on_with}
-use Rattle.once_core.proofs.ListLemmas.{filtered, in_cons, in_head, in_none, in_tail}
+use Rattle.once_core.proofs.ListLemmas.{filtered, in_cons, in_head, in_none, in_tail, of_map, passed}
 use Rattle.once_core.proofs.LogLemmas.{starts_again, starts_same}
-use Rattle.once_core.proofs.WaitingLemmas.{of_map, passed}
+use Rattle.once_core.proofs.CaseLemmas.{if_both}
 
 -- ---- lists
 
@@ -42,16 +41,14 @@ Numbered n (packet ∷ packets) (form ∷ forms) = (packet.number ≡ suc n) × 
 numbered_more : (n : ℕ) (packets : List PacketState) (forms : List PacketForm) (packet : PacketState) (form : PacketForm) → Numbered n packets forms
     → packet.number ≡ suc (n + length forms) → Numbered n (packets ++ packet ∷ []) (forms ++ form ∷ [])
 numbered_more n [] [] packet form is e = (omega (arith, e), tt)
-numbered_more n [] (f ∷ forms) packet form is e = absurd is
-numbered_more n (p ∷ packets) [] packet form is e = absurd is
 numbered_more n (p ∷ packets) (f ∷ forms) packet form is e = (is.0, numbered_more (suc n) packets forms packet form is.1 (omega (arith, e)))
+numbered_more n _ _ packet form is e = absurd is
 
 numbered_map : (h : PacketState → PacketState) → ((p : PacketState) → (h p).number ≡ p.number) → (n : ℕ) (packets : List PacketState) (forms : List PacketForm)
     → Numbered n packets forms → Numbered n (map h packets) forms
 numbered_map h same n [] [] is = tt
-numbered_map h same n [] (f ∷ forms) is = absurd is
-numbered_map h same n (p ∷ packets) [] is = absurd is
 numbered_map h same n (p ∷ packets) (f ∷ forms) is = (same p ∙ is.0, numbered_map h same (suc n) packets forms is.1)
+numbered_map h same n _ _ is = absurd is
 
 -- a packet of these, and what it sends
 pub record IsNumbered (n : ℕ) (forms : List PacketForm) (packet : PacketState) : Type 0 where
@@ -64,28 +61,24 @@ pub numbered_in : (n : ℕ) (packets : List PacketState) (forms : List PacketFor
 numbered_in n [] forms packet is there = absurd (in_none packet there)
 numbered_in n (p ∷ packets) [] packet is there = absurd is
 numbered_in n (p ∷ packets) (f ∷ forms) packet is there = ⊎_elim
-    (λ e. record { place = 0; form = f; number = let same : p.number ≡ packet.number = ap (λ (q : PacketState). q.number) e in omega (arith, is.0, same); there = refl })
+    (λ e. record { place = 0; form = f; number = omega (arith, is.0, ap (λ (q : PacketState). q.number) e); there = refl })
     (λ later.
     let rest = numbered_in (suc n) packets forms packet is.1 later in
-    let number = rest.number in
-    record { place = suc rest.place; form = rest.form; number = omega (arith, number); there = rest.there })
+    record { place = suc rest.place; form = rest.form; number = omega (arith, rest.number); there = rest.there })
     (in_cons p packet packets there)
 
 zipped : (n : ℕ) (packets : List PacketState) (forms : List PacketForm) (pair : PacketState × PacketForm) → Numbered n packets forms → Contains (zip packets forms) pair
     → (place : ℕ) × (pair.0.number ≡ suc (n + place)) × (slice_get forms place ≡ Some pair.1) × Contains packets pair.0
 zipped n [] [] pair is there = absurd (in_none pair there)
-zipped n [] (f ∷ forms) pair is there = absurd is
-zipped n (p ∷ packets) [] pair is there = absurd is
 zipped n (p ∷ packets) (f ∷ forms) pair is there = ⊎_elim
     (λ e.
     let same : p ≡ pair.0 = ap (λ (q : PacketState × PacketForm). q.0) e in
-    let number : p.number ≡ pair.0.number = ap (λ (q : PacketState). q.number) same in
-    (0, omega (arith, is.0, number), ap (λ (q : PacketState × PacketForm). Some q.1) e, subst (Contains (p ∷ packets)) same (in_head p packets)))
+    (0, omega (arith, is.0, ap (λ (q : PacketState). q.number) same), ap (λ (q : PacketState × PacketForm). Some q.1) e, subst (Contains (p ∷ packets)) same (in_head p packets)))
     (λ later.
     let rest = zipped (suc n) packets forms pair is.1 later in
-    let number = rest.1 in
-    (suc rest.0, omega (arith, number), rest.2, in_tail p pair.0 packets rest.3))
+    (suc rest.0, omega (arith, rest.1), rest.2, in_tail p pair.0 packets rest.3))
     (in_cons (p, f) pair (zip packets forms) there)
+zipped n _ _ pair is there = absurd is
 
 -- ---- the log
 
@@ -96,28 +89,14 @@ pub record Ever (log : List LogEntry) : Type 0 where
   pub count : submitted log ≡ length before + length (forms_of log)
 
 open_keeps : (f : PacketState → PacketState) → ((p : PacketState) → (f p).number ≡ p.number) → (p : PacketState) → (while_open f p).number ≡ p.number
-open_keeps f same p = by (is_done p.copies)
-  where
-    by : (b : Bool) → (if b then p else f p).number ≡ p.number
-    by true = refl
-    by false = same p
-
-after_keeps : (sending : Sending) (p : PacketState) → (packet_after sending p).number ≡ p.number
-after_keeps sending p = by (is_of p.number sending)
-  where
-    by : (b : Bool) → (if b then record p { copies = copies_after sending p.copies } else p).number ≡ p.number
-    by true = refl
-    by false = refl
+open_keeps f same p = if_both (λ (q : PacketState). q.number ≡ p.number) (is_done p.copies) refl (same p)
 
 pub all_keep : (sendings : List Sending) (p : PacketState) → (packet_after_all sendings p).number ≡ p.number
 all_keep [] p = refl
-all_keep (sending ∷ sendings) p = all_keep sendings (packet_after sending p) ∙ after_keeps sending p
+all_keep (sending ∷ sendings) p = all_keep sendings (packet_after sending p) ∙ if_both (λ (q : PacketState). q.number ≡ p.number) (is_of p.number sending) refl refl
 
 began : (log : List LogEntry) → Ever log → (submitted log ≡ length (forms_ever log) + 0)
-began log is =
-    let count = is.count in
-    let size : length (forms_ever log) ≡ length is.before + length (forms_of log) = ap length is.is ∙ length-append is.before (forms_of log) in
-    omega (arith, count, size)
+began log is = omega (arith, is.count, ap length is.is, length-append is.before (forms_of log))
 
 heard : (port : Port) (gateway : ℕ) (saying : Saying) (log : List LogEntry) (n : ℕ) → Numbered n (packets_of log) (forms_of log) → Numbered n (packets_hearing port gateway saying (packets_of log)) (forms_of log)
 heard port gateway (Responds cause numbers) log n is =
@@ -128,12 +107,11 @@ pub ever : (log : List LogEntry) → Ever log
 ever [] = record { before = []; is = refl; numbered = tt; count = refl }
 ever (Submitted form ∷ log) =
     let rest = ever log in
-    let count = rest.count in
     record {
       before = rest.before;
       is = ap (λ (fs : List PacketForm). fs ++ form ∷ []) rest.is ∙ append_assoc rest.before (forms_of log) (form ∷ []);
-      numbered = numbered_more (length rest.before) (packets_of log) (forms_of log) (record { number = suc (submitted log); copies = [] }) form rest.numbered (omega (arith, count));
-      count = let size = length-append (forms_of log) (form ∷ []) in omega (arith, count, size);
+      numbered = numbered_more (length rest.before) (packets_of log) (forms_of log) (record { number = suc (submitted log); copies = [] }) form rest.numbered (omega (arith, rest.count));
+      count = omega (arith, rest.count, length-append (forms_of log) (form ∷ []));
     }
 ever (Appointed gateway ∷ log) = let rest = ever log in record { before = rest.before; is = rest.is; numbered = rest.numbered; count = rest.count }
 ever (Ticked sendings ∷ log) =
@@ -174,51 +152,34 @@ record IsFollowing (log : List LogEntry) (f : Followed) : Type 0 where
   start : f.start ≤ starts_in log
 
 is_following : (log : List LogEntry) (f : Followed) → Contains (following log) f → IsFollowing log f
-is_following log f is = let there = following_at log f is in let start = there.1 in record { form = there.0; start = omega (arith, start) }
+is_following log f is = let there = following_at log f is in record { form = there.0; start = omega (arith, there.1) }
+
+-- an entry more leaves it so
+follows_on : (entry : LogEntry) (log : List LogEntry) (f : Followed) → IsFollowing log f → IsFollowing (entry ∷ log) f
+follows_on Began log f is = record { form = is.form; start = omega (arith, is.start, starts_again log) }
+follows_on Halted log f is = record { form = is.form; start = omega (arith, is.start, starts_same Halted log refl) }
+follows_on (Submitted form) log f is =
+    record { form = get_more (forms_ever log) (form ∷ []) (f.state.number - 1) f.form is.form; start = omega (arith, is.start, starts_same (Submitted form) log refl) }
+follows_on entry log f is = record { form = is.form; start = omega (arith, is.start, starts_same entry log refl) }
 
 followed_at : (log : List LogEntry) (f : Followed) → Contains (followed_before log) f → IsFollowing log f
 followed_at [] f is = absurd (in_none f is)
-followed_at (Began ∷ log) f is =
-    let more = starts_again log in
-    ⊎_elim
-    (λ old. let there = followed_at log f old in let start = there.start in record { form = there.form; start = omega (arith, start, more) })
-    (λ new. let there = is_following log f new in let start = there.start in record { form = there.form; start = omega (arith, start, more) })
-    (Contains-append_cases (followed_before log) (following log) f is)
-followed_at (Halted ∷ log) f is =
-    let more = starts_same Halted log refl in
-    ⊎_elim
-    (λ old. let there = followed_at log f old in let start = there.start in record { form = there.form; start = omega (arith, start, more) })
-    (λ new. let there = is_following log f new in let start = there.start in record { form = there.form; start = omega (arith, start, more) })
-    (Contains-append_cases (followed_before log) (following log) f is)
-followed_at (Submitted form ∷ log) f is =
-    let more = starts_same (Submitted form) log refl in
-    let there = followed_at log f is in
-    let start = there.start in
-    record { form = get_more (forms_ever log) (form ∷ []) (f.state.number - 1) f.form there.form; start = omega (arith, start, more) }
-followed_at (Appointed gateway ∷ log) f is =
-    let more = starts_same (Appointed gateway) log refl in let there = followed_at log f is in let start = there.start in record { form = there.form; start = omega (arith, start, more) }
-followed_at (Ticked sendings ∷ log) f is =
-    let more = starts_same (Ticked sendings) log refl in let there = followed_at log f is in let start = there.start in record { form = there.form; start = omega (arith, start, more) }
-followed_at (Heard port gateway saying ∷ log) f is =
-    let more = starts_same (Heard port gateway saying) log refl in let there = followed_at log f is in let start = there.start in record { form = there.form; start = omega (arith, start, more) }
+followed_at (Began ∷ log) f is = follows_on Began log f (⊎_elim (followed_at log f) (is_following log f) (Contains-append_cases (followed_before log) (following log) f is))
+followed_at (Halted ∷ log) f is = follows_on Halted log f (⊎_elim (followed_at log f) (is_following log f) (Contains-append_cases (followed_before log) (following log) f is))
+followed_at (entry ∷ log) f is = follows_on entry log f (followed_at log f is)
 
 pub all_followed_at : (log : List LogEntry) (f : Followed) → Contains (all_followed log) f → slice_get (forms_ever log) (f.state.number - 1) ≡ Some f.form
 all_followed_at log f is = ⊎_elim (λ old. (followed_at log f old).form) (λ new. (following_at log f new).0) (Contains-append_cases (followed_before log) (following log) f is)
 
 -- of a node that runs, what it followed before is of earlier starts
-earlier : (log : List LogEntry) (f : Followed) → runs log ≡ true → Contains (followed_before log) f → f.start < starts_in log
+pub earlier : (log : List LogEntry) (f : Followed) → runs log ≡ true → Contains (followed_before log) f → f.start < starts_in log
 earlier [] f running is = absurd (in_none f is)
-earlier (Began ∷ log) f running is =
-    let more = starts_again log in
-    ⊎_elim
-    (λ old. let start = (followed_at log f old).start in omega (arith, start, more))
-    (λ new. let start = (is_following log f new).start in omega (arith, start, more))
+earlier (Began ∷ log) f running is = ⊎_elim
+    (λ old. omega (arith, (followed_at log f old).start, starts_again log))
+    (λ new. omega (arith, (is_following log f new).start, starts_again log))
     (Contains-append_cases (followed_before log) (following log) f is)
 earlier (Halted ∷ log) f running is = absurd (cc)
-earlier (Submitted form ∷ log) f running is = let more = starts_same (Submitted form) log refl in let rest = earlier log f running is in omega (arith, rest, more)
-earlier (Appointed gateway ∷ log) f running is = let more = starts_same (Appointed gateway) log refl in let rest = earlier log f running is in omega (arith, rest, more)
-earlier (Ticked sendings ∷ log) f running is = let more = starts_same (Ticked sendings) log refl in let rest = earlier log f running is in omega (arith, rest, more)
-earlier (Heard port gateway saying ∷ log) f running is = let more = starts_same (Heard port gateway saying) log refl in let rest = earlier log f running is in omega (arith, rest, more)
+earlier (entry ∷ log) f running is = omega (arith, earlier log f running is, starts_same entry log refl)
 
 pub present_packet : (log : List LogEntry) (packet : PacketState) → runs log ≡ true → Contains (packets_in (starts_in log) log) packet → Contains (packets_of log) packet
 present_packet log packet running is =
@@ -226,7 +187,7 @@ present_packet log packet running is =
     let start = eqb-true there.0.start (starts_in log) (passed (λ (f : Followed). f.start == starts_in log) (all_followed log) there.0 there.1) in
     subst (Contains (packets_of log)) there.2
     (⊎_elim
-    (λ old. let before = earlier log there.0 running old in absurd (omega (arith, before, start)))
+    (λ old. absurd (omega (arith, earlier log there.0 running old, start)))
     (λ new. (following_at log there.0 new).2)
     (Contains-append_cases (followed_before log) (following log) there.0 (filtered (λ f. f.start == starts_in log) (all_followed log) there.0 there.1)))
 

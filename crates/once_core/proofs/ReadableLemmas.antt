@@ -1,10 +1,8 @@
 -- The records of a history's items are such as the files are read with.
-use Rattle.std.proofs.Common.{◌≡◌, ℕ, zero, suc, ◌+◌, ◌-◌, ◌^◌, ◌<◌, ◌≤◌, ◌≢◌, ◌==◌, ◌/◌, ◌%◌, nat_lt, Bool, true, false, if◌then◌else◌, All, List, [], ◌∷◌, ◌++◌, length, length-append, length-take, map, take, drop, filter, Option, Some, None, option_map, option_and_then, refl, sym, subst, arith, ℤ, Contains, not, ⊎_elim}
-use Rattle.std.proofs.lemmas.Bool.{ltb-false}
+use Rattle.std.proofs.Common.{◌≡◌, ℕ, zero, suc, ◌+◌, ◌-◌, ◌^◌, ◌<◌, ◌≤◌, ◌≢◌, ◌==◌, ◌/◌, ◌%◌, nat_lt, Bool, All, List, [], ◌∷◌, ◌++◌, length, length-append, length-take, map, drop, filter, Option, Some, None, option_map, refl, sym, subst, arith, ℤ, Contains, not, ⊎_elim, ltb-false}
 use Rattle.std.proofs.lemmas.List.{map-append}
 use Rattle.std.proofs.lemmas.List.Elements.{All-append, All-cons, All-contains, All-drop, All-filter, All-head, All-nil, All-push, All-same, All-tail, All-weaker}
 use Rattle.std.specs.List.{last_or}
-use Rattle.std.specs.Option.{option_map_or}
 use Rattle.cdr_file.specs.CdrFile.{FileSettings}
 use Rattle.cdr_file.specs.Timestamp.{stamp_of}
 use Rattle.cdr_file.specs.declared.closure.ClosureReason.{ClosureReason}
@@ -21,7 +19,7 @@ use Rattle.file_writer.specs.Places.{FilePlace, record_at}
 use Rattle.file_writer.specs.Reading.{IsStamped, ReadsAt}
 use Rattle.file_writer.specs.Streams.{Settings, closed_of, record_if, stream_count, stream_item, stream_items, stream_record}
 use Rattle.gate_journal.specs.Format.{most_octets}
-use Rattle.gateway_book.specs.Filed.{along, filed_record, filed_under, held_packet, packet_of_hold, present_key, records_from, records_if, released_by, released_records}
+use Rattle.gateway_book.specs.Filed.{along, filed_under, held_packet, packet_of_hold, present_key, records_from, records_if, released_by, released_records}
 use Rattle.gateway_book.specs.Items.{items_by, items_by_act, items_of, part_of}
 use Rattle.gateway_book.specs.declared.filing.FiledRecord.{FiledRecord}
 use Rattle.gtpp_header.specs.Header.{two_octets}
@@ -42,8 +40,9 @@ use Rattle.route_filter.specs.Rules.{last_stream, stream_of}
 use Rattle.route_filter.specs.declared.rule.Rule.{Rule}
 use Rattle.once_core.specs.FilePlaces.{placed, streams_of}
 use Rattle.once_core.proofs.FilePlaceLemmas.{stream_there}
-use Rattle.once_core.proofs.ListLemmas.{filtered, in_cons, in_head, in_tail}
-use Rattle.once_core.proofs.WaitingLemmas.{of_map}
+use Rattle.once_core.proofs.ListLemmas.{filtered, in_cons, in_head, in_tail, of_map}
+use Rattle.std.proofs.lemmas.Option.{option_and_then_some, same_Some}
+use Rattle.once_core.proofs.CaseLemmas.{by_bool, by_option, if_both, if_known, map_known}
 
 -- ---- records of packets
 
@@ -55,64 +54,36 @@ below_drop zero xs small = small
 below_drop (suc n) [] small = tt
 below_drop (suc n) (x ∷ xs) small = below_drop n xs small.1
 
+-- what an option is mapped to
+mapped_some : {A B P : Type 0} (f : A → B) (o : Option A) (y : B) → option_map f o ≡ Some y → ((x : A) → o ≡ Some x → f x ≡ y → P) → P
+mapped_some f None y e holds = absurd (cc)
+mapped_some f (Some x) y e holds = holds x refl (same_Some (f x) y e)
+
 first_short : (octets : List ℕ) (parts : List ℕ × List ℕ) → AreBelow 256 octets → packets.record_at octets ≡ Some parts
     → IsShort parts.0 × AreBelow 256 parts.1
-first_short (high ∷ low ∷ rest) parts small e = by (nat_lt (length rest) (two_octets high low)) e
-  where
-    by : (b : Bool) → (if b then None else Some (take (two_octets high low) rest, drop (two_octets high low) rest)) ≡ Some parts
-        → IsShort parts.0 × AreBelow 256 parts.1
-    by true e = absurd (cc)
-    by false e =
-        let same : (take (two_octets high low) rest, drop (two_octets high low) rest) ≡ parts = cc in
-        let high_is : high < 256 = small.0 in
-        let low_is : low < 256 = small.1.0 in
-        subst (λ (p : List ℕ × List ℕ). IsShort p.0 × AreBelow 256 p.1) same
-        (omega (arith, length-take (two_octets high low) rest), below_drop (two_octets high low) rest small.1.1)
+first_short (high ∷ low ∷ rest) parts small e =
+    if_both (λ (o : Option (List ℕ × List ℕ)). o ≡ Some parts → IsShort parts.0 × AreBelow 256 parts.1) (nat_lt (length rest) (two_octets high low)) (λ none. absurd (cc))
+    (λ some.
+    let high_is : high < 256 = small.0 in
+    let low_is : low < 256 = small.1.0 in
+    subst (λ (p : List ℕ × List ℕ). IsShort p.0 × AreBelow 256 p.1) (same_Some _ parts some)
+    (omega (arith, length-take (two_octets high low) rest), below_drop (two_octets high low) rest small.1.1)) e
 first_short _ parts small e = absurd (cc)
 
 records_short : (count : ℕ) (octets : List ℕ) (records : List (List ℕ)) → AreBelow 256 octets
     → records_at count octets ≡ Some records → All IsShort records
-records_short zero [] records small e =
-    let same : records ≡ [] = cc in All-same IsShort records [] same (All-nil IsShort)
+records_short zero [] records small e = subst (All IsShort) (same_Some [] records e) (All-nil IsShort)
 records_short zero (x ∷ xs) records small e = absurd (cc)
-records_short (suc count) octets records small e =
-    by (packets.record_at octets) refl e (λ rest later. records_short count rest later)
-  where
-    by_rest : (parts : List ℕ × List ℕ) → packets.record_at octets ≡ Some parts → (o : Option (List (List ℕ)))
-        → records_at count parts.1 ≡ o → option_map (λ (rs : List (List ℕ)). parts.0 ∷ rs) o ≡ Some records
-        → ((rest : List ℕ) (later : List (List ℕ)) → AreBelow 256 rest → records_at count rest ≡ Some later → All IsShort later)
-        → All IsShort records
-    by_rest parts here None there e more = absurd (cc)
-    by_rest parts here (Some later) there e more =
-        let one = first_short octets parts small here in
-        let same : records ≡ parts.0 ∷ later = cc in
-        All-same IsShort records (parts.0 ∷ later) same
-        (All-cons IsShort parts.0 later one.0 (more parts.1 later one.1 there))
-
-    by : (o : Option (List ℕ × List ℕ)) → packets.record_at octets ≡ o
-        → option_and_then (λ (parts : List ℕ × List ℕ). option_map (λ (rs : List (List ℕ)). parts.0 ∷ rs) (records_at count parts.1)) o ≡ Some records
-        → ((rest : List ℕ) (later : List (List ℕ)) → AreBelow 256 rest → records_at count rest ≡ Some later → All IsShort later)
-        → All IsShort records
-    by None here e more = absurd (cc)
-    by (Some parts) here e more = by_rest parts here (records_at count parts.1) refl e more
+records_short (suc count) octets records small e = option_and_then_some _ (packets.record_at octets) records e
+    (λ parts here more. mapped_some _ (records_at count parts.1) records more (λ later there same.
+    let one = first_short octets parts small here in
+    subst (All IsShort) same (All-cons IsShort parts.0 later one.0 (records_short count parts.1 later one.1 there))))
 
 form_short : (packet : List ℕ) (form : PacketForm) → AreBelow 256 packet → packet_of packet ≡ Some form
     → All IsShort form.records
-form_short (count ∷ format ∷ high ∷ low ∷ octets) form small e = by_count (count == 0) e
-  where
-    by_records : (o : Option (List (List ℕ))) → records_at count octets ≡ o
-        → option_map (λ (records : List (List ℕ)). record { format = format; version = two_octets high low; records = records }) o ≡ Some form
-        → All IsShort form.records
-    by_records None there e = absurd (cc)
-    by_records (Some records) there e =
-        let same : record { format = format; version = two_octets high low; records = records } ≡ form = cc in
-        subst (λ (f : PacketForm). All IsShort f.records) same (records_short count octets records small.1.1.1.1 there)
-
-    by_count : (b : Bool)
-        → (if b then None else option_map (λ (records : List (List ℕ)). record { format = format; version = two_octets high low; records = records }) (records_at count octets)) ≡ Some form
-        → All IsShort form.records
-    by_count true e = absurd (cc)
-    by_count false e = by_records (records_at count octets) refl e
+form_short (count ∷ format ∷ high ∷ low ∷ octets) form small e = if_both (λ (o : Option PacketForm). o ≡ Some form → All IsShort form.records) (count == 0) (λ none. absurd (cc))
+    (λ some. mapped_some _ (records_at count octets) form some (λ records there same.
+    subst (λ (f : PacketForm). All IsShort f.records) same (records_short count octets records small.1.1.1.1 there))) e
 form_short _ form small e = absurd (cc)
 
 -- ---- what is filed
@@ -125,18 +96,10 @@ abbrev IsSound : Item → Type 0
 IsSound i = IsFit i × IsTimely i
 
 release_fits : (digit : ℕ) → release_of digit < 8
-release_fits digit = by (nat_lt 9 digit) refl
-  where
-    by : (b : Bool) → nat_lt 9 digit ≡ b → (if b then 7 else digit - 3) < 8
-    by true e = omega arith
-    by false e = omega (arith, ltb-false 9 digit e)
+release_fits digit = if_known (λ (n : ℕ). n < 8) (nat_lt 9 digit) (λ e. omega arith) (λ e. omega (arith, ltb-false 9 digit e))
 
 others_none : (digit : ℕ) → release_of digit ≢ 7 → extension_of digit ≡ 0
-others_none digit = by (nat_lt 9 digit) refl
-  where
-    by : (b : Bool) → nat_lt 9 digit ≡ b → (if b then 7 else digit - 3) ≢ 7 → digit - 10 ≡ 0
-    by true e apart = absurd (apart refl)
-    by false e apart = omega (arith, ltb-false 9 digit e)
+others_none digit = if_known (λ (n : ℕ). n ≢ 7 → digit - 10 ≡ 0) (nat_lt 9 digit) (λ e apart. absurd (apart refl)) (λ e apart. omega (arith, ltb-false 9 digit e))
 
 kind_fits : (format version : ℕ) → IsCdrKind (kind_of format version)
 kind_fits format version = record {
@@ -151,61 +114,41 @@ records_sound : (key : PacketKey) (moment format version index : ℕ) (records :
     → All IsShort records → All IsSound (map part_of (records_from key moment format version index records))
 records_sound key moment format version index [] timely short = All-nil IsSound
 records_sound key moment format version index (r ∷ records) timely short =
-    All-cons IsSound (part_of (filed_record key moment format version (index, r)))
-    (map part_of (records_from key moment format version (index + 1) records))
-    ((kind_fits format version, All-head IsShort r records short), timely)
+    All-cons IsSound _ _ ((kind_fits format version, All-head IsShort r records short), timely)
     (records_sound key moment format version (index + 1) records timely (All-tail IsShort r records short))
 
 under_sound : (key : PacketKey) (moment : ℕ) (packet : List ℕ) → moment ≤ 4102444799 → AreBelow 256 packet
     → All IsSound (map part_of (filed_under key moment packet))
-under_sound key moment packet timely small = by (packet_of packet) refl
-  where
-    by : (o : Option PacketForm) → packet_of packet ≡ o → All IsSound (map part_of (records_if key moment o))
-    by None is = All-nil IsSound
-    by (Some form) is = records_sound key moment form.format form.version 0 form.records timely (form_short packet form small is)
+under_sound key moment packet timely small = by_option (λ (o : Option PacketForm). All IsSound (map part_of (records_if key moment o))) (packet_of packet) (λ none. All-nil IsSound)
+    (λ form is. records_sound key moment form.format form.version 0 form.records timely (form_short packet form small is))
 
 -- ---- what is held
 
 last_holds : {A : Type 0} (P : A → Type 0) (o : Option A) (xs : List A) → ((x : A) → o ≡ Some x → P x) → All P xs
     → (x : A) → last_or o xs ≡ Some x → P x
 last_holds P o [] first all x e = first x e
-last_holds {A} P o (y ∷ xs) first all x e =
-    last_holds P (Some y) xs (λ z same. let is : y ≡ z = cc in subst P is (All-head P y xs all)) (All-tail P y xs all) x e
+last_holds P o (y ∷ xs) first all x e = last_holds P (Some y) xs (λ z same. subst P (same_Some y z same) (All-head P y xs all)) (All-tail P y xs all) x e
 
 hold_small : (a : HistoryAct) (packet : List ℕ) → IsAct a → packet_of_hold a ≡ Some packet → AreBelow 256 packet
-hold_small (act.Hold n x held) packet is e = let same : held ≡ packet = cc in subst (AreBelow 256) same is.2
+hold_small (act.Hold n x held) packet is e = subst (AreBelow 256) (same_Some held packet e) is.2
 hold_small _ packet is e = absurd (cc)
 
 held_small : (node number : ℕ) (h : List HistoryEntry) (packet : List ℕ) → All HasSpelling h
     → held_packet node number h ≡ Some packet → AreBelow 256 packet
-held_small node number h packet all e = by (last_naming node number (present_entries node h)) refl e
-  where
-    kept : All HasSpelling (filter (λ (e : HistoryEntry). names node number e.act) (present_entries node h))
-    kept = All-filter (λ (e : HistoryEntry). names node number e.act) HasSpelling (present_entries node h)
-        (All-drop HasSpelling _ h all)
-
-    by : (o : Option HistoryEntry) → last_naming node number (present_entries node h) ≡ o
-        → option_and_then (λ (e : HistoryEntry). packet_of_hold e.act) o ≡ Some packet → AreBelow 256 packet
-    by None is e = absurd (cc)
-    by (Some entry) is e =
-        hold_small entry.act packet
-        (last_holds HasSpelling None (filter (λ (e : HistoryEntry). names node number e.act) (present_entries node h))
-        (λ x none. absurd (cc)) kept entry is).act e
+held_small node number h packet all e = option_and_then_some (λ (e : HistoryEntry). packet_of_hold e.act) (last_naming node number (present_entries node h)) packet e
+    (λ entry is given. hold_small entry.act packet
+    (last_holds HasSpelling None (filter (λ (e : HistoryEntry). names node number e.act) (present_entries node h)) (λ x none. absurd (cc))
+    (All-filter (λ (e : HistoryEntry). names node number e.act) HasSpelling (present_entries node h) (All-drop HasSpelling _ h all)) entry is).act given)
 
 released_sound : (before : List HistoryEntry) (moment : ℕ) (n : NodeId) (numbers : List ℕ) → moment ≤ 4102444799
     → All HasSpelling before → All IsSound (map part_of (released_by before moment n numbers))
 released_sound before moment n [] timely all = All-nil IsSound
 released_sound before moment n (x ∷ numbers) timely all =
-    All-same IsSound (map part_of (released_records before moment n x ++ released_by before moment n numbers))
-    (map part_of (released_records before moment n x) ++ map part_of (released_by before moment n numbers))
-    (map-append part_of (released_records before moment n x) (released_by before moment n numbers))
-    (All-append IsSound (map part_of (released_records before moment n x)) (map part_of (released_by before moment n numbers))
-    (by (held_packet n.0 x before) refl) (released_sound before moment n numbers timely all))
-  where
-    by : (o : Option (List ℕ)) → held_packet n.0 x before ≡ o
-        → All IsSound (map part_of (option_map_or (filed_under (present_key before n x) moment) o []))
-    by None is = All-nil IsSound
-    by (Some packet) is = under_sound (present_key before n x) moment packet timely (held_small n.0 x before packet all is)
+    All-same IsSound _ _ (map-append part_of (released_records before moment n x) (released_by before moment n numbers))
+    (All-append IsSound _ _
+    (map_known (λ (filed : List FiledRecord). All IsSound (map part_of filed)) (held_packet n.0 x before) (λ none. All-nil IsSound)
+    (λ packet is. under_sound (present_key before n x) moment packet timely (held_small n.0 x before packet all is)))
+    (released_sound before moment n numbers timely all))
 
 -- ---- the items of a history
 
@@ -221,8 +164,7 @@ items_sound : (before h : List HistoryEntry) → All HasSpelling before → All 
 items_sound before [] front all = All-nil IsSound
 items_sound before (e ∷ h) front all =
     let fits : HasSpelling e = All-head HasSpelling e h all in
-    All-append IsSound (items_by before e) (along items_by (before ++ e ∷ []) h)
-    (act_sound before e.moment e.act fits.moment fits.act front)
+    All-append IsSound (items_by before e) _ (act_sound before e.moment e.act fits.moment fits.act front)
     (items_sound (before ++ e ∷ []) h (All-push HasSpelling before e front fits) (All-tail HasSpelling e h all))
 
 -- ---- how many files are closed
@@ -277,11 +219,8 @@ few_closed limits run (i ∷ items) =
     )
 
 few_of_item : (profile : ℕ) (rules : List Rule) (s : ℕ) (i : Item) → length (stream_item profile rules s i) ≤ 1
-few_of_item profile rules s (item.Part kind tag octets moment) = by (stream_of rules tag kind.format == s)
-  where
-    by : (b : Bool) → length (record_if b (stream_record profile kind octets moment)) ≤ 1
-    by true = omega arith
-    by false = omega arith
+few_of_item profile rules s (item.Part kind tag octets moment) =
+    by_bool (λ (b : Bool). length (record_if b (stream_record profile kind octets moment)) ≤ 1) (stream_of rules tag kind.format == s) (λ e. omega arith) (λ e. omega arith)
 few_of_item profile rules s _ = omega arith
 
 few_of_stream : (profile : ℕ) (rules : List Rule) (s : ℕ) (items : List Item)
@@ -344,8 +283,7 @@ few_streams settings s low is = ⊎_elim
     (λ e. omega (arith, e))
     (λ later.
     let from = of_map (λ (rule : Rule). rule.stream) settings.rules s later in
-    let small : from.0.stream ≤ last_stream = All-contains (λ (rule : Rule). rule.stream ≤ last_stream) settings.rules from.0 low from.1 in
-    omega (arith, small, from.2))
+    omega (arith, All-contains (λ (rule : Rule). rule.stream ≤ last_stream) settings.rules from.0 low from.1, from.2))
     (in_cons 0 s (map (λ (rule : Rule). rule.stream) settings.rules)
     (once_in (0 ∷ map (λ (rule : Rule). rule.stream) settings.rules) s is))
 

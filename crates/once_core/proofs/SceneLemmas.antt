@@ -1,25 +1,17 @@
 -- Whatever happens next, what holds goes on.
-use Rattle.std.proofs.Common.{◌≡◌, ◌⊎◌, inl, inr, ⊎_elim, ℕ, ◌==◌, not, Bool, true, false, if◌then◌else◌, List, [], ◌∷◌, ◌++◌, map, Contains, refl, sym, ap, subst, ◌∙◌}
-use Rattle.std.proofs.lemmas.Bool.{eqb-true, eq-eqb, false≢true}
+use Rattle.std.proofs.Common.{◌≡◌, ◌⊎◌, inl, inr, ⊎_elim, ℕ, ◌==◌, not, Bool, true, false, List, [], ◌∷◌, ◌++◌, Contains, refl, sym, ap, subst, ◌∙◌, eqb-true, eq-eqb}
+use Rattle.std.proofs.lemmas.Bool.{false≢true, cond-true}
 use Rattle.std.proofs.lemmas.List.Elements.{Contains-append_left, Contains-push, Contains-push_cases}
 use Rattle.gw_base.specs.declared.history.HistoryEntry.{HistoryEntry}
-use Rattle.once_core.specs.Happenings.{Answers, Asks, Deed, Else, Heard, Letter, Meaning, Post, Scene, Sent, WaitingLetter, about, history}
-use Rattle.once_core.specs.Resting.{IsAnswerTo, IsBorneOut, IsSent, PostHolds, Rests, SceneHolds, Waits}
+use Rattle.once_core.specs.Happenings.{Answers, Asks, Deed, Else, Heard, Letter, Meaning, Post, Scene, Sent, about, history}
+use Rattle.once_core.specs.Resting.{IsAnswerTo, IsBorneOut, IsSent, PostHolds, Rests, RestsBy, SceneHolds, Waits}
 use Rattle.once_core.specs.Scenes.{after_adding, after_hearing, after_sending, at, is_idle, is_request}
 use Rattle.once_core.proofs.ForwardLemmas.{Grows, known_on, rests_on, tells_on}
-use Rattle.once_core.proofs.ListLemmas.{in_cons, in_head, in_none, in_tail}
-
--- ---- lists
-
-pub mapped : (ws : List WaitingLetter) (l : Letter) → Contains (map (λ w. w.letter) ws) l → (w : WaitingLetter) × Contains ws w × (w.letter ≡ l)
-mapped [] l is = absurd (in_none l is)
-mapped (w ∷ ws) l is = ⊎_elim
-    (λ e. (w, in_head w ws, e))
-    (λ c. let there = mapped ws l c in (there.0, in_tail w there.0 ws there.1, there.2))
-    (in_cons w.letter l (map (λ v. v.letter) ws) is)
+use Rattle.once_core.proofs.EachLemmas.{each_front}
+use Rattle.once_core.proofs.CaseLemmas.{if_known}
 
 pub at_same : {A : Type 0} (k : ℕ) (x : A) (f : ℕ → A) → at k x f k ≡ x
-at_same k x f = ap (λ (b : Bool). if b then x else f k) (eq-eqb k k refl)
+at_same k x f = cond-true (k == k) x (f k) (eq-eqb k k refl)
 
 -- ---- more messages
 
@@ -53,6 +45,10 @@ post_on letters more grows gateway post holds = record {
   waits = λ w kept. waits_on letters more grows gateway (history post) w.letter (holds.waits w kept);
 }
 
+-- the firm part too rests on messages
+pub firm_rests : (letters : List Letter) (gateway : ℕ) (post : Post) → PostHolds letters gateway post → Rests letters gateway post.firm
+firm_rests letters gateway post holds = each_front (λ before e. RestsBy letters gateway before e.act) [] post.firm post.rest holds.rests
+
 -- ---- messages and deeds alone
 
 with_more : (letters : List Letter) (letter : Letter) → Grows letters (letters ++ letter ∷ [])
@@ -68,22 +64,17 @@ told_more scene letter holds new l is = ⊎_elim
 
 -- a node's list with one deed more has those before
 deeds_on : (deeds : ℕ → List Deed) (node : ℕ) (deed : Deed) (other : ℕ) (old : Deed) → Contains (deeds other) old → Contains (at node (deeds node ++ deed ∷ []) deeds other) old
-deeds_on deeds node deed other old is = by (other == node) refl
-  where
-    by : (b : Bool) → (other == node) ≡ b → Contains (if b then deeds node ++ deed ∷ [] else deeds other) old
-    by true e = Contains-append_left (deeds node) (deed ∷ []) old (subst (λ (n : ℕ). Contains (deeds n) old) (eqb-true other node e) is)
-    by false e = is
+deeds_on deeds node deed other old is = if_known (λ (ds : List Deed). Contains ds old) (other == node)
+    (λ e. Contains-append_left (deeds node) (deed ∷ []) old (subst (λ (n : ℕ). Contains (deeds n) old) (eqb-true other node e) is)) (λ apart. is)
 
 -- and no other but that one
 deeds_back : (deeds : ℕ → List Deed) (node : ℕ) (deed : Deed) (other : ℕ) (any : Deed) → Contains (at node (deeds node ++ deed ∷ []) deeds other) any
     → Contains (deeds other) any ⊎ ((deed ≡ any) × (node ≡ other))
-deeds_back deeds node deed other any is = by (other == node) refl is
-  where
-    by : (b : Bool) → (other == node) ≡ b → Contains (if b then deeds node ++ deed ∷ [] else deeds other) any → Contains (deeds other) any ⊎ ((deed ≡ any) × (node ≡ other))
-    by true e is =
-        let same = eqb-true other node e in
-        ⊎_elim (λ old. inl (subst (λ (n : ℕ). Contains (deeds n) any) (sym same) old)) (λ new. inr (new, sym same)) (Contains-push_cases (deeds node) deed any is)
-    by false e is = inl is
+deeds_back deeds node deed other any = if_known (λ (ds : List Deed). Contains ds any → Contains (deeds other) any ⊎ ((deed ≡ any) × (node ≡ other))) (other == node)
+    (λ e is.
+    let same = sym (eqb-true other node e) in
+    ⊎_elim (λ old. inl (subst (λ (n : ℕ). Contains (deeds n) any) same old)) (λ new. inr (new, same)) (Contains-push_cases (deeds node) deed any is))
+    (λ apart is. inl is)
 
 sent_on : (deeds : ℕ → List Deed) (node : ℕ) (deed : Deed) (letter : Letter) (says : Meaning) → IsSent deeds letter says → IsSent (at node (deeds node ++ deed ∷ []) deeds) letter says
 sent_on deeds node deed letter (Asks request) is = deeds_on deeds node deed letter.node (Sent letter) is
@@ -142,7 +133,7 @@ hearing scene letter true kept holds = record {
   told = holds.told;
   sent = λ l is. sent_on scene.deeds letter.node (Heard letter) l l.says (holds.sent l is);
   heard = λ node l is. ⊎_elim
-      (λ old. holds.heard node l old)
+      (holds.heard node l)
       (λ new. let same : letter ≡ l = the_letter l new.0 in (ap (λ (m : Letter). m.node) (sym same) ∙ new.1, subst (Contains scene.letters) same kept))
       (deeds_back scene.deeds letter.node (Heard letter) node (Heard l) is);
 }

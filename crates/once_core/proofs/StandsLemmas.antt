@@ -1,6 +1,5 @@
 -- Each record of each packet stands once in the files of all gateways, as it was filed once.
-use Rattle.std.proofs.Common.{◌≡◌, ℕ, ◌<◌, Bool, true, false, List, [], length, Option, Some, None, Contains, sum_by, refl, ap, subst, ◌∙◌, arith}
-use Rattle.std.specs.Prelude.{count_by}
+use Rattle.std.proofs.Common.{◌≡◌, ℕ, ◌<◌, Bool, true, List, [], length, Option, Some, None, Contains, sum_by, refl, ap, subst, ◌∙◌, arith, count_by}
 use Rattle.std.specs.Option.{option_map_or}
 use Rattle.std.proofs.lemmas.List.Elements.{All-contains}
 use Rattle.file_writer.specs.Places.{FilePlace}
@@ -24,6 +23,7 @@ use Rattle.once_core.specs.StandsOnce.{IsOfOne, IsPlaced, StandsOnce, places_of}
 use Rattle.once_core.specs.Told.{WasSubmitted}
 use Rattle.once_core.specs.World.{World, log_at}
 use Rattle.once_core.proofs.ListLemmas.{get_contains, number_of}
+use Rattle.once_core.proofs.CaseLemmas.{by_bool, by_option}
 
 -- as many places as it was filed times
 abbrev pub Counts : Settings → Type 0
@@ -51,29 +51,22 @@ module _ (settings : ℕ → Settings) (counts : (q : ℕ) → Counts (settings 
     index = given.index
 
     each : (copy : PacketCopy) → places_of settings w given packet copy ≡ times_with (node_ip node) packet.start copy.number index (firm_in w copy.gateway)
-    each copy = by (epoch_with (node_ip node) packet.start (firm_in w copy.gateway))
-      where
-        by : (o : Option ℕ) → option_map_or (λ epoch. count_by (λ (x : FilePlace × FiledRecord). is_record_of (key_in (node_ip node) copy.number epoch) index x.1)
-            (placed (settings copy.gateway) (firm_in w copy.gateway))) o 0
-            ≡ option_map_or (λ epoch. times_filed (key_in (node_ip node) copy.number epoch) index (filed (firm_in w copy.gateway))) o 0
-        by None = refl
-        by (Some epoch) = counts copy.gateway (key_in (node_ip node) copy.number epoch) index (firm_in w copy.gateway)
+    each copy = by_option (λ (o : Option ℕ). option_map_or (λ epoch. count_by (λ (x : FilePlace × FiledRecord). is_record_of (key_in (node_ip node) copy.number epoch) index x.1)
+        (placed (settings copy.gateway) (firm_in w copy.gateway))) o 0
+        ≡ option_map_or (λ epoch. times_filed (key_in (node_ip node) copy.number epoch) index (filed (firm_in w copy.gateway))) o 0)
+        (epoch_with (node_ip node) packet.start (firm_in w copy.gateway))
+        (λ none. refl) (λ epoch is. counts copy.gateway (key_in (node_ip node) copy.number epoch) index (firm_in w copy.gateway))
 
     summed : sum_by (places_of settings w given packet) packet.state.copies ≡ filing_count (firm_in w) (node_ip node) packet.start packet.state.copies index
     summed = ap (λ (f : PacketCopy → ℕ). sum_by f packet.state.copies) (λ i copy. each copy i)
 
     within : index < length packet.form.records → index < record_count (value_octets packet.form)
-    within less =
-        let count = count_is (packet_of (value_octets packet.form)) in
-        let same = ap length (once.records node packet is) in
-        omega (arith, less, count, same)
+    within less = omega (arith, less, count_is (packet_of (value_octets packet.form)), ap length (once.records node packet is))
 
     right : index < length packet.form.records → IsPlaced (is_resolved packet.state.copies) (sum_by (places_of settings w given packet) packet.state.copies)
-    right less = by (is_resolved packet.state.copies) refl
-      where
-        by : (b : Bool) → is_resolved packet.state.copies ≡ b → IsPlaced b (sum_by (places_of settings w given packet) packet.state.copies)
-        by true done = summed ∙ (once.placed node packet is).resolved done index (within less)
-        by false open_still = let one = (once.placed node packet is).at_most index in let same = summed in omega (arith, one, same)
+    right less = by_bool (λ (b : Bool). IsPlaced b (sum_by (places_of settings w given packet) packet.state.copies)) (is_resolved packet.state.copies)
+        (λ done. summed ∙ (once.placed node packet is).resolved done index (within less))
+        (λ open_still. omega (arith, (once.placed node packet is).at_most index, summed))
 
     withheld : (copy : PacketCopy) → Contains packet.state.copies copy
         → is_withheld (state_with (node_ip node) packet.start copy.number (firm_in w copy.gateway)) ≡ true → places_of settings w given packet copy ≡ 0

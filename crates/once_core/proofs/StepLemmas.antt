@@ -1,8 +1,7 @@
 -- A turn of a world that is kept is the turn of the world that it stands for.
-use Rattle.std.proofs.Common.{◌≡◌, ℕ, ◌-◌, ◌≤◌, Bool, true, false, not, if◌then◌else◌, List, [], ◌∷◌, length, Option, Some, None, refl, ap, sym, ◌∙◌, subst}
+use Rattle.std.proofs.Common.{◌≡◌, ℕ, ◌-◌, ◌≤◌, Bool, true, false, not, if◌then◌else◌, List, [], ◌∷◌, length, Option, Some, None, refl, ap, sym, ◌∙◌, subst, option_map, slice_get}
 use Rattle.std.proofs.lemmas.Bool.{not-false}
-use Rattle.std.specs.Option.{option_map, option_map_or, option_or}
-use Rattle.std.specs.Prelude.{slice_get}
+use Rattle.std.specs.Option.{option_map_or, option_or}
 use Rattle.node_core.specs.Log.{LogEntry, Halted, runs}
 use Rattle.node_core.specs.Reached.{Halt, Start}
 use Rattle.node_core.specs.Ticks.{tick_entries}
@@ -25,6 +24,8 @@ use Rattle.once_core.specs.declared.event.Event.TheVariants as event
 use Rattle.once_core.specs.declared.event.WorldKind.{WorldKind}
 use Rattle.once_core.specs.declared.event.WorldKind.TheVariants.{Halted as IsHalted, Running}
 use Rattle.once_core.specs.declared.message.Message.{Message}
+use Rattle.once_core.proofs.CaseLemmas.{by_bool, by_option}
+use Rattle.once_core.proofs.TurnLemmas.{log_there}
 
 -- ---- what an event that isn't refused tells
 
@@ -40,40 +41,25 @@ pub refusing_none : (b : Bool) (k : WorldKind) → refusing b k ≡ None → b �
 refusing_none true k is = absurd (cc is)
 refusing_none false k is = refl
 
-log_found : (w : World) (number : ℕ) (log : List LogEntry) → slice_get w.nodes (number - 1) ≡ Some log → log_in w number ≡ log
-log_found w number log is = ap (λ (o : Option (List LogEntry)). option_map_or (λ log. log) o []) is
-
 module _ (law : NodeLaw) (w : World) (few : length w.gateways ≤ 256) where
   runs_where : (number : ℕ) (log : List LogEntry) → slice_get w.nodes (number - 1) ≡ Some log → option_or (no_node w number) (refusing (not (runs (log_in w number))) IsHalted) ≡ None → runs log ≡ true
   runs_where number log found allowed =
-      ap runs (sym (log_found w number log found))
-      ∙ not-false (runs (log_in w number)) (refusing_none (not (runs (log_in w number))) IsHalted (or_none (no_node w number) (refusing (not (runs (log_in w number))) IsHalted) allowed))
-
-  reaches_gateway : (m : Message) → with_gateway (world_kept w) m.gateway (delivered default_rules w.now quiet m) ≡ world_kept (at_gateway w m.gateway (delivered default_rules w.now quiet m))
-  reaches_gateway m = gateway_turns w m.gateway (delivered default_rules w.now quiet m) (delivered default_rules w.now quiet m)
-      (λ g. moves_kept (delivered default_rules w.now quiet m) (keeps_delivered default_rules w.now quiet m) g)
-
-  reaches_node : (m : Message) → with_node (world_kept w) m.node (λ n. heard_by n m) (λ n. answered_by n m) ≡ world_kept (at_node w m.node (delivered_to_node (length w.gateways) m.node m))
-  reaches_node m = node_turns w m.node (delivered_to_node (length w.gateways) m.node m) (λ n. heard_by n m) (λ n. answered_by n m)
-      (λ log is. calls_hear law (length w.gateways) m.node m log)
+      ap runs (sym (log_there w (number - 1) log found))
+      ∙ not-false (runs (log_in w number)) (refusing_none (not (runs (log_in w number))) IsHalted (or_none (no_node w number) _ allowed))
 
   reaches : (m : Message) → reaching (world_kept w) m ≡ world_kept (delivering default_rules quiet w m)
-  reaches m = by_test m.to_gateway
-    where
-      by_test : (b : Bool) →
-          (if b then with_gateway (world_kept w) m.gateway (delivered default_rules w.now quiet m)
-          else with_node (world_kept w) m.node (λ n. heard_by n m) (λ n. answered_by n m))
-          ≡ world_kept (if b then at_gateway w m.gateway (delivered default_rules w.now quiet m) else at_node w m.node (delivered_to_node (length w.gateways) m.node m))
-      by_test true = reaches_gateway m
-      by_test false = reaches_node m
-
-  delivers_kept : (o : Option Message) → option_map_or (reaching (world_kept w)) o (world_kept w) ≡ world_kept (option_map_or (delivering default_rules quiet w) o w)
-  delivers_kept None = refl
-  delivers_kept (Some m) = reaches m
+  reaches m = by_bool (λ (b : Bool).
+      (if b then with_gateway (world_kept w) m.gateway (delivered default_rules w.now quiet m) else with_node (world_kept w) m.node (λ n. heard_by n m) (λ n. answered_by n m))
+      ≡ world_kept (if b then at_gateway w m.gateway (delivered default_rules w.now quiet m) else at_node w m.node (delivered_to_node (length w.gateways) m.node m)))
+      m.to_gateway
+      (λ to. gateway_turns w m.gateway (delivered default_rules w.now quiet m) (delivered default_rules w.now quiet m)
+      (λ g. moves_kept (delivered default_rules w.now quiet m) (keeps_delivered default_rules w.now quiet m) g))
+      (λ from. node_turns w m.node (delivered_to_node (length w.gateways) m.node m) (λ n. heard_by n m) (λ n. answered_by n m)
+      (λ log is. calls_hear law (length w.gateways) m.node m log))
 
   down_where : (number : ℕ) (log : List LogEntry) → slice_get w.nodes (number - 1) ≡ Some log → refusal_to_start w number ≡ None → runs log ≡ false
   down_where number log found allowed =
-      ap runs (sym (log_found w number log found))
+      ap runs (sym (log_there w (number - 1) log found))
       ∙ refusing_none (runs (log_in w number)) Running (first_none (refusing (runs (log_in w number)) Running) _ (or_none (no_node w number) _ allowed))
 
   pub turned : (e : Event) → ((number : ℕ) → e ≡ event.Start number → 1 ≤ starts_in (log_in w number)) → refusal_of w e ≡ None → turn_kept (world_kept w) e ≡ world_kept (turn_by default_rules w (calm e) e)
@@ -84,7 +70,8 @@ module _ (law : NodeLaw) (w : World) (few : length w.gateways ≤ 256) where
   turned (event.Tick node) begun allowed =
       node_turns w (node - 1) (ticking (length w.gateways) (node - 1)) (λ n. with_entries (tick_entries n.node) n) (due_messages (node - 1))
       (λ log is. calls_tick law (length w.gateways) (node - 1) few log (runs_where node log is allowed))
-  turned (event.Deliver message) begun allowed = delivers_kept (slice_get w.messages (message - 1))
+  turned (event.Deliver message) begun allowed = by_option (λ (o : Option Message). option_map_or (reaching (world_kept w)) o (world_kept w) ≡ world_kept (option_map_or (delivering default_rules quiet w) o w))
+      (slice_get w.messages (message - 1)) (λ none. refl) (λ m there. reaches m)
   turned (event.Commit gateway) begun allowed =
       gateway_turns w (gateway - 1) (committing quiet) (committing quiet) (λ g. moves_kept (committing quiet) (keeps_committing quiet) g)
   turned (event.Cut gateway keep) begun allowed =
@@ -101,7 +88,7 @@ module _ (law : NodeLaw) (w : World) (few : length w.gateways ≤ 256) where
       node_changes (world_kept w) (node - 1) started_again
       ∙ node_turns w (node - 1) (called (length w.gateways) (node - 1) Start) started_again nothing
       (λ log is. calls_start law (length w.gateways) (node - 1) log (down_where node log is allowed)
-      (subst (λ (l : List LogEntry). 1 ≤ starts_in l) (log_found w node log is) (begun node refl)))
+      (subst (λ (l : List LogEntry). 1 ≤ starts_in l) (log_there w (node - 1) log is) (begun node refl)))
   turned (event.Redirect gateway cause to) begun allowed =
       gateway_turns w (gateway - 1) (redirected (gateway - 1) cause (option_map (λ number. number - 1) to)) (redirected_kept (gateway - 1) cause (option_map (λ number. number - 1) to))
       (λ g. redirects_kept (gateway - 1) cause (option_map (λ number. number - 1) to) g)

@@ -1,5 +1,5 @@
 -- What the requests and the answers among the messages of a world tell for certain.
-use Rattle.std.proofs.Common.{◌≡◌, ◌⊎◌, inl, inr, ℕ, ◌-◌, ◌<◌, ◌≤◌, ◌==◌, ◌&&◌, true, false, List, [], filter, Option, Some, None, Contains, slice_get, refl, sym, ap, subst, ◌∙◌, arith}
+use Rattle.std.proofs.Common.{◌≡◌, ◌⊎◌, inl, inr, ℕ, ◌-◌, ◌<◌, ◌≤◌, ◌==◌, ◌&&◌, true, false, List, [], filter, Option, Contains, slice_get, refl, sym, ap, subst, ◌∙◌, arith}
 use Rattle.std.specs.Option.{option_map_or}
 use Rattle.std.proofs.lemmas.Bool.{and_from, cases_lt, eq-eqb, eqb-true}
 use Rattle.gateway_book.specs.Filed.{filed}
@@ -8,40 +8,39 @@ use Rattle.gateway_book.specs.declared.filing.FiledRecord.{FiledRecord}
 use Rattle.gw_base.specs.declared.cause.TheConstants.{ALREADY_FULFILLED}
 use Rattle.gw_base.specs.declared.history.HistoryEntry.{HistoryEntry}
 use Rattle.gw_base.specs.declared.history.PacketKey.{PacketKey}
-use Rattle.gw_base.specs.declared.key_state.KeyState.TheVariants as state
 use Rattle.node_core.specs.Copies.{is_chosen, is_release}
 use Rattle.node_core.specs.Log.{LogEntry}
 use Rattle.node_core.specs.Packets.{PacketState}
 use Rattle.node_core.specs.declared.copy.Command.{Command}
 use Rattle.node_core.specs.declared.copy.Order.TheVariants as order
 use Rattle.node_core.specs.declared.copy.PacketCopy.{PacketCopy}
+use Rattle.gw_base.specs.declared.key_state.KeyState.{KeyState}
 use Rattle.once_core.specs.Addresses.{first_node_ip, node_ip}
-use Rattle.once_core.specs.Beginning.{first_world}
 use Rattle.once_core.specs.Deeds.{deeds_of}
 use Rattle.once_core.specs.Epochs.{epoch_with, key_in}
 use Rattle.once_core.specs.Followed.{Followed, all_followed, packets_in}
 use Rattle.once_core.specs.Following.{Follows}
-use Rattle.once_core.specs.Gateway.{Rules}
 use Rattle.once_core.specs.Happenings.{Answers, Asks, Deed, Letter, Meaning, Orders, Request, Sends, Sent}
 use Rattle.once_core.specs.Meaning.{is_spoken, letter_of, meaning_of}
 use Rattle.once_core.specs.Once.{IsFiledFor, IsFollowed, firm_in}
-use Rattle.once_core.specs.Resting.{IsState, Rests, RestsBy, SceneHolds}
+use Rattle.once_core.specs.Resting.{IsState, SceneHolds}
 use Rattle.once_core.specs.Scenes.{is_telling}
-use Rattle.once_core.specs.Told.{AnswersACopy, IsAnswerFor, IsOfCopy, MeanCopies, NameChoices, NamesChoice, TellStates, WasSubmitted, asking}
-use Rattle.once_core.specs.Turn.{RuledTurn, ruled_turns}
+use Rattle.once_core.specs.Told.{AnswersACopy, IsAnswerFor, IsOfCopy, MeanCopies, NamesChoice, TellStates, WasSubmitted, asking}
 use Rattle.once_core.specs.World.{World, log_at}
 use Rattle.once_core.specs.declared.message.Message.{Message}
-use Rattle.once_core.proofs.ContentLemmas.{IsBrought, brought}
-use Rattle.once_core.proofs.EachLemmas.{each_front}
+use Rattle.once_core.proofs.CountLemmas.{IsBrought, brought}
+use Rattle.once_core.proofs.SceneLemmas.{firm_rests}
 use Rattle.once_core.proofs.KnownLemmas.{IsAnswered, by_release_answer, by_test_answer, choice_of, filed_by_answer, fulfilled_tells, sealed_by_answer, told_by}
-use Rattle.once_core.proofs.ListLemmas.{filtered, in_none}
+use Rattle.once_core.proofs.ListLemmas.{filtered, in_none, of_map, passed}
 use Rattle.once_core.proofs.MoveLemmas.{holds_always}
 use Rattle.once_core.proofs.OnceLemmas.{first_sealed}
 use Rattle.once_core.proofs.RoleLemmas.{IsCopyOf}
 use Rattle.once_core.proofs.TurnPlays.{Laws}
-use Rattle.once_core.proofs.WaitingLemmas.{of_map, passed}
-use Rattle.once_core.proofs.WorldOnceLemmas.{firm_at, in_start, it_follows, kind_placed, octets_placed, some_log, values_in, world_made}
+use Rattle.once_core.proofs.WorldOnceLemmas.{firm_at, in_start, it_follows, kind_placed, octets_placed, some_log, values_in}
 use Rattle.once_core.proofs.WorldPlays.{Made}
+use Rattle.once_core.specs.Beginning.{IsReached}
+use Rattle.once_core.proofs.CaseLemmas.{by_option}
+use Rattle.once_core.proofs.LifeWorlds.{reached_made}
 
 -- ---- the packets of one start
 
@@ -68,20 +67,24 @@ same_as key node number node_is number_is =
     (and_from (key.node.0 == node) (key.epoch == key.epoch) (eq-eqb key.node.0 node node_is) (eq-eqb key.epoch key.epoch refl))
     (eq-eqb key.number number number_is)
 
-module _ (laws : Laws) (w : World) (made : Made (values_in w) w) where
+module _ (laws : Laws) (w : World) (reached : IsReached w) where
+  made : Made (values_in w) w
+  made = reached_made laws w reached
+
   holds : SceneHolds made.scene
   holds = subst SceneHolds made.is (holds_always made.happenings)
 
   -- a node that did something is one of the world
   did_follow : (node start : ℕ) (deed : Deed) → Contains (made.scene.deeds (node_ip node)) deed
       → Follows (made.scene.deeds (node_ip node)) start (values_in w node) (packets_in start (log_at w node))
-  did_follow node start deed is = by (slice_get w.nodes node) refl
-    where
-      by : (o : Option (List LogEntry)) → slice_get w.nodes node ≡ o → Follows (made.scene.deeds (node_ip node)) start (values_in w node) (packets_in start (log_at w node))
-      by None e =
-          absurd (in_none deed (subst (λ (ds : List Deed). Contains ds deed)
-          (made.shows.deeds node ∙ ap (λ (o : Option (List LogEntry)). deeds_of (node_ip node) (values_in w node) (option_map_or (λ log. log) o [])) e) is))
-      by (Some log) e = it_follows laws w made node log e start
+  did_follow node start deed is = by_option (λ o. Follows (made.scene.deeds (node_ip node)) start (values_in w node) (packets_in start (log_at w node))) (slice_get w.nodes node)
+      (λ e. in_none deed (subst (λ (ds : List Deed). Contains ds deed)
+      (made.shows.deeds node ∙ ap (λ (o : Option (List LogEntry)). deeds_of (node_ip node) (values_in w node) (option_map_or (λ log. log) o [])) e) is))
+      (λ log e. it_follows laws w made node log e start)
+
+  -- what is firm in the scene is firm in the world
+  firmly : {node start number : ℕ} {s : KeyState} (gateway : ℕ) → IsState (made.scene.posts gateway).firm node start number s → IsState (firm_in w gateway) node start number s
+  firmly {node} {start} {number} {s} gateway = subst (λ (h : List HistoryEntry). IsState h node start number s) (firm_at laws w made gateway)
 
   -- ---- requests and answers
 
@@ -109,56 +112,43 @@ module _ (laws : Laws) (w : World) (made : Made (values_in w) w) where
 
   -- ---- what an answer tells of a copy
 
-  module _ (m : Message) (packet : Followed) (copy : PacketCopy) (number cause : ℕ) (is : IsAnswerFor w m packet copy number cause) where
+  module _ {m : Message} {packet : Followed} {copy : PacketCopy} {number cause : ℕ} (is : IsAnswerFor w m packet copy number cause) where
     follows : Follows (made.scene.deeds (node_ip m.node)) packet.start (values_in w m.node) (packets_in packet.start (log_at w m.node))
     follows = let there = some_log laws w made m.node packet is.followed (slice_get w.nodes m.node) refl in it_follows laws w made m.node there.0 there.1 packet.start
 
     copy_of : IsCopyOf (packets_in packet.start (log_at w m.node)) packet.state copy
     copy_of = record { kept = in_start laws w made m.node packet is.followed; among = is.copy_is }
 
-    letter_there : Contains made.scene.letters (record { node = node_ip m.node; start = packet.start; gateway = copy.gateway; port = m.port; number = number; says = Answers cause })
-    letter_there =
-        let start_is = is.start in
-        let gateway_is = is.gateway in
-        let number_is = is.number_is in
-        subst (Contains made.scene.letters)
-        (λ i. record { node = node_ip m.node; start = start_is i; gateway = gateway_is i; port = m.port; number = number_is i; says = Answers cause })
-        (spoken m (Answers cause) is.kept is.says refl)
-
-    answer_is : is_telling cause ≡ true
-        → IsAnswered made.scene holds (node_ip m.node) packet.start (values_in w m.node) (packets_in packet.start (log_at w m.node)) follows copy.gateway m.port number cause
-    answer_is telling =
-        told_by made.scene holds (node_ip m.node) packet.start (values_in w m.node) (packets_in packet.start (log_at w m.node)) follows copy.gateway m.port number cause letter_there telling
+    answer_is : is_telling cause ≡ true → IsAnswered holds (node_ip m.node) follows copy.gateway m.port number cause
+    answer_is telling = told_by holds (node_ip m.node) follows copy.gateway m.port number cause
+        (subst (Contains made.scene.letters)
+        (λ i. record { node = node_ip m.node; start = is.start i; gateway = is.gateway i; port = m.port; number = is.number_is i; says = Answers cause })
+        (spoken m (Answers cause) is.kept is.says refl)) telling
 
   pub tell_states : TellStates w
   tell_states = record {
-    filed = λ m packet copy cause is plain tells. subst (λ (h : List HistoryEntry). IsState h (node_ip m.node) packet.start copy.number state.Filed) (firm_at laws w made copy.gateway)
-        (filed_by_answer made.scene holds (node_ip m.node) packet.start (values_in w m.node) (packets_in packet.start (log_at w m.node)) (follows m packet copy copy.number cause is)
-        packet.state copy m.port cause (copy_of m packet copy copy.number cause is) plain tells (answer_is m packet copy copy.number cause is));
-    filed_by_test = λ m packet copy is second. subst (λ (h : List HistoryEntry). IsState h (node_ip m.node) packet.start copy.number state.Filed) (firm_at laws w made copy.gateway)
-        ((by_test_answer made.scene holds (node_ip m.node) packet.start (values_in w m.node) (packets_in packet.start (log_at w m.node)) (follows m packet copy copy.number ALREADY_FULFILLED is)
-        packet.state copy ALREADY_FULFILLED m.port second (copy_of m packet copy copy.number ALREADY_FULFILLED is) (answer_is m packet copy copy.number ALREADY_FULFILLED is refl)).0 refl);
-    sealed = λ m packet copy cause is tells. subst (λ (h : List HistoryEntry). IsState h (node_ip m.node) packet.start copy.number state.Sealed) (firm_at laws w made copy.gateway)
-        (sealed_by_answer made.scene holds (node_ip m.node) packet.start (values_in w m.node) (packets_in packet.start (log_at w m.node)) (follows m packet copy copy.number cause is)
-        packet.state copy m.port cause (copy_of m packet copy copy.number cause is) tells (answer_is m packet copy copy.number cause is));
-    released = λ m packet copy command cause is sent release fulfilled.
-        subst (λ (h : List HistoryEntry). IsState h (node_ip m.node) packet.start copy.number state.Released) (firm_at laws w made copy.gateway)
-        (by_release_answer made.scene holds (node_ip m.node) packet.start (values_in w m.node) (packets_in packet.start (log_at w m.node)) (follows m packet copy command.number cause is)
-        packet.state copy command cause m.port fulfilled (copy_of m packet copy command.number cause is) sent release
-        (answer_is m packet copy command.number cause is (fulfilled_tells cause fulfilled)));
+    filed = λ m packet copy cause is plain tells. firmly copy.gateway
+        (filed_by_answer holds (node_ip m.node) (follows is) packet.state copy m.port cause (copy_of is) plain tells (answer_is is));
+    filed_by_test = λ m packet copy is second. firmly copy.gateway
+        ((by_test_answer holds (node_ip m.node) (follows is) packet.state copy ALREADY_FULFILLED m.port second (copy_of is) (answer_is is refl)).0 refl);
+    sealed = λ m packet copy cause is tells. firmly copy.gateway
+        (sealed_by_answer holds (node_ip m.node) (follows is) packet.state copy m.port cause (copy_of is) tells (answer_is is));
+    released = λ m packet copy command cause is sent release fulfilled. firmly copy.gateway
+        (by_release_answer holds (node_ip m.node) (follows is) packet.state copy command cause m.port fulfilled (copy_of is) sent release
+        (answer_is is (fulfilled_tells cause fulfilled)));
   }
 
   -- ---- what a release names
 
-  names_choice : (m : Message) (named : ℕ) → Contains w.messages m → meaning_of m ≡ Asks (Orders order.Release named) → NamesChoice w m named
-  names_choice m named kept says =
+  pub name_choices : (m : Message) (named : ℕ) → Contains w.messages m → meaning_of m ≡ Asks (Orders order.Release named) → NamesChoice w m named
+  name_choices m named kept says =
       let may = asked m (Orders order.Release named) kept says in
       let at = may.2.at in
       let rightly = did_follow m.node m.start (Sent (asking m (Orders order.Release named))) (was_sent m (Orders order.Release named) (spoken m (Asks (Orders order.Release named)) kept says refl)) in
       let copy_is : IsCopyOf (packets_in m.start (log_at w m.node)) at.packet at.copy = record { kept = at.kept; among = at.among } in
       let chosen_is : is_chosen at.copy ≡ true = ap (λ (there : Option Command). option_map_or (λ (c : Command). is_release c.order) there false) may.2.sent in
-      let choice = choice_of made.scene holds (node_ip m.node) m.start (values_in w m.node) (packets_in m.start (log_at w m.node)) rightly at.packet at.copy copy_is chosen_is in
-      let sealed = first_sealed made.scene holds (node_ip m.node) m.start (values_in w m.node) (packets_in m.start (log_at w m.node)) rightly at.packet at.copy copy_is choice in
+      let choice = choice_of holds (node_ip m.node) rightly at.packet at.copy copy_is chosen_is in
+      let sealed = first_sealed holds (node_ip m.node) rightly at.packet at.copy copy_is choice in
       let own = followed_as w m.node m.start at.packet at.kept in
       record {
         packet = own.of;
@@ -174,23 +164,16 @@ module _ (laws : Laws) (w : World) (made : Made (values_in w) w) where
           gateway_is = choice.gateway_is ∙ at.gateway_is;
           number_is = choice.number_is ∙ at.number_is;
         };
-        sealed = subst (λ (h : List HistoryEntry). IsState h (node_ip m.node) m.start choice.plain.number state.Sealed) (firm_at laws w made choice.plain.gateway) sealed;
+        sealed = firmly choice.plain.gateway sealed;
       }
 
-  pub name_choices : NameChoices w
-  name_choices = names_choice
-
   -- ---- what is filed
-
-  rests : (place : ℕ) → Rests made.scene.letters place (made.scene.posts place).firm
-  rests place =
-      each_front (λ before e. RestsBy made.scene.letters place before e.act) [] (made.scene.posts place).firm (made.scene.posts place).rest (holds.posts place).rests
 
   pub was_submitted : (place : ℕ) (filing : FiledRecord) → Contains (filed (firm_in w place)) filing → WasSubmitted w place filing
   was_submitted place filing kept = by (cases_lt filing.key.node.0 first_node_ip)
     where
       of : IsBrought made.scene.letters place filing.key (made.scene.posts place).firm filing
-      of = brought made.scene.letters place filing.key (made.scene.posts place).firm (rests place) filing
+      of = brought made.scene.letters place filing.key (made.scene.posts place).firm (firm_rests made.scene.letters place (made.scene.posts place) (holds.posts place)) filing
           (subst (λ (h : List HistoryEntry). Contains (filed h) filing) (sym (firm_at laws w made place)) kept)
           (same_as filing.key filing.key.node.0 filing.key.number refl refl)
 
@@ -230,21 +213,5 @@ module _ (laws : Laws) (w : World) (made : Made (values_in w) w) where
           }
 
       by : (filing.key.node.0 < first_node_ip) ⊎ (first_node_ip ≤ filing.key.node.0) → WasSubmitted w place filing
-      by (inl less) = absurd (in_none (Sent letter) (subst (λ (ds : List Deed). Contains ds (Sent letter)) (made.strangers filing.key.node.0 less) sent))
+      by (inl less) = (in_none (Sent letter) (subst (λ (ds : List Deed). Contains ds (Sent letter)) (made.strangers filing.key.node.0 less) sent))
       by (inr more) = by_node (filing.key.node.0 - first_node_ip) (omega (arith, more))
-
--- ---- of all worlds
-
-module _ (laws : Laws) (rules : ℕ → Rules) (gateways nodes : ℕ) (all : List RuledTurn) (some : 1 ≤ gateways) where
-  pub world_means_copies : MeanCopies (ruled_turns (first_world rules gateways nodes) all)
-  world_means_copies = mean_copies laws (ruled_turns (first_world rules gateways nodes) all) (world_made laws rules gateways nodes all some)
-
-  pub world_tells_states : TellStates (ruled_turns (first_world rules gateways nodes) all)
-  world_tells_states = tell_states laws (ruled_turns (first_world rules gateways nodes) all) (world_made laws rules gateways nodes all some)
-
-  pub world_names_choices : NameChoices (ruled_turns (first_world rules gateways nodes) all)
-  world_names_choices = name_choices laws (ruled_turns (first_world rules gateways nodes) all) (world_made laws rules gateways nodes all some)
-
-  pub world_was_submitted : (place : ℕ) (filing : FiledRecord) → Contains (filed (firm_in (ruled_turns (first_world rules gateways nodes) all) place)) filing
-      → WasSubmitted (ruled_turns (first_world rules gateways nodes) all) place filing
-  world_was_submitted = was_submitted laws (ruled_turns (first_world rules gateways nodes) all) (world_made laws rules gateways nodes all some)

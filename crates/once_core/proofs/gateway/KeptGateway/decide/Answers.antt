@@ -1,15 +1,11 @@
-use Rattle.std.proofs.Common.{◌≡◌, ap, sym, subst, ◌∙◌}
-use Rattle.std.proofs.lemmas.List.{take-append-drop}
-use Rattle.std.specs.Prelude.{IfOk}
+use Rattle.std.proofs.Common.{◌≡◌, sym, subst, ◌∙◌, IfOk}
 use Rattle.gateway_book.specs.Answer.{Decided, decided, node_of}
 use Rattle.gateway_book.specs.Answered.{answer, room_for}
 use Rattle.gateway_book.specs.Plain.{answer_view}
 use Rattle.gateway_book.specs.Preparing.{prepared_of}
-use Rattle.gateway_book.specs.Value.{history_of}
 use Rattle.gw_base.specs.Observed.{observed}
-use Rattle.once_core.proofs.GatewayTurnLemmas.{decided_at}
+use Rattle.once_core.proofs.GatewayTurnLemmas.{decided_at, stored}
 use Rattle.once_core.proofs.HistoryKeptLemmas.{answers_keep, kept_by, kept_is_bounded, near_node}
-use Rattle.once_core.specs.Gateway.{Gateway}
 use Rattle.once_core.specs.HistoryKept.{AllKept}
 use Rattle.once_core.proofs.gateway.KeptGateway.decide.Goals as goal
 
@@ -20,7 +16,7 @@ pub returns-clause-answer : goal.returns-clause-answer
 returns-clause-answer c =
     subst (λ (d : Decided). IfOk c.answer.result (λ found. answer_view found ≡ d))
     (decided_at c.args.self.now c.deref.result.now c.node_address-from.result c.prepare-datagram.result c.args.message.now
-    (c.deref.ensures.value ∙ (sym (take-append-drop c.self.inside.firm c.self.inside.history.items) ∙ ap (λ (g : Gateway). history_of g.book) c.self.view_is))
+    (stored c.self.inside c.self.view_is c.deref.ensures.value)
     c.node_address-from.ensures.address (c.prepare-datagram.ensures ∙ c.octets.ensures))
     c.answer.ensures
 

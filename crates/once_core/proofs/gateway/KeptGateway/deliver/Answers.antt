@@ -1,8 +1,6 @@
 use Rattle.std.proofs.Common.{ap, sym, ◌∙◌, List}
-use Rattle.std.proofs.lemmas.List.{take-append-drop}
-use Rattle.gateway_book.specs.Value.{history_of}
 use Rattle.gw_base.specs.declared.history.HistoryEntry.{HistoryEntry}
-use Rattle.once_core.proofs.GatewayTurnLemmas.{delivers, ok_maps}
+use Rattle.once_core.proofs.GatewayTurnLemmas.{delivers, ok_maps, stored}
 use Rattle.once_core.specs.Expired.{is_expired}
 use Rattle.once_core.specs.Gateway.{Gateway}
 use Rattle.once_core.proofs.gateway.KeptGateway.deliver.Goals as goal
@@ -14,7 +12,7 @@ returns c =
     (ap (λ (g : Gateway). g.book.is_broken) (sym c.self.view_is))
     (ap (λ (g : Gateway). g.is_down) (sym c.self.view_is) ∙ c.if-self.false)
     (ap (λ (h : List HistoryEntry). is_expired h c.args.message.now)
-    (sym (c.deref.ensures.value ∙ (sym (take-append-drop c.self.inside.firm c.self.inside.history.items) ∙ ap (λ (g : Gateway). history_of g.book) c.self.view_is)))
+    (sym (stored c.self.inside c.self.view_is c.deref.ensures.value))
     ∙ (sym c.is_expired.ensures ∙ c.if-is_expired.false))
     c.in_ok-ready.ensures)
     c.answer.ensures

@@ -1,6 +1,4 @@
-use Rattle.std.proofs.Common.{◌++◌, ap, sym, ◌∙◌, List}
-use Rattle.std.proofs.lemmas.List.{take-append-drop}
-use Rattle.gateway_book.specs.Value.{history_of}
+use Rattle.std.proofs.Common.{◌++◌, ap, ◌∙◌, List}
 use Rattle.gw_base.specs.Known.{known_nodes}
 use Rattle.gw_base.specs.declared.address.NodeId.{NodeId}
 use Rattle.gw_base.specs.declared.history.HistoryEntry.{HistoryEntry}
@@ -8,6 +6,7 @@ use Rattle.once_core.proofs.RedirectLemmas.{all_of, redirects_end, redirects_mor
 use Rattle.once_core.specs.Gateway.{Gateway}
 use Rattle.once_core.specs.Redirecting.{redirected_kept}
 use Rattle.once_core.proofs.gateway.KeptGateway.redirect.Goals as goal
+use Rattle.once_core.proofs.GatewayTurnLemmas.{stored}
 
 pub loop-node-preserved : goal.loop-node-preserved
 loop-node-preserved c =
@@ -25,5 +24,5 @@ returns c = record {
       _ c.loop-node-test.false c.loop-node.invariant
       ∙ ap (λ (nodes : List NodeId). c.args.sends.now.items ++ all_of c.args.gateway c.args.cause c.args.to c.args.self.now nodes)
       (c.deref-node-items.ensures.value ∙ (c.in_ok-nodes.ensures ∙ ap (λ (h : List HistoryEntry). known_nodes h)
-      (c.deref.ensures.value ∙ (sym (take-append-drop c.self.inside.firm c.self.inside.history.items) ∙ ap (λ (g : Gateway). history_of g.book) c.self.view_is))));
+      (stored c.self.inside c.self.view_is c.deref.ensures.value)));
 }

@@ -1,6 +1,4 @@
 use Rattle.std.proofs.Common.{◌++◌, ◌<◌, ap, sym, subst, ◌∙◌, List}
-use Rattle.std.proofs.lemmas.List.{take-append-drop}
-use Rattle.gateway_book.specs.Value.{history_of}
 use Rattle.gw_base.specs.Starts.{start_of}
 use Rattle.gw_base.specs.declared.history.HistoryEntry.{HistoryEntry}
 use Rattle.once_core.proofs.RedirectLemmas.{redirects_one}
@@ -9,6 +7,7 @@ use Rattle.once_core.specs.HistoryKept.{AllKept}
 use Rattle.once_core.specs.Redirecting.{redirection}
 use Rattle.once_core.specs.declared.message.Message.{Message}
 use Rattle.once_core.proofs.gateway.KeptGateway.redirect_one.Goals as goal
+use Rattle.once_core.proofs.GatewayTurnLemmas.{stored}
 
 pub returns : goal.returns
 returns c =
@@ -16,7 +15,7 @@ returns c =
     ∙ ap (λ (ms : List Message). c.args.sends.now.items ++ ms)
     (redirects_one c.args.gateway c.args.cause c.args.to c.args.self.now c.deref.result.now c.args.node c.in-Some.opening c.node_at.result c.port_at.result c.start.result
     c.from.result c.in_ok-of.field-0
-    (c.deref.ensures.value ∙ (sym (take-append-drop c.self.inside.firm c.self.inside.history.items) ∙ ap (λ (g : Gateway). history_of g.book) c.self.view_is))
+    (stored c.self.inside c.self.view_is c.deref.ensures.value)
     (subst AllKept (sym c.deref.ensures.value) c.self.invariant.entries)
     (sym c.opening.ensures ∙ c.in-Some.is)
     c.node_at.ensures c.port_at.ensures
