@@ -1,5 +1,5 @@
 -- What a message makes of a broken gateway, by what comes of the opening of its journal.
-use Rattle.std.proofs.Common.{◌≡◌, ◌∙◌, refl, sym, ap, subst, ℕ, ◌||◌, Bool, true, false, true≢false, if◌then◌else◌, List, [], ◌∷◌, ◌++◌, Option, Some, None, append-nil}
+use Rattle.std.proofs.Common.{◌≡◌, ◌∙◌, refl, sym, ap, subst, ℕ, ◌||◌, Bool, true, false, true≢false, if◌then◌else◌, List, [], ◌++◌, Option, Some, None, append-nil}
 use Rattle.gateway_book.specs.Answer.{decided, failure_answer}
 use Rattle.gateway_book.specs.Comes.{Asked, AsksCommit, AsksNothing, AsksReopening, asked_to_commit, asked_to_ready}
 use Rattle.gateway_book.specs.Preparing.{prepared_of}
@@ -10,14 +10,12 @@ use Rattle.once_core.specs.Answers.{answer_at, answered, delivered, failed, if_b
 use Rattle.once_core.specs.Expired.{is_expired}
 use Rattle.once_core.specs.Gateway.{Gateway, Moved, committing, followed, giving_up, settling, still}
 use Rattle.once_core.specs.declared.message.Message.{Message}
-use Rattle.replay_world.specs.Taking.{HasMore, IsDelivered, met_by, taking}
+use Rattle.replay_world.specs.Taking.{HasMore, IsDelivered, answer_ending, decided_ending, ending_at, ending_by, met_by, taking}
 use Rattle.replay_world.specs.Device.{asked_by_message, machine_with, sequel_on}
-use Rattle.replay_world.specs.Moves.{GoesAsArmed, HasMoved, came_of, ending_notices, moved_by}
-use Rattle.replay_world.specs.Notices.{Down, Expired}
+use Rattle.replay_world.specs.Moves.{GoesAsArmed, HasMoved, came_of, moved_by}
 use Rattle.replay_world.specs.Setup.{Setup, rules_in}
-use Rattle.replay_world.specs.Stands.{MachineStands}
-use Rattle.replay_world.specs.Telling.{answer_notices, gateway_notices, notices_by, silence_notices}
-use Rattle.replay_world.specs.Value.{Machine}
+use Rattle.replay_world.specs.Standing.{MachineStands}
+use Rattle.replay_world.specs.Machine.{Machine}
 use Rattle.replay_world.specs.declared.machine.Machine as real
 use Rattle.replay_world.specs.declared.machine.Sent.{Sent}
 use Rattle.replay_world.specs.declared.taking.Delivery.{Delivery}
@@ -82,7 +80,7 @@ module _ (setup : Setup) (place : ℕ) (g : Gateway) (m : Machine) (now : ℕ) (
   -- what is told and done where this came
   pub record Comes (s : Sequel) (messages : List Message) (e : Ending) (r : real.Machine) : Type 0 where
     pub moved : HasMoved setup place (moved_by s move m g) (machine_with m s) messages r
-    pub told : (number : ℕ) → ending_notices number e ≡ notices_by (rules_in setup) g m.at_last number message s
+    pub told : e ≡ ending_by (rules_in setup) g m.at_last message s
 
   -- It goes on.
   module _ (f : Fortune) (whole : (reopened g.book f.reopening).is_broken ≡ false)
@@ -143,11 +141,11 @@ module _ (setup : Setup) (place : ℕ) (g : Gateway) (m : Machine) (now : ℕ) (
 
   -- By what came.
 
-  late_told : (number : ℕ) (v : BookValue) → is_expired (history_of v) message ≡ true →
-      answer_notices (rules_in setup) (history_of v) number message ≡ Expired number ∷ []
-  late_told number v is =
-      ap (λ (b : Bool). if b then Expired number ∷ []
-      else silence_notices number (answer_at (rules_in setup) (history_of v) message)) is
+  late_told : (v : BookValue) → is_expired (history_of v) message ≡ true →
+      answer_ending (rules_in setup) (history_of v) message ≡ ending.Expired
+  late_told v is =
+      ap (λ (b : Bool). if b then ending.Expired
+      else decided_ending (answer_at (rules_in setup) (history_of v) message)) is
 
   untaken : (s : Sequel) (e : Ending) (messages : List Message) (mid : real.Machine) →
       met_by (first s).gateway message ≡ Some e →
@@ -165,10 +163,9 @@ module _ (setup : Setup) (place : ℕ) (g : Gateway) (m : Machine) (now : ℕ) (
               stands = has.stands;
               sends = has.sends ∙ sym (append-nil (committing f g).sends);
             });
-        told = λ number.
-            ap (λ (q : Ending). ending_notices number q) is.1
-            ∙ sym (ap (λ (x : List HistoryEntry). answer_notices (rules_in setup) x number message) (history_is f left.0 left.1)
-            ∙ late_told number there.book is.0);
+        told = is.1
+            ∙ sym (ap (λ (x : List HistoryEntry). answer_ending (rules_in setup) x message) (history_is f left.0 left.1)
+            ∙ late_told there.book is.0);
       }
   untaken (Breaks last) e messages mid meets has =
       let f : Fortune = fortune_by m.at_last (Breaks last) in
@@ -186,16 +183,15 @@ module _ (setup : Setup) (place : ℕ) (g : Gateway) (m : Machine) (now : ℕ) (
       record {
         moved = subst (λ (mv : Moved). HasMoved setup place mv (machine_with m (Breaks last)) messages mid) (sym moves)
             (record { stands = has.stands; sends = has.sends ∙ sym (append-nil (committing f g).sends) });
-        told = λ number.
-            ap (λ (q : Ending). ending_notices number q) (sym same)
-            ∙ sym (ap (λ (b : Bool). if b then [] else silence_notices number (decided (failure_answer
+        told = sym same
+            ∙ sym (ap (λ (b : Bool). if b then ending.Quiet else decided_ending (decided (failure_answer
             (prepared_of message.octets)))) breaks);
       }
   untaken (Stops stands) e messages mid meets has =
       let same : ending.Quiet ≡ e = quiet_is e meets in
       record {
         moved = has;
-        told = λ number. ap (λ (q : Ending). ending_notices number q) (sym same);
+        told = sym same;
       }
 
   taken_then : (s : Sequel) (messages : List Message) (delivery : Delivery) (new : real.Machine) →
@@ -223,15 +219,14 @@ module _ (setup : Setup) (place : ℕ) (g : Gateway) (m : Machine) (now : ℕ) (
                 sends = more.messages ∙ ap (λ (ms : List Message). ms ++ more.later.sent.messages.items) sends
                     ∙ ap (λ (ms : List Message). (committing f g).sends ++ ms) done.sends;
               });
-          told = λ number.
-              ap (λ (e : Ending). ending_notices number e) more.ending
-              ∙ more.taken.told lives number
-              ∙ ap (λ (a : Asked). gateway_notices (rules_in setup) there false number message (sequel_on n a)) nothing
-              ∙ ap (λ (b : Bool). if b then Down number ∷ []
-              else answer_notices (rules_in setup) (history_of (readied q there.book)) number message) (h_runs f left.0 left.1)
-              ∙ ap (λ (v : BookValue). answer_notices (rules_in setup) (history_of v) number message)
+          told = more.ending
+              ∙ more.taken.told lives
+              ∙ ap (λ (a : Asked). ending_at (rules_in setup) there false message (sequel_on n a)) nothing
+              ∙ ap (λ (b : Bool). if b then ending.Down
+              else answer_ending (rules_in setup) (history_of (readied q there.book)) message) (h_runs f left.0 left.1)
+              ∙ ap (λ (v : BookValue). answer_ending (rules_in setup) (history_of v) message)
               (is_ready q there.book (h_whole f left.0 left.1) (h_none f left.0 left.1))
-              ∙ ap (λ (x : List HistoryEntry). answer_notices (rules_in setup) x number message)
+              ∙ ap (λ (x : List HistoryEntry). answer_ending (rules_in setup) x message)
               (sym (history_is f left.0 left.1));
         },
         more.came ∙ goes.came,
@@ -267,11 +262,9 @@ module _ (setup : Setup) (place : ℕ) (g : Gateway) (m : Machine) (now : ℕ) (
       record {
         goes = subst (λ (a : Asked). GoesAsArmed setup place a (λ f. delivered (rules_in setup) now f message) g m
             delivery.sent r) (sym asks) (record { moved = comes.moved; came = came });
-        told = λ number.
-            comes.told number
-            ∙ sym (ap (λ (a : Asked). gateway_notices (rules_in setup) g m.at_last number message (sequel_on m a)) asks
-            ∙ ap (λ (b : Bool). if b then Down number ∷ []
-            else notices_by (rules_in setup) g m.at_last number message s) runs);
+        told = comes.told
+            ∙ sym (ap (λ (a : Asked). ending_at (rules_in setup) g m.at_last message (sequel_on m a)) asks
+            ∙ ap (λ (b : Bool). if b then ending.Down else ending_by (rules_in setup) g m.at_last message s) runs);
       }
 
   -- it isn't taken

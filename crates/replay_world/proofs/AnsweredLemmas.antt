@@ -25,15 +25,13 @@ use Rattle.once_core.specs.Messages.{answering}
 use Rattle.once_core.specs.declared.message.Message.{Message}
 use Rattle.once_core.specs.declared.message.Waiting.{Waiting}
 use Rattle.replay_world.specs.Called.{AfterCall, IsCalled, firm_in, moved_after, taken_of}
-use Rattle.replay_world.specs.Taking.{HasAnswered, dropped_as, IsAnswered, IsTaken, taking, waits_then}
+use Rattle.replay_world.specs.Taking.{HasAnswered, IsAnswered, IsTaken, decided_ending, dropped_as, ending_at, ending_by, taking, waits_then}
 use Rattle.replay_world.specs.Device.{entries_kept, is_stop, machine_after, machine_with, sequel_on}
-use Rattle.replay_world.specs.Moves.{GoesAsArmed, HasMoved, came_of, ending_notices, moved_by}
-use Rattle.replay_world.specs.Notices.{Notice, Down, Expired}
+use Rattle.replay_world.specs.Moves.{GoesAsArmed, HasMoved, came_of, moved_by}
 use Rattle.replay_world.specs.Setup.{Setup, files_in, rules_in}
-use Rattle.replay_world.specs.Stands.{MachineStands, SiteStands, header_at}
+use Rattle.replay_world.specs.Standing.{MachineStands, SiteStands, header_at}
 use Rattle.replay_world.specs.Written.{FilesStand}
-use Rattle.replay_world.specs.Telling.{gateway_notices, notices_by, silence_notices}
-use Rattle.replay_world.specs.Value.{Machine, disarmed}
+use Rattle.replay_world.specs.Machine.{Machine, disarmed}
 use Rattle.replay_world.specs.declared.machine.Came.{Came}
 use Rattle.replay_world.specs.declared.machine.Came.TheVariants.{Went, Failed}
 use Rattle.replay_world.specs.declared.machine.Machine as real
@@ -288,9 +286,9 @@ answered_goes setup place g m now message none runs octets act reply called mid 
 
 -- What is told of the message.
 
-abbrev pub told_of : Sequel → ℕ → Decided → List Notice
-told_of (Stops stands) number d = []
-told_of _ number d = silence_notices number d
+abbrev pub told_of : Sequel → Decided → Ending
+told_of (Stops stands) d = ending.Quiet
+told_of _ d = decided_ending d
 
 history_by : (v : BookValue) (full fails : Bool) → v.is_broken ≡ false → fails ≡ false →
     history_of (if full then (if fails then faulted v else committed v) else v) ≡ history_of v
@@ -307,43 +305,42 @@ history_ready f v whole is =
     ap (λ (b : Bool). history_of (if b then reopened v f.reopening else (if is_batch_full v then tried f v else v))) whole
     ∙ history_by v (is_batch_full v) f.fails whole is
 
-module _ (setup : Setup) (place : ℕ) (g : Gateway) (m : Machine) (now number : ℕ) (message : Message)
+module _ (setup : Setup) (place : ℕ) (g : Gateway) (m : Machine) (now : ℕ) (message : Message)
     (runs : g.is_down ≡ false) (whole : g.book.is_broken ≡ false)
     (lives : is_expired (history_of g.book) message ≡ false) where
   told_by : (s : Sequel) → Tells s (readied (fortune_by m.at_last s) g.book) →
-      notices_by (rules_in setup) g m.at_last number message s
-      ≡ told_of s number (decision_at setup message (readied (fortune_by m.at_last s) g.book))
+      ending_by (rules_in setup) g m.at_last message s
+      ≡ told_of s (decision_at setup message (readied (fortune_by m.at_last s) g.book))
   told_by (GoesOn armed) tells =
       let ready : BookValue = readied (fortune_by m.at_last (GoesOn armed)) g.book in
       let same : history_of ready ≡ history_of g.book =
       history_ready (fortune_by m.at_last (GoesOn armed)) g.book whole refl in
-      ap (λ (b : Bool). if b then Expired number ∷ []
-      else silence_notices number (answer_at (rules_in setup) (history_of ready) message))
+      ap (λ (b : Bool). if b then ending.Expired
+      else decided_ending (answer_at (rules_in setup) (history_of ready) message))
       (ap (λ (h : List HistoryEntry). is_expired h message) same ∙ lives)
-      ∙ ap (λ (d : Decided). silence_notices number d) (sym (decides_whole setup place g m now message ready tells))
+      ∙ ap (λ (d : Decided). decided_ending d) (sym (decides_whole setup place g m now message ready tells))
   told_by (Breaks last) tells =
       let ready : BookValue = readied (fortune_by m.at_last (Breaks last)) g.book in
-      ap (λ (b : Bool). if b then [] else silence_notices number (decided (failure_answer (prepared_of message.octets))))
+      ap (λ (b : Bool). if b then ending.Quiet else decided_ending (decided (failure_answer (prepared_of message.octets))))
       whole
-      ∙ ap (λ (d : Decided). silence_notices number d) (sym (decides_broken setup place g m now message ready tells))
+      ∙ ap (λ (d : Decided). decided_ending d) (sym (decides_broken setup place g m now message ready tells))
   told_by (Stops stands) tells = refl
 
   pub told_is : (s : Sequel) → Tells s (readied (fortune_by m.at_last s) g.book) →
-      gateway_notices (rules_in setup) g m.at_last number message s
-      ≡ told_of s number (decision_at setup message (readied (fortune_by m.at_last s) g.book))
+      ending_at (rules_in setup) g m.at_last message s
+      ≡ told_of s (decision_at setup message (readied (fortune_by m.at_last s) g.book))
   told_is s tells =
-      ap (λ (b : Bool). if b then Down number ∷ [] else notices_by (rules_in setup) g m.at_last number message s) runs
+      ap (λ (b : Bool). if b then ending.Down else ending_by (rules_in setup) g m.at_last message s) runs
       ∙ told_by s tells
 
-pub dropped_told : (s : Sequel) (number : ℕ) (why : Why) →
-    ending_notices number (dropped_as (came_of s) why) ≡ told_of s number (Silent why)
-dropped_told (GoesOn armed) number why = refl
-dropped_told _ number why = refl
+pub dropped_told : (s : Sequel) (why : Why) → dropped_as (came_of s) why ≡ told_of s (Silent why)
+dropped_told (GoesOn armed) why = refl
+dropped_told _ why = refl
 
-pub answered_told : (s : Sequel) (number : ℕ) (octets : List ℕ) (act : Option HistoryAct) →
-    ending_notices number ending.Quiet ≡ told_of s number (Says octets act)
-answered_told (GoesOn armed) number octets act = refl
-answered_told _ number octets act = refl
+pub answered_told : (s : Sequel) (octets : List ℕ) (act : Option HistoryAct) →
+    ending.Quiet ≡ told_of s (Says octets act)
+answered_told (GoesOn armed) octets act = refl
+answered_told _ octets act = refl
 
 tells_ready : (s : Sequel) (ready : BookValue) (now : ℕ) (act : Option HistoryAct) →
     Tells s (recorded_if ready now no_caller act) → Tells s ready
@@ -383,11 +380,11 @@ module _ (setup : Setup) (place : ℕ) (g : Gateway) (m : Machine) (now : ℕ) (
             (goes_as_armed setup place g m (asked_to_ready g.book) (taking (rules_in setup) now message) left.value called sent
             mid is_called (λ goes. dropped_is setup now message (fortune_by m.at_last sequel) g why none silent_is
             ∙ ap (λ (v : BookValue). with_book v g) (sym value_is)) after_it);
-        told = λ lives number.
-            ap (λ (e : Ending). ending_notices number e) (ends ∙ ap (λ (c : Came). dropped_as c why) after_it.came)
-            ∙ dropped_told sequel number why
-            ∙ ap (λ (d : Decided). told_of sequel number d) (sym silent_is)
-            ∙ sym (told_is setup place g m now number message runs whole lives sequel tells);
+        told = λ lives.
+            ends ∙ ap (λ (c : Came). dropped_as c why) after_it.came
+            ∙ dropped_told sequel why
+            ∙ ap (λ (d : Decided). told_of sequel d) (sym silent_is)
+            ∙ sym (told_is setup place g m now message runs whole lives sequel tells);
       }
 
   -- it was added
@@ -414,9 +411,9 @@ module _ (setup : Setup) (place : ℕ) (g : Gateway) (m : Machine) (now : ℕ) (
       record {
         goes = answered_goes setup place g m now message none runs says.octets says.act says.is called mid new sent delivery
             called_there after_there answered_there;
-        told = λ lives number.
-            ap (λ (e : Ending). ending_notices number e) answered.quiet
-            ∙ answered_told sequel number says.octets says.act
-            ∙ ap (λ (d : Decided). told_of sequel number d) (sym says.is)
-            ∙ sym (told_is setup place g m now number message runs whole lives sequel tells);
+        told = λ lives.
+            answered.quiet
+            ∙ answered_told sequel says.octets says.act
+            ∙ ap (λ (d : Decided). told_of sequel d) (sym says.is)
+            ∙ sym (told_is setup place g m now message runs whole lives sequel tells);
       }

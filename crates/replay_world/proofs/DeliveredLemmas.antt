@@ -1,5 +1,5 @@
 -- What a message makes of a gateway that it comes to, by whether the gateway is down, or the message is expired.
-use Rattle.std.proofs.Common.{◌≡◌, ◌∙◌, refl, sym, ap, subst, ℕ, ◌&&◌, Bool, true, false, not, if◌then◌else◌, [], ◌∷◌}
+use Rattle.std.proofs.Common.{◌≡◌, ◌∙◌, refl, sym, ap, subst, ℕ, ◌&&◌, Bool, true, false, not, if◌then◌else◌, []}
 use Rattle.gateway_book.specs.Comes.{Asked, AsksNothing, asked_to_ready}
 use Rattle.gateway_book.specs.Up.{Sequel, GoesOn, Breaks, Stops, fortune_by}
 use Rattle.gateway_book.specs.Value.{Fortune, history_of, readied}
@@ -7,14 +7,12 @@ use Rattle.once_core.specs.Answers.{answer_at, delivered, delivered_broken, deli
 use Rattle.once_core.specs.Expired.{is_expired}
 use Rattle.once_core.specs.Gateway.{Gateway, Moved, still}
 use Rattle.once_core.specs.declared.message.Message.{Message}
-use Rattle.replay_world.specs.Taking.{IsDelivered, IsTaken, taking}
+use Rattle.replay_world.specs.Taking.{IsDelivered, IsTaken, decided_ending, ending_at, ending_by, taking}
 use Rattle.replay_world.specs.Device.{asked_by_message, machine_after, sequel_on}
-use Rattle.replay_world.specs.Moves.{GoesAsArmed, HasMoved, ending_notices, moved_by}
-use Rattle.replay_world.specs.Notices.{Down, Expired}
+use Rattle.replay_world.specs.Moves.{GoesAsArmed, HasMoved, moved_by}
 use Rattle.replay_world.specs.Setup.{Setup, rules_in}
-use Rattle.replay_world.specs.Stands.{MachineStands}
-use Rattle.replay_world.specs.Telling.{gateway_notices, notices_by, silence_notices}
-use Rattle.replay_world.specs.Value.{Machine}
+use Rattle.replay_world.specs.Standing.{MachineStands}
+use Rattle.replay_world.specs.Machine.{Machine}
 use Rattle.replay_world.specs.declared.machine.Came.TheVariants.{Went}
 use Rattle.replay_world.specs.declared.machine.Machine as real
 use Rattle.replay_world.specs.declared.machine.Sent.{Sent}
@@ -59,10 +57,9 @@ module _ (setup : Setup) (place : ℕ) (g : Gateway) (m : Machine) (now : ℕ) (
         (λ f. ap (λ (b : Bool). if b then still g
         else if_broken (delivered_broken (rules_in setup) now f message) (delivered_running (rules_in setup) now f message) g)
         down) none went;
-    told = λ number.
-        ap (λ (e : _). ending_notices number e) ends
-        ∙ sym (ap (λ (b : Bool). if b then Down number ∷ []
-        else notices_by (rules_in setup) g m.at_last number message (sequel_on m asked)) down);
+    told = ends
+        ∙ sym (ap (λ (b : Bool). if b then ending.Down
+        else ending_by (rules_in setup) g m.at_last message (sequel_on m asked)) down);
   }
 
   -- It runs, and isn't broken.
@@ -97,13 +94,12 @@ module _ (setup : Setup) (place : ℕ) (g : Gateway) (m : Machine) (now : ℕ) (
           goes = untouched r delivery.sent stands nothing
               (λ f. moved_running f ∙ ap (λ (b : Bool). if b then still g else taking (rules_in setup) now message f g) late)
               none went;
-          told = λ number.
-              ap (λ (e : _). ending_notices number e) ends
-              ∙ sym (ap (λ (a : Asked). gateway_notices (rules_in setup) g m.at_last number message (sequel_on m a)) nothing
-              ∙ ap (λ (b : Bool). if b then Down number ∷ []
-              else notices_by (rules_in setup) g m.at_last number message (GoesOn m.armed)) runs
-              ∙ ap (λ (b : Bool). if b then Expired number ∷ []
-              else silence_notices number (answer_at (rules_in setup) (history_of (readied f g.book)) message))
+          told = ends
+              ∙ sym (ap (λ (a : Asked). ending_at (rules_in setup) g m.at_last message (sequel_on m a)) nothing
+              ∙ ap (λ (b : Bool). if b then ending.Down
+              else ending_by (rules_in setup) g m.at_last message (GoesOn m.armed)) runs
+              ∙ ap (λ (b : Bool). if b then ending.Expired
+              else decided_ending (answer_at (rules_in setup) (history_of (readied f g.book)) message))
               (ap (λ (h : _). is_expired h message) same ∙ late));
         }
 
@@ -125,6 +121,6 @@ module _ (setup : Setup) (place : ℕ) (g : Gateway) (m : Machine) (now : ℕ) (
                     delivery.sent.messages.items r) same taken.goes.moved;
                 came = taken.goes.came;
               });
-          told = λ number. taken.told lives number
-              ∙ sym (ap (λ (a : Asked). gateway_notices (rules_in setup) g m.at_last number message (sequel_on m a)) asked_is);
+          told = taken.told lives
+              ∙ sym (ap (λ (a : Asked). ending_at (rules_in setup) g m.at_last message (sequel_on m a)) asked_is);
         }

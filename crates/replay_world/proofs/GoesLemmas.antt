@@ -1,5 +1,5 @@
 -- A gateway goes as what is armed for its area says.
-use Rattle.std.proofs.Common.{◌≡◌, ◌∙◌, refl, sym, ap, subst, ℕ, Bool, true, false, not, ◌||◌, ◌&&◌, cond, if◌then◌else◌, List, [], ◌∷◌, ◌++◌, All, map, filter, Option, Some, None, Result, Ok, Err, IfOk, OnOk}
+use Rattle.std.proofs.Common.{◌≡◌, ◌∙◌, refl, sym, ap, subst, ℕ, Bool, true, false, not, ◌||◌, ◌&&◌, cond, if◌then◌else◌, List, [], ◌∷◌, ◌++◌, All, map, filter, Option, Some, None}
 use Rattle.std.proofs.lemmas.List.{append-nil}
 use Rattle.std.proofs.lemmas.List.Elements.{recursion_from_All}
 use Rattle.std.specs.List.{AllByRecursion}
@@ -22,8 +22,8 @@ use Rattle.replay_world.specs.Called.{AfterCall, IsCalled, SiteIsCalled, moved_a
 use Rattle.replay_world.specs.Device.{is_stop, machine_after, machine_with, sequel_on}
 use Rattle.replay_world.specs.Moves.{GoesAsArmed, HasMoved, moved_by}
 use Rattle.replay_world.specs.Setup.{Setup, rules_in}
-use Rattle.replay_world.specs.Stands.{MachineStands, SiteStands}
-use Rattle.replay_world.specs.Value.{Machine}
+use Rattle.replay_world.specs.Standing.{MachineStands, SiteStands}
+use Rattle.replay_world.specs.Machine.{Machine}
 use Rattle.replay_world.specs.declared.machine.Machine as real
 use Rattle.replay_world.specs.declared.machine.Sent.{Sent}
 use Rattle.replay_world.specs.declared.site.Site.{Site}
@@ -267,17 +267,3 @@ module _ (setup : Setup) (place : ℕ) where
             (machine_is asked m v g sent.messages.items new tells after_it.moved);
         came = after_it.came;
       }
-
--- what follows from what was answered
-pub ok_on : {T E : Type 0} {P : T → Type 0} {Q : Type 0} (result : Result T E) → ((x : T) → P x → Q) → IfOk result P →
-    OnOk result Q
-ok_on (Ok x) implies holds = implies x holds
-ok_on (Err e) implies holds = tt
-
-pub if_ok : {T E : Type 0} {P Q : T → Type 0} (result : Result T E) → ((x : T) → P x → Q x) → IfOk result P → IfOk result Q
-if_ok (Ok x) implies holds = implies x holds
-if_ok (Err e) implies holds = holds
-
-pub on_ok : {T E : Type 0} {P Q : Type 0} (result : Result T E) → (P → Q) → OnOk result P → OnOk result Q
-on_ok (Ok x) implies holds = implies holds
-on_ok (Err e) implies holds = holds

@@ -3,8 +3,9 @@ mod AgainLemmas
 mod AllLemmas
 mod AnsweredLemmas
 mod AreaLemmas
-mod AskingLemmas
 mod ArrivalLemmas
+mod AskedLemmas
+mod AskingLemmas
 mod BeginningLemmas
 mod BookLemmas
 mod CallLemmas
@@ -40,6 +41,7 @@ mod PieceLemmas
 mod PrintedLemmas
 mod QuietLemmas
 mod RangeLemmas
+mod ReadLemmas
 mod ReadableLemmas
 mod ReasonLemmas
 mod RedirectLemmas
@@ -47,6 +49,7 @@ mod RefusalLemmas
 mod ReopenedLemmas
 mod ReportLemmas
 mod ReportedLemmas
+mod RestLemmas
 mod RunLemmas
 mod SentLemmas
 mod SetLemmas

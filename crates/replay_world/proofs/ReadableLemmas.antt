@@ -1,5 +1,5 @@
--- What gateways filed is read, where a script says how.
-use Rattle.std.proofs.Common.{◌≡◌, ◌∙◌, refl, ap, subst, ℕ, zero, suc, ◌+◌, ◌<◌, ◌≤◌, List, [], ◌∷◌, ◌++◌, length, map, All, Contains, Option, Some, None, option_and_then, codes, slice_get, Ok, arith}
+-- What a gateway at rest filed is read, where a script says its settings.
+use Rattle.std.proofs.Common.{◌≡◌, refl, subst, ℕ, zero, suc, ◌<◌, ◌≤◌, List, [], ◌∷◌, ◌++◌, length, map, All, Contains, Option, Some, None, option_and_then, codes, slice_get, Ok, arith}
 use Rattle.std.proofs.lemmas.List.{length-map}
 use Rattle.std.proofs.lemmas.List.Elements.{All-append, All-cons, All-head, All-nil, All-tail}
 use Rattle.std.specs.Option.{option_map_or}
@@ -23,7 +23,6 @@ use Rattle.gw_base.specs.declared.tag.Tag.{Tag}
 use Rattle.jiff_core.specs.Calendar.{IsWithin}
 use Rattle.once_core.specs.FilePlaces.{placed}
 use Rattle.once_core.specs.Gateway.{Gateway}
-use Rattle.once_core.specs.Once.{firm_in}
 use Rattle.once_core.specs.Readable.{AreFileSettings}
 use Rattle.route_filter.specs.Rules.{any_or, format_in, last_stream, rule_by, rule_of, rule_said, tag_in}
 use Rattle.route_filter.specs.Words.{number_up_to, words_of}
@@ -32,16 +31,11 @@ use Rattle.world_script.specs.Script.{script_in}
 use Rattle.world_script.specs.declared.kind.ScriptKind.{ScriptKind}
 use Rattle.world_script.specs.declared.line.Line.{Line}
 use Rattle.world_script.specs.declared.line.Line.TheVariants as line
-use Rattle.replay_world.specs.Lines.{line_after}
-use Rattle.replay_world.specs.Report.{lines_after}
+use Rattle.replay_world.specs.AtRest.{AreShut, IsAtRest, IsRead}
 use Rattle.replay_world.specs.Settings.{IsInRange}
-use Rattle.replay_world.specs.Settled.{AreRead, AreShut, EachAtRest, HasPlayedOut, IsAtRest}
 use Rattle.replay_world.specs.Setup.{Setup, after_setting, after_settings, default_setup, files_in, rules_said, setup_of}
-use Rattle.replay_world.specs.Stands.{area_tells, header_at}
-use Rattle.replay_world.specs.Value.{ReplayValue}
+use Rattle.replay_world.specs.Standing.{area_tells, header_at}
 use Rattle.replay_world.specs.Written.{shelf_tells}
-use Rattle.replay_world.specs.declared.replay.Played.{Played}
-use Rattle.replay_world.proofs.LineLemmas.{line_setup}
 use Rattle.replay_world.proofs.RangeLemmas.{lines_in_range, number_within, pos_within, then_some, where_some}
 
 -- ---- what scripts set
@@ -85,7 +79,7 @@ rules_low text = by (rule_of text) refl
     by (Some rule) is = All-cons IsLow rule [] (low_of text rule is) (All-nil IsLow)
 
 -- areas aren't too long, and files are such as are read
-pub record IsReadable (s : Setup) : Type 0 where
+record IsReadable (s : Setup) : Type 0 where
   pub size : s.size ≤ most_octets
   pub limits : AreLimits s.limits
   pub offset : IsWithin 959 s.offset
@@ -146,13 +140,9 @@ after_all s (said ∷ lines) is range =
     after_all (after_setting s said) lines (after_one s said is (All-head IsInRange said lines range))
     (All-tail IsInRange said lines range)
 
-pub script_readable : (of : ScriptKind) (text : List ℕ) (lines : List Line) → script_in of text ≡ Ok lines →
+script_readable : (of : ScriptKind) (text : List ℕ) (lines : List Line) → script_in of text ≡ Ok lines →
     IsReadable (setup_of lines)
 script_readable of text lines h = after_all default_setup lines by_default (lines_in_range of text lines h).each
-
-pub lines_setup : (v : ReplayValue) (lines : List Line) → (lines_after v lines).setup ≡ v.setup
-lines_setup v [] = refl
-lines_setup v (said ∷ later) = lines_setup (line_after v said) later ∙ line_setup v said
 
 -- ---- files that are closed
 
@@ -185,42 +175,6 @@ closed_there settings items place filed shut there =
           length-map closed (λ (c : ClosedRun (List ℕ)). c.run),
         )
 
--- ---- gateways at rest
-
-record RestsThere (setup : Setup) (gs : List Gateway) (place k : ℕ) (shelf : MemoryShelf) : Type 0 where
-  gateway : Gateway
-  area : MemoryArea
-  has : slice_get gs k ≡ Some gateway
-  rests : IsAtRest setup place gateway area shelf
-
-rests_there : (setup : Setup) (place : ℕ) (gs : List Gateway) (areas : List MemoryArea) (shelves : List MemoryShelf)
-    (k : ℕ) (shelf : MemoryShelf) → EachAtRest setup place gs areas shelves → slice_get shelves k ≡ Some shelf →
-    RestsThere setup gs (place + k) k shelf
-rests_there setup place [] [] [] k shelf each has = absurd (cc)
-rests_there setup place (g ∷ gs) (a ∷ areas) (s ∷ shelves) zero shelf each has =
-    let same : s ≡ shelf = cc in
-    let here : place ≡ place + 0 = omega arith in
-    record {
-      gateway = g;
-      area = a;
-      has = refl;
-      rests = subst (λ (p : ℕ). IsAtRest setup p g a shelf) here
-          (subst (λ (t : MemoryShelf). IsAtRest setup place g a t) same each.0);
-    }
-rests_there setup place (g ∷ gs) (a ∷ areas) (s ∷ shelves) (suc k) shelf each has =
-    let later = rests_there setup (suc place) gs areas shelves k shelf each.1 has in
-    let here : suc place + k ≡ place + suc k = omega arith in
-    record {
-      gateway = later.gateway;
-      area = later.area;
-      has = later.has;
-      rests = subst (λ (p : ℕ). IsAtRest setup p later.gateway later.area shelf) here later.rests;
-    }
-rests_there setup place [] [] (s ∷ shelves) k shelf each has = absurd each
-rests_there setup place [] (a ∷ areas) shelves k shelf each has = absurd each
-rests_there setup place (g ∷ gs) [] shelves k shelf each has = absurd each
-rests_there setup place (g ∷ gs) (a ∷ areas) [] k shelf each has = absurd each
-
 -- ---- what is read
 
 abbrev pub Reads : Type 0
@@ -248,13 +202,8 @@ read_of reads stand setup place g a shelf sound rests at filing is =
     (record { limits = sound.limits; offset = sound.offset; streams = sound.streams }) rests.area (omega (arith, size, short))
     rests.files (closed_there settings (items_of g.book.firm) at filed rests.shut (stand settings g.book.firm at filing is)) is
 
-pub all_read : Reads → StandThere → (v : ReplayValue) (played : Played) → IsReadable v.setup → HasPlayedOut v played →
-    AreRead (files_in v.setup) v.world played.shelves.items
-all_read reads stand v played sound out gateway shelf place filing has is =
-    let there = rests_there v.setup 0 v.world.gateways played.areas.items played.shelves.items gateway shelf out.gateways has in
-    let firm : firm_in v.world gateway ≡ there.gateway.book.firm =
-    ap (λ (o : Option Gateway). option_map_or (λ (g : Gateway). g.book.firm) o []) there.has in
-    let here : 0 + gateway ≡ gateway = omega arith in
-    read_of reads stand v.setup gateway there.gateway there.area shelf sound
-    (subst (λ (p : ℕ). IsAtRest v.setup p there.gateway there.area shelf) here there.rests) place filing
-    (subst (λ (h : List HistoryEntry). Contains (placed (files_in v.setup gateway) h) (place, filing)) firm is)
+pub rest_read : Reads → StandThere → (of : ScriptKind) (text : List ℕ) (lines : List Line) (place : ℕ) (g : Gateway)
+    (a : MemoryArea) (shelf : MemoryShelf) → script_in of text ≡ Ok lines → IsAtRest (setup_of lines) place g a shelf →
+    IsRead (files_in (setup_of lines) place) g.book.firm shelf
+rest_read reads stand of text lines place g a shelf h rests at filing is =
+    read_of reads stand (setup_of lines) place g a shelf (script_readable of text lines h) rests at filing is

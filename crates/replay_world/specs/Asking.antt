@@ -1,4 +1,4 @@
--- What a line asks of a gateway's book: the event that it is, what the area is asked for it, and what comes of it.
+-- What is asked of a gateway's book: what the area is asked for it, and what comes of it.
 use Rattle.std.specs.Prelude.{ℕ}
 use Rattle.gateway_book.specs.Answered.{no_caller}
 use Rattle.gateway_book.specs.Calls.{closed}
@@ -6,18 +6,10 @@ use Rattle.gateway_book.specs.Comes.{Asked, asked_to_commit, asked_to_ready}
 use Rattle.gateway_book.specs.Value.{BookValue, Fortune, after_commit}
 use Rattle.once_core.specs.Answers.{making_close, making_tick, marked}
 use Rattle.once_core.specs.Gateway.{Gateway, Moved, committing}
-use Rattle.once_core.specs.declared.event.Event.{Event}
-use Rattle.once_core.specs.declared.event.Event.TheVariants as event
 use Rattle.replay_world.specs.Called.{tick_left}
 use Rattle.replay_world.specs.Setup.{Setup, rules_in}
 use Rattle.replay_world.specs.declared.calls.GatewayCall.{GatewayCall}
 use Rattle.replay_world.specs.declared.calls.GatewayCall.TheVariants as call
-
--- at the gateway with this number
-abbrev pub event_asked : GatewayCall → ℕ → Event
-event_asked call.Commit gateway = event.Commit gateway
-event_asked call.Mark gateway = event.Mark gateway
-event_asked call.Close gateway = event.Close gateway
 
 abbrev pub asked_by : GatewayCall → BookValue → Asked
 asked_by call.Commit v = asked_to_commit v

@@ -23,8 +23,8 @@ use Rattle.once_core.specs.declared.message.Message.{Message}
 use Rattle.replay_world.specs.Device.{entries_kept, is_stop, machine_with}
 use Rattle.replay_world.specs.Moves.{HasMoved, came_of}
 use Rattle.replay_world.specs.Setup.{Setup, files_in}
-use Rattle.replay_world.specs.Stands.{area_tells, header_at}
-use Rattle.replay_world.specs.Value.{Machine}
+use Rattle.replay_world.specs.Standing.{area_tells, header_at}
+use Rattle.replay_world.specs.Machine.{Machine}
 use Rattle.replay_world.specs.Written.{FilesStand}
 use Rattle.replay_world.specs.declared.machine.Machine as real
 use Rattle.replay_world.specs.declared.machine.Sent.{Sent}

@@ -7,7 +7,7 @@ use Rattle.file_writer.specs.Calls.{Call, calls_of, seals}
 use Rattle.file_writer.specs.Making.{done_at}
 use Rattle.file_writer.specs.Streams.{Settings, closed_of}
 use Rattle.gw_base.specs.declared.item.Item.{Item}
-use Rattle.replay_world.specs.Value.{Filing, resting}
+use Rattle.replay_world.specs.Machine.{Filing, resting}
 
 -- What it asks.
 

@@ -21,7 +21,8 @@ use Rattle.replay_world.specs.Notices.{Notice, Refused, ShelfFaulted, Stopped, d
 use Rattle.replay_world.specs.Packets.{drafted}
 use Rattle.replay_world.specs.Steps.{Step, Plays, Loses, Arms, ArmsShelf, Disarms, Writes, Tells, after_step, ends_line, items_firm, step_turns}
 use Rattle.replay_world.specs.Telling.{step_notices}
-use Rattle.replay_world.specs.Value.{Machine, ReplayValue}
+use Rattle.replay_world.specs.Machine.{Machine}
+use Rattle.replay_world.specs.Value.{ReplayValue}
 use Rattle.world_script.specs.Sample.{seeded}
 use Rattle.world_script.specs.declared.line.Line.{Line}
 use Rattle.world_script.specs.declared.line.Line.TheVariants as line

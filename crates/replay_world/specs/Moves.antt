@@ -1,21 +1,18 @@
 -- What a call makes of a gateway by what is armed for its area, and what is seen of that.
-use Rattle.std.specs.Prelude.{◌≡◌, ℕ, List, [], ◌∷◌}
+use Rattle.std.specs.Prelude.{◌≡◌, ℕ, List}
 use Rattle.gateway_book.specs.Comes.{Asked}
 use Rattle.gateway_book.specs.Up.{Sequel, GoesOn, Breaks, Stops, fortune_by}
 use Rattle.gateway_book.specs.Value.{Fortune}
 use Rattle.once_core.specs.Gateway.{Gateway, Moved, cut, still}
 use Rattle.once_core.specs.declared.message.Message.{Message}
 use Rattle.replay_world.specs.Device.{entries_kept, machine_after, sequel_on}
-use Rattle.replay_world.specs.Notices.{Notice, Expired, Down, Dropped}
 use Rattle.replay_world.specs.Setup.{Setup}
-use Rattle.replay_world.specs.Stands.{MachineStands}
-use Rattle.replay_world.specs.Value.{Machine}
+use Rattle.replay_world.specs.Standing.{MachineStands}
+use Rattle.replay_world.specs.Machine.{Machine}
 use Rattle.replay_world.specs.declared.machine.Came.{Came}
 use Rattle.replay_world.specs.declared.machine.Came.TheVariants.{Went, Failed, Stopped}
 use Rattle.replay_world.specs.declared.machine.Machine as real
 use Rattle.replay_world.specs.declared.machine.Sent.{Sent}
-use Rattle.replay_world.specs.declared.taking.Ending.{Ending}
-use Rattle.replay_world.specs.declared.taking.Ending.TheVariants as ending
 
 -- what is seen of what came
 abbrev pub came_of : Sequel → Came
@@ -28,13 +25,6 @@ abbrev pub moved_by : Sequel → (Fortune → Gateway → Moved) → Machine →
 moved_by (GoesOn armed) move m g = move (fortune_by m.at_last (GoesOn armed)) g
 moved_by (Breaks last) move m g = move (fortune_by m.at_last (Breaks last)) g
 moved_by (Stops stands) move m g = still (cut (entries_kept stands g) g)
-
--- what is told of a message that came to a gateway
-abbrev pub ending_notices : ℕ → Ending → List Notice
-ending_notices number ending.Quiet = []
-ending_notices number ending.Down = Down number ∷ []
-ending_notices number ending.Expired = Expired number ∷ []
-ending_notices number (ending.Dropped why) = Dropped number why ∷ []
 
 module _ (setup : Setup) (place : ℕ) where
   -- A gateway stands for what a move made of it, and sent these messages.

@@ -7,8 +7,8 @@ use Rattle.area_disk.specs.declared.plan.Plan.{Plan}
 use Rattle.gateway_book.specs.Value.{opened}
 use Rattle.once_core.specs.Gateway.{Gateway, opened as reopened}
 use Rattle.replay_world.specs.Setup.{Setup, rules_in}
-use Rattle.replay_world.specs.Stands.{StandsUp}
-use Rattle.replay_world.specs.Value.{first_machine}
+use Rattle.replay_world.specs.Standing.{StandsUp}
+use Rattle.replay_world.specs.Machine.{first_machine}
 use Rattle.replay_world.specs.declared.machine.Machine as real
 use Rattle.replay_world.specs.declared.site.Site.{Site}
 use Rattle.replay_world.specs.declared.site.Site.TheVariants as site

@@ -1,9 +1,13 @@
 -- A gateway that takes a message, or doesn't, and what is told of that.
-use Rattle.std.specs.Prelude.{◌≡◌, ℕ, ◌++◌, false, not, nat_le, if◌then◌else◌, List, [], ◌∷◌, map, filter, Option, Some, None}
+use Rattle.std.specs.Prelude.{◌≡◌, ℕ, ◌++◌, Bool, false, not, nat_le, if◌then◌else◌, List, [], ◌∷◌, map, filter, Option, Some, None}
+use Rattle.gateway_book.specs.Answer.{Decided, Says, Silent, decided, failure_answer}
 use Rattle.gateway_book.specs.Comes.{asked_to_ready}
-use Rattle.gateway_book.specs.Value.{Fortune, history_of}
+use Rattle.gateway_book.specs.Preparing.{prepared_of}
+use Rattle.gateway_book.specs.Up.{Sequel, GoesOn, Breaks, Stops, fortune_by}
+use Rattle.gateway_book.specs.Value.{Fortune, history_of, readied}
 use Rattle.gtpp_message.specs.declared.reading.Why.{Why}
-use Rattle.once_core.specs.Answers.{answered, delivered, failed, if_broken}
+use Rattle.gw_base.specs.declared.history.HistoryEntry.{HistoryEntry}
+use Rattle.once_core.specs.Answers.{answer_at, answered, delivered, failed, if_broken}
 use Rattle.once_core.specs.Expired.{is_expired}
 use Rattle.once_core.specs.Gateway.{Gateway, Moved, Rules, followed, readying}
 use Rattle.once_core.specs.Messages.{answering}
@@ -11,10 +15,9 @@ use Rattle.once_core.specs.declared.message.Message.{Message}
 use Rattle.once_core.specs.declared.message.Waiting.{Waiting}
 use Rattle.replay_world.specs.Called.{firm_in}
 use Rattle.replay_world.specs.Device.{asked_by_message, sequel_on}
-use Rattle.replay_world.specs.Moves.{GoesAsArmed, ending_notices}
+use Rattle.replay_world.specs.Machine.{Machine}
+use Rattle.replay_world.specs.Moves.{GoesAsArmed}
 use Rattle.replay_world.specs.Setup.{Setup, rules_in}
-use Rattle.replay_world.specs.Telling.{gateway_notices}
-use Rattle.replay_world.specs.Value.{Machine}
 use Rattle.replay_world.specs.declared.machine.Came.{Came}
 use Rattle.replay_world.specs.declared.machine.Came.TheVariants.{Went, Failed, Stopped}
 use Rattle.replay_world.specs.declared.machine.Machine as real
@@ -23,7 +26,37 @@ use Rattle.replay_world.specs.declared.taking.Delivery.{Delivery}
 use Rattle.replay_world.specs.declared.taking.Ending.{Ending}
 use Rattle.replay_world.specs.declared.taking.Ending.TheVariants as ending
 
--- what a gateway does with a message that isn't expired, where its journal isn't broken
+-- What is told of a message that comes: that the gateway is down, that the message is expired, that it was dropped, or
+-- nothing.
+
+abbrev pub decided_ending : Decided → Ending
+decided_ending (Silent why) = ending.Dropped why
+decided_ending (Says octets act) = ending.Quiet
+
+abbrev pub answer_ending : Rules → List HistoryEntry → Message → Ending
+answer_ending rules h message =
+    if is_expired h message then ending.Expired else decided_ending (answer_at rules h message)
+
+-- of a gateway that broke in the delivery; of one that was broken already nothing more
+abbrev pub failure_ending : Gateway → Message → Ending
+failure_ending g message =
+    if g.book.is_broken then ending.Quiet
+    else decided_ending (decided (failure_answer (prepared_of message.octets)))
+
+abbrev pub ending_by : Rules → Gateway → Bool → Message → Sequel → Ending
+ending_by rules g at_last message (GoesOn armed) =
+    answer_ending rules (history_of (readied (fortune_by at_last (GoesOn armed)) g.book)) message
+ending_by rules g at_last message (Breaks last) = failure_ending g message
+ending_by rules g at_last message (Stops stands) = ending.Quiet
+
+-- the gateway is down, or its area was asked, of which this came
+abbrev pub ending_at : Rules → Gateway → Bool → Message → Sequel → Ending
+ending_at rules g at_last message sequel =
+    if g.is_down then ending.Down else ending_by rules g at_last message sequel
+
+-- What a gateway does.
+
+-- with a message that isn't expired, where its journal isn't broken
 abbrev pub taking : Rules → ℕ → Message → Fortune → Gateway → Moved
 taking rules now message f g = followed (readying rules f g) (if_broken (failed message) (answered rules now message))
 
@@ -31,8 +64,8 @@ module _ (setup : Setup) (place : ℕ) (g : Gateway) (m : Machine) where
   -- The gateway isn't broken and took a message at this moment.
   pub record IsTaken (now : ℕ) (message : Message) (delivery : Delivery) (r : real.Machine) : Type 0 where
     pub goes : GoesAsArmed setup place (asked_to_ready g.book) (taking (rules_in setup) now message) g m delivery.sent r
-    pub told : is_expired (history_of g.book) message ≡ false → (number : ℕ) → ending_notices number delivery.ending
-        ≡ gateway_notices (rules_in setup) g m.at_last number message (sequel_on m (asked_to_ready g.book))
+    pub told : is_expired (history_of g.book) message ≡ false → delivery.ending
+        ≡ ending_at (rules_in setup) g m.at_last message (sequel_on m (asked_to_ready g.book))
 
   -- The same behind messages that were sent before.
   pub record HasMore (now : ℕ) (message : Message) (first : List Message) (delivery : Delivery) (r : real.Machine)
@@ -47,8 +80,8 @@ module _ (setup : Setup) (place : ℕ) (g : Gateway) (m : Machine) where
   pub record IsDelivered (now : ℕ) (message : Message) (delivery : Delivery) (r : real.Machine) : Type 0 where
     pub goes : GoesAsArmed setup place (asked_by_message g message)
         (λ f. delivered (rules_in setup) now f message) g m delivery.sent r
-    pub told : (number : ℕ) → ending_notices number delivery.ending
-        ≡ gateway_notices (rules_in setup) g m.at_last number message (sequel_on m (asked_by_message g message))
+    pub told : delivery.ending
+        ≡ ending_at (rules_in setup) g m.at_last message (sequel_on m (asked_by_message g message))
 
 -- what is told of a message that a gateway doesn't take which has opened its journal again: one that is down or broken
 -- then tells nothing

@@ -7,8 +7,8 @@ use Rattle.gw_base.specs.History.{copies_of}
 use Rattle.gw_base.specs.declared.item.Item.{Item}
 use Rattle.gw_base.specs.declared.item.Item.TheVariants as item
 use Rattle.once_core.specs.Gateway.{Gateway}
-use Rattle.replay_world.specs.Report.{book_of}
-use Rattle.replay_world.specs.declared.report.Tally.{Tally}
+use Rattle.replay_world.specs.GatewayReport.{book_of}
+use Rattle.replay_world.specs.declared.gateway_report.Tally.{Tally}
 
 -- whether an item is a filed record
 abbrev pub is_part : Item → Bool

@@ -15,7 +15,7 @@ use Rattle.file_writer.specs.declared.fault.ShelfFault.TheVariants.{Device}
 use Rattle.file_writer.specs.declared.writer.Writer.{Writer}
 use Rattle.gw_base.specs.declared.item.Item.{Item}
 use Rattle.replay_world.specs.Filing.{filing_then, shelf_came}
-use Rattle.replay_world.specs.Value.{Filing, resting}
+use Rattle.replay_world.specs.Machine.{Filing, resting}
 use Rattle.replay_world.specs.declared.files.Files.{Files}
 use Rattle.replay_world.specs.declared.files.Wrote.{Wrote}
 use Rattle.replay_world.specs.declared.files.Wrote.TheVariants as wrote

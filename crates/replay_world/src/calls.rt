@@ -14,8 +14,8 @@ ghost use Rattle.replay_world.specs.Called.{AfterCall, BookStands, IsCalled, Sit
 ghost use Rattle.replay_world.specs.Device.{sequel_on};
 ghost use Rattle.replay_world.specs.Moves.{GoesAsArmed, came_of};
 ghost use Rattle.replay_world.specs.Setup.{Setup};
-ghost use Rattle.replay_world.specs.Stands.{MachineStands, StandsUp};
-ghost use Rattle.replay_world.specs.Value.{Filing, Machine as MachineValue, ended};
+ghost use Rattle.replay_world.specs.Standing.{MachineStands, StandsUp};
+ghost use Rattle.replay_world.specs.Machine.{Filing, Machine as MachineValue, ended};
 ghost use Rattle.replay_world.specs.Written.{FilesStand};
 
 use crate::machine::{Came, Machine, Sent};
@@ -30,9 +30,9 @@ use once_core::{Message, Waiting, parted};
 use std::alloc::Global;
 use std::mem;
 
-/// What a line asks of a gateway's book.
+/// What is asked of a gateway's book.
 #[derive(Clone, Copy)]
-pub(crate) enum GatewayCall {
+pub enum GatewayCall {
     /// To make its history firm, or to open the journal of a broken gateway again.
     Commit,
     /// To make a Tick, where one is due.
@@ -42,7 +42,9 @@ pub(crate) enum GatewayCall {
 }
 
 impl Machine {
-    /// Its book is asked for this.
+    /// Its book is asked for this at this moment. What comes of it is what its area made of it, and the messages that
+    /// the gateway sends then: answers whose entries are firm now, and failures of a gateway that broke. `NoMemory`:
+    /// there was no memory for them, and a part of this may have been done.
     pub fn ask(&mut self, alloc: Global, call: GatewayCall, now: Moment) -> Result<Sent, NoMemory>
         ensures { (setup : Setup) (place : ℕ) (g : Gateway) (m : MachineValue) →
             MachineStands setup place g m self.old → g.is_down ≡ false → IfOk result (λ sent. GoesAsArmed setup place

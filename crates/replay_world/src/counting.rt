@@ -7,7 +7,7 @@ ghost use Rattle.gateway_book.specs.Items.{items_of};
 ghost use Rattle.gateway_book.specs.Read.{IsUnchanged};
 ghost use Rattle.replay_world.specs.Tally.{part_count};
 
-use crate::report::record_count;
+use crate::gateway_report::record_count;
 use area_disk::Area;
 use gateway_book::laws::a_book_is_within_the_limits;
 use gateway_book::{Book, ItemsFault};

@@ -7,7 +7,7 @@ ghost use Rattle.file_writer.specs.Writer.{is_broken, shelf_of, taken_of};
 ghost use Rattle.file_writer.specs.declared.fault.ShelfFault.{ShelfFault};
 ghost use Rattle.gw_base.specs.declared.item.Item.{Item as ItemValue};
 
-use crate::machine::calm;
+use crate::plans::calm;
 use crate::site::Site;
 use crate::writing::tell_all;
 use area_disk::Plan;
@@ -23,7 +23,7 @@ use std::alloc::Global;
 
 /// What came of a write.
 #[derive(Clone, Copy)]
-pub(crate) enum Wrote {
+pub enum Wrote {
     /// All items were written.
     All,
     /// The shelf failed, and the writer has to recover.
@@ -47,8 +47,8 @@ impl Files {
     ghost use Rattle.once_core.specs.Gateway.{Gateway};
     ghost use Rattle.replay_world.specs.Opening.{ArmsAs};
     ghost use Rattle.replay_world.specs.Setup.{Setup};
-    ghost use Rattle.replay_world.specs.Stands.{SiteStands};
-    ghost use Rattle.replay_world.specs.Value.{Filing, Machine, resting};
+    ghost use Rattle.replay_world.specs.Standing.{SiteStands};
+    ghost use Rattle.replay_world.specs.Machine.{Filing, Machine, resting};
     ghost use Rattle.replay_world.specs.Written.{BreaksOff, FilesStand, HasWritten, ShelfHolds, shelf_tells};
 
     /// Those of a writer that hasn't recovered yet.

@@ -8,7 +8,7 @@ ghost use Rattle.replay_world.specs.Stands.{Stands, has_failed};
 ghost use Rattle.replay_world.specs.Value.{ReplayValue};
 
 use crate::calls::GatewayCall;
-use crate::machine::{failing, stopping};
+use crate::plans::{failing, stopping};
 use crate::replay::Replay;
 use area_disk::Outcome3;
 use gw_base::{NoMemory, Octets};

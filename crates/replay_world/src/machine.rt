@@ -1,5 +1,5 @@
 // A gateway as it runs: its book on an area, the writer of its files on a shelf, and the answers that wait.
-ghost use Rattle.std.specs.Prelude.{◌≡◌, ◌≤◌, ℕ, [], ◌∷◌, IfOk, List, MatchOption, None, OnOk, Some, false, true};
+ghost use Rattle.std.specs.Prelude.{◌≡◌, ◌≤◌, ℕ, [], IfOk, List, MatchOption, OnOk, false, true};
 ghost use Rattle.area_disk.specs.Armed.{Armed};
 ghost use Rattle.file_writer.specs.Streams.{Settings as FileSettings};
 ghost use Rattle.gateway_book.specs.Up.{HoldsHistory};
@@ -9,20 +9,21 @@ ghost use Rattle.once_core.specs.Beginning.{first_gateway};
 ghost use Rattle.once_core.specs.Gateway.{Gateway, cut, opened};
 ghost use Rattle.replay_world.specs.Called.{SiteIsDown};
 ghost use Rattle.replay_world.specs.Opening.{ArmsAs, IsOpenedForCounts};
-ghost use Rattle.replay_world.specs.Played.{IsHandedOut};
+ghost use Rattle.replay_world.specs.HandedOut.{IsHandedOut};
 ghost use Rattle.replay_world.specs.Settings.{AreSet, AreSound};
 ghost use Rattle.replay_world.specs.Setup.{Setup as SetupValue, rules_in};
-ghost use Rattle.replay_world.specs.Stands.{MachineStands, area_tells, header_at};
-ghost use Rattle.replay_world.specs.Value.{Filing, Machine as MachineValue, disarmed, ended, first_machine, shelf_armed, unarmed};
+ghost use Rattle.replay_world.specs.Standing.{MachineStands, area_tells, header_at};
+ghost use Rattle.replay_world.specs.Machine.{Filing, Machine as MachineValue, disarmed, ended, first_machine, shelf_armed, unarmed};
 ghost use Rattle.replay_world.specs.Written.{FilesStand};
 
 use crate::fallen::Fallen;
 use crate::files::Files;
+use crate::plans::calm;
 use crate::settings::Settings;
 use crate::site::{Site, area_of, opened, reopened};
 use crate::writing::what_was_written_stays;
 use area_disk::laws::arms_nothing;
-use area_disk::{Drill, MemoryArea, Outcome3, Plan, Stop};
+use area_disk::{Drill, MemoryArea, Outcome3, Plan};
 use cdr_shelf::MemoryShelf;
 use file_writer::Writer;
 use gateway_book::Setup;
@@ -34,7 +35,7 @@ use std::alloc::Global;
 
 /// What the area made of a call.
 #[derive(Clone, Copy, PartialEq, Eq)]
-pub(crate) enum Came {
+pub enum Came {
     /// It went on.
     Went,
     /// The area failed, and the book is broken.
@@ -45,61 +46,26 @@ pub(crate) enum Came {
 
 /// What a call made of a gateway: what the area made of it, and the messages that it sent.
 #[derive(Drop)]
-pub(crate) struct Sent {
+pub struct Sent {
     pub came: Came,
     pub messages: Vec<Message>,
 }
 
-/// A gateway.
+/// A gateway: up, with its book, or down, with its area alone; the writer of its files; and the answers that wait.
 #[derive(Drop)]
-pub(crate) struct Machine {
-    pub setup: Setup,
+pub struct Machine {
+    pub(crate) setup: Setup,
     /// Where it is; it is always somewhere.
-    pub site: Option<Site>,
-    pub files: Files,
+    pub(crate) site: Option<Site>,
+    pub(crate) files: Files,
     /// The answers that wait for entries to be firm.
-    pub waiting: Vec<Waiting>,
+    pub(crate) waiting: Vec<Waiting>,
     /// How often it has redirected since it was opened, modulo 65,536.
-    pub redirects: u16,
-}
-
-/// A plan by which nothing fails.
-pub(crate) fn calm(alloc: Global) -> Plan
-    ensures fail { result.fail.items ≡ [] }
-    ensures read_fail { result.read_fail.items ≡ [] }
-    ensures stop { result.stop ≡ None }
-{
-    Plan {
-        fail: Vec::new(alloc),
-        read_fail: Vec::new(alloc),
-        stop: None,
-    }
-}
-
-/// A plan by which the call with this number fails.
-pub(crate) fn failing(alloc: Global, call: u64) -> Result<Plan, NoMemory>
-    ensures fail { IfOk result (λ plan. plan.fail.items ≡ call ∷ []) }
-    ensures read_fail { IfOk result (λ plan. plan.read_fail.items ≡ []) }
-    ensures stop { IfOk result (λ plan. plan.stop ≡ None) }
-{
-    let mut plan = calm(alloc);
-    plan.fail.push(call)?;
-    Ok(plan)
-}
-
-/// A plan by which the call with this number stops the area.
-pub(crate) fn stopping(alloc: Global, call: u64, outcome: Outcome3) -> Plan
-    ensures fail { result.fail.items ≡ [] }
-    ensures read_fail { result.read_fail.items ≡ [] }
-    ensures stop { result.stop ≡ Some (record { call = call; outcome = outcome }) }
-{
-    let mut plan = calm(alloc);
-    plan.stop = Some(Stop { call, outcome });
-    plan
+    pub(crate) redirects: u16,
 }
 
 impl Machine {
-    /// A gateway that is opened on an empty area, whose Start is firm.
+    /// A gateway that is opened on an empty area, whose Start is firm. `NoMemory`: there was no memory for it.
     pub fn new(
         alloc: Global,
         place: u8,
@@ -188,7 +154,7 @@ impl Machine {
         self.arm_shelf(calm(alloc));
     }
 
-    /// Stops it between two calls.
+    /// Stops it between two calls, where it is up: it keeps what is firm.
     pub fn stop(&mut self, alloc: Global)
         ensures { (setup : SetupValue) (place : ℕ) (g : Gateway) (m : MachineValue) →
             MachineStands setup place g m self.old →
@@ -226,7 +192,7 @@ impl Machine {
         self.files.end(alloc);
     }
 
-    /// Opens it again.
+    /// Opens it again, where it is down. `NoMemory`: there was no memory for that.
     pub fn open(&mut self, alloc: Global) -> Result<(), NoMemory>
         ensures { (setup : SetupValue) (place : ℕ) (g : Gateway) (m : MachineValue) →
             MachineStands setup place g m self.old →
@@ -241,7 +207,7 @@ impl Machine {
     }
 
     /// Opens the book of one that is down.
-    pub fn open_book(&mut self, alloc: Global) -> Result<(), NoMemory>
+    pub(crate) fn open_book(&mut self, alloc: Global) -> Result<(), NoMemory>
         ensures { (setup : SetupValue) (place : ℕ) (g : Gateway) (m : MachineValue) →
             MachineStands setup place g m self.old →
             g.is_down ≡ true → OnOk result (IsOpenedForCounts setup place g self.old self.new) }
@@ -255,7 +221,7 @@ impl Machine {
     }
 
     /// Closes the book again, with nothing but what is firm.
-    pub fn close_book(&mut self)
+    pub(crate) fn close_book(&mut self)
         ensures { (setup : SetupValue) (place : ℕ) (g : Gateway) (m : MachineValue) (before : Machine) →
             MachineStands setup place g m before → g.is_down ≡ true →
             IsOpenedForCounts setup place g before self.old →

@@ -1,12 +1,11 @@
-// Messages: which kinds they are, what answers them, and which are expired.
-ghost use Rattle.std.specs.Prelude.{◌≡◌, ◌%◌, IfOk, List, ◌∷◌, []};
+// Messages: what answers them, and which are expired.
+ghost use Rattle.std.specs.Prelude.{◌≡◌, ◌%◌, IfOk, ◌∷◌, []};
 ghost use Rattle.gateway_book.specs.Book.{value_of};
 ghost use Rattle.gateway_book.specs.Value.{history_of};
 ghost use Rattle.gtpp_message.specs.Message.{TransferResponse};
 ghost use Rattle.gtpp_message.specs.Writing.{written};
 ghost use Rattle.gw_base.specs.declared.cause.TheConstants.{SYSTEM_FAILURE};
-ghost use Rattle.node_core.specs.Log.{LogEntry};
-ghost use Rattle.once_core.specs.Expired.{is_expired, is_expired_at_node, starts_in};
+ghost use Rattle.once_core.specs.Expired.{is_expired};
 ghost use Rattle.once_core.specs.Messages.{answering};
 ghost use Rattle.once_core.specs.declared.message.Message.{Message as MessageValue};
 ghost use Rattle.replay_world.specs.Ends.{ends_kept};
@@ -16,13 +15,13 @@ use gateway_book::Book;
 use gtpp_elements::Numbers;
 use gtpp_message::{Message as Body, write_short};
 use gw_base::{NoMemory, Octets, Short, cause};
-use node_core::{Node, Port};
+use node_core::Port;
 use once_core::{Message, node_id};
 use std::alloc::Global;
 
 /// What an answer has of the message that it answers.
 #[derive(Clone, Copy)]
-pub(crate) struct Ends {
+pub struct Ends {
     pub to_gateway: bool,
     pub gateway: u8,
     pub node: u8,
@@ -32,6 +31,7 @@ pub(crate) struct Ends {
 }
 
 impl Ends {
+    /// What the answer to this message has of it.
     pub fn of(message: &Message) -> Ends
         ensures { result ≡ ends_kept message.now }
     {
@@ -45,11 +45,13 @@ impl Ends {
         }
     }
 
-    /// The message with these octets that goes back.
-    pub fn answer(self, octets: Octets) -> Message
-        ensures { (message : MessageValue) → self ≡ ends_kept message → result ≡ answering message octets }
+    /// The message with the octets of this reply that goes back. `NoMemory`: there was no memory for it.
+    pub fn answer(self, alloc: Global, reply: &Short) -> Result<Message, NoMemory>
+        ensures { (message : MessageValue) → self ≡ ends_kept message →
+            IfOk result (λ answer. answer ≡ answering message reply.now) }
     {
-        Message {
+        let octets = kept(alloc, reply)?;
+        Ok(Message {
             to_gateway: !self.to_gateway,
             gateway: self.gateway,
             node: self.node,
@@ -58,7 +60,7 @@ impl Ends {
             number: self.number,
             named: None,
             octets,
-        }
+        })
     }
 }
 
@@ -75,14 +77,6 @@ pub(crate) fn is_expired(book: &Book<MemoryArea>, message: &Message) -> bool
         return false;
     }
     message.start != key.start || key.number != about
-}
-
-/// Whether a message is expired at a node.
-pub(crate) fn is_expired_at_node(node: &Node, message: &Message) -> bool
-    ensures { (log : List LogEntry) → node.now.paths.counter ≡ starts_in log →
-        result ≡ is_expired_at_node log node.now message.now }
-{
-    once_core::is_expired_at_node(node.counter(), node, message)
 }
 
 /// The octets of a response to the request with this number that tells of a failure.

@@ -6,8 +6,8 @@ ghost use Rattle.replay_world.specs.Called.{book_in};
 ghost use Rattle.replay_world.specs.Redirecting.{KnowsNear, asking, path_in};
 ghost use Rattle.replay_world.specs.Moves.{HasMoved};
 ghost use Rattle.replay_world.specs.Setup.{Setup};
-ghost use Rattle.replay_world.specs.Stands.{MachineStands};
-ghost use Rattle.replay_world.specs.Value.{Machine as MachineValue};
+ghost use Rattle.replay_world.specs.Standing.{MachineStands};
+ghost use Rattle.replay_world.specs.Machine.{Machine as MachineValue};
 
 use crate::machine::Machine;
 use crate::messages::kept;
@@ -22,7 +22,8 @@ use std::alloc::Global;
 const MOST_NODES: usize = 64;
 
 impl Machine {
-    /// Asks all nodes that it has a path to to send elsewhere.
+    /// Asks all nodes that it has a path to to send elsewhere, for this cause, and to the gateway in the place `to` where
+    /// one is named; it is in `place` itself. `NoMemory`: there was no memory for the messages.
     pub fn redirect(
         &mut self,
         alloc: Global,

@@ -10,8 +10,10 @@ ghost use Rattle.replay_world.specs.Settings.{AreSet, AreSound};
 ghost use Rattle.replay_world.specs.Settled.{AreWritten, HasPlayedOut};
 ghost use Rattle.replay_world.specs.Setup.{Setup, rules_in, setup_of};
 ghost use Rattle.replay_world.specs.Stands.{EachStands, Stands, nodes_from};
-ghost use Rattle.replay_world.specs.Value.{Machine as MachineValue, ReplayValue, first_machine, replay_of};
+ghost use Rattle.replay_world.specs.Machine.{Machine as MachineValue, first_machine};
+ghost use Rattle.replay_world.specs.Value.{ReplayValue, replay_of};
 
+use crate::gateway_laws::a_gateway_that_wrote_all_rests;
 use crate::machine::Machine;
 use crate::notices::print_sent;
 use crate::settings::{Settings, rules_of};
@@ -119,6 +121,7 @@ impl Replay {
         ensures played { (v : ReplayValue) → Stands v self → HasPlayed v result }
         ensures at_rest { (v : ReplayValue) → Stands v self → AreWritten v → HasPlayedOut v result }
     {
+        a_gateway_that_wrote_all_rests();
         let Replay {
             gateways,
             nodes,

@@ -7,7 +7,7 @@ ghost use Rattle.replay_world.specs.Summary.{AreGatewaySums, AreNodeSums, Tallie
 ghost use Rattle.replay_world.specs.Value.{ReplayValue};
 
 use crate::replay::Replay;
-use crate::report::Tally;
+use crate::gateway_report::Tally;
 use gw_base::{NoMemory, Octets};
 use node_core::NodeCounts;
 use std::alloc::Global;

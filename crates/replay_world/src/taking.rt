@@ -11,12 +11,12 @@ ghost use Rattle.once_core.specs.Messages.{answering};
 ghost use Rattle.replay_world.specs.Called.{BookStands, IsCalled, taken_of};
 ghost use Rattle.replay_world.specs.Taking.{HasAnswered, HasMore, IsDelivered, IsQuiet, IsTaken, dropped_as, met_by};
 ghost use Rattle.replay_world.specs.Setup.{Setup};
-ghost use Rattle.replay_world.specs.Stands.{MachineStands, StandsUp};
-ghost use Rattle.replay_world.specs.Value.{Machine as MachineValue};
+ghost use Rattle.replay_world.specs.Standing.{MachineStands, StandsUp};
+ghost use Rattle.replay_world.specs.Machine.{Machine as MachineValue};
 
 use crate::calls::GatewayCall;
 use crate::machine::{Came, Machine, Sent};
-use crate::messages::{Ends, is_expired, kept};
+use crate::messages::{Ends, is_expired};
 use crate::site::Site;
 use crate::writing::what_was_written_stays;
 use area_disk::MemoryArea;
@@ -29,7 +29,7 @@ use std::alloc::Global;
 
 /// What is told of a message.
 #[derive(Clone, Copy)]
-pub(crate) enum Ending {
+pub enum Ending {
     /// Nothing.
     Quiet,
     /// The gateway is down.
@@ -42,13 +42,14 @@ pub(crate) enum Ending {
 
 /// What a message made of a gateway, and what is told of the message.
 #[derive(Drop)]
-pub(crate) struct Delivery {
+pub struct Delivery {
     pub sent: Sent,
     pub ending: Ending,
 }
 
 impl Machine {
-    /// A message reaches it at this moment.
+    /// A message reaches it at this moment: it answers, sends what is due then, or drops the message. `NoMemory`: there
+    /// was no memory for that, and a part of it may have been done.
     pub fn deliver(
         &mut self,
         alloc: Global,
@@ -264,7 +265,7 @@ pub(crate) fn take(
 fn answer_to(alloc: Global, message: &Message, receipt: &Receipt) -> Result<Message, NoMemory>
     ensures { IfOk result (λ answer. answer ≡ answering message.now receipt.now.reply) }
 {
-    Ok(Ends::of(message).answer(kept(alloc, &receipt.reply)?))
+    Ends::of(message).answer(alloc, &receipt.reply)
 }
 
 /// A message of which nothing but this comes.

@@ -8,8 +8,8 @@ ghost use Rattle.gw_base.specs.declared.item.Item.{Item as ItemValue};
 ghost use Rattle.once_core.specs.Gateway.{Gateway};
 ghost use Rattle.replay_world.specs.Parts.{IsPart, IsTold};
 ghost use Rattle.replay_world.specs.Setup.{Setup};
-ghost use Rattle.replay_world.specs.Stands.{MachineStands, SiteStands, StandsUp};
-ghost use Rattle.replay_world.specs.Value.{Filing, Machine as MachineValue};
+ghost use Rattle.replay_world.specs.Standing.{MachineStands, SiteStands, StandsUp};
+ghost use Rattle.replay_world.specs.Machine.{Filing, Machine as MachineValue};
 ghost use Rattle.replay_world.specs.WritingFiles.{WritesFiles};
 ghost use Rattle.replay_world.specs.Written.{FilesStand};
 ghost use Rattle.replay_world.specs.declared.files.Files.{Files as FilesValue};
@@ -37,7 +37,7 @@ pub(crate) fn what_was_written_stays()
 
 impl Machine {
     /// Gives the writer the items of the firm entries that it doesn't have yet, where it is up. Where its shelf stops it
-    /// is up still.
+    /// is up still. `NoMemory`: there was no memory for that, and a part may be written.
     pub fn write(&mut self, alloc: Global) -> Result<Wrote, NoMemory>
         ensures { (setup : Setup) (place : ℕ) (g : Gateway) (m : MachineValue) →
             MachineStands setup place g m self.old → g.is_down ≡ false →

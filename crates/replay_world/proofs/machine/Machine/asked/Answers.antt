@@ -2,9 +2,9 @@ use Rattle.std.proofs.Common.{refl, subst, Option, Some}
 use Rattle.gateway_book.specs.Up.{fortune_by}
 use Rattle.replay_world.specs.Asking.{asked_by, asked_value}
 use Rattle.replay_world.specs.Device.{sequel_on}
-use Rattle.replay_world.specs.Stands.{SiteStands}
+use Rattle.replay_world.specs.Standing.{SiteStands}
 use Rattle.replay_world.specs.declared.site.Site.{Site}
-use Rattle.replay_world.proofs.AskingLemmas.{asked_grows, asked_keeps}
+use Rattle.replay_world.proofs.AskedLemmas.{asked_grows, asked_keeps}
 use Rattle.replay_world.proofs.CallLemmas.{is_called}
 use Rattle.replay_world.proofs.machine.Machine.asked.Goals as goal
 

@@ -2,9 +2,9 @@ use Rattle.std.proofs.Common.{◌≡◌, ◌∙◌, ap, ℕ, suc, ◌+◌, List,
 use Rattle.std.specs.Prelude.{codes}
 use Rattle.std.specs.Fmt.{decimal}
 use Rattle.hex.specs.Hex.{encode_upper}
-use Rattle.replay_world.specs.Report.{file_name}
+use Rattle.replay_world.specs.GatewayReport.{file_name}
 use Rattle.replay_world.proofs.DigitLemmas.{left_grouped, three_more}
-use Rattle.replay_world.proofs.report.print_file.Goals as goal
+use Rattle.replay_world.proofs.gateway_report.print_file.Goals as goal
 
 pub returns : goal.returns
 returns c =

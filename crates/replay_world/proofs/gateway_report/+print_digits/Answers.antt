@@ -1,7 +1,7 @@
 use Rattle.std.proofs.Common.{ℕ, ◌+◌, ◌-◌, ◌/◌, ◌%◌, List, [], ◌∷◌, ◌++◌, ap, ◌∙◌, append_assoc}
-use Rattle.replay_world.specs.Report.{digits}
+use Rattle.replay_world.specs.GatewayReport.{digits}
 use Rattle.replay_world.proofs.DigitLemmas.{last_digit}
-use Rattle.replay_world.proofs.report.+print_digits.Goals as goal
+use Rattle.replay_world.proofs.gateway_report.+print_digits.Goals as goal
 
 pub returns : goal.returns
 returns t c =

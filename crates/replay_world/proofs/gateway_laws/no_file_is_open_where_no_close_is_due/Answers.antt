@@ -1,5 +1,5 @@
 use Rattle.replay_world.proofs.ShutLemmas.{shut_where_none_due}
-use Rattle.replay_world.proofs.laws.no_file_is_open_where_no_close_is_due.Goals as goal
+use Rattle.replay_world.proofs.gateway_laws.no_file_is_open_where_no_close_is_due.Goals as goal
 
 pub returns : goal.returns
 returns c = λ h none settings s.

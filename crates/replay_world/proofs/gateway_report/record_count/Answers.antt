@@ -3,7 +3,7 @@ use Rattle.std.proofs.Math.Seq.{take-length}
 use Rattle.gw_base.specs.declared.item.Item.{Item}
 use Rattle.replay_world.specs.Tally.{is_part}
 use Rattle.replay_world.proofs.CountLemmas.{records_filed}
-use Rattle.replay_world.proofs.report.record_count.Goals as goal
+use Rattle.replay_world.proofs.gateway_report.record_count.Goals as goal
 
 pub returns-clause-parts : goal.returns-clause-parts
 returns-clause-parts c =

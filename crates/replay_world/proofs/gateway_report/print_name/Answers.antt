@@ -1,8 +1,8 @@
 use Rattle.std.proofs.Common.{◌∙◌, ap, ℕ, ◌++◌}
 use Rattle.std.specs.Prelude.{codes}
-use Rattle.replay_world.specs.Report.{digits}
+use Rattle.replay_world.specs.GatewayReport.{digits}
 use Rattle.replay_world.proofs.DigitLemmas.{four_more}
-use Rattle.replay_world.proofs.report.print_name.Goals as goal
+use Rattle.replay_world.proofs.gateway_report.print_name.Goals as goal
 
 pub returns : goal.returns
 returns c =

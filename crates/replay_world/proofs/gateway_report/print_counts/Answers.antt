@@ -1,5 +1,5 @@
 use Rattle.std.proofs.Common.{◌≡◌, ◌+◌, suc, append_assoc, arith}
-use Rattle.replay_world.proofs.report.print_counts.Goals as goal
+use Rattle.replay_world.proofs.gateway_report.print_counts.Goals as goal
 
 pub returns : goal.returns
 returns c =
