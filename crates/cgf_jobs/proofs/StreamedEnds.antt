@@ -24,7 +24,7 @@ use Rattle.gw_base.specs.Faults.{Rose}
 use Rattle.gw_base.specs.History.{is_close_due}
 use Rattle.gw_base.specs.declared.history.HistoryEntry.{HistoryEntry}
 use Rattle.replay_world.specs.Settings.{AreSet}
-use Rattle.replay_world.specs.Settled.{AreShut}
+use Rattle.replay_world.specs.AtRest.{AreShut}
 use Rattle.replay_world.specs.Setup.{default_setup}
 use Rattle.replay_world.specs.declared.replay.Played.{Played}
 use Rattle.replay_world.specs.declared.settings.Settings.{Settings as ReplaySettings}

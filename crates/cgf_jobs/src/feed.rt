@@ -4,7 +4,7 @@ ghost use Rattle.cdr_shelf.specs.Files.{in_stream};
 ghost use Rattle.file_writer.specs.Files.{stream_files};
 ghost use Rattle.file_writer.specs.Streams.{stream_count};
 ghost use Rattle.gw_base.specs.declared.item.Item.{Item as ItemValue};
-ghost use Rattle.replay_world.specs.Report.{file_lines};
+ghost use Rattle.replay_world.specs.GatewayReport.{file_lines};
 ghost use Rattle.replay_world.specs.Settings.{AreSound};
 ghost use Rattle.replay_world.specs.Setup.{Setup, files_in};
 ghost use Rattle.world_script.specs.Script.{most_text};

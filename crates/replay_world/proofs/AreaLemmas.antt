@@ -22,11 +22,11 @@ use Rattle.gateway_book.specs.Value.{BookValue}
 use Rattle.gateway_book.specs.declared.book.Book.{Book}
 use Rattle.replay_world.specs.Opening.{ArmsAs}
 use Rattle.once_core.specs.Gateway.{Gateway}
-use Rattle.replay_world.specs.Played.{IsAreaOf, IsHandedOut}
+use Rattle.replay_world.specs.HandedOut.{IsAreaOf, IsHandedOut}
 use Rattle.replay_world.specs.Setup.{Setup, files_in}
-use Rattle.replay_world.specs.Stands.{area_tells, header_at}
+use Rattle.replay_world.specs.Standing.{area_tells, header_at}
 use Rattle.replay_world.specs.Written.{AreSealed, shelf_tells}
-use Rattle.replay_world.specs.Value.{Machine}
+use Rattle.replay_world.specs.Machine.{Machine}
 
 -- The plan of one that is up.
 

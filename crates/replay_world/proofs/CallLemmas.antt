@@ -24,9 +24,9 @@ use Rattle.replay_world.specs.Called.{AfterCall, BookStands, IsCalled, SiteIsCal
 use Rattle.replay_world.specs.Device.{entries_kept, is_stop}
 use Rattle.replay_world.specs.Moves.{HasMoved, came_of}
 use Rattle.replay_world.specs.Setup.{Setup, files_in}
-use Rattle.replay_world.specs.Stands.{MachineStands, SiteStands, StandsUp, area_tells, header_at}
+use Rattle.replay_world.specs.Standing.{MachineStands, SiteStands, StandsUp, area_tells, header_at}
 use Rattle.replay_world.specs.Written.{FilesStand}
-use Rattle.replay_world.specs.Value.{Filing, Machine, disarmed, ended}
+use Rattle.replay_world.specs.Machine.{Filing, Machine, disarmed, ended}
 use Rattle.replay_world.specs.declared.files.Files.{Files}
 use Rattle.replay_world.specs.declared.machine.Came.TheVariants.{Went, Failed, Stopped}
 use Rattle.replay_world.specs.declared.machine.Machine as real

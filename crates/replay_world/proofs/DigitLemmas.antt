@@ -1,6 +1,6 @@
 -- The last decimal digits of a number.
 use Rattle.std.proofs.Common.{◌≡◌, ◌∙◌, refl, sym, ap, append_assoc, ℕ, zero, suc, ◌+◌, ◌-◌, ◌/◌, ◌%◌, List, [], ◌∷◌, ◌++◌, arith}
-use Rattle.replay_world.specs.Report.{digits}
+use Rattle.replay_world.specs.GatewayReport.{digits}
 
 -- the last digit stands behind the others
 pub last_digit : (count n : ℕ) → (count ≡ 0 → ⊥) → digits (count - 1) (n / 10) ++ (48 + n % 10) ∷ [] ≡ digits count n

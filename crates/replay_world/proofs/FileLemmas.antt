@@ -9,7 +9,7 @@ use Rattle.file_rotate.specs.Division.{ClosedRun}
 use Rattle.file_writer.specs.Files.{files_from, sealed_file, stream_files}
 use Rattle.file_writer.specs.Streams.{Settings, stream_division}
 use Rattle.gw_base.specs.declared.item.Item.{Item}
-use Rattle.replay_world.specs.Report.{file_line}
+use Rattle.replay_world.specs.GatewayReport.{file_line}
 
 abbrev name_at : ℕ → ℕ → FileName
 name_at s n = record { stream = s; sequence = n }

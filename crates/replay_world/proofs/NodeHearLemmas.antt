@@ -17,7 +17,7 @@ use Rattle.once_core.specs.declared.event.Event.TheVariants as event
 use Rattle.once_core.specs.declared.event.WorldKind.{WorldKind}
 use Rattle.once_core.specs.declared.event.WorldKind.TheVariants.{NoMessage}
 use Rattle.once_core.specs.declared.message.Message.{Message}
-use Rattle.replay_world.specs.Device.{receiving_gateway}
+use Rattle.replay_world.specs.Events.{receiving_gateway}
 use Rattle.replay_world.specs.Does.{Does}
 use Rattle.replay_world.specs.Notices.{Notice, notice_lines}
 use Rattle.replay_world.specs.Sending.{HasSent, IsTo, passed}

@@ -23,7 +23,8 @@ use Rattle.replay_world.specs.Setup.{rules_in}
 use Rattle.replay_world.specs.Stands.{CountsStarts, EachStands, Stands, nodes_from}
 use Rattle.replay_world.specs.Steps.{Site, Plays, after_step, ends_line, machines_in, sent_by, sequel_at, site_of, turn_at, waiting_in, world_after}
 use Rattle.replay_world.specs.Telling.{device_notices, notices_first, notices_last, sent_notices}
-use Rattle.replay_world.specs.Value.{Machine, ReplayValue}
+use Rattle.replay_world.specs.Machine.{Machine}
+use Rattle.replay_world.specs.Value.{ReplayValue}
 use Rattle.replay_world.specs.declared.replay.Replay.{Replay}
 use Rattle.replay_world.proofs.MovedLemmas.{all_within, drop_front, numbers_from_one, numbers_within}
 use Rattle.replay_world.proofs.PrintedLemmas.{lines_join}

@@ -33,9 +33,9 @@ use Rattle.replay_world.specs.Called.{BookStands}
 use Rattle.replay_world.specs.Device.{sequel_on}
 use Rattle.replay_world.specs.Opening.{IsOpenedForCounts, SiteIsOpened, begun_gateway}
 use Rattle.replay_world.specs.Setup.{Setup, files_in, rules_in}
-use Rattle.replay_world.specs.Stands.{MachineStands, SiteStands, StandsDown, StandsUp, area_tells, header_at}
+use Rattle.replay_world.specs.Standing.{MachineStands, SiteStands, StandsDown, StandsUp, area_tells, header_at}
 use Rattle.replay_world.specs.Written.{FilesStand}
-use Rattle.replay_world.specs.Value.{Machine, first_machine}
+use Rattle.replay_world.specs.Machine.{Machine, first_machine}
 use Rattle.replay_world.specs.declared.machine.Machine as real
 use Rattle.replay_world.specs.declared.site.Site.{Site}
 use Rattle.replay_world.specs.declared.site.Site.TheVariants.{Up, Down}

@@ -19,8 +19,8 @@ use Rattle.once_core.specs.declared.message.Message.{Message}
 use Rattle.replay_world.specs.Called.{IsCalled, SiteIsCalled, taken_of}
 use Rattle.replay_world.specs.Device.{is_stop}
 use Rattle.replay_world.specs.Setup.{Setup}
-use Rattle.replay_world.specs.Stands.{MachineStands}
-use Rattle.replay_world.specs.Value.{Machine}
+use Rattle.replay_world.specs.Standing.{MachineStands}
+use Rattle.replay_world.specs.Machine.{Machine}
 use Rattle.replay_world.specs.declared.machine.Machine as real
 use Rattle.replay_world.specs.declared.site.Site.{Site}
 use Rattle.replay_world.proofs.BookLemmas.{Keeps, answer_grows, stop_breaks}

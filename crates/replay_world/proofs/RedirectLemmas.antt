@@ -20,8 +20,8 @@ use Rattle.replay_world.specs.Called.{book_in}
 use Rattle.replay_world.specs.Redirecting.{KnowsNear, asking, path_in}
 use Rattle.replay_world.specs.Moves.{HasMoved}
 use Rattle.replay_world.specs.Setup.{Setup}
-use Rattle.replay_world.specs.Stands.{MachineStands, SiteStands, area_tells}
-use Rattle.replay_world.specs.Value.{Machine}
+use Rattle.replay_world.specs.Standing.{MachineStands, SiteStands, area_tells}
+use Rattle.replay_world.specs.Machine.{Machine}
 use Rattle.replay_world.specs.declared.machine.Machine as real
 use Rattle.replay_world.specs.declared.site.Site.{Site}
 use Rattle.replay_world.specs.declared.site.Site.TheVariants.{Up, Down}

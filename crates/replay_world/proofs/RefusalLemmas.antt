@@ -8,8 +8,10 @@ use Rattle.once_core.specs.Expired.{starts_in}
 use Rattle.once_core.specs.Gateway.{Gateway}
 use Rattle.once_core.specs.World.{log_at, node_value}
 use Rattle.once_core.specs.declared.message.Message.{Message}
-use Rattle.replay_world.specs.Stands.{CountsStarts, Stands, MachineStands}
-use Rattle.replay_world.specs.Value.{Machine, ReplayValue}
+use Rattle.replay_world.specs.Stands.{CountsStarts, Stands}
+use Rattle.replay_world.specs.Standing.{MachineStands}
+use Rattle.replay_world.specs.Machine.{Machine}
+use Rattle.replay_world.specs.Value.{ReplayValue}
 use Rattle.replay_world.specs.Setup.{Setup}
 use Rattle.replay_world.specs.declared.machine.Machine as real
 use Rattle.replay_world.specs.declared.replay.Replay.{Replay}

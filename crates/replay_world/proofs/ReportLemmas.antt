@@ -18,15 +18,15 @@ use Rattle.gw_base.specs.declared.scan.HoldFate.{HoldFate}
 use Rattle.gw_base.specs.declared.scan.HoldFate.TheVariants as fate
 use Rattle.once_core.specs.Gateway.{Gateway, opened as reopened}
 use Rattle.replay_world.specs.Opening.{IsOpenedForCounts, SiteIsOpened}
-use Rattle.replay_world.specs.Report.{book_of, counts_line, counts_text, file_line, gateway_text, sealed_below, sealed_lines}
+use Rattle.replay_world.specs.GatewayReport.{book_of, counts_line, counts_text, file_line, gateway_text, sealed_below, sealed_lines}
 use Rattle.replay_world.specs.Setup.{Setup, files_in, rules_in}
-use Rattle.replay_world.specs.Stands.{SiteStands}
+use Rattle.replay_world.specs.Standing.{SiteStands}
 use Rattle.replay_world.specs.Tally.{Counts, IsTallied, Tells}
-use Rattle.replay_world.specs.Value.{Machine, first_machine}
+use Rattle.replay_world.specs.Machine.{Machine, first_machine}
 use Rattle.replay_world.specs.declared.machine.Machine as real
 use Rattle.replay_world.specs.declared.site.Site.{Site}
 use Rattle.replay_world.specs.declared.site.Site.TheVariants.{Up, Down}
-use Rattle.replay_world.specs.declared.report.Tally.{Tally}
+use Rattle.replay_world.specs.declared.gateway_report.Tally.{Tally}
 use Rattle.replay_world.proofs.OpeningLemmas.{firm_again, site_later}
 
 fate_start : (node number : ℕ) (h : List HistoryEntry) (e : HistoryEntry) → e.act ≡ Start →

@@ -7,10 +7,10 @@ use Rattle.file_writer.specs.Streams.{Settings, closed_of, stream_count}
 use Rattle.gateway_book.specs.Items.{items_of}
 use Rattle.gw_base.specs.declared.item.Item.{Item}
 use Rattle.once_core.specs.Gateway.{Gateway}
-use Rattle.replay_world.specs.Report.{book_of, counts_line, file_line, gateway_report, gateway_text, sealed_below}
-use Rattle.replay_world.specs.Settled.{IsAllWritten}
+use Rattle.replay_world.specs.GatewayReport.{book_of, counts_line, file_line, gateway_report, gateway_text, sealed_below}
+use Rattle.replay_world.specs.AtRest.{IsAllWritten}
 use Rattle.replay_world.specs.Setup.{Setup, files_in}
-use Rattle.replay_world.specs.Value.{Filing, Machine}
+use Rattle.replay_world.specs.Machine.{Filing, Machine}
 use Rattle.replay_world.proofs.WriterLemmas.{files_count}
 
 stream_all : (settings : Settings) (s : ℕ) (items : List Item) →

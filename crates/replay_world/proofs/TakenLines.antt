@@ -20,7 +20,8 @@ use Rattle.replay_world.specs.Notices.{ShelfFaulted}
 use Rattle.replay_world.specs.Setup.{files_in, rules_in}
 use Rattle.replay_world.specs.Steps.{Disarms, Loses, Plays, Step, Tells, Writes, items_firm}
 use Rattle.replay_world.specs.Taken.{IsAsSaid}
-use Rattle.replay_world.specs.Value.{Machine, ReplayValue, disarmed}
+use Rattle.replay_world.specs.Machine.{Machine, disarmed}
+use Rattle.replay_world.specs.Value.{ReplayValue}
 use Rattle.replay_world.proofs.TakenPasses.{Facts, Holds, HoldsOf, Passes, calm_passes, disarms_passes, loses_passes, passes_none, quiet_passes, tells_passes, within, writes_passes}
 use Rattle.replay_world.proofs.TakenSteps.{Unarmed, all_get, calls_calm, is_calm, is_there, with_unarmed}
 use Rattle.world_script.specs.World.{Scene, is_stopped}

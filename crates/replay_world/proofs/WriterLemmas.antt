@@ -27,7 +27,7 @@ use Rattle.gateway_book.specs.Items.{IsWritable}
 use Rattle.gw_base.specs.declared.item.Item.{Item}
 use Rattle.gw_base.specs.declared.item.Item.TheVariants as item
 use Rattle.replay_world.specs.Filing.{all_filed, filed_by, filing_after, items_given, items_taken, shelf_calls, shelf_came}
-use Rattle.replay_world.specs.Value.{Filing, resting}
+use Rattle.replay_world.specs.Machine.{Filing, resting}
 use Rattle.replay_world.specs.Written.{AreSealed, BreaksOff, FilesStand, HasTaken, HasWritten, IsOn, NothingIsLeft, ShelfHolds, WriterStands, shelf_tells, wrote_by}
 use Rattle.replay_world.specs.declared.files.Files.{Files}
 use Rattle.replay_world.specs.declared.files.Wrote.{Wrote}

@@ -7,10 +7,10 @@ use Rattle.gateway_book.specs.Up.{IsUp}
 use Rattle.gateway_book.specs.declared.book.Book.{Book}
 use Rattle.once_core.specs.Gateway.{Gateway}
 use Rattle.replay_world.specs.Setup.{Setup, files_in}
-use Rattle.replay_world.specs.Stands.{MachineStands, SiteStands, StandsUp, area_tells, header_at}
+use Rattle.replay_world.specs.Standing.{MachineStands, SiteStands, StandsUp, area_tells, header_at}
 use Rattle.replay_world.specs.Written.{FilesStand, HasWritten}
 use Rattle.replay_world.specs.WritingFiles.{WritesFiles}
-use Rattle.replay_world.specs.Value.{Filing, Machine}
+use Rattle.replay_world.specs.Machine.{Filing, Machine}
 use Rattle.replay_world.specs.Filing.{filing_then}
 use Rattle.replay_world.specs.declared.files.Wrote.{Wrote}
 use Rattle.replay_world.specs.declared.machine.Machine as real

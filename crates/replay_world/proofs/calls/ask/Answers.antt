@@ -6,7 +6,7 @@ use Rattle.gateway_book.specs.Up.{HasLeft, Sequel, fortune_by, ready_sequel_of}
 use Rattle.replay_world.specs.Asking.{asked_by, asked_value}
 use Rattle.replay_world.specs.Called.{BookStands, tick_left}
 use Rattle.replay_world.specs.Device.{sequel_on}
-use Rattle.replay_world.specs.Stands.{header_at}
+use Rattle.replay_world.specs.Standing.{header_at}
 use Rattle.replay_world.specs.declared.calls.GatewayCall.{GatewayCall}
 use Rattle.replay_world.proofs.CallLemmas.{book_stands}
 use Rattle.replay_world.proofs.calls.ask.Goals as goal

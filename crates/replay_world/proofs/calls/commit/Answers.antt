@@ -1,7 +1,7 @@
 use Rattle.std.proofs.Common.{refl}
 use Rattle.gateway_book.specs.Calls.{commit_left}
 use Rattle.gateway_book.specs.Up.{commit_sequel_of, fortune_by}
-use Rattle.replay_world.specs.Stands.{header_at}
+use Rattle.replay_world.specs.Standing.{header_at}
 use Rattle.replay_world.proofs.CallLemmas.{book_stands}
 use Rattle.replay_world.proofs.calls.commit.Goals as goal
 

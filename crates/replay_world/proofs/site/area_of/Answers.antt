@@ -6,8 +6,8 @@ use Rattle.gateway_book.specs.Book.{area_of, value_of}
 use Rattle.gateway_book.specs.Comes.{left_by_stop}
 use Rattle.gateway_book.specs.Opened.{StandsFitFor}
 use Rattle.gateway_book.specs.Value.{BookValue}
-use Rattle.replay_world.specs.Played.{LeavesHistory}
-use Rattle.replay_world.specs.Stands.{SiteStands, area_tells, header_at}
+use Rattle.replay_world.specs.HandedOut.{LeavesHistory}
+use Rattle.replay_world.specs.Standing.{SiteStands, area_tells, header_at}
 use Rattle.replay_world.specs.declared.site.Site.{Site}
 use Rattle.replay_world.proofs.AreaLemmas.{left_kept}
 use Rattle.replay_world.proofs.site.area_of.Goals as goal

@@ -1,5 +1,5 @@
 use Rattle.replay_world.specs.Opening.{begun_gateway}
-use Rattle.replay_world.specs.Value.{first_machine}
+use Rattle.replay_world.specs.Machine.{first_machine}
 use Rattle.replay_world.proofs.OpeningLemmas.{firm_stands}
 use Rattle.replay_world.proofs.site.opened.Goals as goal
 

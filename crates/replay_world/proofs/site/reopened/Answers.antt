@@ -1,7 +1,7 @@
 use Rattle.std.proofs.Common.{refl, ap}
+use Rattle.std.proofs.lemmas.Result.{on_ok_weaker}
 use Rattle.gateway_book.specs.Value.{history_of}
 use Rattle.gateway_book.specs.declared.outcome.Setup.{Setup as BookSetup}
-use Rattle.replay_world.proofs.GoesLemmas.{on_ok}
 use Rattle.replay_world.proofs.OpeningLemmas.{never_refused, opened_up}
 use Rattle.replay_world.proofs.site.reopened.Goals as goal
 
@@ -14,7 +14,7 @@ returns-in-Ok c = λ s place g m stands named.
 
 pub returns-in-Err : goal.returns-in-Err
 returns-in-Err c = λ s place g m stands named.
-    on_ok c.refused.result (λ other. never_refused s place g m c.args.setup.address c.args.fallen.area c.in-Err.fault
+    on_ok_weaker c.refused.result (λ other. never_refused s place g m c.args.setup.address c.args.fallen.area c.in-Err.fault
     c.in-Err.area stands (ap (λ (x : BookSetup). x.address) named) c.what_stands_is_ours.ensures.starts
     c.what_stands_is_ours.ensures.ours c.in-Err.ensures.err (λ some. c.in-Err.ensures.planned refl some) other)
     c.refused.ensures

@@ -4,7 +4,7 @@ use Rattle.gateway_book.specs.Book.{size_of}
 use Rattle.gateway_book.specs.Calls.{taken}
 use Rattle.gateway_book.specs.Preparing.{prepared_of}
 use Rattle.gateway_book.specs.Up.{HasLeft, Sequel, fortune_by, ready_sequel_of}
-use Rattle.replay_world.specs.Stands.{header_at}
+use Rattle.replay_world.specs.Standing.{header_at}
 use Rattle.replay_world.proofs.CallLemmas.{book_stands}
 use Rattle.replay_world.proofs.taking.take.Goals as goal
 

@@ -2,7 +2,7 @@ use Rattle.std.proofs.Common.{◌∙◌, ap, refl, subst, ◌<◌, ◌^◌, drop
 use Rattle.gateway_book.specs.Book.{value_of}
 use Rattle.gateway_book.specs.Items.{items_between, items_of}
 use Rattle.gateway_book.specs.Value.{BookValue}
-use Rattle.replay_world.specs.Stands.{header_at}
+use Rattle.replay_world.specs.Standing.{header_at}
 use Rattle.replay_world.proofs.WriterLemmas.{all_fit}
 use Rattle.replay_world.proofs.WritingLemmas.{few_from, stays_up}
 use Rattle.replay_world.proofs.writing.items_from.Goals as goal

@@ -4,8 +4,8 @@ use Rattle.file_writer.specs.Writer.{IsAt, is_broken, settings_in, taken_of}
 use Rattle.gateway_book.specs.Items.{items_of}
 use Rattle.once_core.specs.Gateway.{Gateway}
 use Rattle.replay_world.specs.Setup.{Setup}
-use Rattle.replay_world.specs.Stands.{SiteStands}
-use Rattle.replay_world.specs.Value.{Machine}
+use Rattle.replay_world.specs.Standing.{SiteStands}
+use Rattle.replay_world.specs.Machine.{Machine}
 use Rattle.replay_world.specs.Written.{shelf_tells}
 use Rattle.replay_world.proofs.writing.tell_all.Given as goal
 

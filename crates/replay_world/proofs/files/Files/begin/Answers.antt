@@ -1,4 +1,5 @@
 use Rattle.std.proofs.Common.{◌∙◌, refl, sym, ap, subst, ℕ, Result, Some, true}
+use Rattle.std.proofs.lemmas.Result.{IfOk-weaker}
 use Rattle.file_writer.specs.Streams.{Settings}
 use Rattle.file_writer.specs.Writer.{settings_in, shelf_of}
 use Rattle.file_writer.specs.declared.fault.ShelfFault.{ShelfFault}
@@ -7,7 +8,6 @@ use Rattle.replay_world.specs.Parts.{IsTold}
 use Rattle.replay_world.specs.Written.{FilesStand, HasWritten}
 use Rattle.replay_world.specs.declared.files.Wrote.TheVariants.{All}
 use Rattle.replay_world.proofs.CountedLemmas.{numbers_fit}
-use Rattle.replay_world.proofs.GoesLemmas.{if_ok}
 use Rattle.replay_world.proofs.WriterLemmas.{asks_all, begun_all, broken_anew, by_settings}
 use Rattle.replay_world.proofs.files.Files.begin.Goals as goal
 
@@ -33,7 +33,7 @@ returns-in-Ok-2 c = λ setup place g m settings f runs site stands.
 -- no read is planned to fail
 pub returns-in-Err : goal.returns-in-Err
 returns-in-Err c = λ setup place g m settings f runs site stands.
-    if_ok c.broken.result (λ wrote breaks. absurd (asks_all f.armed (shelf_of c.args.self.now.writer)
+    IfOk-weaker c.broken.result _ _ (λ wrote breaks. absurd (asks_all f.armed (shelf_of c.args.self.now.writer)
     (shelf_of c.recover.new.self) true stands.writes.is_armed c.in-Err.ensures.asked refl)) c.broken.ensures
 
 -- a call failed
@@ -45,7 +45,7 @@ returns-in-Err-2 c = λ setup place g m settings f runs site stands.
     let got = c.in_ok-taken.ensures.told setup place g m runs site c.in-Ok.ensures.recovered.at in
     let told = subst (λ (r : Result ℕ ShelfFault). IsTold all c.recover.new.self c.tell_all.new.writer r)
     c.in-Err-2.is got.0 in
-    if_ok c.broken-in-Err-2.result (λ wrote breaks. (
+    IfOk-weaker c.broken-in-Err-2.result _ _ (λ wrote breaks. (
       subst (λ (q : Settings). HasWritten q all f wrote c.broken-in-Err-2.new.self) set
           (broken_anew c.first_files_are_counted.ensures c.calls_seal_files_of_streams.ensures
           c.sealed_files_get_no_call.ensures c.shut_streams_come_to_open_files.ensures all f c.args.self.now

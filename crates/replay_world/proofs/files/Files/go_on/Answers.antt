@@ -1,11 +1,11 @@
 use Rattle.std.proofs.Common.{◌≡◌, ◌∙◌, refl, sym, subst, ℕ, ◌+◌, ◌<◌, ◌^◌, take, Option, IfSome, arith, ap, false, length, List, length-drop}
+use Rattle.std.proofs.lemmas.Result.{IfOk-weaker}
 use Rattle.file_writer.specs.Streams.{Settings}
 use Rattle.file_writer.specs.Writer.{is_broken, settings_in, taken_of}
 use Rattle.gw_base.specs.declared.item.Item.{Item}
 use Rattle.replay_world.specs.Written.{FilesStand, HasWritten}
 use Rattle.replay_world.specs.declared.files.Wrote.TheVariants.{All}
 use Rattle.replay_world.proofs.CountedLemmas.{numbers_fit}
-use Rattle.replay_world.proofs.GoesLemmas.{if_ok}
 use Rattle.replay_world.proofs.WriterLemmas.{broken_behind, by_settings, gone_on}
 use Rattle.replay_world.proofs.files.Files.go_on.Goals as goal
 
@@ -49,7 +49,7 @@ returns-in-Err c = λ settings f all stands are.
       length-drop c.args.taken all,
       (stands.writes.on c.args.taken (sym stands.taken ∙ c.requires.taken)).some,
     ) in
-    if_ok c.broken.result (λ wrote breaks. subst (λ (q : Settings). HasWritten q all f wrote c.broken.new.self) set
+    IfOk-weaker c.broken.result _ _ (λ wrote breaks. subst (λ (q : Settings). HasWritten q all f wrote c.broken.new.self) set
     (broken_behind c.calls_seal_files_of_streams.ensures c.sealed_files_get_no_call.ensures c.open_files_go_on.ensures
     all c.args.items.now f c.args.taken c.args.self.now c.advance.new.self
     (λ s small. numbers_fit (settings_in c.args.self.now.writer) s all (omega (arith, all_of, c.requires.few)))

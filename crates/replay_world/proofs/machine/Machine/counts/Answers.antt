@@ -2,7 +2,7 @@ use Rattle.std.proofs.Common.{◌∙◌, refl, ap, subst, ℕ, Option, Some}
 use Rattle.gateway_book.specs.Book.{size_of}
 use Rattle.gateway_book.specs.Calls.{counts_of}
 use Rattle.gateway_book.specs.Value.{BookValue}
-use Rattle.replay_world.specs.Stands.{SiteStands}
+use Rattle.replay_world.specs.Standing.{SiteStands}
 use Rattle.replay_world.specs.declared.site.Site.{Site}
 use Rattle.replay_world.proofs.machine.Machine.counts.Goals as goal
 

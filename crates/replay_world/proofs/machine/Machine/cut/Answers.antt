@@ -2,7 +2,7 @@ use Rattle.std.proofs.Common.{◌≡◌, refl, sym, ap, subst, ◌∙◌, Option
 use Rattle.area_disk.specs.declared.memory.MemoryArea.{MemoryArea}
 use Rattle.gateway_book.specs.Up.{HoldsHistory}
 use Rattle.replay_world.specs.Called.{SiteIsCut}
-use Rattle.replay_world.specs.Stands.{area_tells, header_at}
+use Rattle.replay_world.specs.Standing.{area_tells, header_at}
 use Rattle.replay_world.specs.declared.site.Site.{Site}
 use Rattle.replay_world.specs.declared.site.Site.TheVariants.{Up}
 use Rattle.replay_world.proofs.machine.Machine.cut.Goals as goal

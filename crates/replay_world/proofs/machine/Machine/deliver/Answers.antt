@@ -1,6 +1,6 @@
 use Rattle.std.proofs.Common.{◌∙◌, sym}
+use Rattle.std.proofs.lemmas.Result.{IfOk-weaker}
 use Rattle.replay_world.proofs.DeliveredLemmas.{comes_down, comes_in_time, comes_late}
-use Rattle.replay_world.proofs.GoesLemmas.{if_ok}
 use Rattle.replay_world.proofs.machine.Machine.deliver.Goals as goal
 
 pub returns-then-is_down : goal.returns-then-is_down
@@ -27,6 +27,6 @@ pub returns : goal.returns
 returns c = λ setup place g m stands.
     let runs = sym (c.is_down.ensures setup place g m stands) ∙ c.if-is_down.false in
     let whole = sym (c.is_broken.ensures setup place g m stands runs) ∙ c.if-is_broken.false in
-    if_ok c.take.result (λ delivery taken. comes_in_time setup place g m c.args.now c.args.message.now runs whole
+    IfOk-weaker c.take.result _ _ (λ delivery taken. comes_in_time setup place g m c.args.now c.args.message.now runs whole
     c.take.new.self delivery (sym (c.is_late.ensures setup place g m stands runs) ∙ c.if-is_late.false) taken)
     (c.take.ensures setup place g m stands runs whole)

@@ -1,9 +1,9 @@
+use Rattle.std.proofs.lemmas.Result.{IfOk-weaker}
 use Rattle.gateway_book.specs.Comes.{AsksReopening}
 use Rattle.once_core.specs.Gateway.{committing}
 use Rattle.replay_world.specs.Device.{machine_with, sequel_on}
 use Rattle.replay_world.specs.Moves.{moved_by}
 use Rattle.replay_world.proofs.AgainLemmas.{met_there, opening_moved, runs_there, taken_there}
-use Rattle.replay_world.proofs.GoesLemmas.{if_ok}
 use Rattle.replay_world.proofs.machine.Machine.deliver_to_broken.Goals as goal
 
 pub returns-in-Some : goal.returns-in-Some
@@ -20,7 +20,7 @@ returns-in-None c = λ setup place g m stands runs breaks.
     let s = sequel_on m AsksReopening in
     let up = runs_there setup place g m c.args.now c.args.message.now runs breaks c.in_ok-sent.sent c.ask.new.self goes
     (λ k n there. c.in-None.ensures setup place k n there) in
-    if_ok c.take_after.result (λ delivery more. taken_there setup place g m c.args.now c.args.message.now runs breaks
+    IfOk-weaker c.take_after.result _ _ (λ delivery more. taken_there setup place g m c.args.now c.args.message.now runs breaks
     c.in_ok-sent.sent c.ask.new.self c.take_after.new.self delivery goes
     (λ k n there. c.in-None.ensures setup place k n there) more)
     (c.take_after.ensures setup place (moved_by s committing m g).gateway (machine_with m s) moved.moved.stands up.0 up.1)

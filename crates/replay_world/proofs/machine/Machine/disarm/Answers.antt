@@ -1,7 +1,7 @@
 use Rattle.std.proofs.Common.{◌≡◌, ◌∙◌, sym, subst}
 use Rattle.area_disk.specs.Armed.Armed.{Nothing}
-use Rattle.replay_world.specs.Stands.{MachineStands}
-use Rattle.replay_world.specs.Value.{Machine, unarmed}
+use Rattle.replay_world.specs.Standing.{MachineStands}
+use Rattle.replay_world.specs.Machine.{Machine, unarmed}
 use Rattle.replay_world.proofs.OpeningLemmas.{down_tells}
 use Rattle.replay_world.proofs.machine.Machine.disarm.Goals as goal
 

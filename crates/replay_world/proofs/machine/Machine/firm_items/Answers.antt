@@ -1,10 +1,10 @@
 use Rattle.std.proofs.Common.{subst, ap, ℕ, ◌<◌, List, Option, arith, drop, length, length-drop, length-take}
+use Rattle.std.proofs.lemmas.Result.{IfOk-weaker}
 use Rattle.gateway_book.specs.Items.{items_of}
 use Rattle.gw_base.specs.declared.item.Item.{Item}
 use Rattle.replay_world.specs.Parts.{IsPart}
-use Rattle.replay_world.specs.Stands.{SiteStands}
+use Rattle.replay_world.specs.Standing.{SiteStands}
 use Rattle.replay_world.specs.declared.site.Site.{Site}
-use Rattle.replay_world.proofs.GoesLemmas.{if_ok}
 use Rattle.replay_world.proofs.WritingLemmas.{are_all}
 use Rattle.replay_world.proofs.machine.Machine.firm_items.Goals as goal
 
@@ -21,7 +21,7 @@ few_of {all = all} {from = from} items part =
 
 pub returns-in-Some-clause-items : goal.returns-in-Some-clause-items
 returns-in-Some-clause-items c = λ setup place g m stands runs.
-    if_ok c.items.result (λ items got. (
+    IfOk-weaker c.items.result _ _ (λ items got. (
       are_all 4294967295 items.items (drop c.args.from (items_of g.book.firm)) got.0.is (few_of items.items got.0),
       got.1,
     ))

@@ -1,6 +1,6 @@
 use Rattle.std.proofs.Common.{◌∙◌, ap, subst, Option, Some}
 use Rattle.gateway_book.specs.Value.{BookValue}
-use Rattle.replay_world.specs.Stands.{SiteStands}
+use Rattle.replay_world.specs.Standing.{SiteStands}
 use Rattle.replay_world.specs.declared.site.Site.{Site}
 use Rattle.replay_world.proofs.machine.Machine.is_broken.Goals as goal
 

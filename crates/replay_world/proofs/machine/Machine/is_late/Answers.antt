@@ -1,7 +1,7 @@
 use Rattle.std.proofs.Common.{◌∙◌, ap, subst, Option, Some}
 use Rattle.gateway_book.specs.Value.{BookValue, history_of}
 use Rattle.once_core.specs.Expired.{is_expired}
-use Rattle.replay_world.specs.Stands.{SiteStands}
+use Rattle.replay_world.specs.Standing.{SiteStands}
 use Rattle.replay_world.specs.declared.site.Site.{Site}
 use Rattle.replay_world.proofs.machine.Machine.is_late.Goals as goal
 

@@ -1,5 +1,5 @@
 use Rattle.std.proofs.Common.{◌∙◌, refl, subst, Option}
-use Rattle.replay_world.specs.Stands.{SiteStands}
+use Rattle.replay_world.specs.Standing.{SiteStands}
 use Rattle.replay_world.specs.declared.site.Site.{Site}
 use Rattle.replay_world.proofs.OutcomeLemmas.{outcome_called}
 use Rattle.replay_world.proofs.machine.Machine.outcome.Goals as goal

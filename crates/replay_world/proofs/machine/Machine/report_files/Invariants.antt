@@ -1,8 +1,8 @@
 use Rattle.std.proofs.Common.{◌≡◌, ◌++◌}
 use Rattle.once_core.specs.Gateway.{Gateway}
 use Rattle.replay_world.specs.Setup.{Setup}
-use Rattle.replay_world.specs.Stands.{MachineStands}
-use Rattle.replay_world.specs.Value.{Machine}
+use Rattle.replay_world.specs.Standing.{MachineStands}
+use Rattle.replay_world.specs.Machine.{Machine}
 use Rattle.replay_world.proofs.ReportLemmas.{lines_below}
 use Rattle.replay_world.proofs.machine.Machine.report_files.Given as goal
 

@@ -4,7 +4,7 @@ use Rattle.cdr_shelf.specs.Files.{SealedFile, in_stream}
 use Rattle.cdr_shelf.specs.declared.memory.MemoryShelf.{MemoryShelf}
 use Rattle.file_writer.specs.Streams.{stream_division}
 use Rattle.gateway_book.specs.Items.{items_of}
-use Rattle.replay_world.specs.Report.{file_line}
+use Rattle.replay_world.specs.GatewayReport.{file_line}
 use Rattle.replay_world.specs.Setup.{files_in}
 use Rattle.replay_world.specs.Written.{shelf_tells}
 use Rattle.replay_world.proofs.CountedLemmas.{all_files}

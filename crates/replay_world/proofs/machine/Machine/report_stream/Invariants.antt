@@ -3,10 +3,10 @@ use Rattle.std.specs.List.{flat_map}
 use Rattle.file_writer.specs.Streams.{stream_count}
 use Rattle.gateway_book.specs.Items.{items_of}
 use Rattle.once_core.specs.Gateway.{Gateway}
-use Rattle.replay_world.specs.Report.{file_line}
+use Rattle.replay_world.specs.GatewayReport.{file_line}
 use Rattle.replay_world.specs.Setup.{Setup, files_in}
-use Rattle.replay_world.specs.Stands.{MachineStands}
-use Rattle.replay_world.specs.Value.{Machine}
+use Rattle.replay_world.specs.Standing.{MachineStands}
+use Rattle.replay_world.specs.Machine.{Machine}
 use Rattle.replay_world.proofs.FileLemmas.{first_files}
 use Rattle.replay_world.proofs.machine.Machine.report_stream.Given as goal
 

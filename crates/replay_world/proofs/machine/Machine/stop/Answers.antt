@@ -4,7 +4,7 @@ use Rattle.area_disk.specs.declared.plan.Outcome3.TheVariants.{Old}
 use Rattle.gateway_book.specs.Opened.{StandsFitFor}
 use Rattle.gateway_book.specs.Items.{items_of}
 use Rattle.replay_world.specs.Setup.{files_in}
-use Rattle.replay_world.specs.Stands.{SiteStands, area_tells, header_at}
+use Rattle.replay_world.specs.Standing.{SiteStands, area_tells, header_at}
 use Rattle.replay_world.specs.declared.site.Site.{Site}
 use Rattle.replay_world.specs.declared.site.Site.TheVariants.{Up}
 use Rattle.replay_world.proofs.AreaLemmas.{stopped_area}

@@ -1,5 +1,5 @@
 use Rattle.std.proofs.Common.{◌∙◌, sym}
-use Rattle.replay_world.proofs.GoesLemmas.{if_ok}
+use Rattle.std.proofs.lemmas.Result.{IfOk-weaker}
 use Rattle.replay_world.proofs.ReportLemmas.{tallied_up}
 use Rattle.replay_world.proofs.WritingLemmas.{site_set}
 use Rattle.replay_world.proofs.machine.Machine.tally.Goals as goal
@@ -11,7 +11,7 @@ returns-then-is_down c = λ setup place g m stands.
 pub returns : goal.returns
 returns c = λ setup place g m stands.
     let runs = sym (c.is_down.ensures setup place g m stands) ∙ c.if-is_down.false in
-    if_ok c.tell.result (λ tally told. (
+    IfOk-weaker c.tell.result _ _ (λ tally told. (
       tallied_up setup place g m tally runs told.0,
       site_set setup place g m c.args.self.now c.tell.new.self stands told.1 c.tell.ensures.rest,
     ))

@@ -1,7 +1,7 @@
 use Rattle.std.proofs.Common.{refl}
 use Rattle.once_core.specs.Gateway.{opened}
 use Rattle.replay_world.specs.Setup.{rules_in}
-use Rattle.replay_world.specs.Value.{first_machine}
+use Rattle.replay_world.specs.Machine.{first_machine}
 use Rattle.replay_world.proofs.ReportLemmas.{opened_still, site_opened, tallied_down}
 use Rattle.replay_world.proofs.machine.Machine.tally_down.Goals as goal
 

@@ -1,9 +1,9 @@
 use Rattle.std.proofs.Common.{refl, subst, Option, Some}
+use Rattle.std.proofs.lemmas.Result.{IfOk-weaker}
 use Rattle.replay_world.specs.Setup.{files_in}
-use Rattle.replay_world.specs.Stands.{SiteStands}
+use Rattle.replay_world.specs.Standing.{SiteStands}
 use Rattle.replay_world.specs.declared.machine.Machine as real
 use Rattle.replay_world.specs.declared.site.Site.{Site}
-use Rattle.replay_world.proofs.GoesLemmas.{if_ok}
 use Rattle.replay_world.proofs.WritingLemmas.{site_set, writes_files}
 use Rattle.replay_world.proofs.machine.Machine.write_anew.Goals as goal
 
@@ -11,7 +11,7 @@ pub returns-in-Some : goal.returns-in-Some
 returns-in-Some c = λ setup place g m stands runs.
     let old = c.args.self.now in
     let told : real.Machine = record old { site = Some c.begin.new.site } in
-    if_ok c.begin.result (λ wrote made.
+    IfOk-weaker c.begin.result _ _ (λ wrote made.
     writes_files setup place g m wrote told (record told { files = c.begin.new.self })
     (site_set setup place g m old told stands made.1 refl) runs refl made.0)
     (c.begin.ensures setup place g m (files_in setup place) m.filing runs

@@ -1,5 +1,5 @@
 use Rattle.std.proofs.Common.{◌∙◌, refl, subst, Some}
-use Rattle.replay_world.specs.Stands.{SiteStands, header_at}
+use Rattle.replay_world.specs.Standing.{SiteStands, header_at}
 use Rattle.replay_world.specs.declared.site.Site.{Site}
 use Rattle.replay_world.proofs.AreaLemmas.{armed_up, arms_armed}
 use Rattle.replay_world.proofs.site.Site.arm.Goals as goal
