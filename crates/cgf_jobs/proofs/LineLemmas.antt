@@ -21,8 +21,8 @@ use Rattle.gw_base.specs.Owes.{base}
 use Rattle.gw_base.specs.declared.history.HistoryEntry.{HistoryEntry}
 use Rattle.node_session.specs.Settling.{Grows, HasSettled, HasTakenAll, closed_behind}
 use Rattle.node_session.specs.Writing.{KeepsFiles}
-use Rattle.replay_world.specs.GatewayReport.{counts_text}
-use Rattle.replay_world.specs.Tally.{is_part, part_count}
+use Rattle.replay_gateway.specs.GatewayReport.{counts_text}
+use Rattle.replay_gateway.specs.Tally.{is_part, part_count}
 use Rattle.cgf_jobs.specs.ServeSteps.{FailsBy, HasLine, HasNoLine, HasSettledAll}
 use Rattle.cgf_jobs.specs.Served.{moment_of, served_line}
 use Rattle.cgf_jobs.specs.declared.settling.Service.{Service}

@@ -22,8 +22,8 @@ use Rattle.gw_base.specs.History.{is_close_due}
 use Rattle.gw_base.specs.Owes.{Begins}
 use Rattle.gw_base.specs.declared.history.HistoryEntry.{HistoryEntry}
 use Rattle.net_link.specs.Making.{LinksState}
-use Rattle.replay_world.specs.AtRest.{AreShut}
-use Rattle.replay_world.specs.Setup.{Setup}
+use Rattle.replay_gateway.specs.AtRest.{AreShut}
+use Rattle.replay_gateway.specs.Setup.{Setup}
 use Rattle.cgf_jobs.specs.ServeSteps.{HasLine, HasNoLine, HasServedAt, HasSettledAll, NeverFalls, RefusesAsForeign, StopsServing, status_by}
 use Rattle.cgf_jobs.specs.Served.{GoesOnIn, HasServed, LosesNothing, files_at, header_for, served_line}
 use Rattle.cgf_jobs.specs.declared.serving.Serving.{Serving}

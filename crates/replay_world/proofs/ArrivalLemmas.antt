@@ -14,23 +14,23 @@ use Rattle.once_core.specs.declared.event.Event.TheVariants as event
 use Rattle.once_core.specs.declared.event.WorldKind.{WorldKind}
 use Rattle.once_core.specs.declared.event.WorldKind.TheVariants.{NoGateway, NoMessage, Stopped}
 use Rattle.once_core.specs.declared.message.Message.{Message}
-use Rattle.replay_world.specs.Taking.{IsDelivered, ending_at}
-use Rattle.replay_world.specs.Device.{asked_by_message, is_stop, sequel_on}
+use Rattle.replay_gateway.specs.Taking.{IsDelivered, ending_at}
+use Rattle.replay_gateway.specs.Device.{asked_by_message, is_stop, sequel_on}
 use Rattle.replay_world.specs.Events.{asked_of, place_asked, receiving_gateway}
 use Rattle.replay_world.specs.Does.{DoesOrEnds}
-use Rattle.replay_world.specs.Moves.{GoesAsArmed}
+use Rattle.replay_gateway.specs.Moves.{GoesAsArmed}
 use Rattle.replay_world.specs.Telling.{delivery_notices, ending_notices, hearing_notices, message_notices, notices_last}
 use Rattle.replay_world.specs.Notices.{Notice, notice_lines}
 use Rattle.replay_world.specs.Sending.{HasSent, IsTo, came_notices, goes_on_after, passed}
-use Rattle.replay_world.specs.Setup.{rules_in}
+use Rattle.replay_gateway.specs.Setup.{rules_in}
 use Rattle.replay_world.specs.Stands.{Stands}
 use Rattle.replay_world.specs.Steps.{Site, Plays, machines_at, sequel_at, site_in, site_of, site_with, turn_at, world_after}
-use Rattle.replay_world.specs.Machine.{Machine}
+use Rattle.replay_gateway.specs.Machine.{Machine}
 use Rattle.replay_world.specs.Value.{ReplayValue}
-use Rattle.replay_world.specs.declared.machine.Machine as real
+use Rattle.replay_gateway.specs.declared.machine.Machine as real
 use Rattle.replay_world.specs.declared.replay.Replay.{Replay}
-use Rattle.replay_world.specs.declared.taking.Delivery.{Delivery}
-use Rattle.replay_world.specs.declared.taking.Ending.{Ending}
+use Rattle.replay_gateway.specs.declared.taking.Delivery.{Delivery}
+use Rattle.replay_gateway.specs.declared.taking.Ending.{Ending}
 use Rattle.replay_world.proofs.GatewayEventLemmas.{does_event, moves_at}
 use Rattle.replay_world.proofs.NodeHearLemmas.{does_nothing}
 use Rattle.replay_world.proofs.StepLemmas.{IsAt, site_is}

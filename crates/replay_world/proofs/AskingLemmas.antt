@@ -5,18 +5,18 @@ use Rattle.gateway_book.specs.Value.{Fortune}
 use Rattle.once_core.specs.Answers.{making_close, making_tick}
 use Rattle.once_core.specs.Gateway.{Gateway}
 use Rattle.once_core.specs.Turn.{at_gateway, no_running_gateway, refusal_of, turn_by}
-use Rattle.replay_world.specs.Asking.{asked_by, asked_move}
+use Rattle.replay_gateway.specs.Asking.{asked_by, asked_move}
 use Rattle.replay_world.specs.Events.{asked_of, event_asked, place_asked}
-use Rattle.replay_world.specs.Machine.{Machine}
-use Rattle.replay_world.specs.Moves.{GoesAsArmed}
-use Rattle.replay_world.specs.Setup.{rules_in}
+use Rattle.replay_gateway.specs.Machine.{Machine}
+use Rattle.replay_gateway.specs.Moves.{GoesAsArmed}
+use Rattle.replay_gateway.specs.Setup.{rules_in}
 use Rattle.replay_world.specs.Steps.{machines_at, machines_in, site_of, waiting_in}
 use Rattle.replay_world.specs.Telling.{notices_last}
 use Rattle.replay_world.specs.Value.{ReplayValue}
-use Rattle.replay_world.specs.declared.calls.GatewayCall.{GatewayCall}
-use Rattle.replay_world.specs.declared.calls.GatewayCall.TheVariants as call
-use Rattle.replay_world.specs.declared.machine.Machine as real
-use Rattle.replay_world.specs.declared.machine.Sent.{Sent}
+use Rattle.replay_gateway.specs.declared.calls.GatewayCall.{GatewayCall}
+use Rattle.replay_gateway.specs.declared.calls.GatewayCall.TheVariants as call
+use Rattle.replay_gateway.specs.declared.machine.Machine as real
+use Rattle.replay_gateway.specs.declared.machine.Sent.{Sent}
 use Rattle.replay_world.proofs.GatewayEventLemmas.{at_now}
 
 module _ (v : ReplayValue) (number : ℕ) where

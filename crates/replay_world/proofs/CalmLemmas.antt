@@ -18,11 +18,11 @@ use Rattle.once_core.specs.World.{World}
 use Rattle.once_core.specs.declared.event.Event.{Event}
 use Rattle.once_core.specs.declared.event.WorldKind.TheVariants.{NoGateway, Stopped}
 use Rattle.replay_world.specs.Events.{asked_of}
-use Rattle.replay_world.specs.Device.{is_stop, machine_after, machine_with, sequel_on}
-use Rattle.replay_world.specs.Moves.{moved_by}
+use Rattle.replay_gateway.specs.Device.{is_stop, machine_after, machine_with, sequel_on}
+use Rattle.replay_gateway.specs.Moves.{moved_by}
 use Rattle.replay_world.specs.Settling.{AreUnarmed, IsIdle, Stays}
 use Rattle.replay_world.specs.Steps.{Site, Step, Plays, after_step, ends_line, machines_at, machines_in, sequel_at, site_of}
-use Rattle.replay_world.specs.Machine.{Machine}
+use Rattle.replay_gateway.specs.Machine.{Machine}
 use Rattle.replay_world.specs.Value.{ReplayValue}
 use Rattle.once_core.specs.declared.message.Message.{Message}
 use Rattle.replay_world.proofs.MovedLemmas.{machines_are, moved}

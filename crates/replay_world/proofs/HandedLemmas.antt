@@ -3,12 +3,12 @@ use Rattle.std.proofs.Common.{◌≡◌, refl, sym, ap, subst, ℕ, zero, suc, �
 use Rattle.area_disk.specs.declared.memory.MemoryArea.{MemoryArea}
 use Rattle.cdr_shelf.specs.declared.memory.MemoryShelf.{MemoryShelf}
 use Rattle.once_core.specs.Gateway.{Gateway}
-use Rattle.replay_world.specs.AtRest.{IsAllWritten, IsAtRest}
-use Rattle.replay_world.specs.HandedOut.{IsHandedOut}
-use Rattle.replay_world.specs.Machine.{Machine}
+use Rattle.replay_gateway.specs.AtRest.{IsAllWritten, IsAtRest}
+use Rattle.replay_gateway.specs.HandedOut.{IsHandedOut}
+use Rattle.replay_gateway.specs.Machine.{Machine}
 use Rattle.replay_world.specs.Played.{EachHandedOut}
 use Rattle.replay_world.specs.Settled.{EachAtRest}
-use Rattle.replay_world.specs.Setup.{Setup, files_in}
+use Rattle.replay_gateway.specs.Setup.{Setup, files_in}
 
 module _ (setup : Setup) where
   -- as many as there are gateways

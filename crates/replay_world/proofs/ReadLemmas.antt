@@ -8,11 +8,11 @@ use Rattle.once_core.specs.FilePlaces.{placed}
 use Rattle.once_core.specs.Gateway.{Gateway}
 use Rattle.once_core.specs.Once.{firm_in}
 use Rattle.world_script.specs.declared.line.Line.{Line}
-use Rattle.replay_world.specs.AtRest.{IsAtRest, IsRead}
+use Rattle.replay_gateway.specs.AtRest.{IsAtRest, IsRead}
 use Rattle.replay_world.specs.Lines.{line_after}
 use Rattle.replay_world.specs.Report.{lines_after}
 use Rattle.replay_world.specs.Settled.{AreRead, EachAtRest, HasPlayedOut}
-use Rattle.replay_world.specs.Setup.{Setup, files_in}
+use Rattle.replay_gateway.specs.Setup.{Setup, files_in}
 use Rattle.replay_world.specs.Value.{ReplayValue}
 use Rattle.replay_world.specs.declared.replay.Played.{Played}
 use Rattle.replay_world.proofs.LineLemmas.{line_setup}

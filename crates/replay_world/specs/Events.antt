@@ -9,9 +9,9 @@ use Rattle.once_core.specs.World.{World}
 use Rattle.once_core.specs.declared.event.Event.{Event}
 use Rattle.once_core.specs.declared.event.Event.TheVariants as event
 use Rattle.once_core.specs.declared.message.Message.{Message}
-use Rattle.replay_world.specs.Device.{asked_by_message, entries_kept}
-use Rattle.replay_world.specs.declared.calls.GatewayCall.{GatewayCall}
-use Rattle.replay_world.specs.declared.calls.GatewayCall.TheVariants as call
+use Rattle.replay_gateway.specs.Device.{asked_by_message, entries_kept}
+use Rattle.replay_gateway.specs.declared.calls.GatewayCall.{GatewayCall}
+use Rattle.replay_gateway.specs.declared.calls.GatewayCall.TheVariants as call
 
 -- Where an event happens.
 

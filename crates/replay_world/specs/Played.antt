@@ -3,9 +3,9 @@ use Rattle.std.specs.Prelude.{◌≡◌, ℕ, suc, List, [], ◌∷◌, ◌≤�
 use Rattle.area_disk.specs.declared.memory.MemoryArea.{MemoryArea}
 use Rattle.cdr_shelf.specs.declared.memory.MemoryShelf.{MemoryShelf}
 use Rattle.once_core.specs.Gateway.{Gateway}
-use Rattle.replay_world.specs.HandedOut.{IsHandedOut}
-use Rattle.replay_world.specs.Machine.{Machine}
-use Rattle.replay_world.specs.Setup.{Setup}
+use Rattle.replay_gateway.specs.HandedOut.{IsHandedOut}
+use Rattle.replay_gateway.specs.Machine.{Machine}
+use Rattle.replay_gateway.specs.Setup.{Setup}
 use Rattle.replay_world.specs.Stands.{nodes_from}
 use Rattle.replay_world.specs.Value.{ReplayValue}
 use Rattle.replay_world.specs.declared.replay.Played.{Played}

@@ -9,7 +9,7 @@ use Rattle.node_core.specs.declared.counts.NodeCounts.{NodeCounts}
 use Rattle.once_core.specs.Turn.{Turn}
 use Rattle.once_core.specs.World.{node_value}
 use Rattle.once_core.specs.declared.event.WorldKind.{WorldKind}
-use Rattle.replay_world.specs.GatewayReport.{gateway_text}
+use Rattle.replay_gateway.specs.GatewayReport.{gateway_text}
 use Rattle.replay_world.specs.Lines.{line_after, line_notices, refusal_of_line, turns_of}
 use Rattle.replay_world.specs.Notices.{notice_lines}
 use Rattle.replay_world.specs.Steps.{site_in, Site}

@@ -8,12 +8,12 @@ use Rattle.replay_world.specs.Notices.{Notice, Faulted, ShelfFaulted, Stopped, n
 use Rattle.replay_world.specs.Steps.{Step, Plays, Tells, without}
 use Rattle.replay_world.specs.Telling.{ending_notices, sent_notices}
 use Rattle.replay_world.specs.Value.{ReplayValue}
-use Rattle.replay_world.specs.declared.files.Wrote.{Wrote}
-use Rattle.replay_world.specs.declared.files.Wrote.TheVariants as wrote
-use Rattle.replay_world.specs.declared.machine.Came.{Came}
-use Rattle.replay_world.specs.declared.machine.Came.TheVariants as came
+use Rattle.replay_gateway.specs.declared.files.Wrote.{Wrote}
+use Rattle.replay_gateway.specs.declared.files.Wrote.TheVariants as wrote
+use Rattle.replay_gateway.specs.declared.machine.Came.{Came}
+use Rattle.replay_gateway.specs.declared.machine.Came.TheVariants as came
 use Rattle.replay_world.specs.declared.replay.Replay.{Replay}
-use Rattle.replay_world.specs.declared.taking.Delivery.{Delivery}
+use Rattle.replay_gateway.specs.declared.taking.Delivery.{Delivery}
 
 -- messages with their numbers, where so many were sent before
 abbrev pub numbered_from : ℕ → List Message → List (ℕ × Message)

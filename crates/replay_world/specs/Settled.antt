@@ -11,9 +11,9 @@ use Rattle.once_core.specs.FilePlaces.{placed}
 use Rattle.once_core.specs.Gateway.{Gateway}
 use Rattle.once_core.specs.Once.{firm_in}
 use Rattle.once_core.specs.World.{World}
-use Rattle.replay_world.specs.AtRest.{IsAllWritten, IsAtRest, IsRead}
-use Rattle.replay_world.specs.Machine.{Machine}
-use Rattle.replay_world.specs.Setup.{Setup, files_in}
+use Rattle.replay_gateway.specs.AtRest.{IsAllWritten, IsAtRest, IsRead}
+use Rattle.replay_gateway.specs.Machine.{Machine}
+use Rattle.replay_gateway.specs.Setup.{Setup, files_in}
 use Rattle.replay_world.specs.Stands.{nodes_from}
 use Rattle.replay_world.specs.Value.{ReplayValue}
 use Rattle.replay_world.specs.declared.replay.Played.{Played}

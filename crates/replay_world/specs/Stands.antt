@@ -6,11 +6,11 @@ use Rattle.once_core.specs.Beginning.{IsReached}
 use Rattle.once_core.specs.Expired.{starts_in}
 use Rattle.once_core.specs.Gateway.{Gateway}
 use Rattle.once_core.specs.World.{node_value}
-use Rattle.replay_world.specs.Machine.{Machine}
-use Rattle.replay_world.specs.Setup.{Setup}
-use Rattle.replay_world.specs.Standing.{MachineStands}
+use Rattle.replay_gateway.specs.Machine.{Machine}
+use Rattle.replay_gateway.specs.Setup.{Setup}
+use Rattle.replay_gateway.specs.Standing.{MachineStands}
 use Rattle.replay_world.specs.Value.{ReplayValue}
-use Rattle.replay_world.specs.declared.machine.Machine as real
+use Rattle.replay_gateway.specs.declared.machine.Machine as real
 use Rattle.replay_world.specs.declared.replay.Replay.{Replay}
 
 -- Nodes.

@@ -19,12 +19,12 @@ use Rattle.once_core.specs.declared.event.Event.TheVariants as event
 use Rattle.once_core.specs.declared.message.Message.{Message}
 use Rattle.replay_world.specs.Events.{message_numbered}
 use Rattle.replay_world.specs.Notices.{Notice, Sent, Took, Refused, Resolved, Finished, Expired, Down, Dropped, Faulted, Stopped, submit_fault_name}
-use Rattle.replay_world.specs.Setup.{rules_in}
+use Rattle.replay_gateway.specs.Setup.{rules_in}
 use Rattle.replay_world.specs.Steps.{Site, Step, Plays, Tells, sent_by, sequel_at, site_of}
-use Rattle.replay_world.specs.Taking.{ending_at}
+use Rattle.replay_gateway.specs.Taking.{ending_at}
 use Rattle.replay_world.specs.Value.{ReplayValue}
-use Rattle.replay_world.specs.declared.taking.Ending.{Ending}
-use Rattle.replay_world.specs.declared.taking.Ending.TheVariants as ending
+use Rattle.replay_gateway.specs.declared.taking.Ending.{Ending}
+use Rattle.replay_gateway.specs.declared.taking.Ending.TheVariants as ending
 
 -- First, what the device did.
 

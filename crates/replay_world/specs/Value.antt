@@ -2,8 +2,8 @@
 use Rattle.std.specs.Prelude.{ℕ, List, []}
 use Rattle.once_core.specs.Beginning.{times_of, world_of}
 use Rattle.once_core.specs.World.{World}
-use Rattle.replay_world.specs.Machine.{Machine, first_machine}
-use Rattle.replay_world.specs.Setup.{Setup, rules_in, setup_of}
+use Rattle.replay_gateway.specs.Machine.{Machine, first_machine}
+use Rattle.replay_gateway.specs.Setup.{Setup, rules_in, setup_of}
 use Rattle.world_script.specs.declared.line.Line.{Line}
 
 -- A replay: its settings; the world; what each gateway runs on; and the numbers of the messages that wait, which no

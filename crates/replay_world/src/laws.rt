@@ -1,5 +1,9 @@
 //! Laws of replays. Each stands on a function that does nothing.
 
+use replay_gateway::laws::{
+    a_gateway_that_wrote_all_rests, no_file_is_open_where_no_close_is_due,
+    what_a_gateway_at_rest_filed_is_read,
+};
 ghost use Rattle.std.specs.Prelude.{◌≡◌, ◌≤◌, ℕ, List, None, Ok, false, true};
 ghost use Rattle.gateway_book.specs.Items.{items_of};
 ghost use Rattle.std.specs.List.{list_any};
@@ -8,13 +12,13 @@ ghost use Rattle.once_core.specs.Once.{Once};
 ghost use Rattle.once_core.specs.StandsOnce.{StandsOnce};
 ghost use Rattle.once_core.specs.Turn.{turns};
 ghost use Rattle.replay_world.specs.Lines.{line_after, refusal_of_line, settled, turns_of};
-ghost use Rattle.replay_world.specs.GatewayReport.{book_of, gateway_report, gateway_text};
+ghost use Rattle.replay_gateway.specs.GatewayReport.{book_of, gateway_report, gateway_text};
 ghost use Rattle.replay_world.specs.Report.{lines_after, refused_from, refusal_of_lines, replayed, turns_from, turns_of_lines};
 ghost use Rattle.replay_world.specs.Settled.{AreRead, AreWritten, HasPlayedOut, HaveMachines, StandInFiles};
-ghost use Rattle.replay_world.specs.AtRest.{IsAllWritten};
-ghost use Rattle.replay_world.specs.Setup.{Setup, files_in, rules_in, setup_of};
+ghost use Rattle.replay_gateway.specs.AtRest.{IsAllWritten};
+ghost use Rattle.replay_gateway.specs.Setup.{Setup, files_in, rules_in, setup_of};
 ghost use Rattle.replay_world.specs.Taken.{Allows, IsAsSaid};
-ghost use Rattle.replay_world.specs.Machine.{Machine};
+ghost use Rattle.replay_gateway.specs.Machine.{Machine};
 ghost use Rattle.replay_world.specs.Value.{ReplayValue, begun, replay_of};
 ghost use Rattle.replay_world.specs.declared.replay.Played.{Played};
 ghost use Rattle.world_script.specs.Sample.{sample_of};
@@ -24,10 +28,6 @@ ghost use Rattle.world_script.specs.declared.extent.Extent.{Extent};
 ghost use Rattle.world_script.specs.declared.kind.ScriptKind.{ScriptKind};
 ghost use Rattle.world_script.specs.declared.line.Line.{Line};
 
-use crate::gateway_laws::{
-    a_gateway_that_wrote_all_rests, no_file_is_open_where_no_close_is_due,
-    what_a_gateway_at_rest_filed_is_read,
-};
 
 /// A line moves the world as its turns do, and lines as theirs, one after the other. Settings stay.
 #[tactic(auto, using(crate::proofs::LineLemmas::line_world, crate::proofs::LineLemmas::line_setup, crate::proofs::LineLemmas::lines_world))]

@@ -15,7 +15,7 @@ ghost use Rattle.replay_world.specs.Does.{Does, DoesAll};
 ghost use Rattle.replay_world.specs.Lines.{submit_steps};
 ghost use Rattle.replay_world.specs.Notices.{Refused, draft_fault_name, notice_line, notice_lines, submit_fault_name};
 ghost use Rattle.replay_world.specs.Packets.{drafted};
-ghost use Rattle.replay_world.specs.Ends.{ends_kept};
+ghost use Rattle.replay_gateway.specs.Ends.{ends_kept};
 ghost use Rattle.replay_world.specs.Sending.{HasSent, IsTo, passed};
 ghost use Rattle.replay_world.specs.Stands.{Stands};
 ghost use Rattle.replay_world.specs.Steps.{Plays};
@@ -23,7 +23,6 @@ ghost use Rattle.replay_world.specs.Telling.{heeded_notices};
 ghost use Rattle.replay_world.specs.Value.{ReplayValue};
 
 use crate::gateway_lines::index_of;
-use crate::messages::Ends;
 use crate::notices::{
     print_done, print_down, print_drop, print_expired, print_refused, print_resolved, print_took,
 };
@@ -31,6 +30,7 @@ use crate::replay::Replay;
 use gw_base::{NoMemory, Octets};
 use node_core::{Draft, DraftFault, Heeded, Node, Outgoing, SubmitFault, a_node_stands_for_its_log};
 use once_core::{Message, gateway_address};
+use replay_gateway::Ends;
 use std::alloc::Global;
 
 /// The most packets of a node.

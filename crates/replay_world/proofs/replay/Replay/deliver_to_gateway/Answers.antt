@@ -2,9 +2,9 @@ use Rattle.std.proofs.Common.{◌≡◌, ◌∙◌, refl, sym, ap, subst, ℕ, �
 use Rattle.std.proofs.lemmas.Option.{slice_get_past, slice_get_read}
 use Rattle.std.proofs.lemmas.Result.{IfOk-weaker}
 use Rattle.once_core.specs.declared.message.Message.{Message}
-use Rattle.replay_world.specs.Taking.{IsDelivered}
+use Rattle.replay_gateway.specs.Taking.{IsDelivered}
 use Rattle.replay_world.specs.Sending.{passed}
-use Rattle.replay_world.specs.Standing.{MachineStands}
+use Rattle.replay_gateway.specs.Standing.{MachineStands}
 use Rattle.replay_world.proofs.ArrivalLemmas.{arrived, arrived_nowhere, message_here}
 use Rattle.replay_world.proofs.GatewayEventLemmas.{called_stands, machine_at, machines_count}
 use Rattle.replay_world.proofs.replay.Replay.deliver_to_gateway.Goals as goal

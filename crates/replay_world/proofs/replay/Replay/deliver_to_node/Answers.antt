@@ -5,9 +5,9 @@ use Rattle.node_core.specs.Value.{NodeValue}
 use Rattle.once_core.specs.Addresses.{gateway_address}
 use Rattle.once_core.specs.Expired.{is_expired_at_node, starts_in}
 use Rattle.once_core.specs.declared.message.Message.{Message}
-use Rattle.replay_world.specs.Ends.{ends_kept}
+use Rattle.replay_gateway.specs.Ends.{ends_kept}
 use Rattle.replay_world.specs.Sending.{passed}
-use Rattle.replay_world.specs.declared.messages.Ends.{Ends}
+use Rattle.replay_gateway.specs.declared.messages.Ends.{Ends}
 use Rattle.replay_world.proofs.NodeHearLemmas.{message_is}
 use Rattle.replay_world.proofs.NodeToldLemmas.{at_world, counter_there, down_told, expired_told, hears}
 use Rattle.replay_world.proofs.RefusalLemmas.{no_node_runs, node_at, node_runs}

@@ -5,7 +5,7 @@ use Rattle.replay_world.specs.Does.{Makes}
 use Rattle.replay_world.specs.Notices.{ShelfFaulted, Stopped, notice_line}
 use Rattle.replay_world.specs.Steps.{Plays, Tells, after_step}
 use Rattle.replay_world.specs.Sending.{steps_behind}
-use Rattle.replay_world.specs.declared.files.Wrote.{Wrote}
+use Rattle.replay_gateway.specs.declared.files.Wrote.{Wrote}
 use Rattle.replay_world.proofs.NodeSubmitLemmas.{does_behind, does_tell, one_step}
 use Rattle.replay_world.proofs.StepsLemmas.{makes_one, makes_then}
 use Rattle.replay_world.proofs.replay.Replay.end_write.Goals as goal

@@ -6,9 +6,9 @@ use Rattle.gateway_book.specs.Told.{paths_of}
 use Rattle.gateway_book.specs.Value.{history_of}
 use Rattle.once_core.specs.Addresses.{node_at}
 use Rattle.once_core.specs.Answers.{redirected}
-use Rattle.replay_world.specs.Moves.{HasMoved}
-use Rattle.replay_world.specs.Redirecting.{KnowsNear}
-use Rattle.replay_world.specs.Standing.{MachineStands}
+use Rattle.replay_gateway.specs.Moves.{HasMoved}
+use Rattle.replay_gateway.specs.Redirecting.{KnowsNear}
+use Rattle.replay_gateway.specs.Standing.{MachineStands}
 use Rattle.replay_world.proofs.GatewayEventLemmas.{called_stands, machine_at, no_machine, runs_there}
 use Rattle.replay_world.proofs.QuietLemmas.{does_redirect, runs_to_redirect}
 use Rattle.replay_world.proofs.replay.Replay.redirect.Goals as goal

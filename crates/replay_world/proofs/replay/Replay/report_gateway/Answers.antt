@@ -1,8 +1,8 @@
 use Rattle.std.proofs.Common.{◌≡◌, ◌∙◌, refl, sym, ap, subst, ℕ, ◌+◌, ◌<◌, List, ◌++◌, length, Some, slice_get, length-set, arith}
 use Rattle.std.proofs.lemmas.Option.{slice_get_read}
 use Rattle.std.proofs.lemmas.Result.{on_ok_weaker}
-use Rattle.replay_world.specs.GatewayReport.{gateway_text}
-use Rattle.replay_world.specs.Standing.{MachineStands}
+use Rattle.replay_gateway.specs.GatewayReport.{gateway_text}
+use Rattle.replay_gateway.specs.Standing.{MachineStands}
 use Rattle.replay_world.proofs.AllLemmas.{lines_there, small_place, stands_same}
 use Rattle.replay_world.proofs.GatewayEventLemmas.{machines_count}
 use Rattle.replay_world.proofs.RefusalLemmas.{gateway_at}

@@ -2,7 +2,7 @@ use Rattle.std.proofs.Common.{◌≡◌, refl, sym, subst, ℕ, ◌+◌, length,
 use Rattle.std.proofs.lemmas.Option.{slice_get_read}
 use Rattle.std.proofs.lemmas.Result.{IfOk-weaker}
 use Rattle.once_core.specs.Gateway.{Gateway}
-use Rattle.replay_world.specs.Standing.{MachineStands}
+use Rattle.replay_gateway.specs.Standing.{MachineStands}
 use Rattle.replay_world.specs.Summary.{TalliesIf}
 use Rattle.replay_world.proofs.AllLemmas.{stands_same}
 use Rattle.replay_world.proofs.RefusalLemmas.{gateway_at}
