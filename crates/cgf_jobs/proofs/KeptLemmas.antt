@@ -1,10 +1,11 @@
 -- What a gateway keeps that was handed an area: its history, and what it answered.
-use Rattle.std.proofs.Common.{◌≡◌, ℕ, ◌≤◌, Bool, true, ◌&&◌, List, [], Option, None, Some, refl, ap, subst, ◌∙◌, arith}
+use Rattle.std.proofs.Common.{◌≡◌, ℕ, ◌≤◌, Bool, true, ◌&&◌, List, [], Option, None, Some, refl, sym, ap, subst, ◌∙◌, arith}
 use Rattle.std.proofs.lemmas.List.{append-nil}
 use Rattle.std.proofs.lemmas.List.Elements.{All-nil, All-weaker}
 use Rattle.std.specs.Prelude.{All, IfSome}
 use Rattle.area_disk.specs.Disk.{Rose}
 use Rattle.area_disk.specs.declared.area.Area as areas
+use Rattle.cdr_shelf.specs.Files.{SealedFile}
 use Rattle.cdr_shelf.specs.declared.shelf.Shelf as shelves
 use Rattle.file_writer.specs.declared.writer.Writer.{Writer}
 use Rattle.gate_journal.specs.Moments.{Told}
@@ -16,10 +17,12 @@ use Rattle.gw_base.specs.Owes.{Begins}
 use Rattle.gw_base.specs.declared.history.HistoryEntry.{HistoryEntry}
 use Rattle.net_link.specs.Datagrams.{Datagram}
 use Rattle.net_link.specs.Making.{GrowsBy, LinksState}
+use Rattle.replay_gateway.specs.Setup.{Setup}
 use Rattle.session_run.specs.History.{IsReply}
 use Rattle.cgf_jobs.specs.ServeSteps.{HasServedAt}
-use Rattle.cgf_jobs.specs.Served.{GoesOnIn, HasReplied, LosesNothing, header_for}
+use Rattle.cgf_jobs.specs.Served.{GoesOnIn, HasFirstFiles, HasReplied, LosesNothing, files_at, header_for}
 use Rattle.cgf_jobs.specs.Serving.{address_in}
+use Rattle.cgf_jobs.specs.Shelved.{IsFiledIn, KeepsShelf}
 use Rattle.cgf_jobs.specs.declared.serving.Serving.{Serving}
 use Rattle.cgf_jobs.specs.declared.settling.Service.{Service}
 use Rattle.cgf_jobs.proofs.ServiceLemmas.{ReplyLater, begins_self, none_in_turn, reply_later, same_heard}
@@ -59,6 +62,27 @@ untouched_keeps tells of area links told start holds = record {
   now = goes_on_unsent tells of area area links start (tells.octets area) holds.now;
   crash = λ c may. goes_on_unsent tells of area area links start c (holds.crash c may);
 }
+
+module _ {A F : Type 0} (tells : areas.Ghosts A) (files : shelves.Ghosts F) (of : Serving) (setup : Setup) (area : A)
+    (shelf shelf' : F)
+    (same : files.files shelf' ≡ files.files shelf) where
+  -- a shelf that has the files that it had has the first ones of those of a history that stands still
+  pub filed_still : (start : List HistoryEntry) → HasFirstFiles (files_at of setup) start (files.files shelf)
+      → (octets : List ℕ) → StandsOrStarts (header_for tells area of) octets start → IsFiledIn tells files of setup
+      area shelf' start octets
+  filed_still start first octets stands = record {
+    history = start;
+    stands = stands;
+    begins = begins_self start;
+    filed = subst (λ (sealed : List SealedFile). HasFirstFiles (files_at of setup) start sealed) (sym same) first;
+  }
+
+  -- so it is where the area is as it was
+  pub untouched_shelf : KeepsShelf tells files of setup area area shelf shelf'
+  untouched_shelf told tells_files start holds first = (
+    filed_still start first (tells.octets area) holds.now,
+    λ c may. filed_still start first c (holds.crash c may),
+  )
 
 module _ {A F : Type 0} (tells : areas.Ghosts A) (files : shelves.Ghosts F) (of : Serving) (told : Told tells)
     (area : A) (book book' book'' : Book A tells) (writer writer' : Writer F files)

@@ -1,5 +1,6 @@
 -- The line that is written of a gateway that was settled.
-use Rattle.std.proofs.Common.{◌≡◌, inl, inr, ℕ, ◌≤◌, true, false, List, [], length, None, Result, Ok, Err, IfErr, IfOk, count_by, sym, ap, subst, ◌∙◌, arith}
+use Rattle.std.proofs.Common.{◌≡◌, ◌≢◌, inl, inr, ℕ, ◌≤◌, true, false, List, [], length, None, Result, Ok, Err, IfErr, IfOk, count_by, sym, ap, subst, ◌∙◌, arith}
+use Rattle.area_disk.specs.Disk.{Rose}
 use Rattle.area_disk.specs.declared.area.Area as areas
 use Rattle.cdr_shelf.specs.declared.shelf.Shelf as shelves
 use Rattle.cgf_journal.specs.Trail.{is_closed}
@@ -19,8 +20,10 @@ use Rattle.gateway_book.specs.declared.told.Counts.{Counts}
 use Rattle.gw_base.specs.Facts.{WhereTold}
 use Rattle.gw_base.specs.Owes.{base}
 use Rattle.gw_base.specs.declared.history.HistoryEntry.{HistoryEntry}
-use Rattle.node_session.specs.Settling.{Grows, HasSettled, HasTakenAll, closed_behind}
+use Rattle.node_session.specs.Settling.{Grows, HasSettled, HasTakenAll, IsSettled, closed_behind}
 use Rattle.node_session.specs.Writing.{KeepsFiles}
+use Rattle.node_session.specs.declared.settling.SettleFault.{SettleFault}
+use Rattle.node_session.specs.declared.settling.SettleFault.TheVariants as settle
 use Rattle.replay_gateway.specs.GatewayReport.{counts_text}
 use Rattle.replay_gateway.specs.Tally.{is_part, part_count}
 use Rattle.cgf_jobs.specs.ServeSteps.{FailsBy, HasLine, HasNoLine, HasSettledAll}
@@ -46,6 +49,33 @@ line_is v size counts records whole none is counted parts =
 
     told : Counts
     told = counts_of standing size
+
+module _ {A : Type 0} (tells : areas.Ghosts A) where
+  -- what was settled at the moment of a service is so where the book was read then
+  settled_as : (service : Service) (book a b : Book A tells) (now : ℕ) → now ≡ moment_of service.last
+      → (Told tells → value_of b ≡ value_of a) → is_closed b.trail ≡ is_closed a.trail → IsSettled book a now no_caller
+      → IsSettled book b (moment_of service.last) no_caller
+  settled_as service book a b now moment value broken s = record {
+    drops = s.drops;
+    whole = s.whole;
+    firm = λ told. ap (λ (v : BookValue). v.firm) (value told) ∙ s.firm told
+        ∙ ap (λ (n : ℕ). closed_behind (base s.drops (facts_of book)) n no_caller) moment;
+    none_waits = λ told. ap (λ (v : BookValue). v.rest) (value told) ∙ s.none_waits told;
+    goes_on = broken ∙ s.goes_on;
+  }
+
+  -- A gateway was settled unless the device of its area failed, whether it has a line or not.
+  pub settled_calmly : {R : Type 0} (service : Service) (book a b : Book A tells) (now : ℕ)
+      (counts : Result R SettleFault)
+      → now ≡ moment_of service.last → (counts ≢ Err settle.Area → IsSettled book a now no_caller)
+      → (counts ≡ Err settle.Area → Rose (tells.faults (area_of book)) (tells.faults (area_of a)))
+      → (Told tells → value_of b ≡ value_of a) → is_closed b.trail ≡ is_closed a.trail
+      → tells.faults (area_of a) ≤ tells.faults (area_of b) → ¬
+      (Rose (tells.faults (area_of book)) (tells.faults (area_of b)))
+      → IsSettled book b (moment_of service.last) no_caller
+  settled_calmly service book a b now counts moment closes failed value broken later calm =
+      settled_as service book a b now moment value broken
+      (closes (λ is. calm (let rose = failed is in omega (arith, rose, later))))
 
 module _ {A F : Type 0} (tells : areas.Ghosts A) (files : shelves.Ghosts F) where
   fails_as : (service : Service) (book a b : Book A tells) (writer w : Writer F files) → tells.faults (area_of book) ≤ tells.faults (area_of a)
@@ -89,11 +119,7 @@ module _ {A F : Type 0} (tells : areas.Ghosts A) (files : shelves.Ghosts F) wher
       by_ok (Err ended) line_of = tt
       by_ok (Ok l) line_of = record {
         runs = runs;
-        drops = settled.settled.drops;
-        firm = λ told. firm told ∙ settled.settled.firm told
-            ∙ ap (λ (n : ℕ). closed_behind (base settled.settled.drops (facts_of book)) n no_caller) moment;
-        none_waits = λ told. ap (λ (v : BookValue). v.rest) (same.0.value told) ∙ settled.settled.none_waits told;
-        goes_on = same.0.broken ∙ settled.settled.goes_on;
+        settled = settled_as tells service book a b now moment same.0.value same.0.broken settled.settled;
         line_is = λ told. line_of told settled.settled.goes_on (settled.settled.none_waits told) (settled.told told)
             ∙ ap (λ (h : List HistoryEntry). served_line h) (sym (firm told));
         taken = λ told. subst (λ (h : List HistoryEntry). HasTakenAll h w) (sym (firm told)) (all told);

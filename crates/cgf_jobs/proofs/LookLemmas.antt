@@ -1,5 +1,5 @@
 -- A shelf that was looked at, and didn't fail, has the files and the count of faults that it had.
-use Rattle.std.proofs.Common.{◌≡◌, ⊎_elim, inl, inr, ℕ, ◌≤◌, List, Result, Ok, Err, IfErr, IfOk, sym, subst}
+use Rattle.std.proofs.Common.{◌≡◌, ⊎_elim, inl, inr, ℕ, ◌≤◌, List, Result, Ok, Err, IfErr, IfOk, sym, subst, ◌∙◌}
 use Rattle.area_disk.specs.Disk.{Rose}
 use Rattle.area_disk.specs.declared.area.Area as areas
 use Rattle.cdr_shelf.specs.Files.{SealedFile}
@@ -9,6 +9,7 @@ use Rattle.net_link.specs.Making.{LinksState}
 use Rattle.replay_gateway.specs.Setup.{Setup}
 use Rattle.cgf_jobs.specs.ServeSteps.{NeverFalls, StopsServing}
 use Rattle.cgf_jobs.specs.Served.{HasFirstFiles, HasServed, files_at, served_line}
+use Rattle.cgf_jobs.specs.Shelved.{KeepsShelf}
 use Rattle.cgf_jobs.specs.declared.serving.Serving.{Serving}
 use Rattle.cgf_jobs.specs.declared.status.Status.{Status}
 use Rattle.cgf_jobs.specs.declared.status.Status.TheVariants as status
@@ -20,15 +21,10 @@ module _ {A F : Type 0} (tells : areas.Ghosts A) (files : shelves.Ghosts F) (of 
       → HasServed tells files of setup area area' looked shelf' links links' history
       → HasServed tells files of setup area area' shelf shelf' links links' history
   has_before setup history same has = record {
-    start = has.start;
-    found = has.found;
-    stands = has.stands;
-    crash = has.crash;
-    grown = has.grown;
-    replies = has.replies;
+    closed = has.closed;
     sealed = λ told first. has.sealed told
-        (subst (λ (sealed : List SealedFile). HasFirstFiles (files_at of setup) has.start sealed) (sym same) first);
-    shut = has.shut;
+        (subst (λ (sealed : List SealedFile). HasFirstFiles (files_at of setup) has.closed.start sealed) (sym same)
+        first);
   }
 
   pub served_before : {X : Type 0} (octets : X → List ℕ) (setup : Setup) (result : Result X Status) → files.files looked ≡ files.files shelf
@@ -39,22 +35,30 @@ module _ {A F : Type 0} (tells : areas.Ghosts A) (files : shelves.Ghosts F) (of 
   served_before octets setup (Ok x) same has = (has.0, has_before setup has.0 same has.1, has.2)
   served_before octets setup (Err ended) same has = tt
 
+  pub shelf_before : (setup : Setup) → files.files looked ≡ files.files shelf → KeepsShelf tells files of setup area
+      area' looked shelf'
+      → KeepsShelf tells files of setup area area' shelf shelf'
+  shelf_before setup same keeps told tells_files start holds first = keeps told tells_files start holds
+      (subst (λ (sealed : List SealedFile). HasFirstFiles (files_at of setup) start sealed) (sym same) first)
+
   module _ (clock clock' : ℕ) where
-    stops_before : (ended : Status) → files.faults looked ≡ files.faults shelf
+    stops_before : (ended : Status) → files.files looked ≡ files.files shelf → files.faults looked ≡ files.faults shelf
         → StopsServing tells files of area area' looked shelf' links links' clock clock' ended
         → StopsServing tells files of area area' shelf shelf' links links' clock clock' ended
-    stops_before status.Link same stops = stops
-    stops_before (status.Store fault.Device) same stops = ⊎_elim (λ (r : Rose (tells.faults area) (tells.faults area')). inl r)
+    stops_before status.Link kept same stops = stops
+    stops_before (status.Store fault.Device) kept same stops = ⊎_elim
+        (λ (r : Rose (tells.faults area) (tells.faults area')). inl r)
         (λ (r : Rose (files.faults looked) (files.faults shelf')). inr (subst (λ (n : ℕ). Rose n (files.faults shelf')) same r)) stops
-    stops_before (status.Store (fault.NotOurs at)) same stops = stops
-    stops_before status.Memory same stops = tt
-    stops_before _ same stops = absurd stops
+    stops_before (status.Store (fault.NotOurs at)) kept same stops = (stops.0, stops.1, stops.2, stops.3 ∙ kept, stops.4)
+    stops_before status.Memory kept same stops = tt
+    stops_before _ kept same stops = absurd stops
 
-    pub stopped_before : {X : Type 0} (result : Result X Status) → files.faults looked ≡ files.faults shelf
+    pub stopped_before : {X : Type 0} (result : Result X Status) → files.files looked ≡ files.files shelf
+        → files.faults looked ≡ files.faults shelf
         → IfErr result (StopsServing tells files of area area' looked shelf' links links' clock clock')
         → IfErr result (StopsServing tells files of area area' shelf shelf' links links' clock clock')
-    stopped_before (Ok x) same stops = tt
-    stopped_before (Err ended) same stops = stops_before ended same stops
+    stopped_before (Ok x) kept same stops = tt
+    stopped_before (Err ended) kept same stops = stops_before ended kept same stops
 
     pub never_fell_before : files.faults looked ≡ files.faults shelf
         → NeverFalls tells files of area area' looked shelf' links links' clock clock'

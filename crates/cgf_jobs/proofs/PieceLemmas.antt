@@ -20,7 +20,7 @@ use Rattle.gw_base.specs.declared.address.Addr.{Addr}
 use Rattle.cgf_jobs.specs.Kinds.{of_frame}
 use Rattle.cgf_jobs.specs.Replies.{Tried, after_all, after_message, sent_for, sent_for_all}
 use Rattle.cgf_jobs.specs.StreamEnds.{end_by, most_stream, rest_place}
-use Rattle.cgf_jobs.specs.StreamSteps.{Answers, AnswersAll, CutsByFaults, HasAnsweredOne, HasGoneTo, IsGoingOn, IsSteady, StopsAtMessage, StopsIn}
+use Rattle.cgf_jobs.specs.StreamSteps.{Answers, AnswersAll, CutsByFaults, HasAnsweredOne, HasGoneTo, IsGoingOn, IsLastOf, IsSteady, StopsAtMessage, StopsIn}
 use Rattle.cgf_jobs.specs.declared.connection.Connection.{Connection}
 use Rattle.cgf_jobs.specs.declared.status.Status.{Status}
 use Rattle.cgf_jobs.specs.declared.status.Status.TheVariants as status
@@ -92,6 +92,23 @@ module _ {A : Type 0} (tells : areas.Ghosts A) where
           → ((after_all (size_of opened) from (value_of opened) a.tried).cuts + tells.faults (area_of opened) ≤ opened.cuts + g) ⊎ (last_count ≤ g)
       by (inl x) = inl (omega (arith, x, le))
       by (inr x) = inr (omega (arith, x, le))
+
+  -- the same from an address that is equal
+  abbrev answers_from : (a b : Addr) → a ≡ b → (opened : Book A tells) (messages : List (List ℕ)) (sent : List ℕ)
+      (book : Book A tells)
+      → AllAnswered a opened messages sent book → AllAnswered b opened messages sent book
+  answers_from a b is opened messages sent book all = (
+    record {
+      tried = all.0.tried;
+      octets_are = all.0.octets_are;
+      sent_are = subst (λ (x : Addr). sent ≡ sent_for_all (size_of opened) x (value_of opened) all.0.tried) is
+          all.0.sent_are;
+      cuts = subst (λ (x : Addr). ((after_all (size_of opened) x (value_of opened) all.0.tried).cuts + tells.faults
+          (area_of opened)
+          ≤ opened.cuts + tells.faults (area_of book)) ⊎ (last_count ≤ tells.faults (area_of book))) is all.0.cuts;
+    },
+    subst (λ (x : Addr). value_of book ≡ after_all (size_of opened) x (value_of opened) all.0.tried) is all.1,
+  )
 
   answers_more : (from : Addr) (opened mid new : Book A tells) (messages : List (List ℕ)) (message sent more : List ℕ)
       → size_of mid ≡ size_of opened → CutsByFaults tells opened new → AllAnswered from opened messages sent mid
@@ -213,9 +230,10 @@ module _ {A : Type 0} (tells : areas.Ghosts A) where
         all_stays : Stays opened n.book
         all_stays = stays_on opened o.book n.book goes.stays stays
 
-        with_one : (more : List ℕ) → (Told tells → Answers tells o.node d.octets o.book n.book more) → Told tells
+        abbrev with_one : (more : List ℕ) → (Told tells → Answers tells o.node d.octets o.book n.book more) → Told tells
             → AllAnswered n.node opened (messages ++ d.octets ∷ []) (sent ++ more) n.book
-        with_one more one told = subst (λ (a : Addr). AllAnswered a opened (messages ++ d.octets ∷ []) (sent ++ more) n.book) (sym node)
+        with_one more one told = answers_from o.node n.node (sym node) opened (messages ++ d.octets ∷ [])
+            (sent ++ more) n.book
             (answers_more o.node opened o.book n.book messages d.octets sent more sized all_cuts (goes.answers told) (one told))
 
         pub goes_whole : (more : List ℕ) → HasAnsweredOne tells (pushed o d used) n more
@@ -252,7 +270,7 @@ module _ {A : Type 0} (tells : areas.Ghosts A) where
         }
 
         -- it was, and its reply is cut
-        gone_with : (more : List ℕ) → (Told tells → Answers tells o.node d.octets o.book n.book more)
+        abbrev gone_with : (more : List ℕ) → (Told tells → Answers tells o.node d.octets o.book n.book more)
             → HasGoneTo tells opened (given ++ piece) (sent ++ more) n
         gone_with more one = record {
           messages = messages ++ d.octets ∷ [];
@@ -266,10 +284,30 @@ module _ {A : Type 0} (tells : areas.Ghosts A) where
           cuts = all_cuts;
         }
 
+        last_one : (more : List ℕ) (one : Told tells → Answers tells o.node d.octets o.book n.book more)
+            (told : Told tells)
+            → IsLastOf tells n.node opened ((gone_with more one).answers told).0.tried sent more
+        unfolding answers_more
+        last_one more one told = record {
+          first = (goes.answers told).0.tried;
+          last = (one told).tried;
+          tried_are = refl;
+          sent_are = (goes.answers told).0.sent_are ∙ (λ i. sent_for_all (size_of opened) (sym node i)
+              (value_of opened) (goes.answers told).0.tried);
+          more_is = (one told).sent_is ∙ (λ i. sent_for (sized i) o.node ((goes.answers told).1 i) (one told).tried)
+              ∙ (λ i. sent_for (size_of opened) (sym node i)
+              (after_all (size_of opened) (sym node i) (value_of opened) (goes.answers told).0.tried) (one told).tried);
+        }
+
         pub stops_whole : (before after : Option (List ℕ)) (ended : Status) → StopsAtMessage tells (pushed o d used) n before after ended
             → StopsIn tells opened (given ++ piece) sent n before after ended
         stops_whole before after status.Link same = (gone_before (ap (λ (b : Book A tells). value_of b) same.1), same.0)
-        stops_whole before after status.Write stops = (stops.0, gone_with stops.0 stops.1, stops.2)
+        stops_whole before after status.Write stops = (
+          stops.0,
+          gone_with stops.0 stops.1,
+          stops.2,
+          last_one stops.0 stops.1,
+        )
         stops_whole before after _ stops = absurd stops
 
     -- The next message begins with an octet that can't begin one.

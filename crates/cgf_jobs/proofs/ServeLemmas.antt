@@ -1,5 +1,5 @@
 -- What `serve` does, by what it read, how the gateway served, and what was written.
-use Rattle.std.proofs.Common.{◌≡◌, ◌⊎◌, ⊎_elim, inl, inr, ℕ, ◌+◌, Bool, true, false, true≢false, List, take, Option, None, Some, Result, Ok, Err, IfErr, IfOk, OnOk, refl, sym, ap, subst, ◌∙◌}
+use Rattle.std.proofs.Common.{◌≡◌, ◌⊎◌, ⊎_elim, inl, inr, ℕ, ◌+◌, Bool, true, false, true≢false, List, [], take, Option, None, Some, Result, Ok, Err, IfErr, IfOk, OnOk, refl, sym, ap, subst, ◌∙◌}
 use Rattle.std.specs.Io.KnownBytes.{Appends}
 use Rattle.area_disk.specs.declared.area.Area as areas
 use Rattle.cdr_shelf.specs.declared.shelf.Shelf as shelves
@@ -19,15 +19,17 @@ use Rattle.cgf_jobs.specs.Ending.{HasCause}
 use Rattle.cgf_jobs.specs.Job.{Job}
 use Rattle.cgf_jobs.specs.Kinds.{of_line}
 use Rattle.cgf_jobs.specs.Run.{IsRead, TakesUpTo, may_have_written}
-use Rattle.cgf_jobs.specs.ServeEnds.{EndsBy, IsCalm, IsRefusedAt, ServedBy, Serves, may_have_opened}
+use Rattle.cgf_jobs.specs.ServeEnds.{EndsBy, IsCalm, IsGatewayEnd, IsRefusedAt, ServedBy, Serves, may_have_opened}
 use Rattle.cgf_jobs.specs.ServeSteps.{AreOf, CausesRead, IsSetBy, RefusesAsForeign, RefusesSettings, RefusesText, StopsServing, WritesLine}
-use Rattle.cgf_jobs.specs.Served.{HasServed, LosesNothing, header_for, served_line}
+use Rattle.cgf_jobs.specs.Served.{HasServed, LosesNothing, SettlesStill, header_for, served_line}
 use Rattle.cgf_jobs.specs.Serving.{address_in}
+use Rattle.cgf_jobs.specs.Shelved.{KeepsShelf}
 use Rattle.cgf_jobs.specs.declared.input_kind.InputKind.{InputKind}
 use Rattle.cgf_jobs.specs.declared.serve.FileSettings.{FileSettings}
 use Rattle.cgf_jobs.specs.declared.serving.Serving.{Serving}
 use Rattle.cgf_jobs.specs.declared.status.Status.{Status}
 use Rattle.cgf_jobs.specs.declared.status.Status.TheVariants as status
+use Rattle.cgf_jobs.specs.declared.status.StoreFault.{StoreFault}
 use Rattle.cgf_jobs.specs.declared.status.StoreFault.TheVariants as fault
 use Rattle.cgf_jobs.proofs.Ends.{read_front}
 
@@ -87,6 +89,12 @@ module _ {A F : Type 0} (tells : areas.Ghosts A) (files : shelves.Ghosts F) (of 
   refused_cause (status.Input place why) r same = (r.0, same)
   refused_cause _ r same = absurd r
 
+  refused_known : (ended : Status) → Refuses job ended → IsGatewayEnd ended
+  refused_known status.Read r = tt
+  refused_known status.Memory r = tt
+  refused_known (status.Input place why) r = tt
+  refused_known _ r = absurd r
+
   refused_complete : (ended : Status) → Refuses job ended → IsCalm tells files of job area area' shelf shelf' links links' clock clock' ended
       → (text : List ℕ) → job.left ≡ Some text
       → EndsBy tells files of job area area' shelf shelf' links links' clock clock' ended (script_in kind.Serve (take (most_text + 1) text))
@@ -116,19 +124,24 @@ module _ {A F : Type 0} (tells : areas.Ghosts A) (files : shelves.Ghosts F) (of 
   pub refused_serves : {X : Type 0} (ended : Status) → RefusesSettings job.left job.rest ended
       → CausesRead {X = X} job.read_before job.read_after (Err ended) → TakesUpTo (most_text + 1) job.left job.rest
       → job.written_after ≡ job.written_before → LosesNothing tells of area area' links links'
+      → ((setup : Setup) → KeepsShelf tells files of setup area area' shelf shelf')
       → Serves tells files of job area area' shelf shelf' links links' clock clock' ended None
-  refused_serves ended refuses causes bound same keeps =
+  refused_serves ended refuses causes bound same keeps filed =
       let r = refuses_by job ended refuses causes in
       record {
         done = λ is. absurd (subst (Refuses job) is r);
         front = λ is. absurd (subst (Refuses job) is r);
         keeps = keeps;
+        shelved = λ text lines left says. filed (setup_of lines);
         refused = refused_at ended r;
+        accepted = λ is. absurd (⊎_elim (λ (e : ended ≡ status.Link). subst (Refuses job) e r)
+            (λ (e : (why : StoreFault) × (ended ≡ status.Store why)). subst (Refuses job) e.1 r) is);
         device = λ is. absurd (subst (Refuses job) is r);
-        foreign = λ at is told. absurd (subst (Refuses job) is r);
+        foreign = λ at is. absurd (subst (Refuses job) is r);
         link = λ is. absurd (subst (Refuses job) is r);
+        closed = λ is. absurd (subst (Refuses job) is r);
         cause = refused_cause ended r same;
-        known = λ is. absurd (subst (Refuses job) is r);
+        known = refused_known ended r;
         bound = bound;
         none = refl;
         complete = λ calm told text left. refused_complete ended r calm text left;
@@ -142,6 +155,12 @@ module _ {A F : Type 0} (tells : areas.Ghosts A) (files : shelves.Ghosts F) (of 
   stopped_cause (status.Store why) s read same = (read, same)
   stopped_cause status.Memory s read same = (read, same)
   stopped_cause _ s read same = absurd s
+
+  stopped_known : (ended : Status) → Stops ended → IsGatewayEnd ended
+  stopped_known status.Link s = tt
+  stopped_known (status.Store why) s = tt
+  stopped_known status.Memory s = tt
+  stopped_known _ s = absurd s
 
   -- an area that is found isn't another's
   abbrev Ours : Type 0
@@ -160,7 +179,8 @@ module _ {A F : Type 0} (tells : areas.Ghosts A) (files : shelves.Ghosts F) (of 
       → (h : List HistoryEntry) → StandsOrStarts (header_for tells area of) (tells.octets area) h → (ended ≡ status.Memory) ⊎ (ended ≡ status.Done)
   stopped_calmly ours others status.Link s calm told h stands = absurd (⊎_elim (λ r. calm.link r) (λ r. calm.time r) s)
   stopped_calmly ours others (status.Store fault.Device) s calm told h stands = absurd (⊎_elim (λ r. calm.device r) (λ r. calm.shelf_runs r) s)
-  stopped_calmly ours others (status.Store (fault.NotOurs at)) s calm told h stands = absurd (found_ours ours others h at stands (s told).0)
+  stopped_calmly ours others (status.Store (fault.NotOurs at)) s calm told h stands = absurd
+      (found_ours ours others h at stands (s.4 told).0)
   stopped_calmly ours others status.Memory s calm told h stands = inl refl
   stopped_calmly ours others _ s calm told h stands = absurd s
 
@@ -171,29 +191,49 @@ module _ {A F : Type 0} (tells : areas.Ghosts A) (files : shelves.Ghosts F) (of 
       sym (sym (ap (λ (t : List ℕ). script_in kind.Serve t) (read_front (most_text + 1) left text job.rest
       (subst (λ (o : Option (List ℕ)). IsRead (most_text + 1) o job.rest text) is read))) ∙ set)
 
+  abbrev lines_in : Result (List Line) Refusal → List Line
+  lines_in (Ok lines) = lines
+  lines_in (Err refusal) = []
+
+  -- the settings that were read are those of what was left
+  shelved_by : (text : List ℕ) (by : FileSettings) → IsSetBy text by → IsRead (most_text + 1) job.left job.rest text
+      → ((setup : Setup) → AreOf setup by → KeepsShelf tells files of setup area area' shelf shelf')
+      → (left : List ℕ) (lines : List Line) → job.left ≡ Some left → script_in kind.Serve (take (most_text + 1) left) ≡
+      Ok lines
+      → KeepsShelf tells files of (setup_of lines) area area' shelf shelf'
+  shelved_by text by set read filed left lines is says = subst
+      (λ (l : List Line). KeepsShelf tells files of (setup_of l) area area' shelf shelf')
+      (ap lines_in (same_script text left set.0 set.1 read is ∙ says)) (filed (setup_of set.0) set.2)
+
   pub stopped_serves : {X : Type 0} (result : Result X Status) (ended : Status) (text : List ℕ) (by : FileSettings)
       → IsRead (most_text + 1) job.left job.rest text → IsSetBy text by → result ≡ Err ended
-      → IfErr result (λ e. Stops e) → (Told tells → RefusesAsForeign tells of area result) → Ours → Others
+      → IfErr result (λ e. Stops e) → (result ≡ Err status.Link → SettlesStill tells of area area' links links')
+      → (Told tells → RefusesAsForeign tells of area result) → Ours → Others
       → job.read_after ≡ job.read_before → TakesUpTo (most_text + 1) job.left job.rest → job.written_after ≡ job.written_before
-      → LosesNothing tells of area area' links links'
+      → LosesNothing tells of area area' links links' → ((setup : Setup) → AreOf setup by → KeepsShelf tells files of
+      setup area area' shelf shelf')
       → Serves tells files of job area area' shelf shelf' links links' clock clock' ended None
-  stopped_serves {X = X} result ended text by read set is_err stops foreign_so ours others unread bound same keeps = record {
-    done = λ is. absurd (subst (λ (e : Status). Stops e) is s);
-    front = λ is. absurd (subst (λ (e : Status). Stops e) is s);
-    keeps = keeps;
-    refused = λ place why is. absurd (subst (λ (e : Status). Stops e) is s);
-    device = λ is. subst (λ (e : Status). Stops e) is s;
-    foreign = λ at is told. (subst (λ (e : Status). Stops e) is s) told;
-    link = λ is. subst (λ (e : Status). Stops e) is s;
-    cause = stopped_cause ended s unread same;
-    known = λ is. absurd (subst (λ (e : Status). Stops e) is s);
-    bound = bound;
-    none = refl;
-    complete = λ calm told left is.
-        subst (λ (r : Result (List Line) Refusal). EndsBy tells files of job area area' shelf shelf' links links' clock clock' ended r)
-        (same_script text left set.0 set.1 read is)
-        (λ h stands. stopped_calmly ours others ended s calm told h stands, λ at not_ours. by_foreign calm at (foreign told at not_ours));
-  }
+  stopped_serves {X = X} result ended text by read set is_err stops settles foreign_so ours others unread bound same
+      keeps filed = record {
+        done = λ is. absurd (subst (λ (e : Status). Stops e) is s);
+        front = λ is. absurd (subst (λ (e : Status). Stops e) is s);
+        keeps = keeps;
+        shelved = shelved_by text by set read filed;
+        refused = λ place why is. absurd (subst (λ (e : Status). Stops e) is s);
+        accepted = λ is. (text, read, (set.0, set.1));
+        device = λ is. subst (λ (e : Status). Stops e) is s;
+        foreign = λ at is. subst (λ (e : Status). Stops e) is s;
+        link = λ is. subst (λ (e : Status). Stops e) is s;
+        closed = λ is. settles (is_err ∙ ap (λ (e : Status). Err e) is);
+        cause = stopped_cause ended s unread same;
+        known = stopped_known ended s;
+        bound = bound;
+        none = refl;
+        complete = λ calm told left is.
+            subst (λ (r : Result (List Line) Refusal). EndsBy tells files of job area area' shelf shelf' links links' clock clock' ended r)
+            (same_script text left set.0 set.1 read is)
+            (λ h stands. stopped_calmly ours others ended s calm told h stands, λ at not_ours. by_foreign calm at (foreign told at not_ours));
+      }
     where
       s : Stops ended
       s = subst (λ (r : Result X Status). IfErr r (λ e. Stops e)) is_err stops
@@ -220,6 +260,11 @@ module _ {A F : Type 0} (tells : areas.Ghosts A) (files : shelves.Ghosts F) (of 
   written_cause line status.Done w read = (read, w.1)
   written_cause line status.Write w read = (read, w.1)
   written_cause line _ w read = absurd w
+
+  written_known : (line : List ℕ) (ended : Status) → Writes job line ended → IsGatewayEnd ended
+  written_known line status.Done w = tt
+  written_known line status.Write w = tt
+  written_known line _ w = absurd w
 
   written_calmly : (line : List ℕ) (ended : Status) → Writes job line ended → IsCalm tells files of job area area' shelf shelf' links links' clock clock' ended
       → ended ≡ status.Done
@@ -275,20 +320,25 @@ module _ {A F : Type 0} (tells : areas.Ghosts A) (files : shelves.Ghosts F) (of 
         none_of (inr (inr e)) = true≢false (ap is_ok_of e)
 
     pub written_serves : job.read_after ≡ job.read_before → TakesUpTo (most_text + 1) job.left job.rest
-        → LosesNothing tells of area area' links links'
+        → LosesNothing tells of area area' links links' → ((setup : Setup) → AreOf setup by → KeepsShelf tells files of
+        setup area area' shelf shelf')
         → Serves tells files of job area area' shelf shelf' links links' clock clock' ended None
-    written_serves unread bound keeps =
+    written_serves unread bound keeps filed =
         let w = writes_by job line ended writes in
         record {
           done = λ is. (served_by (λ l. Appends job.before job.after l) (subst (Writes job line) is w).0, turns);
-          front = λ is. served_by (λ l. AppendsFront job.before job.after l) (subst (Writes job line) is w).0;
+          front = λ is. (served_by (λ l. AppendsFront job.before job.after l) (subst (Writes job line) is w).0, turns);
           keeps = keeps;
+          shelved = shelved_by text by set read filed;
           refused = λ place why is. absurd (subst (Writes job line) is w);
+          accepted = λ is. absurd (⊎_elim (λ (e : ended ≡ status.Link). subst (Writes job line) e w)
+              (λ (e : (why : StoreFault) × (ended ≡ status.Store why)). subst (Writes job line) e.1 w) is);
           device = λ is. absurd (subst (Writes job line) is w);
-          foreign = λ at is told. absurd (subst (Writes job line) is w);
+          foreign = λ at is. absurd (subst (Writes job line) is w);
           link = λ is. absurd (subst (Writes job line) is w);
+          closed = λ is. absurd (subst (Writes job line) is w);
           cause = written_cause line ended w unread;
-          known = λ is. absurd (subst (Writes job line) is w);
+          known = written_known line ended w;
           bound = bound;
           none = refl;
           complete = λ calm told left is.

@@ -1,5 +1,6 @@
 -- How a gateway that was to serve ends: it wasn't opened, or it was settled.
 use Rattle.std.proofs.Common.{◌≡◌, ◌⊎◌, ⊎_elim, inl, inr, ℕ, ◌≤◌, true, false, List, [], ◌++◌, Result, Ok, Err, IfErr, IfOk, refl, sym, ap, subst, ◌∙◌, arith}
+use Rattle.std.specs.Prelude.{IsTrue}
 use Rattle.area_disk.specs.AreaLaws.{AreaLaws}
 use Rattle.area_disk.specs.Disk.{Rose}
 use Rattle.area_disk.specs.declared.area.Area as areas
@@ -9,6 +10,7 @@ use Rattle.file_writer.specs.declared.writer.Writer.{Writer}
 use Rattle.cgf_journal.specs.Format.{StandsFor}
 use Rattle.gate_journal.specs.Format.{Starts}
 use Rattle.gate_journal.specs.Moments.{Told}
+use Rattle.gateway_book.specs.Answered.{no_caller}
 use Rattle.gateway_book.specs.Book.{area_of, header_of, value_of}
 use Rattle.gateway_book.specs.Comes.{LeavesFit}
 use Rattle.gateway_book.specs.FitHistory.{StandsFitFor}
@@ -22,18 +24,20 @@ use Rattle.gw_base.specs.History.{is_close_due}
 use Rattle.gw_base.specs.Owes.{Begins}
 use Rattle.gw_base.specs.declared.history.HistoryEntry.{HistoryEntry}
 use Rattle.net_link.specs.Making.{LinksState}
+use Rattle.node_session.specs.Settling.{IsSettled}
 use Rattle.replay_gateway.specs.AtRest.{AreShut}
 use Rattle.replay_gateway.specs.Setup.{Setup}
 use Rattle.cgf_jobs.specs.ServeSteps.{HasLine, HasNoLine, HasServedAt, HasSettledAll, NeverFalls, RefusesAsForeign, StopsServing, status_by}
-use Rattle.cgf_jobs.specs.Served.{GoesOnIn, HasServed, LosesNothing, files_at, header_for, served_line}
+use Rattle.cgf_jobs.specs.Served.{GoesOnIn, HasFirstFiles, HasServed, HoldsHistory, LeavesClosed, LosesNothing, SettlesStill, files_at, header_for, moment_of, served_line}
+use Rattle.cgf_jobs.specs.Shelved.{IsFiledIn, KeepsShelf}
 use Rattle.cgf_jobs.specs.declared.serving.Serving.{Serving}
 use Rattle.cgf_jobs.specs.declared.settling.Service.{Service}
 use Rattle.cgf_jobs.specs.declared.status.Status.{Status}
 use Rattle.cgf_jobs.specs.declared.status.Status.TheVariants as status
 use Rattle.cgf_jobs.specs.declared.status.StoreFault.TheVariants as fault
 use Rattle.cgf_jobs.proofs.GrownLemmas.{opened_is_fresh}
-use Rattle.cgf_jobs.proofs.KeptLemmas.{goes_on_unsent, replies_rest, told_lists}
-use Rattle.cgf_jobs.proofs.ServedLemmas.{FilesGrow, ItemsStay, has_served}
+use Rattle.cgf_jobs.proofs.KeptLemmas.{filed_still, goes_on_unsent, replies_rest, told_lists}
+use Rattle.cgf_jobs.proofs.ServedLemmas.{FilesGrow, ItemsStay, firm_begins, first_holds, first_of_all, has_served, items_begin, leaves_closed}
 use Rattle.cgf_jobs.proofs.ServiceLemmas.{ReplyLater, StaysInTurn, begins_self, begins_then}
 
 -- ---- it wasn't opened
@@ -48,23 +52,43 @@ module _ {A F : Type 0} (tells : areas.Ghosts A) (files : shelves.Ghosts F) (of 
       by_fault : (w : BookFault) → IsRefused tells area (header_for tells area of) (w, area')
           → StopsServing tells files of area area' shelf shelf links links clock clock (status_by w)
       by_fault of_book.Device refused = inl (refused.cause refl)
-      by_fault (of_book.NotOurs at) refused = λ told. (refused.place told at refl, refused.unwritten told (λ is. cc is))
+      by_fault (of_book.NotOurs at) refused = (
+        record { made = λ a is. is; turns = λ a. refl; received = λ a. refl; sent = λ a. refl },
+        refl,
+        refl,
+        refl,
+        λ told. (refused.place told at refl, refused.unwritten told (λ is. cc is)),
+      )
       by_fault of_book.NoMemory refused = tt
 
-  -- what a crash leaves of an area whose opening failed stands as it did, or starts, where it was to be made anew
-  pub unopened_keeps : (why : BookFault) (area' : A) → AreaLaws tells
-      → (Told tells → (h : List HistoryEntry) → StandsFitFor (header_for tells area of) (tells.octets area) h → FindsHistory {tells = tells} area (Err (why, area')) h)
-      → (Told tells → Starts (header_for tells area of) (tells.octets area) → IsMadeAnew {tells = tells} area (Err (why, area')) (header_for tells area of))
-      → LosesNothing tells of area area' links links
-  unopened_keeps why area' laws reads anew told start holds = record {
-    now = goes_on (tells.octets area') (laws.holds area');
-    crash = goes_on;
-  }
+  -- it doesn't end as `Link`
+  pub not_link : {X : Type 0} (why : BookFault) (ended : Status) → ended ≡ status_by why
+      → ◌≡◌ {A = Result X Status} (Err ended) (Err status.Link) → ⊥
+  not_link {X = X} why ended is link = by_fault why (sym is ∙ ap ended_in link)
     where
-      left : (c : List ℕ) → tells.may_leave area' c → StandsOrStarts (header_for tells area of) (tells.octets area) start
-          → StandsOrStarts (header_for tells area of) c start
-      left c may (inl stands) = holds.crash c ((reads told start stands).moments.now c may)
-      left c may (inr starts) = ⊎_elim
+      ended_in : Result X Status → Status
+      ended_in (Ok x) = ended
+      ended_in (Err e) = e
+
+      by_fault : (w : BookFault) → status_by w ≡ status.Link → ⊥
+      by_fault of_book.Device e = cc e
+      by_fault (of_book.NotOurs at) e = cc e
+      by_fault of_book.NoMemory e = cc e
+
+  -- what a crash leaves of an area whose opening failed stands as it did, or starts, where it was to be made anew
+  unopened_left : (why : BookFault) (area' : A)
+      → (Told tells → (h : List HistoryEntry) → StandsFitFor (header_for tells area of) (tells.octets area) h →
+      FindsHistory {tells = tells} area (Err (why, area')) h)
+      → (Told tells → Starts (header_for tells area of) (tells.octets area) → IsMadeAnew {tells = tells} area
+      (Err (why, area')) (header_for tells area of))
+      → Told tells → (start : List HistoryEntry) → HoldsHistory tells (header_for tells area of) area start
+      → (c : List ℕ) → tells.may_leave area' c → StandsOrStarts (header_for tells area of) c start
+  unopened_left why area' reads anew told start holds c may = left holds.now
+    where
+      left : StandsOrStarts (header_for tells area of) (tells.octets area) start → StandsOrStarts
+          (header_for tells area of) c start
+      left (inl stands) = holds.crash c ((reads told start stands).moments.now c may)
+      left (inr starts) = ⊎_elim
           (λ (old : tells.may_leave area c). holds.crash c old)
           (λ (made : Starts (header_for tells area of) c ⊎ StandsFor (header_for tells area of) c []). ⊎_elim
           (λ (s : Starts (header_for tells area of) c). inr (s, starts.1))
@@ -72,8 +96,35 @@ module _ {A F : Type 0} (tells : areas.Ghosts A) (files : shelves.Ghosts F) (of 
           (record { stands = s; fit = tt }))) made)
           ((anew told starts.0).moments.now c may)
 
+  pub unopened_keeps : (why : BookFault) (area' : A) → AreaLaws tells
+      → (Told tells → (h : List HistoryEntry) → StandsFitFor (header_for tells area of) (tells.octets area) h →
+      FindsHistory {tells = tells} area (Err (why, area')) h)
+      → (Told tells → Starts (header_for tells area of) (tells.octets area) → IsMadeAnew {tells = tells} area
+      (Err (why, area')) (header_for tells area of))
+      → LosesNothing tells of area area' links links
+  unopened_keeps why area' laws reads anew told start holds = record {
+    now = goes_on (tells.octets area') (laws.holds area');
+    crash = goes_on;
+  }
+    where
       goes_on : (c : List ℕ) → tells.may_leave area' c → GoesOnIn tells of area area' links links start c
-      goes_on c may = goes_on_unsent tells of area area' links start c (left c may holds.now)
+      goes_on c may = goes_on_unsent tells of area area' links start c
+          (unopened_left why area' reads anew told start holds c may)
+
+  pub unopened_shelf : (why : BookFault) (area' : A) (setup : Setup) → AreaLaws tells
+      → (Told tells → (h : List HistoryEntry) → StandsFitFor (header_for tells area of) (tells.octets area) h →
+      FindsHistory {tells = tells} area (Err (why, area')) h)
+      → (Told tells → Starts (header_for tells area of) (tells.octets area) → IsMadeAnew {tells = tells} area
+      (Err (why, area')) (header_for tells area of))
+      → KeepsShelf tells files of setup area area' shelf shelf
+  unopened_shelf why area' setup laws reads anew told tells_files start holds first = (
+    filed (tells.octets area') (laws.holds area'),
+    filed,
+  )
+    where
+      filed : (c : List ℕ) → tells.may_leave area' c → IsFiledIn tells files of setup area shelf start c
+      filed c may = filed_still tells files of setup area shelf shelf refl start first c
+          (unopened_left why area' reads anew told start holds c may)
 
 -- ---- it was settled
 
@@ -132,6 +183,36 @@ module _ {A F : Type 0} (tells : areas.Ghosts A) (files : shelves.Ghosts F) (of 
       (λ (s : StandsFitFor (header_for tells area of) (tells.octets area) (opens.found told).0). absurd (ours (tells.octets area) (opens.found told).0 at s foreign))
       (λ s. absurd (others (tells.octets area) at foreign s.0)) (opens.found told).1
 
+  module _ (laws : AreaLaws tells) (shuts : (h : List HistoryEntry) → is_close_due h ≡ false → AreShut (items_of h))
+      (in_turn : StaysInTurn) (later_reply : ReplyLater) (leaves : LeavesFit book'') where
+    closes : Told tells → IsSettled book' book'' (moment_of service.last) no_caller
+        → LeavesClosed tells of area (area_of book'') links links' (value_of book'').firm
+    closes told settled = leaves_closed tells files of told laws shuts in_turn later_reply area book book' book''
+        writer writer' links links' clock clock'
+        service open_time sized opens serves settles.stays.0 settles.later.0 settled leaves
+
+    begins : Told tells → IsSettled book' book'' (moment_of service.last) no_caller → Begins (value_of book').firm
+        (value_of book'').firm
+    begins told settled = firm_begins tells files of told laws shuts in_turn later_reply area book book' book'' writer
+        writer' links links' clock clock'
+        service open_time sized opens serves settles.stays.0 settles.later.0 settled leaves
+
+    -- it was, whatever stopped the service, where the device of the area didn't fail
+    pub still_settled : (¬ (Rose (tells.faults (area_of book')) (tells.faults (area_of book''))) → IsSettled book'
+        book'' (moment_of service.last) no_caller)
+        → (area'' : A) → area'' ≡ area_of book'' → SettlesStill tells of area area'' links links'
+    still_settled settled area'' is_area = subst (λ (a : A). SettlesStill tells of area a links links') (sym is_area)
+        still
+      where
+        still : SettlesStill tells of area (area_of book'') links links'
+        still told = (
+          ((opens.found told).0, (opens.found told).1),
+          λ calm. (
+            (value_of book'').firm,
+            closes told (settled (λ rose. calm (let up = device in omega (arith, up, rose)))),
+          ),
+        )
+
   module _ (setup : Setup) (told : Told tells) (laws : AreaLaws tells) (stay : ItemsStay) (grow : FilesGrow)
       (shuts : (h : List HistoryEntry) → is_close_due h ≡ false → AreShut (items_of h)) (in_turn : StaysInTurn) (later_reply : ReplyLater) (fresh : is_broken writer ≡ true)
       (by : settings_in writer ≡ files_at of setup) (leaves : LeavesFit book'') where
@@ -141,8 +222,11 @@ module _ {A F : Type 0} (tells : areas.Ghosts A) (files : shelves.Ghosts F) (of 
     by_ok (Err ended) has = tt
     by_ok (Ok x) has = (
       (value_of book'').firm,
-      has_served tells files of setup told laws stay grow shuts in_turn later_reply area shelf book book' book'' writer writer' writer'' links links' clock clock' service open_time (octets x)
-          sized opens fresh on by serves settles.stays.0 settles.later.0 settles.stays.1 (settles.files_stay (told_lists tells told)) has leaves,
+      has_served tells files of setup told stay grow area shelf book book' book'' writer writer' writer'' links links'
+          clock clock' service (octets x)
+          fresh on by serves settles.stays.1 (settles.files_stay (told_lists tells told)) has
+          (closes laws shuts in_turn later_reply leaves told has.settled)
+          (begins laws shuts in_turn later_reply leaves told has.settled),
       has.line_is told,
     )
 
@@ -170,9 +254,22 @@ module _ {A F : Type 0} (tells : areas.Ghosts A) (files : shelves.Ghosts F) (of 
     found_is told start (inr starts) =
         ap (λ (v : BookValue). v.firm) (anew told starts.0).value ∙ (opened_is_fresh (tells.size area) []).firm ∙ sym starts.1
 
-    goes_on_in : Told tells → (start : List HistoryEntry) → StandsOrStarts (header_for tells area of) (tells.octets area) start
-        → (c : List ℕ) → tells.may_leave (area_of book'') c → GoesOnIn tells of area (area_of book'') links links' start c
-    goes_on_in told start found c may = ⊎_elim
+    -- what was found begins what was firm once it had served
+    served_front : Told tells → (start : List HistoryEntry) → StandsOrStarts (header_for tells area of)
+        (tells.octets area) start
+        → Begins start (value_of book').firm
+    served_front told start found = subst (λ (h : List HistoryEntry). Begins h (value_of book').firm)
+        (found_is told start found)
+        (serves.goes_on (told_lists tells told)).goes.begins
+
+    -- what any crash leaves stands for a history that begins with what is firm, and with what was firm before the
+    -- settling
+    abbrev LeftBehind : List ℕ → Type 0
+    LeftBehind c = (history : List HistoryEntry) × StandsFitFor (header_for tells area of) c history
+        × Begins (value_of book'').firm history × Begins (value_of book').firm history
+
+    left_behind : Told tells → (c : List ℕ) → tells.may_leave (area_of book'') c → LeftBehind c
+    left_behind told c may = ⊎_elim
         (λ (s : StandsFitFor (header_of book'') c (value_of book'').firm). stands_for (value_of book'').firm (begins_self (value_of book'').firm) s)
         (λ (s : StandsFitFor (header_of book'') c ((value_of book'').firm ++ (value_of book'').rest)).
         stands_for ((value_of book'').firm ++ (value_of book'').rest) ((value_of book'').rest, refl) s)
@@ -181,20 +278,29 @@ module _ {A F : Type 0} (tells : areas.Ghosts A) (files : shelves.Ghosts F) (of 
         named : header_of book'' ≡ header_for tells area of
         named = settles.stays.0.header ∙ serves.stays.name ∙ opens.named
 
-        served : Begins start (value_of book').firm
-        served = subst (λ (h : List HistoryEntry). Begins h (value_of book').firm) (found_is told start found) (serves.goes_on (told_lists tells told)).goes.begins
+        stands_for : (history : List HistoryEntry) → Begins (value_of book'').firm history → StandsFitFor
+            (header_of book'') c history → LeftBehind c
+        stands_for history begins stands = (
+          history,
+          subst (λ (h : List ℕ). StandsFitFor h c history) named stands,
+          begins,
+          begins_then (value_of book').firm (value_of book'').firm history (settles.grows told) begins,
+        )
 
-        stands_for : (history : List HistoryEntry) → Begins (value_of book'').firm history → StandsFitFor (header_of book'') c history
-            → GoesOnIn tells of area (area_of book'') links links' start c
-        stands_for history begins stands =
-            let behind : Begins (value_of book').firm history = begins_then (value_of book').firm (value_of book'').firm history (settles.grows told) begins in
-            record {
-              history = history;
-              stands = inl (subst (λ (h : List ℕ). StandsFitFor h c history) named stands);
-              begins = begins_then start (value_of book').firm history served behind;
-              replies = replies_rest tells files of told area book book' book'' writer writer' links links' clock clock' service open_time sized opens serves
-                  settles.later.0 later_reply history behind;
-            }
+    goes_on_in : Told tells → (start : List HistoryEntry) → StandsOrStarts (header_for tells area of)
+        (tells.octets area) start
+        → (c : List ℕ) → tells.may_leave (area_of book'') c → GoesOnIn tells of area (area_of book'') links links'
+        start c
+    goes_on_in told start found c may =
+        let left = left_behind told c may in
+        record {
+          history = left.0;
+          stands = inl left.1;
+          begins = begins_then start (value_of book').firm left.0 (served_front told start found) left.3;
+          replies = replies_rest tells files of told area book book' book'' writer writer' links links' clock clock'
+              service open_time sized opens serves
+              settles.later.0 later_reply left.0 left.3;
+        }
 
     pub keeps_as : (area'' : A) → area'' ≡ area_of book'' → LosesNothing tells of area area'' links links'
     keeps_as area'' is_area told start holds = record { now = all (tells.octets area'') (laws.holds area''); crash = all }
@@ -202,3 +308,40 @@ module _ {A F : Type 0} (tells : areas.Ghosts A) (files : shelves.Ghosts F) (of 
         all : (c : List ℕ) → tells.may_leave area'' c → GoesOnIn tells of area area'' links links' start c
         all = subst (λ (a : A). (c : List ℕ) → tells.may_leave a c → GoesOnIn tells of area a links links' start c) (sym is_area)
             (goes_on_in told start holds.now)
+
+    -- So it is of the files.
+    module _ (setup : Setup) (stay : ItemsStay) (grow : FilesGrow) (fresh : is_broken writer ≡ true)
+        (by : settings_in writer ≡ files_at of setup) where
+      filed_in : Told tells → IsTrue files.tells_files → (start : List HistoryEntry) → StandsOrStarts
+          (header_for tells area of) (tells.octets area) start
+          → HasFirstFiles (files_at of setup) start (files.files shelf) → (c : List ℕ) → tells.may_leave
+          (area_of book'') c
+          → IsFiledIn tells files of setup area (shelf_of writer'') start c
+      filed_in told tells_files start found first c may =
+          let left = left_behind told c may in
+          let front : Begins start left.0 = begins_then start (value_of book').firm left.0
+          (served_front told start found) left.3 in
+          record {
+            history = left.0;
+            stands = inl left.1;
+            begins = front;
+            filed = first_of_all files writer'' (files_at of setup) left.0 (settles.stays.1 ∙ serves.kept.settings ∙ by)
+                (settles.files_stay (told_lists tells told) tells_files (items_of left.0)
+                (items_begin stay (value_of book'').firm left.0 left.2)
+                (serves.kept.files (told_lists tells told) tells_files (items_of left.0)
+                (items_begin stay (value_of book').firm left.0 left.3)
+                (first_holds files stay grow (files_at of setup) start left.0 shelf writer fresh on by front first)));
+          }
+
+      pub shelf_as : (area'' : A) (shelf'' : F) → area'' ≡ area_of book'' → shelf'' ≡ shelf_of writer''
+          → KeepsShelf tells files of setup area area'' shelf shelf''
+      shelf_as area'' shelf'' is_area is_shelf =
+          subst (λ (a : A). KeepsShelf tells files of setup area a shelf shelf'') (sym is_area)
+          (subst (λ (f : F). KeepsShelf tells files of setup area (area_of book'') shelf f) (sym is_shelf) all)
+        where
+          all : KeepsShelf tells files of setup area (area_of book'') shelf (shelf_of writer'')
+          all told tells_files start holds first = (
+            filed_in told tells_files start holds.now first (tells.octets (area_of book''))
+                (laws.holds (area_of book'')),
+            filed_in told tells_files start holds.now first,
+          )

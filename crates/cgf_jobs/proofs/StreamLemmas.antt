@@ -126,6 +126,7 @@ module _ {A : Type 0} (tells : areas.Ghosts A) (opened : Book A tells) (given se
     err = ((all_gone tells opened given sent c goes).0, refl);
     refused = λ place kind is. absurd (cc);
     front = λ is. absurd (cc);
+    cut = λ is. absurd (cc);
     whole = λ no. written;
   }
 
@@ -141,6 +142,7 @@ module _ {A : Type 0} (tells : areas.Ghosts A) (opened : Book A tells) (given se
     err = tt;
     refused = tt;
     front = tt;
+    cut = tt;
     whole = tt;
   }
   served_end (Err ended) at_end says why = subst (λ (e : Status). HasServed tells opened c left rest before now (Err e)) (sym why.1) (record {
@@ -157,6 +159,7 @@ module _ {A : Type 0} (tells : areas.Ghosts A) (opened : Book A tells) (given se
       record { consumed = consumed; bounded = bounded; whole = λ none. inr at_end },
     );
     front = λ is. absurd (cc);
+    cut = λ is. absurd (cc);
     whole = λ no. written;
   })
 
@@ -176,6 +179,7 @@ module _ {A : Type 0} (tells : areas.Ghosts A) (opened : Book A tells) (given se
       record { consumed = consumed; bounded = bounded; whole = λ none. inl (omega (arith, full, length_is, bounded)) },
     );
     front = λ is. absurd (cc);
+    cut = λ is. absurd (cc);
     whole = λ no. written;
   }
 
@@ -201,6 +205,7 @@ served_stop tells opened text sent c left rest before now after (status.Input pl
     },
   );
   front = λ is. absurd (cc);
+  cut = λ is. absurd (cc);
   whole = λ no. subst (λ (o : Option (List ℕ)). Appends before o sent) (sym stops.3) written;
 }
 served_stop tells opened text sent c left rest before now after status.Write consumed short written stops = record {
@@ -212,6 +217,15 @@ served_stop tells opened text sent c left rest before now after status.Write con
   err = (stops.1, refl);
   refused = λ at why is. absurd (cc);
   front = λ is. front_two before now after sent stops.0 written stops.2;
+  cut = λ is. record {
+    gone = stops.1;
+    earlier = sent;
+    more = stops.0;
+    last = stops.3;
+    count = stops.2.0;
+    within = stops.2.1;
+    written = appends_two before now after sent (take stops.2.0 stops.0) written stops.2.2;
+  };
   whole = λ no. absurd (no refl);
 }
 served_stop tells opened text sent c left rest before now after status.Link consumed short written stops = record {
@@ -223,6 +237,7 @@ served_stop tells opened text sent c left rest before now after status.Link cons
   err = (stops.0, refl);
   refused = λ at why is. absurd (cc);
   front = λ is. absurd (cc);
+  cut = λ is. absurd (cc);
   whole = λ no. subst (λ (o : Option (List ℕ)). Appends before o sent) (sym stops.1) written;
 }
 served_stop tells opened text sent c left rest before now after _ consumed short written stops = absurd stops

@@ -11,7 +11,7 @@ use Rattle.file_writer.specs.declared.writer.Writer.{Writer}
 use Rattle.cgf_journal.specs.Format.{StandsFor}
 use Rattle.gate_journal.specs.Format.{Starts}
 use Rattle.gate_journal.specs.Moments.{Told}
-use Rattle.gateway_book.specs.Book.{area_of, header_of, value_of}
+use Rattle.gateway_book.specs.Book.{area_of}
 use Rattle.gateway_book.specs.FitHistory.{StandsFitFor}
 use Rattle.gateway_book.specs.Items.{items_of}
 use Rattle.gateway_book.specs.Opened.{FindsHistory, IsMadeAnew, IsNotOurs, IsOpened, IsRefused, StandsOrStarts}
@@ -33,8 +33,8 @@ use Rattle.cgf_jobs.specs.Job.{Job}
 use Rattle.cgf_jobs.specs.Kinds.{of_frame}
 use Rattle.cgf_jobs.specs.ServeSteps.{status_by}
 use Rattle.cgf_jobs.specs.Served.{HoldsHistory}
-use Rattle.cgf_jobs.specs.StreamEnds.{EndsAsSaid, IsStreamRead, IsUnopened, KeepsAnswers, StandsBehind, Streams, end_by, header_at, most_stream, rest_place, stream_end, stream_settings}
-use Rattle.cgf_jobs.specs.StreamSteps.{CausesStop, HasClosed, HasGoneTo, HasServed, HasSettledStream, IsGoingOn, SettlesAs}
+use Rattle.cgf_jobs.specs.StreamEnds.{EndsAsSaid, IsStreamRead, IsUnopened, KeepsAnswers, Streams, end_by, header_at, most_stream, rest_place, stream_end, stream_settings}
+use Rattle.cgf_jobs.specs.StreamSteps.{CausesStop, HasClosed, HasGoneTo, HasServed, HasSettledStream, IsGoingOn, LeavesBehind, SettlesAs}
 use Rattle.cgf_jobs.specs.declared.connection.Connection.{Connection}
 use Rattle.cgf_jobs.specs.declared.status.Status.{Status}
 use Rattle.cgf_jobs.specs.declared.status.Status.TheVariants as status
@@ -43,7 +43,7 @@ use Rattle.cgf_jobs.specs.declared.streaming.Streaming.{Streaming}
 use Rattle.cgf_jobs.proofs.PieceLemmas.{ok_not_err}
 use Rattle.cgf_jobs.proofs.ServedLemmas.{FilesGrow, ItemsStay}
 use Rattle.cgf_jobs.proofs.StreamLemmas.{all_gone}
-use Rattle.cgf_jobs.proofs.StreamedLemmas.{answered, answered_all, answers_kept, closed_behind_them, settled_behind, written_all, written_front}
+use Rattle.cgf_jobs.proofs.StreamedLemmas.{answered, answered_all, answers_kept, closed_behind_them, cut_in_last, settled_behind, written_all, written_front}
 use Rattle.cgf_jobs.proofs.Streams.{consumes_none}
 
 abbrev Entries : Type 0
@@ -135,7 +135,13 @@ module _ {A F : Type 0} (tells : areas.Ghosts A) (files : shelves.Ghosts F) (of 
 
   untouched : {area' : A} → HoldsStill area' → (ended : Status) → Told tells
       → IsUnopened tells files of job area area' shelf shelf clock clock ended
-  untouched keeps ended told = record { unread = refl; unwritten = refl; keeps = keeps told }
+  untouched keeps ended told = record {
+    unread = refl;
+    unwritten = refl;
+    same_shelf = refl;
+    same_clock = refl;
+    keeps = keeps told;
+  }
 
   pub stops_memory : (area' : A) → HoldsStill area' → Streams tells files of job area area' shelf shelf clock clock status.Memory None
   stops_memory area' keeps = record {
@@ -147,8 +153,9 @@ module _ {A F : Type 0} (tells : areas.Ghosts A) (files : shelves.Ghosts F) (of 
     device = λ is. absurd (cc is);
     foreign = λ at is. absurd (cc is);
     link = λ is. absurd (cc is);
+    time = λ no. refl;
     cause = (refl, refl);
-    known = λ is. absurd (cc is);
+    known = tt;
     bound = ([], omega arith, consumes_none l);
     none = refl;
     complete = λ calm told text is short. record { ours = λ h stands. inl refl; others = λ at foreign. inl refl };
@@ -180,8 +187,9 @@ module _ {A F : Type 0} (tells : areas.Ghosts A) (files : shelves.Ghosts F) (of 
     device = λ is. inl (refused.cause refl);
     foreign = λ at is. absurd (cc is);
     link = λ is. absurd (cc is);
+    time = λ no. refl;
     cause = (refl, refl);
-    known = λ is. absurd (cc is);
+    known = tt;
     bound = ([], omega arith, consumes_none l);
     none = refl;
     complete = λ calm told text is short. absurd (calm.device (refused.cause refl));
@@ -196,14 +204,17 @@ module _ {A F : Type 0} (tells : areas.Ghosts A) (files : shelves.Ghosts F) (of 
     foreign = λ at is. (
       refl,
       refl,
+      refl,
+      refl,
       λ told. (
         refused.place told at (ap (λ (s : Status). fault_of s) is),
         refused.unwritten told (λ e. cc e),
       ),
     );
     link = λ is. absurd (cc is);
+    time = λ no. refl;
     cause = (refl, refl);
-    known = λ is. absurd (cc is);
+    known = tt;
     bound = ([], omega arith, consumes_none l);
     none = refl;
     complete = λ calm told text is short. record {
@@ -282,7 +293,8 @@ module _ {A F : Type 0} (tells : areas.Ghosts A) (files : shelves.Ghosts F) (of 
     → ¬ (IsNotOurs (header_at tells area of.ip) octets at))
     (others : (octets : List ℕ) (at : ℕ) → IsNotOurs (header_at tells area of.ip) octets at → ¬ (Starts (header_at tells area of.ip) octets)) where
   abbrev Holds : Type 0
-  Holds = Told tells → (octets : List ℕ) → tells.may_leave area' octets → StandsBehind (header_of c.book) (value_of c.book).firm octets
+  Holds = Told tells → (octets : List ℕ) → tells.may_leave area' octets → LeavesBehind tells files c writer shelf'
+      octets
 
   abbrev Closes : Type 0
   Closes = ¬ (disk.Rose (tells.faults (area_of c.book)) (tells.faults area')) → HasClosed tells c area'
@@ -293,8 +305,9 @@ module _ {A F : Type 0} (tells : areas.Ghosts A) (files : shelves.Ghosts F) (of 
       → KeepsAnswers tells files of job area area' shelf shelf' clock clock' ended
       (answered tells files of job area area' shelf shelf' clock clock' book c open_time sized opens node later text sent consumed told gone ended)
   kept later keeps closes text sent consumed told gone ended =
-      answers_kept tells files of job area area' shelf shelf' clock clock' book c open_time sized opens node later text sent consumed told gone ended laws
-      (keeps told) (λ calm. (
+      answers_kept tells files of job area area' shelf shelf' clock clock' book c open_time sized opens node later text
+      sent consumed told gone
+      writer fresh on set stay files_grow laws (keeps told) ended (λ calm. (
         _,
         closed_behind_them tells files of job area area' shelf shelf' clock clock' book c open_time sized opens node later text sent
             consumed told gone laws shuts (closes (still calm)) ended,
@@ -329,7 +342,9 @@ module _ {A F : Type 0} (tells : areas.Ghosts A) (files : shelves.Ghosts F) (of 
       (goes : IsGoingOn tells book text sent c) (says : stream_end text ≡ status.Done) (read : IsStreamRead job.left job.rest text)
       (written : Appends job.before job.after sent)
       (later : tells.faults (area_of c.book) ≤ tells.faults area') (files_later : files.faults (shelf_of writer) ≤ files.faults shelf')
-      (keeps : Holds) (closes : Closes) (stood : (job.read_after ≡ job.read_before) × (job.written_after ≡ job.written_before)) where
+      (keeps : Holds) (closes : Closes) (stood : (job.read_after ≡ job.read_before) ×
+      (job.written_after ≡ job.written_before))
+      (ticked : clock' ≡ clock) where
     abbrev gone : HasGoneTo tells book text sent c
     gone = (all_gone tells book text sent c goes).0
 
@@ -362,8 +377,9 @@ module _ {A F : Type 0} (tells : areas.Ghosts A) (files : shelves.Ghosts F) (of 
       device = λ is. absurd (cc is);
       foreign = λ at is. absurd (cc is);
       link = λ is. absurd (cc is);
+      time = λ no. ticked;
       cause = stood;
-      known = λ is. absurd (cc is);
+      known = tt;
       bound = (text, bounded, consumed);
       none = refl;
       complete = λ calm told whole is short. as_said status.Done text whole told is short read (sym says);
@@ -381,8 +397,9 @@ module _ {A F : Type 0} (tells : areas.Ghosts A) (files : shelves.Ghosts F) (of 
       device = λ is. absurd (cc is);
       foreign = λ at is. absurd (cc is);
       link = λ is. absurd (cc is);
+      time = λ no. ticked;
       cause = stood;
-      known = λ is. absurd (cc is);
+      known = tt;
       bound = (text, bounded, consumed);
       none = refl;
       complete = λ calm told whole is short. record { ours = λ h stands. inl refl; others = λ at foreign. inl refl };
@@ -400,8 +417,9 @@ module _ {A F : Type 0} (tells : areas.Ghosts A) (files : shelves.Ghosts F) (of 
       device = λ is. device_rose e;
       foreign = λ at is. absurd (cc is);
       link = λ is. absurd (cc is);
+      time = λ no. ticked;
       cause = stood;
-      known = λ is. absurd (cc is);
+      known = tt;
       bound = (text, bounded, consumed);
       none = refl;
       complete = λ calm told whole is short. absurd (⊎_elim (λ rose. calm.device rose) (λ rose. calm.shelf_runs rose) (device_rose e));
@@ -435,8 +453,9 @@ module _ {A F : Type 0} (tells : areas.Ghosts A) (files : shelves.Ghosts F) (of 
       device = λ is. absurd (cc is);
       foreign = λ at is. absurd (cc is);
       link = λ is. absurd (cc is);
+      time = λ no. causes.clock_stood (λ e. cc e);
       cause = (causes.source_stood (λ e. cc e), causes.sink_stood (λ e. cc e));
-      known = λ is. absurd (cc is);
+      known = tt;
       bound = (served.text, served.bounded, served.consumed);
       none = refl;
       complete = λ calm told whole is short. as_said (status.Input place kind) served.text whole told is short
@@ -457,8 +476,9 @@ module _ {A F : Type 0} (tells : areas.Ghosts A) (files : shelves.Ghosts F) (of 
       device = λ is. absurd (cc is);
       foreign = λ at is. absurd (cc is);
       link = λ is. absurd (cc is);
+      time = λ no. causes.clock_stood (λ e. cc e);
       cause = (causes.source_failed refl, causes.sink_stood (λ e. cc e));
-      known = λ is. absurd (cc is);
+      known = tt;
       bound = (served.text, served.bounded, served.consumed);
       none = refl;
       complete = λ calm told whole is short. absurd (calm.source (causes.source_failed refl));
@@ -468,18 +488,24 @@ module _ {A F : Type 0} (tells : areas.Ghosts A) (files : shelves.Ghosts F) (of 
       decided = λ is. absurd (cc is);
       front = λ told is. (
         answered tells files of job area area' shelf shelf' clock clock' book c open_time sized opens node later served.text served.sent served.consumed told
-            served.err.0 status.Write,
+            (served.cut refl).gone status.Write,
         written_front tells files of job area area' shelf shelf' clock clock' book c open_time sized opens node later served.text served.sent served.consumed told
-            served.err.0 status.Write (served.front refl),
-        kept later keeps closes served.text served.sent served.consumed told served.err.0 status.Write,
+            (served.cut refl).gone status.Write (served.front refl),
+        cut_in_last tells files of job area area' shelf shelf' clock clock' book c open_time sized opens node later
+            served.text served.sent served.consumed told
+            (served.cut refl).gone status.Write (served.cut refl).earlier (served.cut refl).more
+            ((served.cut refl).last told) (served.cut refl).count
+            (served.cut refl).within (served.cut refl).written,
+        kept later keeps closes served.text served.sent served.consumed told (served.cut refl).gone status.Write,
       );
       first = λ told no. absurd (no refl);
       behind = λ is. not_behind status.Write (λ e. cc e) (λ e. cc e) is;
       device = λ is. absurd (cc is);
       foreign = λ at is. absurd (cc is);
       link = λ is. absurd (cc is);
+      time = λ no. causes.clock_stood (λ e. cc e);
       cause = (causes.source_stood (λ e. cc e), causes.sink_failed refl);
-      known = λ is. absurd (cc is);
+      known = tt;
       bound = (served.text, served.bounded, served.consumed);
       none = refl;
       complete = λ calm told whole is short. absurd (calm.sink (causes.sink_failed refl));
@@ -499,8 +525,9 @@ module _ {A F : Type 0} (tells : areas.Ghosts A) (files : shelves.Ghosts F) (of 
       device = λ is. absurd (cc is);
       foreign = λ at is. absurd (cc is);
       link = λ is. causes.clock_failed refl;
+      time = λ no. absurd (no refl);
       cause = (causes.source_stood (λ e. cc e), causes.sink_stood (λ e. cc e));
-      known = λ is. absurd (cc is);
+      known = tt;
       bound = (served.text, served.bounded, served.consumed);
       none = refl;
       complete = λ calm told whole is short. absurd (calm.time (causes.clock_failed refl));
@@ -514,6 +541,8 @@ module _ {A F : Type 0} (tells : areas.Ghosts A) (files : shelves.Ghosts F) (of 
   ends_streams (Ok done) ended served causes settles =
       let ok = served.ok refl in
       ends_well served.text served.sent served.consumed served.bounded ok.0 ok.1 ok.2 ok.3 settles.later.0 settles.later.1 settles.keeps settles.closed
-      (causes.source_stood (ok_not_err tt status.Read), causes.sink_stood (ok_not_err tt status.Write)) ended (settles.ok refl)
+      (causes.source_stood (ok_not_err tt status.Read), causes.sink_stood (ok_not_err tt status.Write))
+      (causes.clock_stood (ok_not_err tt status.Link))
+      ended (settles.ok refl)
   ends_streams (Err why) ended served causes settles =
       subst (λ (s : Status). Ends s) (sym settles.err) (ends_badly settles.later.0 settles.keeps settles.closed why served causes)

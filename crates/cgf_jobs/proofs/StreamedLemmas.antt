@@ -1,5 +1,5 @@
 -- What a gateway leaves that answered a stream: its replies, its journal and its files.
-use Rattle.std.proofs.Common.{◌≡◌, ℕ, ◌+◌, ◌<◌, ◌≤◌, ◌⊎◌, ⊎_elim, inl, inr, Bool, true, false, if◌then◌else◌, List, [], ◌∷◌, ◌++◌, length, Option, Some, None, Result, Ok, Err, IfErr, refl, sym, ap, subst, ◌∙◌, append-nil, true≢false, arith}
+use Rattle.std.proofs.Common.{◌≡◌, ℕ, ◌+◌, ◌<◌, ◌≤◌, ◌⊎◌, ⊎_elim, inl, inr, Bool, true, false, if◌then◌else◌, List, [], ◌∷◌, ◌++◌, length, take, Option, Some, None, Result, Ok, Err, IfErr, refl, sym, ap, subst, ◌∙◌, append-nil, arith}
 use Rattle.std.specs.Prelude.{IsTrue}
 use Rattle.std.specs.Io.KnownBytes.{Appends, Consumes}
 use Rattle.area_disk.specs.AreaLaws.{AreaLaws}
@@ -7,7 +7,6 @@ use Rattle.area_disk.specs.Disk as disk
 use Rattle.area_disk.specs.declared.area.Area as areas
 use Rattle.cdr_shelf.specs.declared.shelf.Shelf as shelves
 use Rattle.file_writer.specs.Files.{stream_files}
-use Rattle.file_writer.specs.Holding.{IsBegun}
 use Rattle.file_writer.specs.Streams.{Settings, closed_of, stream_count, stream_division}
 use Rattle.file_writer.specs.Writer.{is_broken, settings_in, shelf_of}
 use Rattle.file_writer.specs.declared.writer.Writer.{Writer}
@@ -31,15 +30,14 @@ use Rattle.gw_base.specs.Written.{AppendsFront}
 use Rattle.gw_base.specs.declared.address.Addr.{Addr}
 use Rattle.gw_base.specs.declared.history.HistoryAct.{HistoryAct}
 use Rattle.gw_base.specs.declared.history.HistoryEntry.{HistoryEntry}
-use Rattle.gw_base.specs.declared.item.Item.{Item}
 use Rattle.node_session.specs.Settling.{Grows, HasTakenAll, IsSettled, closed_behind}
 use Rattle.node_session.specs.Writing as writing
 use Rattle.replay_gateway.specs.AtRest.{AreShut}
 use Rattle.cgf_jobs.specs.Job.{Job}
-use Rattle.cgf_jobs.specs.Replies.{Tried, after_all, after_message, sent_for_all}
+use Rattle.cgf_jobs.specs.Replies.{Tried, after_all, after_message, sent_for, sent_for_all}
 use Rattle.cgf_jobs.specs.Served.{HasAllFiles, HasFirstFiles}
-use Rattle.cgf_jobs.specs.StreamEnds.{HasAnswered, HasAnsweredAll, HasClosedBehind, HasSettledBehind, IsStreamRead, KeepsAnswers, StandsBehind, header_at, octets_sent, stream_end, stream_settings}
-use Rattle.cgf_jobs.specs.StreamSteps.{AnswersAll, HasClosed, HasEnded, HasGoneTo, HasSettledStream, SettlesAs}
+use Rattle.cgf_jobs.specs.StreamEnds.{HasAnswered, HasAnsweredAll, HasClosedBehind, HasSettledBehind, IsCutInLast, IsStreamRead, KeepsAnswers, StandsBehind, header_at, octets_sent, stream_end, stream_settings}
+use Rattle.cgf_jobs.specs.StreamSteps.{AnswersAll, HasClosed, HasEnded, HasGoneTo, HasSettledStream, IsLastOf, LeavesBehind, SettlesAs}
 use Rattle.cgf_jobs.specs.declared.connection.Connection.{Connection}
 use Rattle.cgf_jobs.specs.declared.status.Status.{Status}
 use Rattle.cgf_jobs.specs.declared.status.Status.TheVariants as status
@@ -50,8 +48,8 @@ use Rattle.cgf_jobs.proofs.GrownLemmas.{closed_begins, none_due_behind, opened_i
 use Rattle.cgf_jobs.proofs.KeptLemmas.{told_lists}
 use Rattle.cgf_jobs.proofs.PieceLemmas.{ok_not_err}
 use Rattle.cgf_jobs.proofs.ReplyLemmas.{opened_runs, plain_replies}
-use Rattle.cgf_jobs.proofs.SealedLemmas.{all_sealed, begun_on}
-use Rattle.cgf_jobs.proofs.ServedLemmas.{FilesGrow, ItemsStay, items_begin}
+use Rattle.cgf_jobs.proofs.SealedLemmas.{all_sealed}
+use Rattle.cgf_jobs.proofs.ServedLemmas.{FilesGrow, ItemsStay, first_holds, first_of_all, items_begin}
 use Rattle.cgf_jobs.proofs.ServiceLemmas.{begins_self, begins_then}
 use Rattle.cgf_jobs.proofs.SettlingLemmas.{base_firmed, mended, mending}
 use Rattle.cgf_jobs.proofs.StreamLemmas.{no_cut}
@@ -170,20 +168,78 @@ module _ {A F : Type 0} (tells : areas.Ghosts A) (files : shelves.Ghosts F) (of 
       → AppendsFront job.before job.after (octets_sent tells files of job area area' shelf shelf' clock clock' ended (answered ended))
   written_front ended written = subst (λ (l : List ℕ). AppendsFront job.before job.after l) sent_are written
 
-  -- what was firm is kept
-  pub answers_kept : (ended : Status) → AreaLaws tells
-      → ((octets : List ℕ) → tells.may_leave area' octets → StandsBehind (header_of c.book) (value_of c.book).firm octets)
-      → (¬ (disk.Rose (tells.faults area) (tells.faults area')) → (history : Entries)
-      × HasClosedBehind tells files of job area area' shelf shelf' clock clock' ended (answered ended) history)
-      → KeepsAnswers tells files of job area area' shelf shelf' clock clock' ended (answered ended)
-  answers_kept ended laws keeps closes = record { now = all (tells.octets area') (laws.holds area'); crash = all; closed = closes }
+  -- the reply to the last of them was cut
+  pub cut_in_last : (ended : Status) (earlier more : List ℕ) → IsLastOf tells c.node book of_all.tried earlier more →
+      (count : ℕ)
+      → count ≤ length more → Appends job.before job.after (earlier ++ take count more)
+      → IsCutInLast tells files of job area area' shelf shelf' clock clock' ended (answered ended)
+  cut_in_last ended earlier more l count within written = record {
+    first = l.first;
+    last = l.last;
+    tried_are = l.tried_are;
+    count = count;
+    within = subst (λ (reply : List ℕ). count ≤ length reply) more_is within;
+    written = subst (λ (octets : List ℕ). Appends job.before job.after octets) both_are written;
+  }
     where
-      named : header_of c.book ≡ header_at tells area of.ip
-      named = gone.stays.header ∙ opens.named
+      earlier_are : earlier ≡ sent_for_all (tells.size area) of.node (opened (tells.size area) start) l.first
+      earlier_are = l.sent_are ∙ (λ i. sent_for_all (sized i) (node i) (value i) l.first)
 
-      all : (octets : List ℕ) → tells.may_leave area' octets → StandsBehind (header_at tells area of.ip) left.firm octets
-      all octets may = subst (λ (name : List ℕ). StandsBehind name left.firm octets) named
-          (subst (λ (v : BookValue). StandsBehind (header_of c.book) v.firm octets) value_gone (keeps octets may))
+      more_is : more ≡ sent_for (tells.size area) of.node
+          (after_all (tells.size area) of.node (opened (tells.size area) start) l.first) l.last
+      more_is = l.more_is ∙ (λ i. sent_for (sized i) (node i) (after_all (sized i) (node i) (value i) l.first) l.last)
+
+      both_are : earlier ++ take count more ≡ sent_for_all (tells.size area) of.node (opened (tells.size area) start)
+          l.first ++ take count
+          (sent_for (tells.size area) of.node (after_all (tells.size area) of.node (opened (tells.size area) start)
+          l.first) l.last)
+      both_are = λ i. earlier_are i ++ take count (more_is i)
+
+  -- what was found begins what was firm then
+  left_front : Begins start left.firm
+  left_front = subst (λ (l : Entries). Begins l left.firm) (opened_is_fresh (tells.size area) start).firm
+      (all_front (tells.size area) of.node (opened (tells.size area) start) of_all.tried)
+
+  -- What was firm is kept, and its files.
+  module _ (writer : Writer F files) (fresh : is_broken writer ≡ true) (on : shelf_of writer ≡ shelf)
+      (by : settings_in writer ≡ stream_settings of.ip) (stay : ItemsStay) (files_grow : FilesGrow)
+      (laws : AreaLaws tells)
+      (keeps : (octets : List ℕ) → tells.may_leave area' octets → LeavesBehind tells files c writer shelf' octets) where
+    named : header_of c.book ≡ header_at tells area of.ip
+    named = gone.stays.header ∙ opens.named
+
+    abbrev stands_at : (octets : List ℕ) → tells.may_leave area' octets → StandsBehind (header_at tells area of.ip)
+        left.firm octets
+    stands_at octets may = record {
+      history = (keeps octets may).history;
+      stands = subst (λ (name : List ℕ). StandsFitFor name octets (keeps octets may).history) named
+          (keeps octets may).stands;
+      begins = subst (λ (v : BookValue). Begins v.firm (keeps octets may).history) value_gone (keeps octets may).begins;
+    }
+
+    filed_at : IsTrue files.tells_files → HasFirstFiles (stream_settings of.ip) start (files.files shelf)
+        → (octets : List ℕ) (may : tells.may_leave area' octets)
+        → HasFirstFiles (stream_settings of.ip) (keeps octets may).history (files.files shelf')
+    filed_at tells_files first octets may =
+        subst (λ (settings : Settings). HasFirstFiles settings (keeps octets may).history (files.files shelf')) by
+        ((keeps octets may).filed tells_files
+        (first_holds files stay files_grow (stream_settings of.ip) start (keeps octets may).history shelf writer fresh
+        on by
+        (begins_then start left.firm (keeps octets may).history left_front (stands_at octets may).begins) first))
+
+    pub answers_kept : (ended : Status)
+        → (¬ (disk.Rose (tells.faults area) (tells.faults area')) → (history : Entries)
+        × HasClosedBehind tells files of job area area' shelf shelf' clock clock' ended (answered ended) history)
+        → KeepsAnswers tells files of job area area' shelf shelf' clock clock' ended (answered ended)
+    answers_kept ended closes = record {
+      now = stands_at (tells.octets area') (laws.holds area');
+      crash = stands_at;
+      sealed = λ tells_files first. (
+        filed_at tells_files first (tells.octets area') (laws.holds area'),
+        filed_at tells_files first,
+      );
+      closed = closes;
+    }
 
   pub answered_all : (ended : Status) → gone.unanswered ≡ [] → Appends job.before job.after sent → IsStreamRead job.left job.rest text
       → ended ≡ stream_end text → HasAnsweredAll tells files of job area area' shelf shelf' clock clock' ended (answered ended)
@@ -218,10 +274,7 @@ module _ {A F : Type 0} (tells : areas.Ghosts A) (files : shelves.Ghosts F) (of 
     pub front : Begins start history
     front = subst (λ (l : Entries). Begins start l) (sym history_is)
         (begins_then start firmed (closed_behind firmed e.now no_caller)
-        (begins_then start left.firm firmed
-        (subst (λ (l : Entries). Begins l left.firm) (opened_is_fresh (tells.size area) start).firm
-        (all_front (tells.size area) of.node (opened (tells.size area) start) of_all.tried))
-        (commit_front (mending e.settled.drops) left))
+        (begins_then start left.firm firmed left_front (commit_front (mending e.settled.drops) left))
         (closed_begins firmed e.now no_caller))
 
     pub closed_behind_them : (ended : Status)
@@ -261,23 +314,12 @@ module _ {A F : Type 0} (tells : areas.Ghosts A) (files : shelves.Ghosts F) (of 
       (subst (λ (settings : Settings). HasAllFiles settings whole (files.files (shelf_of e.after))) settings_are
       (all_sealed files e.after (items_of whole) (e.taken told).ready (e.taken told).count holds counted))
     where
-      items_front : writing.Begins (items_of begun) (items_of whole)
-      items_front = items_begin stay begun whole
-          (front tells files of job area area' shelf shelf' clock clock' book c open_time sized opens node later text sent consumed told gone laws shuts e.closed)
-
-      is_begun : IsBegun (stream_settings of.ip) writing.none_closed writing.none_stood (items_of whole) (files.files shelf)
-      is_begun = subst (λ (items : List Item). IsBegun (stream_settings of.ip) writing.none_closed writing.none_stood items (files.files shelf)) (sym items_front.1)
-          (begun_on files_grow (stream_settings of.ip) (items_of begun) items_front.0 (files.files shelf) first)
-
-      first_holds : writing.HoldsFilesOf (items_of whole) writer
-      first_holds = record {
-        begun = λ broken. subst (λ (settings : Settings). IsBegun settings writing.none_closed writing.none_stood (items_of whole) (files.files (shelf_of writer))) (sym by)
-            (subst (λ (f : F). IsBegun (stream_settings of.ip) writing.none_closed writing.none_stood (items_of whole) (files.files f)) (sym on) is_begun);
-        held = λ whole. absurd (true≢false (sym fresh ∙ whole));
-      }
-
       holds : writing.HoldsFilesOf (items_of whole) e.after
-      holds = e.files_stay (told_lists tells told) tells_files (items_of whole) ([], sym (append-nil (items_of whole))) first_holds
+      holds = e.files_stay (told_lists tells told) tells_files (items_of whole) ([], sym (append-nil (items_of whole)))
+          (first_holds files stay files_grow (stream_settings of.ip) begun whole shelf writer fresh on by
+          (front tells files of job area area' shelf shelf' clock clock' book c open_time sized opens node later text
+          sent consumed told gone laws shuts e.closed)
+          first)
 
       counted : (s : ℕ) → s < stream_count
           → length (stream_files (settings_in e.after) s (items_of whole)) ≤ closed_of (settings_in e.after) s (items_of whole)
@@ -299,9 +341,12 @@ module _ {A F : Type 0} (tells : areas.Ghosts A) (files : shelves.Ghosts F) (c :
     (stays : Stays c.book book × (settings_in after ≡ settings_in writer))
     (later : (tells.faults (area_of c.book) ≤ tells.faults (area_of book)) × (files.faults (shelf_of writer) ≤ files.faults (shelf_of after)))
     (grows : Grows c.book book) (leaves : LeavesFit book) (now : ℕ)
-    (closes : ¬ (disk.Rose (tells.faults (area_of c.book)) (tells.faults (area_of book))) → IsSettled c.book book now no_caller) where
+    (closes : ¬ (disk.Rose (tells.faults (area_of c.book)) (tells.faults (area_of book))) → IsSettled c.book book now
+    no_caller)
+    (stay : ItemsStay) (files_stay : WhereTold (tells_lists tells)
+    (writing.KeepsFiles files (value_of book).firm writer after)) where
   -- what was firm before the settling stands in what a crash leaves behind it
-  holds : Told tells → (octets : List ℕ) → tells.may_leave area octets → StandsBehind (header_of c.book) (value_of c.book).firm octets
+  holds : Told tells → (octets : List ℕ) → tells.may_leave area octets → LeavesBehind tells files c writer shelf octets
   holds told octets may = ⊎_elim
       (λ (s : StandsFitFor (header_of book) octets (value_of book).firm). behind (value_of book).firm (begins_self (value_of book).firm) s)
       (λ (s : StandsFitFor (header_of book) octets ((value_of book).firm ++ (value_of book).rest)).
@@ -309,11 +354,16 @@ module _ {A F : Type 0} (tells : areas.Ghosts A) (files : shelves.Ghosts F) (c :
       (leaves.any told octets (subst (λ (a : A). tells.may_leave a octets) is_area may))
     where
       behind : (history : Entries) → Begins (value_of book).firm history → StandsFitFor (header_of book) octets history
-          → StandsBehind (header_of c.book) (value_of c.book).firm octets
+          → LeavesBehind tells files c writer shelf octets
       behind history begins stands = record {
         history = history;
         stands = subst (λ (name : List ℕ). StandsFitFor name octets history) stays.0.header stands;
         begins = begins_then (value_of c.book).firm (value_of book).firm history (grows told) begins;
+        filed = λ tells_files held. subst (λ (f : F). HasFirstFiles (settings_in writer) history (files.files f))
+            (sym is_shelf)
+            (first_of_all files after (settings_in writer) history stays.1
+            (files_stay (told_lists tells told) tells_files (items_of history)
+            (items_begin stay (value_of book).firm history begins) held));
       }
 
   abbrev closed_by : IsSettled c.book book now no_caller → HasClosed tells c area
@@ -354,14 +404,14 @@ module _ {A F : Type 0} (tells : areas.Ghosts A) (files : shelves.Ghosts F) (c :
       (subst (λ (r : Result Unit Status). IfErr r (λ w. ended ≡ w)) (sym is) ends)
 
   pub settles_done : IsSettled c.book book now no_caller → (Told tells → HasTakenAll (value_of book).firm after)
-      → WhereTold (tells_lists tells) (writing.KeepsFiles files (value_of book).firm writer after) → HasEnded tells files c writer area shelf
-  settles_done settled taken keeps = record {
+      → HasEnded tells files c writer area shelf
+  settles_done settled taken = record {
     closed = closed_by settled;
     after = after;
     shelf_is = is_shelf;
     settings = stays.1;
     taken = taken;
-    files_stay = keeps;
+    files_stay = files_stay;
   }
 
   pub settles_area : disk.Rose (tells.faults (area_of c.book)) (tells.faults (area_of book))

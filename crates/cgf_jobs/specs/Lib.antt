@@ -12,6 +12,7 @@ pub mod ShowReport
 pub mod NetworkReport
 pub mod Serving
 pub mod Served
+pub mod Shelved
 pub mod ServeEnds
 pub mod Streaming
 pub mod Replies

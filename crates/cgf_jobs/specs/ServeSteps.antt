@@ -1,5 +1,5 @@
 -- Words for the code of a gateway that serves. No contract of a public call cites them.
-use Rattle.std.specs.Prelude.{◌≡◌, ◌≢◌, ◌⊎◌, ℕ, ◌+◌, ◌≤◌, Bool, false, List, [], Option, Some, None, IfErr, IfOk, Result, Ok, Err, ⊤}
+use Rattle.std.specs.Prelude.{◌≡◌, ◌≢◌, ◌⊎◌, ℕ, ◌+◌, ◌≤◌, List, Option, Some, None, IfErr, IfOk, Result, Ok, Err, ⊤}
 use Rattle.std.specs.Io.KnownBytes.{Appends}
 use Rattle.area_disk.specs.Disk as disk
 use Rattle.area_disk.specs.declared.area.Area as areas
@@ -11,16 +11,14 @@ use Rattle.gateway_book.specs.Book.{Stays, area_of, size_of, value_of}
 use Rattle.gateway_book.specs.Answered.{no_caller}
 use Rattle.gateway_book.specs.Opened.{IsNotOurs}
 use Rattle.gateway_book.specs.Turning.{facts_of, tells_lists}
-use Rattle.cgf_journal.specs.Trail.{is_closed}
 use Rattle.gateway_book.specs.declared.book.Book.{Book}
 use Rattle.gateway_book.specs.declared.outcome.BookFault.{BookFault}
 use Rattle.gateway_book.specs.declared.outcome.BookFault.TheVariants as of_book
 use Rattle.gw_base.specs.Facts.{WhereTold}
 use Rattle.gw_base.specs.Faults.{Rose}
-use Rattle.gw_base.specs.Owes.{base}
 use Rattle.gw_base.specs.Written.{AppendsFront}
-use Rattle.net_link.specs.Making.{LinksState}
-use Rattle.node_session.specs.Settling.{Grows, HasTakenAll, closed_behind}
+use Rattle.net_link.specs.Making.{Keeps, LinksState}
+use Rattle.node_session.specs.Settling.{Grows, HasTakenAll, IsSettled}
 use Rattle.node_session.specs.Writing.{KeepsFiles}
 use Rattle.replay_gateway.specs.Settings.{AreSet, AreSound}
 use Rattle.replay_gateway.specs.Setup.{Setup, setup_of}
@@ -107,11 +105,7 @@ module _ {A F : Type 0} (tells : areas.Ghosts A) (files : shelves.Ghosts F) wher
   pub record HasLine (service : Service) (book book' : Book A tells) (writer' : Writer F files) (line : List ℕ)
       : Type 0 where
     pub runs : service.stop ≡ None
-    pub drops : Bool
-    pub firm : Told tells →
-        (value_of book').firm ≡ closed_behind (base drops (facts_of book)) (moment_of service.last) no_caller
-    pub none_waits : Told tells → (value_of book').rest ≡ []
-    pub goes_on : is_closed book'.trail ≡ false
+    pub settled : IsSettled book book' (moment_of service.last) no_caller
     pub line_is : Told tells → line ≡ served_line (value_of book').firm
     pub taken : Told tells → HasTakenAll (value_of book').firm writer'
 
@@ -141,8 +135,9 @@ module _ {A F : Type 0} (tells : areas.Ghosts A) (files : shelves.Ghosts F) (of 
   abbrev pub StopsServing : Status → Type 0
   StopsServing (status.Store fault.Device) =
       disk.Rose (tells.faults area) (tells.faults area') ⊎ disk.Rose (files.faults shelf) (files.faults shelf')
-  StopsServing (status.Store (fault.NotOurs at)) = Told tells →
-      IsNotOurs (header_for tells area of) (tells.octets area) at × (tells.octets area' ≡ tells.octets area)
+  StopsServing (status.Store (fault.NotOurs at)) = Keeps links links' × (links'.faults ≡ links.faults)
+      × (clock' ≡ clock) × (files.files shelf' ≡ files.files shelf) × (Told tells →
+      IsNotOurs (header_for tells area of) (tells.octets area) at × (tells.octets area' ≡ tells.octets area))
   StopsServing status.Link = Rose links.faults links'.faults ⊎ Rose clock clock'
   StopsServing status.Memory = ⊤
   StopsServing _ = ⊥

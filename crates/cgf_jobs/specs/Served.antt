@@ -1,5 +1,6 @@
 -- What `serve` hands back: the journal's area, the shelf and the links of a gateway that served, and what it wrote.
 use Rattle.std.specs.Prelude.{◌≡◌, ◌⊎◌, ℕ, ◌+◌, ◌<◌, ◌≤◌, IsTrue, List, [], ◌∷◌, ◌++◌, All, IfSome, Option, None, Some, length}
+use Rattle.area_disk.specs.Disk.{Rose}
 use Rattle.area_disk.specs.declared.area.Area as areas
 use Rattle.cdr_shelf.specs.Files.{SealedFile, in_stream}
 use Rattle.cdr_shelf.specs.declared.shelf.Shelf as shelves
@@ -83,22 +84,33 @@ pub record HasReplied (size : ℕ) (history : List HistoryEntry) (before now : �
 abbrev pub header_for : {A : Type 0} (tells : areas.Ghosts A) → A → Serving → List ℕ
 header_for tells area of = header (tells.size area) of.ip 0
 
-module _ {A F : Type 0} (tells : areas.Ghosts A) (files : shelves.Ghosts F) (of : Serving) (setup : Setup)
-    (area area' : A) (shelf shelf' : F) (links links' : LinksState) where
+module _ {A : Type 0} (tells : areas.Ghosts A) (of : Serving) (area area' : A) (links links' : LinksState) where
   -- The area handed in stood for a history, or started, and had none; the one handed back stands for one that has grown
-  -- from it, now and after any crash. What was sent are replies that rest on it. Where the shelf had the
-  -- first ones of the files that the handed-in history closes, it has just those that this one closes; and these have
-  -- all records of the history, none of which stands in a file that is open.
-  pub record HasServed (history : List HistoryEntry) : Type 0 where
+  -- from it, now and after any crash. What was sent are replies that rest on it, and no record of it stands in a file
+  -- that is open.
+  pub record LeavesClosed (history : List HistoryEntry) : Type 0 where
     pub start : List HistoryEntry
     pub found : StandsOrStarts (header_for tells area of) (tells.octets area) start
     pub stands : StandsFitFor (header_for tells area of) (tells.octets area') history
     pub crash : (c : List ℕ) → tells.may_leave area' c → StandsFitFor (header_for tells area of) c history
     pub grown : HasGrown (tells.size area) (links'.received (address_in of)) start history
     pub replies : HasReplied (tells.size area) history (tells.faults area) (tells.faults area') (address_in of) links links'
-    pub sealed : IsTrue files.tells_files → HasFirstFiles (files_at of setup) start (files.files shelf)
-        → HasAllFiles (files_at of setup) history (files.files shelf')
     pub shut : AreShut (items_of history)
+
+  -- The area was the gateway's own, and where its device didn't fail the gateway was settled.
+  abbrev pub SettlesStill : Type 0
+  SettlesStill = Told tells →
+      ((start : List HistoryEntry) × StandsOrStarts (header_for tells area of) (tells.octets area) start)
+      × (¬ (Rose (tells.faults area) (tells.faults area')) → (history : List HistoryEntry) × LeavesClosed history)
+
+module _ {A F : Type 0} (tells : areas.Ghosts A) (files : shelves.Ghosts F) (of : Serving) (setup : Setup)
+    (area area' : A) (shelf shelf' : F) (links links' : LinksState) where
+  -- The gateway was settled. Where the shelf had the first ones of the files that the handed-in history closes, it has
+  -- just those that this one closes; and these have all records of the history.
+  pub record HasServed (history : List HistoryEntry) : Type 0 where
+    pub closed : LeavesClosed tells of area area' links links' history
+    pub sealed : IsTrue files.tells_files → HasFirstFiles (files_at of setup) closed.start (files.files shelf)
+        → HasAllFiles (files_at of setup) history (files.files shelf')
 
 -- An area stands for a history, or starts, and it has none; so it does after any crash.
 pub record HoldsHistory {A : Type 0} (tells : areas.Ghosts A) (name : List ℕ) (area : A) (h : List HistoryEntry) : Type 0 where

@@ -1,5 +1,5 @@
 -- How `stream` ends, and why, and what it leaves.
-use Rattle.std.specs.Prelude.{◌≡◌, ◌≢◌, ◌⊎◌, ℕ, ◌+◌, ◌-◌, ◌≤◌, ◌^◌, nat_lt, Bool, true, false, if◌then◌else◌, IsTrue, List, [], ◌∷◌, ◌++◌, length, map, Option, Some, None}
+use Rattle.std.specs.Prelude.{◌≡◌, ◌≢◌, ◌⊎◌, ℕ, ◌+◌, ◌-◌, ◌≤◌, ◌^◌, nat_lt, Bool, true, false, if◌then◌else◌, IsTrue, List, [], ◌∷◌, ◌++◌, length, map, take, Option, Some, None}
 use Rattle.std.specs.Io.KnownBytes.{Appends, Consumes, IsAtEnd}
 use Rattle.area_disk.specs.Disk as disk
 use Rattle.area_disk.specs.declared.area.Area as areas
@@ -25,9 +25,9 @@ use Rattle.file_writer.specs.Streams.{Settings}
 use Rattle.cgf_jobs.specs.Ending.{HasCause}
 use Rattle.cgf_jobs.specs.Job.{Job}
 use Rattle.cgf_jobs.specs.Kinds.{of_frame}
-use Rattle.cgf_jobs.specs.Replies.{Tried, after_all, message_of, replies, sent_for_all}
+use Rattle.cgf_jobs.specs.Replies.{Tried, after_all, message_of, replies, sent_for, sent_for_all}
 use Rattle.cgf_jobs.specs.Run.{TakesUpTo, is_reported}
-use Rattle.cgf_jobs.specs.ServeEnds.{may_have_opened}
+use Rattle.cgf_jobs.specs.ServeEnds.{IsGatewayEnd, may_have_opened}
 use Rattle.cgf_jobs.specs.Served.{HasAllFiles, HasFirstFiles, HoldsHistory}
 use Rattle.cgf_jobs.specs.declared.input_kind.InputKind.TheVariants as input
 use Rattle.cgf_jobs.specs.declared.serving.Serving.{Serving}
@@ -137,13 +137,21 @@ module _ {A F : Type 0} (tells : areas.Ghosts A) (files : shelves.Ghosts F) (of 
   pub record KeepsAnswers (s : HasAnswered) : Type 0 where
     pub now : StandsBehind (header_at tells area of.ip) (value_left s).firm (tells.octets area')
     pub crash : (c : List ℕ) → tells.may_leave area' c → StandsBehind (header_at tells area of.ip) (value_left s).firm c
+    -- Where the shelf had the first ones of the files of the handed-in history, it has those of these histories.
+    pub sealed : IsTrue files.tells_files → HasFirstFiles (stream_settings of.ip) s.start (files.files shelf)
+        → HasFirstFiles (stream_settings of.ip) now.history (files.files shelf')
+        × ((c : List ℕ) (left : tells.may_leave area' c) →
+        HasFirstFiles (stream_settings of.ip) (crash c left).history (files.files shelf'))
     pub closed : ¬ (disk.Rose (tells.faults area) (tells.faults area'))
         → (history : List HistoryEntry) × HasClosedBehind s history
 
-  -- The gateway wasn't opened: nothing was read or written, and the area holds the history that it held.
+  -- The gateway wasn't opened: nothing was read or written, the clock didn't fail, the shelf is as it was, and the area
+  -- holds the history that it held.
   pub record IsUnopened : Type 0 where
     pub unread : job.rest ≡ job.left
     pub unwritten : job.after ≡ job.before
+    pub same_shelf : shelf' ≡ shelf
+    pub same_clock : clock' ≡ clock
     pub keeps : (start : List HistoryEntry) → HoldsHistory tells (header_at tells area of.ip) area start
         → HoldsHistory tells (header_at tells area of.ip) area' start
 
@@ -153,6 +161,19 @@ module _ {A F : Type 0} (tells : areas.Ghosts A) (files : shelves.Ghosts F) (of 
     pub written : Appends job.before job.after (octets_sent s)
     pub read : IsStreamRead job.left job.rest s.text
     pub decided : ended ≡ stream_end s.text
+
+  -- The reply to the last message that was answered was cut: those to the messages before it were written, whole, and a
+  -- front of its own.
+  pub record IsCutInLast (s : HasAnswered) : Type 0 where
+    pub first : List Tried
+    pub last : Tried
+    pub tried_are : s.tried ≡ first ++ last ∷ []
+    pub count : ℕ
+    pub within : count ≤ length
+        (sent_for (tells.size area) of.node (after_all (tells.size area) of.node (opening s.start) first) last)
+    pub written : Appends job.before job.after (sent_for_all (tells.size area) of.node (opening s.start) first
+        ++ take count
+        (sent_for (tells.size area) of.node (after_all (tells.size area) of.node (opening s.start) first) last))
 
   -- The gateway was settled behind them. Where the shelf had the first ones of the files that the handed-in history closes,
   -- it has just those that this one closes.
@@ -184,26 +205,29 @@ module _ {A F : Type 0} (tells : areas.Ghosts A) (files : shelves.Ghosts F) (of 
     -- So it is of any area, whether it tells what it holds or not.
     pub decided : is_reported ended ≡ true →
         (text : List ℕ) × IsStreamRead job.left job.rest text × (ended ≡ stream_end text)
-    -- At `Write` a front of the replies is written, and at every other end whole ones of the first messages, and nothing
-    -- else; or the gateway wasn't opened. However it ends, nothing is lost of what was answered, and the gateway settles.
+    -- At `Write` a front of the replies is written, which ends in that to the last message that was answered; at every
+    -- other end whole ones of the first messages, and nothing else; or the gateway wasn't opened. However it ends,
+    -- nothing is lost of what was answered, and the gateway settles.
     pub front : Told tells → ended ≡ status.Write →
-        (s : HasAnswered) × AppendsFront job.before job.after (octets_sent s) × KeepsAnswers s
+        (s : HasAnswered) × AppendsFront job.before job.after (octets_sent s) × IsCutInLast s × KeepsAnswers s
     pub first : Told tells → ended ≢ status.Write →
         IsUnopened ⊎ ((s : HasAnswered) × Appends job.before job.after (octets_sent s) × KeepsAnswers s)
     -- At `Memory`, and at `Store` without a place, nothing was read, or the stream had ended well.
     pub behind : (ended ≡ status.Memory) ⊎ (ended ≡ status.Store fault.Device) →
         (job.rest ≡ job.left) ⊎ ((text : List ℕ) × IsStreamRead job.left job.rest text × (stream_end text ≡ status.Done))
-    -- At `Store` a device failed; or the area is another's, at the place that shows it, and stays as it was, and nothing
-    -- was read or written.
+    -- At `Store` a device failed; or the area is another's, at the place that shows it. Then it stays as it was, as the
+    -- shelf does, and nothing was read or written.
     pub device : ended ≡ status.Store fault.Device →
         disk.Rose (tells.faults area) (tells.faults area') ⊎ disk.Rose (files.faults shelf) (files.faults shelf')
     pub foreign : (at : ℕ) → ended ≡ status.Store (fault.NotOurs at) → (job.rest ≡ job.left) × (job.after ≡ job.before)
-        × (Told tells → IsNotOurs (header_at tells area of.ip) (tells.octets area) at × (tells.octets area' ≡ tells.octets area))
+        × (shelf' ≡ shelf) × (clock' ≡ clock) × (Told tells →
+        IsNotOurs (header_at tells area of.ip) (tells.octets area) at × (tells.octets area' ≡ tells.octets area))
     -- At `Link` the clock failed; at `Read` the source, at `Write` the sink, and at no other end did these.
     pub link : ended ≡ status.Link → Rose clock clock'
+    pub time : ended ≢ status.Link → clock' ≡ clock
     pub cause : HasCause ended job.read_before job.read_after job.written_before job.written_after
-    -- The words are known, no octet past the first 2^40 is taken, and no network is handed back.
-    pub known : ended ≢ status.Words
+    -- It ends in one of these ways, no octet past the first 2^40 is taken, and no network is handed back.
+    pub known : IsGatewayEnd ended
     pub bound : TakesUpTo most_stream job.left job.rest
     pub none : played ≡ None
     -- Where nothing fails, area and stream decide how it ends, unless memory runs out.

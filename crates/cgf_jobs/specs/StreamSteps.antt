@@ -1,5 +1,5 @@
 -- Words for the code of a gateway that answers a stream. No contract of a public call cites them.
-use Rattle.std.specs.Prelude.{◌≡◌, ◌≢◌, ◌⊎◌, ℕ, ◌+◌, ◌≤◌, Bool, false, true, List, [], ◌++◌, length, map, Option, Some, None, IsSome, IfErr, IfOk, Result, Ok, Err, ⊤}
+use Rattle.std.specs.Prelude.{◌≡◌, ◌≢◌, ◌⊎◌, ℕ, ◌+◌, ◌≤◌, Bool, false, true, List, [], ◌++◌, ◌∷◌, length, map, take, Option, Some, None, IsSome, IsTrue, IfErr, IfOk, Result, Ok, Err, ⊤}
 use Rattle.std.specs.Io.KnownBytes.{Appends, Consumes, IsAtEnd}
 use Rattle.area_disk.specs.Disk.{Rose, last_count}
 use Rattle.area_disk.specs.declared.area.Area as areas
@@ -10,18 +10,23 @@ use Rattle.gate_journal.specs.Moments.{Told}
 use Rattle.gateway_book.specs.Answered.{no_caller}
 use Rattle.gateway_book.specs.Book.{Stays, area_of, header_of, size_of, value_of}
 use Rattle.gateway_book.specs.Comes.{LeavesFit}
+use Rattle.gateway_book.specs.FitHistory.{StandsFitFor}
+use Rattle.gateway_book.specs.Items.{items_of}
 use Rattle.gateway_book.specs.Turning.{tells_lists}
 use Rattle.gateway_book.specs.declared.book.Book.{Book}
 use Rattle.gtpp_stream.specs.Frames.{first_fault, frames, rest_of}
 use Rattle.gtpp_stream.specs.Stream.{Follows, no_stream}
 use Rattle.gw_base.specs.Facts.{WhereTold}
 use Rattle.gw_base.specs.Faults as gw
+use Rattle.gw_base.specs.Owes.{Begins}
 use Rattle.gw_base.specs.Written.{AppendsFront}
 use Rattle.gw_base.specs.declared.address.Addr.{Addr}
+use Rattle.gw_base.specs.declared.history.HistoryEntry.{HistoryEntry}
 use Rattle.node_session.specs.Settling.{HasTakenAll, IsSettled}
-use Rattle.node_session.specs.Writing.{KeepsFiles}
+use Rattle.node_session.specs.Writing.{HoldsFilesOf, KeepsFiles}
 use Rattle.cgf_jobs.specs.Replies.{Tried, after_all, after_message, sent_for, sent_for_all}
-use Rattle.cgf_jobs.specs.StreamEnds.{IsStreamRead, StandsBehind, most_stream, stream_end}
+use Rattle.cgf_jobs.specs.Served.{HasFirstFiles}
+use Rattle.cgf_jobs.specs.StreamEnds.{IsStreamRead, most_stream, stream_end}
 use Rattle.cgf_jobs.specs.declared.connection.Connection.{Connection}
 use Rattle.cgf_jobs.specs.declared.input_kind.InputKind.{InputKind}
 use Rattle.cgf_jobs.specs.declared.status.Status.{Status}
@@ -74,6 +79,15 @@ module _ {A : Type 0} (tells : areas.Ghosts A) where
     pub sent_are : sent ≡ sent_for_all (size_of opened) from (value_of opened) tried
     pub cuts : ((after_all (size_of opened) from (value_of opened) tried).cuts + tells.faults (area_of opened)
         ≤ opened.cuts + faults) ⊎ (last_count ≤ faults)
+
+  -- Of the messages that were answered since the gateway was opened, this is to be sent for the last, and this for the
+  -- others.
+  pub record IsLastOf (from : Addr) (opened : Book A tells) (tried : List Tried) (sent more : List ℕ) : Type 0 where
+    pub first : List Tried
+    pub last : Tried
+    pub tried_are : tried ≡ first ++ last ∷ []
+    pub sent_are : sent ≡ sent_for_all (size_of opened) from (value_of opened) first
+    pub more_is : more ≡ sent_for (size_of opened) from (after_all (size_of opened) from (value_of opened) first) last
 
   -- No message stands, and the numbers of a connection say what came: so many octets in all, and so many up to the end of
   -- the last whole message.
@@ -134,9 +148,21 @@ module _ {A : Type 0} (tells : areas.Ghosts A) where
       (s : HasGoneTo opened given sent c) × (s.unanswered ≡ []) × (stream_end given ≡ status.Input place kind) × (after ≡ before)
       × IsSome (first_fault (rest_of given))
   StopsIn opened given sent c before after status.Write =
-      (more : List ℕ) × HasGoneTo opened given (sent ++ more) c × AppendsFront before after more
+      (more : List ℕ) × (s : HasGoneTo opened given (sent ++ more) c) × AppendsFront before after more
+      × ((told : Told tells) → IsLastOf c.node opened (s.answers told).0.tried sent more)
   StopsIn opened given sent c before after status.Link = HasGoneTo opened given sent c × (after ≡ before)
   StopsIn opened given sent c before after _ = ⊥
+
+  -- The reply to the last message was cut: those to the others were written, and a front of it.
+  pub record IsCutIn (opened : Book A tells) (c : Connection A tells) (text sent : List ℕ)
+      (before after : Option (List ℕ)) : Type 0 where
+    pub gone : HasGoneTo opened text sent c
+    pub earlier : List ℕ
+    pub more : List ℕ
+    pub last : (told : Told tells) → IsLastOf c.node opened (gone.answers told).0.tried earlier more
+    pub count : ℕ
+    pub within : count ≤ length more
+    pub written : Appends before after (earlier ++ take count more)
 
   -- How the serving of a stream ended, of which this was left and is left now.
   pub record HasServed (opened : Book A tells) (c : Connection A tells) (left rest before after : Option (List ℕ))
@@ -151,6 +177,7 @@ module _ {A : Type 0} (tells : areas.Ghosts A) where
     pub refused : IfErr result (λ ended. (place : ℕ) (kind : InputKind) → ended ≡ status.Input place kind →
         (s : HasGoneTo opened text sent c) × (s.unanswered ≡ []) × (stream_end text ≡ ended) × IsStreamRead left rest text)
     pub front : IfErr result (λ ended. ended ≡ status.Write → AppendsFront before after sent)
+    pub cut : IfErr result (λ ended. ended ≡ status.Write → IsCutIn opened c text sent before after)
     pub whole : IfErr result (λ ended. ended ≢ status.Write → Appends before after sent)
 
   -- A gateway was closed behind a stream, and its area was handed back: all of its history is firm.
@@ -163,23 +190,23 @@ module _ {A : Type 0} (tells : areas.Ghosts A) where
     pub stays : Stays c.book book
 
 -- The counts of faults of the sink and the clock say why a message isn't answered and sent: each rose where it was that
--- one's fault, and nowhere else did that of the sink.
+-- one's fault, and nowhere else.
 pub record CausesReply {X : Type 0} (sink sink' clock clock' : ℕ) (result : Result X Status) : Type 0 where
   pub sink_failed : result ≡ Err status.Write → gw.Rose sink sink'
   pub sink_stood : result ≢ Err status.Write → sink' ≡ sink
   pub clock_failed : result ≡ Err status.Link → gw.Rose clock clock'
-  pub clock_later : clock ≤ clock'
+  pub clock_stood : result ≢ Err status.Link → clock' ≡ clock
   pub not_source : result ≢ Err status.Read
 
 -- The counts of faults of the source, the sink and the clock say why the serving ended: each rose where it was that one's
--- fault, and nowhere else did that of the source or the sink.
+-- fault, and nowhere else.
 pub record CausesStop {X : Type 0} (source source' sink sink' clock clock' : ℕ) (result : Result X Status) : Type 0 where
   pub source_failed : result ≡ Err status.Read → gw.Rose source source'
   pub source_stood : result ≢ Err status.Read → source' ≡ source
   pub sink_failed : result ≡ Err status.Write → gw.Rose sink sink'
   pub sink_stood : result ≢ Err status.Write → sink' ≡ sink
   pub clock_failed : result ≡ Err status.Link → gw.Rose clock clock'
-  pub clock_later : clock ≤ clock'
+  pub clock_stood : result ≢ Err status.Link → clock' ≡ clock
 
 module _ {A F : Type 0} (tells : areas.Ghosts A) (files : shelves.Ghosts F) where
   -- It was settled too, and its shelf was handed back: all of its history is written.
@@ -200,12 +227,21 @@ module _ {A F : Type 0} (tells : areas.Ghosts A) (files : shelves.Ghosts F) wher
   SettlesAs c writer area shelf status.Memory = ⊤
   SettlesAs c writer area shelf _ = ⊥
 
+  -- These octets stand for a history that begins with what was firm. Where the writer held the files of its items, the
+  -- shelf has the first ones of them.
+  pub record LeavesBehind (c : Connection A tells) (writer : Writer F files) (shelf : F) (octets : List ℕ)
+      : Type 0 where
+    pub history : List HistoryEntry
+    pub stands : StandsFitFor (header_of c.book) octets history
+    pub begins : Begins (value_of c.book).firm history
+    pub filed : IsTrue files.tells_files → HoldsFilesOf (items_of history) writer
+        → HasFirstFiles (settings_in writer) history (files.files shelf)
+
   pub record HasSettledStream (c : Connection A tells) (writer : Writer F files) (served : Result Unit Status)
       (ended : Status) (area : A) (shelf : F) : Type 0 where
     pub later : (tells.faults (area_of c.book) ≤ tells.faults area) × (files.faults (shelf_of writer) ≤ files.faults shelf)
     pub size : tells.size area ≡ size_of c.book
-    pub keeps : Told tells → (octets : List ℕ) → tells.may_leave area octets
-        → StandsBehind (header_of c.book) (value_of c.book).firm octets
+    pub keeps : Told tells → (octets : List ℕ) → tells.may_leave area octets → LeavesBehind c writer shelf octets
     pub closed : ¬ (Rose (tells.faults (area_of c.book)) (tells.faults area)) → HasClosed tells c area
     pub ok : served ≡ Ok tt → SettlesAs c writer area shelf ended
     pub err : IfErr served (λ why. ended ≡ why)

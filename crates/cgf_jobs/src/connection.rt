@@ -19,7 +19,7 @@ use gw_base::{Addr, Caller, Moment, Short, Sink};
 
 /// A gateway and the stream that it answers: what has come of the message after the last whole one, the address from
 /// which each message counts as sent, how many octets came, where the message after the last whole one begins, and the
-/// latest moment of a message.
+/// moment of the last message.
 #[derive(Drop)]
 pub(crate) struct Connection<A: Area> {
     pub book: Book<A>,

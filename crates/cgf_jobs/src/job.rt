@@ -27,6 +27,7 @@ use world_script::{InputFault, Script};
 #[derive(Drop)]
 pub struct JobEnd {
     pub status: Status,
+    /// The network of a `replay` or a `drill` that is done.
     pub played: Option<Played>,
 }
 

@@ -40,7 +40,9 @@ pub(crate) struct FileSettings {
     pub rules: Rules,
 }
 
-/// Reads the settings of a gateway, lets it serve, and writes the counts of its history.
+/// Reads the settings of a gateway, opens it on the area and the shelf, lets four sessions answer for so many turns of
+/// its link, settles it, and writes the counts of its history. A link or a clock that fails ends the serving, and the
+/// gateway settles then. Where settings are refused or can't be read, nothing is touched.
 pub fn serve_gateway<
     S: Source,
     K: Sink,

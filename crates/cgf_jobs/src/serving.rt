@@ -13,6 +13,7 @@ use world_script::ipv4;
 /// how many octets its journal's area has.
 #[derive(Clone, Copy)]
 pub struct Serving {
+    /// The address that its links are made at.
     pub ip: u32,
     pub port: u16,
     /// From 1 to 1,099,511,627,776.
@@ -25,8 +26,11 @@ pub struct Serving {
 /// its files.
 #[derive(Clone, Copy)]
 pub struct Places<'a> {
+    /// From 100 to 268,435,456.
     pub length: u64,
+    /// A file that is made where there is none.
     pub area: &'a str,
+    /// A folder that is there.
     pub folder: &'a str,
 }
 

@@ -1,9 +1,11 @@
 //! A gateway that serves, from the opening of its journal to its settling.
-ghost use Rattle.std.specs.Prelude.{◌≡◌, ◌+◌, ◌≤◌, ◌<◌, ◌^◌, List, [], false, IfErr, IfOk, None, OnOk, length, true};
+ghost use Rattle.std.specs.Prelude.{◌≡◌, ◌+◌, ◌≤◌, ◌<◌, ◌^◌, List, [], false, Err, IfErr, IfOk, None, OnOk, length, true};
+ghost use Rattle.area_disk.specs.Disk.{Rose};
 ghost use Rattle.cgf_journal.specs.Trail.{is_closed};
 ghost use Rattle.file_writer.specs.Writer.{is_broken};
 ghost use Rattle.gate_journal.specs.Format.{fewest_octets, most_octets};
 ghost use Rattle.gate_journal.specs.Moments.{Told};
+ghost use Rattle.gateway_book.specs.Answered.{no_caller};
 ghost use Rattle.gateway_book.specs.Book.{area_of, size_of, value_of};
 ghost use Rattle.gateway_book.specs.Calls.{counts_of};
 ghost use Rattle.gateway_book.specs.Items.{items_of};
@@ -14,10 +16,12 @@ ghost use Rattle.gw_base.specs.declared.history.HistoryEntry.{HistoryEntry};
 ghost use Rattle.replay_gateway.specs.Settings.{AreSound};
 ghost use Rattle.replay_gateway.specs.Setup.{Setup as SetupValue};
 ghost use Rattle.replay_gateway.specs.Tally.{part_count};
+ghost use Rattle.node_session.specs.Settling.{IsSettled};
 ghost use Rattle.node_session.specs.Writing.{IsWriterOf};
-ghost use Rattle.cgf_jobs.specs.Served.{HasServed, LosesNothing, moment_of, served_line};
+ghost use Rattle.cgf_jobs.specs.Served.{HasServed, LosesNothing, SettlesStill, moment_of, served_line};
 ghost use Rattle.cgf_jobs.specs.ServeSteps.{AreOf, FailsBy, HasServedAt, HasSettledAll, NeverFalls, RefusesAsForeign, StopsServing, status_by};
 ghost use Rattle.cgf_jobs.specs.Serving.{IsServingWithin, address_in};
+ghost use Rattle.cgf_jobs.specs.Shelved.{KeepsShelf};
 
 use crate::printing::print_counts;
 use crate::serve::FileSettings;
@@ -80,8 +84,12 @@ where
     ensures turns { OnOk result.0 ((L.state links.new).turns (address_in serving)
         ≡ (L.state links.old).turns (address_in serving) + serving.turns) }
     ensures keeps { LosesNothing A.Area serving area result.1 (L.state links.old) (L.state links.new) }
+    ensures files { (setup : SetupValue) → AreOf setup by →
+        KeepsShelf A.Area F.Shelf serving setup area result.1 shelf result.2 }
     ensures err { IfErr result.0 (StopsServing A.Area F.Shelf serving area result.1 shelf result.2
         (L.state links.old) (L.state links.new) (C.faults clock.old) (C.faults clock.new)) }
+    ensures shut { result.0 ≡ Err Status.Link →
+        SettlesStill A.Area serving area result.1 (L.state links.old) (L.state links.new) }
     ensures foreign { Told A.Area → RefusesAsForeign A.Area serving area result.0 }
     ensures later { NeverFalls A.Area F.Shelf serving area result.1 shelf result.2 (L.state links.old)
         (L.state links.new) (C.faults clock.old) (C.faults clock.new) }
@@ -122,8 +130,12 @@ where
     ensures turns { OnOk result.0 ((L.state links.new).turns (address_in serving)
         ≡ (L.state links.old).turns (address_in serving) + serving.turns) }
     ensures keeps { LosesNothing A.Area serving area result.1 (L.state links.old) (L.state links.new) }
+    ensures files { (setup : SetupValue) → AreOf setup by →
+        KeepsShelf A.Area F.Shelf serving setup area result.1 shelf result.2 }
     ensures err { IfErr result.0 (StopsServing A.Area F.Shelf serving area result.1 shelf result.2
         (L.state links.old) (L.state links.new) (C.faults clock.old) (C.faults clock.new)) }
+    ensures shut { result.0 ≡ Err Status.Link →
+        SettlesStill A.Area serving area result.1 (L.state links.old) (L.state links.new) }
     ensures foreign { Told A.Area → RefusesAsForeign A.Area serving area result.0 }
     ensures later { NeverFalls A.Area F.Shelf serving area result.1 shelf result.2 (L.state links.old)
         (L.state links.new) (C.faults clock.old) (C.faults clock.new) }
@@ -237,7 +249,10 @@ fn settle_all<A: Area, F: Shelf>(
     service: Service,
 ) -> (Result<Vec<u8>, Status>, (Book<A>, Writer<F>))
     requires { IsWriterOf (tells_lists A.Area) (value_of book).firm writer }
-    ensures { HasSettledAll A.Area F.Shelf (λ line. line.items) service book result.1.0 writer result.1.1 result.0 }
+    ensures line { HasSettledAll A.Area F.Shelf (λ line. line.items) service book result.1.0 writer result.1.1
+        result.0 }
+    ensures closed { ¬ (Rose (A.faults (area_of book)) (A.faults (area_of result.1.0))) →
+        IsSettled book result.1.0 (moment_of service.last) no_caller }
 {
     let line = settled_line(alloc, &mut book, &mut writer, service);
     (line, (book, writer))
@@ -251,7 +266,10 @@ fn settled_line<A: Area, F: Shelf>(
     service: Service,
 ) -> Result<Vec<u8>, Status>
     requires { IsWriterOf (tells_lists A.Area) (value_of book.old).firm writer.old }
-    ensures { HasSettledAll A.Area F.Shelf (λ line. line.items) service book.old book.new writer.old writer.new result }
+    ensures line { HasSettledAll A.Area F.Shelf (λ line. line.items) service book.old book.new writer.old writer.new
+        result }
+    ensures closed { ¬ (Rose (A.faults (area_of book.old)) (A.faults (area_of book.new))) →
+        IsSettled book.old book.new (moment_of service.last) no_caller }
 {
     let settled = settle(alloc, book, writer, moment_of(service.last), Caller::NONE);
     match service.stop {

@@ -32,13 +32,13 @@ pub enum Status {
     Read,
     /// The sink failed. A front of the report, or of a stream's replies, may have been written.
     Write,
-    /// There was no memory for the job. Nothing was written, of a stream the replies to its first messages.
+    /// There was no memory for the job. Nothing was written, or of a stream that had ended well all replies.
     Memory,
     /// A gateway's journal or its files failed it, as it was opened or as it settled. Nothing was written, of a stream
     /// its replies.
     Store(StoreFault),
-    /// A link failed a gateway or a node, or the clock a gateway that served. Nothing was written, of a stream the replies
-    /// to the messages before.
+    /// A link failed a gateway or a node, or the clock a gateway that served or answered a stream. Nothing was written,
+    /// of a stream the replies to the messages before.
     Link,
     /// All packets of a loop are done, and this is the first, by node and number, that doesn't stand once at its
     /// gateways: so many of its copies stand, and so many may. Nothing was written.

@@ -40,7 +40,8 @@ const MOST_STREAM: u64 = 1_099_511_627_776;
 
 /// Opens a gateway on an area and a shelf, answers the messages of a source, one after the other, and settles: its
 /// settings are the defaults, and each message counts as sent from the node's address. Each reply is written once it is
-/// firm. The gateway settles whatever ended the serving, and its files are sealed then.
+/// firm. The gateway settles whatever ended the serving, and seals its files then, unless its shelf fails or memory
+/// runs out.
 pub fn stream_gateway<S: Source, K: Sink, A: Area, F: Shelf, C: gw_base::Clock>(
     alloc: Global,
     streaming: Streaming,
@@ -174,6 +175,7 @@ fn settled<A: Area, F: Shelf>(
     requires { IsWriterOf (tells_lists A.Area) (value_of connection.book).firm writer }
     ensures { HasSettledStream A.Area F.Shelf connection writer served result.0 result.1 result.2 }
 {
+    filed_records_stay();
     let Connection {
         mut book,
         deframer: _,

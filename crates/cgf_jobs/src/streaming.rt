@@ -23,9 +23,13 @@ pub struct Streaming {
 /// files, and the path of the stream, which `-` names where it is the standard input.
 #[derive(Clone, Copy)]
 pub struct StreamPlaces<'a> {
+    /// From 100 to 268,435,456.
     pub length: u64,
+    /// A file that is made where there is none.
     pub area: &'a str,
+    /// A folder that is there.
     pub folder: &'a str,
+    /// A path, `-`, or `tcp:IP:PORT`.
     pub file: &'a str,
 }
 

@@ -80,6 +80,9 @@ pub struct Ended<A: Area, F: Shelf> {
 ///
 /// A network that ran to its end is handed back, and a loop that did; the area and the shelf always are.
 ///
+/// The area has 100 to 268,435,456 octets. The numbers of the words have the ranges of docs/formats/scripts.md and
+/// docs/OPERATING.md.
+///
 /// An input that the grammar refuses writes nothing. A line of a script that can't be run, since it sets a moment before
 /// the present one, or the world refuses it, ends the job: what was printed for the lines before it is written.
 pub fn run_cgf<
@@ -116,14 +119,15 @@ where
     ensures once { HandsNetwork (map string_bytes words.now) (S.left source.old) result.status result.played }
     // A gateway that served hands back the area of a history that has grown from the one handed in by answers to
     // datagrams that its links received, and the shelf with just its files, stream by stream; each reply that they sent
-    // rests on it. However it ends, neither the history that was handed in nor what was answered is lost.
+    // rests on it. However it ends, neither the history that was handed in nor what was answered is lost, and the shelf
+    // has the first ones of the files of a history that goes on, if it had those of the one before.
     ensures serves { (of : Serving) → serving_of (map string_bytes words.now) ≡ Some of → Serves A.Area F.Shelf of
         (job_of S.Source K.Sink (map string_bytes words.now) source.old source.new sink.old sink.new)
         area result.area shelf result.shelf (L.state links.old) (L.state links.new) (C.faults clock.old)
         (C.faults clock.new) result.status result.played }
     // A gateway that answered a stream has written the replies to its messages, however the source cut it into pieces, and
-    // hands back the area of the history that these left, and the shelf with just its files. However it ends, nothing that
-    // was answered is lost.
+    // at `Done` hands back the area of the history that these left, and the shelf with just its files. However it ends,
+    // nothing that was answered is lost, and of the files it is as with `serves`.
     ensures streams { (of : Streaming) → streaming_of (map string_bytes words.now) ≡ Some of →
         (links.new ≡ links.old) × Streams A.Area F.Shelf of
         (job_of S.Source K.Sink (map string_bytes words.now) source.old source.new sink.old sink.new)
@@ -134,7 +138,7 @@ where
         (job_of S.Source K.Sink (map string_bytes words.now) source.old source.new sink.old sink.new)
         (L.state links.old) (L.state links.new) result.status result.looped result.played
         (looping_of (map string_bytes words.now)) }
-    // Every other job, and one that ends before the gateway is opened, leaves the outside as it is.
+    // Every other job, and a `serve` that ends before its gateway is opened, leaves the outside as it is.
     ensures outside { may_have_used (serving_of (map string_bytes words.now))
         (streaming_of (map string_bytes words.now)) result.status ≡ false →
         looping_of (map string_bytes words.now) ≡ None →
@@ -144,8 +148,8 @@ where
         (job_of S.Source K.Sink (map string_bytes words.now) source.old source.new sink.old sink.new)
         result.status result.played }
     // Words that are none of the forms end as `Words`, and no others do, unless there is no memory to parse them. Nothing
-    // is read of them, nor where the command has no input. Nothing is written but at `Done`, at `Write`, and at a line
-    // that can't be run.
+    // is read of them, nor where the command has no input. But for a stream, nothing is written but at `Done`, at
+    // `Write`, and at a line that can't be run.
     ensures words { is_over_files (map string_bytes words.now) ≡ true →
         WordsDecide (command_of (map string_bytes words.now)) result.status source.old source.new }
     ensures untouched { streaming_of (map string_bytes words.now) ≡ None → may_have_written result.status ≡ false →

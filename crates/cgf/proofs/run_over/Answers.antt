@@ -1,6 +1,7 @@
 use Rattle.std.proofs.Common.{map, string_bytes, subst}
 use Rattle.cgf_top.specs.LoopEnds.{IsLoopEnd}
 use Rattle.cgf_top.specs.Looping.{looping_of}
+use Rattle.cgf_jobs.specs.ServeEnds.{IsGatewayEnd}
 use Rattle.cgf_jobs.specs.Serving.{serving_of}
 use Rattle.cgf_jobs.specs.Streaming.{streaming_of}
 use Rattle.cgf.proofs.Asked.{either, over_files}
@@ -20,8 +21,8 @@ returns-clause-known g c words =
     (streaming_of (map string_bytes c.args.words.now)) (looping_of (map string_bytes c.args.words.now)) none none_streams
     none_loops)
     (λ of is. absurd (subst IsLoopEnd words (c.run_watched-ended.ensures.loops.loops of is).known)))
-    (λ of is. absurd ((c.run_watched-ended.ensures.streams of is).1.known words)))
-    (λ of is. absurd ((c.run_watched-ended.ensures.serves of is).known words))
+    (λ of is. absurd (subst IsGatewayEnd words (c.run_watched-ended.ensures.streams of is).1.known)))
+    (λ of is. absurd (subst IsGatewayEnd words (c.run_watched-ended.ensures.serves of is).known))
 
 pub returns-clause-cause : goal.returns-clause-cause
 returns-clause-cause g c =

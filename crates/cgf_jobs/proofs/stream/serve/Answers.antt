@@ -20,7 +20,7 @@ pieces-init g c = record {
   node = refl;
   source = refl;
   sink = refl;
-  clock = omega arith;
+  clock = refl;
   piece = omega arith;
 }
 
@@ -87,7 +87,7 @@ pieces-preserved g c =
       node = c.take_in.ensures.node ∙ c.pieces.invariant.node;
       source = c.in_ok-count.ensures.unfailed ∙ c.pieces.invariant.source;
       sink = c.in_ok-take_in.ensures.cause.sink_stood (ok_not_err tt status.Write) ∙ c.pieces.invariant.sink;
-      clock = omega (arith, c.pieces.invariant.clock, c.in_ok-take_in.ensures.cause.clock_later);
+      clock = c.in_ok-take_in.ensures.cause.clock_stood (ok_not_err tt status.Link) ∙ c.pieces.invariant.clock;
       piece = omega (arith, c.pieces.invariant.piece, c.take_piece.ensures.length);
     }
 

@@ -1,4 +1,4 @@
-use Rattle.std.proofs.Common.{◌≡◌, ◌-◌, ◌<◌, ◌≤◌, ℕ, List, length}
+use Rattle.std.proofs.Common.{◌≡◌, ◌-◌, ◌<◌, ℕ, List, length}
 use Rattle.std.specs.Io.KnownBytes.{Appends, Consumes}
 use Rattle.cgf_jobs.specs.StreamEnds.{most_stream}
 use Rattle.cgf_jobs.specs.StreamSteps.{IsGoingOn}
@@ -13,7 +13,7 @@ invariant-pieces g l = record {
   node : l.connection.node ≡ l.fn.connection.node;
   source : g.S.Source.faults l.source ≡ g.S.Source.faults l.fn.source;
   sink : g.K.Sink.faults l.sink ≡ g.K.Sink.faults l.fn.sink;
-  clock : g.C.Clock.faults l.fn.clock ≤ g.C.Clock.faults l.clock;
+  clock : g.C.Clock.faults l.clock ≡ g.C.Clock.faults l.fn.clock;
   piece : 0 < length l.piece;
 }
 

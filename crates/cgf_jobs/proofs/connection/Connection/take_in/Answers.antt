@@ -13,7 +13,7 @@ loop-at-init g c = record {
   node = refl;
   goes = begins_going g.A.Area c.args.octets.now c.args.self.now (g.K.Sink.written c.args.sink.now);
   sink = refl;
-  clock = omega arith;
+  clock = refl;
 }
 
 pub loop-at-preserved : goal.loop-at-preserved
@@ -30,7 +30,8 @@ loop-at-preserved g c =
           (g.K.Sink.written c.args.sink.now) (g.K.Sink.written c.loop-at.sink) (g.K.Sink.written c.take_next.new.sink) back one.0 one.2
           (c.in_ok-at.ensures.ok opened (given ++ take c.loop-at.at c.args.octets.now) (sent ++ one.0) one.1);
       sink = c.in_ok-at.ensures.cause.sink_stood (ok_not_err c.in_ok-at.field-0 status.Write) ∙ c.loop-at.invariant.sink;
-      clock = omega (arith, c.loop-at.invariant.clock, c.in_ok-at.ensures.cause.clock_later);
+      clock = c.in_ok-at.ensures.cause.clock_stood (ok_not_err c.in_ok-at.field-0 status.Link) ∙
+          c.loop-at.invariant.clock;
     }
 
 pub returns-in_err-at-clause-err : goal.returns-in_err-at-clause-err

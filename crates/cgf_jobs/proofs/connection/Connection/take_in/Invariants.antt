@@ -15,7 +15,7 @@ invariant-loop-at g l = record {
       → (more : List ℕ) × IsGoingOn g.A.Area opened (given ++ take l.at l.octets) (sent ++ more) l.self
       × Appends (g.K.Sink.written l.fn.sink) (g.K.Sink.written l.sink) more;
   sink : g.K.Sink.faults l.sink ≡ g.K.Sink.faults l.fn.sink;
-  clock : g.C.Clock.faults l.fn.clock ≤ g.C.Clock.faults l.clock;
+  clock : g.C.Clock.faults l.clock ≡ g.C.Clock.faults l.fn.clock;
 }
 
 abbrev pub decreases-loop-at : goal.decreases-loop-at
