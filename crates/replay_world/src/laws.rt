@@ -1,9 +1,5 @@
 //! Laws of replays. Each stands on a function that does nothing.
 
-use replay_gateway::laws::{
-    a_gateway_that_wrote_all_rests, no_file_is_open_where_no_close_is_due,
-    what_a_gateway_at_rest_filed_is_read,
-};
 ghost use Rattle.std.specs.Prelude.{◌≡◌, ◌≤◌, ℕ, List, None, Ok, false, true};
 ghost use Rattle.gateway_book.specs.Items.{items_of};
 ghost use Rattle.std.specs.List.{list_any};
@@ -28,6 +24,10 @@ ghost use Rattle.world_script.specs.declared.extent.Extent.{Extent};
 ghost use Rattle.world_script.specs.declared.kind.ScriptKind.{ScriptKind};
 ghost use Rattle.world_script.specs.declared.line.Line.{Line};
 
+use replay_gateway::laws::{
+    a_gateway_that_wrote_all_rests, no_file_is_open_where_no_close_is_due,
+    what_a_gateway_at_rest_filed_is_read,
+};
 
 /// A line moves the world as its turns do, and lines as theirs, one after the other. Settings stay.
 #[tactic(auto, using(crate::proofs::LineLemmas::line_world, crate::proofs::LineLemmas::line_setup, crate::proofs::LineLemmas::lines_world))]

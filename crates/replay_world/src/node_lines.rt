@@ -28,7 +28,9 @@ use crate::notices::{
 };
 use crate::replay::Replay;
 use gw_base::{NoMemory, Octets};
-use node_core::{Draft, DraftFault, Heeded, Node, Outgoing, SubmitFault, a_node_stands_for_its_log};
+use node_core::{
+    Draft, DraftFault, Heeded, Node, Outgoing, SubmitFault, a_node_stands_for_its_log,
+};
 use once_core::{Message, gateway_address};
 use replay_gateway::Ends;
 use std::alloc::Global;
