@@ -17,11 +17,11 @@ use Rattle.cgf_jobs.specs.FeedReport.{Fed, FeedState, after_line, begun, end_lin
 use Rattle.cgf_jobs.specs.Gateway.{after_close}
 use Rattle.cgf_jobs.specs.NetworkReport.{HandsBack, lines_run}
 use Rattle.cgf_jobs.specs.Run.{may_have_written, run_end, script_end, script_report}
-use Rattle.replay_world.specs.Report.{counts_line, counts_text, file_lines}
-use Rattle.replay_world.specs.Settings.{AreSet}
-use Rattle.replay_world.specs.Setup.{Setup, setup_of}
+use Rattle.replay_gateway.specs.GatewayReport.{counts_line, counts_text, file_lines}
+use Rattle.replay_gateway.specs.Settings.{AreSet}
+use Rattle.replay_gateway.specs.Setup.{Setup, setup_of}
 use Rattle.replay_world.specs.declared.replay.Played.{Played}
-use Rattle.replay_world.specs.declared.settings.Settings.{Settings}
+use Rattle.replay_gateway.specs.declared.settings.Settings.{Settings}
 use Rattle.route_filter.specs.declared.rule.Rule.{Rule}
 use Rattle.cgf_jobs.specs.Steps.{IsFed, IsRefusal, IsReport, ended_by, refusal_at, setup_seen}
 use Rattle.cgf_jobs.specs.declared.command.Command.TheVariants.{Feed}

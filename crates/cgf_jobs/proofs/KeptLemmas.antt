@@ -17,7 +17,7 @@ use Rattle.gw_base.specs.Owes.{Begins}
 use Rattle.gw_base.specs.declared.history.HistoryEntry.{HistoryEntry}
 use Rattle.net_link.specs.Datagrams.{Datagram}
 use Rattle.net_link.specs.Making.{GrowsBy, LinksState}
-use Rattle.replay_world.specs.Setup.{Setup}
+use Rattle.replay_gateway.specs.Setup.{Setup}
 use Rattle.session_run.specs.History.{IsReply}
 use Rattle.cgf_jobs.specs.ServeSteps.{HasServedAt}
 use Rattle.cgf_jobs.specs.Served.{GoesOnIn, HasFirstFiles, HasReplied, LosesNothing, files_at, header_for}

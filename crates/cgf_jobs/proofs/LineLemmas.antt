@@ -24,8 +24,8 @@ use Rattle.node_session.specs.Settling.{Grows, HasSettled, HasTakenAll, IsSettle
 use Rattle.node_session.specs.Writing.{KeepsFiles}
 use Rattle.node_session.specs.declared.settling.SettleFault.{SettleFault}
 use Rattle.node_session.specs.declared.settling.SettleFault.TheVariants as settle
-use Rattle.replay_world.specs.Report.{counts_text}
-use Rattle.replay_world.specs.Tally.{is_part, part_count}
+use Rattle.replay_gateway.specs.GatewayReport.{counts_text}
+use Rattle.replay_gateway.specs.Tally.{is_part, part_count}
 use Rattle.cgf_jobs.specs.ServeSteps.{FailsBy, HasLine, HasNoLine, HasSettledAll}
 use Rattle.cgf_jobs.specs.Served.{moment_of, served_line}
 use Rattle.cgf_jobs.specs.declared.settling.Service.{Service}

@@ -6,7 +6,7 @@ use Rattle.cdr_shelf.specs.Files.{SealedFile}
 use Rattle.cdr_shelf.specs.declared.shelf.Shelf as shelves
 use Rattle.gw_base.specs.declared.history.HistoryEntry.{HistoryEntry}
 use Rattle.net_link.specs.Making.{LinksState}
-use Rattle.replay_world.specs.Setup.{Setup}
+use Rattle.replay_gateway.specs.Setup.{Setup}
 use Rattle.cgf_jobs.specs.ServeSteps.{NeverFalls, StopsServing}
 use Rattle.cgf_jobs.specs.Served.{HasFirstFiles, HasServed, files_at, served_line}
 use Rattle.cgf_jobs.specs.Shelved.{KeepsShelf}

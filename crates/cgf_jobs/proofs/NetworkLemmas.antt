@@ -6,7 +6,7 @@ use Rattle.replay_world.specs.Does.{LineRan}
 use Rattle.replay_world.specs.Lines.{line_after, refusal_of_line}
 use Rattle.replay_world.specs.Report.{Refusal as WorldRefusal, line_text, lines_after, printed_by, printed_unless, refusal_of_lines, refused_from, refused_or, replayed, report_of_lines}
 use Rattle.replay_world.specs.Settled.{AreRead, AreWritten, HasPlayedOut, StandInFiles}
-use Rattle.replay_world.specs.Setup.{files_in, setup_of}
+use Rattle.replay_gateway.specs.Setup.{files_in, setup_of}
 use Rattle.replay_world.specs.Stands.{Stands}
 use Rattle.replay_world.specs.Value.{ReplayValue, replay_of}
 use Rattle.replay_world.specs.declared.replay.Played.{Played}

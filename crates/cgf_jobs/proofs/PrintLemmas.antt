@@ -10,7 +10,7 @@ use Rattle.file_writer.specs.Files.{files_below, stream_files}
 use Rattle.file_writer.specs.Streams.{Settings}
 use Rattle.gw_base.specs.declared.item.Item.{Item}
 use Rattle.cgf_jobs.specs.FeedReport.{lines_size}
-use Rattle.replay_world.specs.Report.{digits, file_line}
+use Rattle.replay_gateway.specs.GatewayReport.{digits, file_line}
 use Rattle.cgf_jobs.proofs.PlaceLemmas.{none_at, rest_at}
 
 -- the last digit stands behind the others

@@ -1,6 +1,6 @@
 -- What is printed for the lines of a script, step by step.
 use Rattle.std.proofs.Common.{◌≡◌, ℕ, ◌+◌, true, false, List, ◌∷◌, ◌++◌, Some, ap, sym, append_assoc, append-nil}
-use Rattle.replay_world.specs.Setup.{Setup}
+use Rattle.replay_gateway.specs.Setup.{Setup}
 use Rattle.world_script.specs.declared.line.Line.{Line}
 use Rattle.cgf_jobs.specs.FeedReport.{Fed, FeedState, after_line, fed_from, is_earlier, printed_for, with_print}
 

@@ -29,8 +29,8 @@ use Rattle.gw_base.specs.declared.item.Item.{Item}
 use Rattle.net_link.specs.Making.{LinksState}
 use Rattle.node_session.specs.Settling.{IsSettled}
 use Rattle.node_session.specs.Writing as writing
-use Rattle.replay_world.specs.Settled.{AreShut}
-use Rattle.replay_world.specs.Setup.{Setup}
+use Rattle.replay_gateway.specs.AtRest.{AreShut}
+use Rattle.replay_gateway.specs.Setup.{Setup}
 use Rattle.session_run.specs.History.{GoesOnUntil}
 use Rattle.cgf_jobs.specs.ServeSteps.{AreOf, HasLine, HasServedAt}
 use Rattle.cgf_jobs.specs.Served.{HasAllFiles, HasFirstFiles, HasGrown, HasReplied, HasServed, LeavesClosed, files_at, header_for, moment_of}

@@ -25,8 +25,8 @@ use Rattle.gw_base.specs.Owes.{Begins}
 use Rattle.gw_base.specs.declared.history.HistoryEntry.{HistoryEntry}
 use Rattle.net_link.specs.Making.{LinksState}
 use Rattle.node_session.specs.Settling.{IsSettled}
-use Rattle.replay_world.specs.Settled.{AreShut}
-use Rattle.replay_world.specs.Setup.{Setup}
+use Rattle.replay_gateway.specs.AtRest.{AreShut}
+use Rattle.replay_gateway.specs.Setup.{Setup}
 use Rattle.cgf_jobs.specs.ServeSteps.{HasLine, HasNoLine, HasServedAt, HasSettledAll, NeverFalls, RefusesAsForeign, StopsServing, status_by}
 use Rattle.cgf_jobs.specs.Served.{GoesOnIn, HasFirstFiles, HasServed, HoldsHistory, LeavesClosed, LosesNothing, SettlesStill, files_at, header_for, moment_of, served_line}
 use Rattle.cgf_jobs.specs.Shelved.{IsFiledIn, KeepsShelf}

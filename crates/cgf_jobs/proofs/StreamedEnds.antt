@@ -23,11 +23,11 @@ use Rattle.gtpp_stream.specs.declared.frame.FrameKind.{FrameKind}
 use Rattle.gw_base.specs.Faults.{Rose}
 use Rattle.gw_base.specs.History.{is_close_due}
 use Rattle.gw_base.specs.declared.history.HistoryEntry.{HistoryEntry}
-use Rattle.replay_world.specs.Settings.{AreSet}
-use Rattle.replay_world.specs.Settled.{AreShut}
-use Rattle.replay_world.specs.Setup.{default_setup}
+use Rattle.replay_gateway.specs.Settings.{AreSet}
+use Rattle.replay_gateway.specs.AtRest.{AreShut}
+use Rattle.replay_gateway.specs.Setup.{default_setup}
 use Rattle.replay_world.specs.declared.replay.Played.{Played}
-use Rattle.replay_world.specs.declared.settings.Settings.{Settings as ReplaySettings}
+use Rattle.replay_gateway.specs.declared.settings.Settings.{Settings as ReplaySettings}
 use Rattle.route_filter.specs.declared.rule.Rule.{Rule}
 use Rattle.cgf_jobs.specs.Job.{Job}
 use Rattle.cgf_jobs.specs.Kinds.{of_frame}

@@ -32,7 +32,7 @@ use Rattle.gw_base.specs.declared.history.HistoryAct.{HistoryAct}
 use Rattle.gw_base.specs.declared.history.HistoryEntry.{HistoryEntry}
 use Rattle.node_session.specs.Settling.{Grows, HasTakenAll, IsSettled, closed_behind}
 use Rattle.node_session.specs.Writing as writing
-use Rattle.replay_world.specs.Settled.{AreShut}
+use Rattle.replay_gateway.specs.AtRest.{AreShut}
 use Rattle.cgf_jobs.specs.Job.{Job}
 use Rattle.cgf_jobs.specs.Replies.{Tried, after_all, after_message, sent_for, sent_for_all}
 use Rattle.cgf_jobs.specs.Served.{HasAllFiles, HasFirstFiles}

@@ -9,8 +9,8 @@ use Rattle.gateway_book.specs.Value.{standing_for}
 use Rattle.gtpp_message.specs.Names.{name_of}
 use Rattle.gtpp_message.specs.declared.reading.Why.{Why}
 use Rattle.gw_base.specs.declared.history.HistoryEntry.{HistoryEntry}
-use Rattle.replay_world.specs.Report.{gateway_report}
-use Rattle.replay_world.specs.Setup.{Setup, setup_of}
+use Rattle.replay_gateway.specs.GatewayReport.{gateway_report}
+use Rattle.replay_gateway.specs.Setup.{Setup, setup_of}
 use Rattle.world_script.specs.declared.line.Line.{Line}
 use Rattle.world_script.specs.declared.line.Line.TheVariants as line
 use Rattle.cgf_jobs.specs.Gateway.{GatewayValue, after_close, after_datagram, after_tick, answered, new_gateway}

@@ -4,7 +4,7 @@ use Rattle.once_core.specs.StandsOnce.{StandsOnce}
 use Rattle.replay_world.specs.Report.{refusal_of_lines, replayed, report_of, report_of_lines}
 use Rattle.replay_world.specs.Report.{Refusal as WorldRefusal}
 use Rattle.replay_world.specs.Settled.{AreRead, AreWritten, HasPlayedOut, StandInFiles}
-use Rattle.replay_world.specs.Setup.{files_in, setup_of}
+use Rattle.replay_gateway.specs.Setup.{files_in, setup_of}
 use Rattle.replay_world.specs.Summary.{summary_of, summary_text}
 use Rattle.replay_world.specs.declared.replay.Played.{Played}
 use Rattle.world_script.specs.Printing.{printed}

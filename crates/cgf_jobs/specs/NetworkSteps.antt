@@ -3,7 +3,7 @@ use Rattle.std.specs.Prelude.{ℕ, suc, ◌≡◌, ◌≤◌, ◌++◌, List, dr
 use Rattle.replay_world.specs.Report.{Refusal as WorldRefusal, replayed}
 use Rattle.replay_world.specs.Report.{lines_after, printed_by, refusal_of_lines, refused_from, report_of_lines}
 use Rattle.replay_world.specs.Settled.{AreWritten, HasPlayedOut}
-use Rattle.replay_world.specs.Setup.{setup_of}
+use Rattle.replay_gateway.specs.Setup.{setup_of}
 use Rattle.replay_world.specs.Stands.{Stands}
 use Rattle.replay_world.specs.Summary.{summary_of, summary_text}
 use Rattle.replay_world.specs.Value.{ReplayValue}

@@ -20,8 +20,8 @@ use Rattle.gw_base.specs.Written.{AppendsFront}
 use Rattle.net_link.specs.Making.{Keeps, LinksState}
 use Rattle.node_session.specs.Settling.{Grows, HasTakenAll, IsSettled}
 use Rattle.node_session.specs.Writing.{KeepsFiles}
-use Rattle.replay_world.specs.Settings.{AreSet, AreSound}
-use Rattle.replay_world.specs.Setup.{Setup, setup_of}
+use Rattle.replay_gateway.specs.Settings.{AreSet, AreSound}
+use Rattle.replay_gateway.specs.Setup.{Setup, setup_of}
 use Rattle.session_run.specs.Filing.{KeepsWriter}
 use Rattle.session_run.specs.History.{GoesOnUntil}
 use Rattle.session_run.specs.Running.{StaysAs}

@@ -21,9 +21,9 @@ use Rattle.gw_base.specs.declared.history.HistoryEntry.{HistoryEntry}
 use Rattle.net_link.specs.Datagrams.{Datagram}
 use Rattle.net_link.specs.Making.{GrowsBy, LinksState}
 use Rattle.node_session.specs.Writing.{none_closed, none_stood}
-use Rattle.replay_world.specs.Report.{counts_line}
-use Rattle.replay_world.specs.Settled.{AreShut}
-use Rattle.replay_world.specs.Setup.{Setup}
+use Rattle.replay_gateway.specs.GatewayReport.{counts_line}
+use Rattle.replay_gateway.specs.AtRest.{AreShut}
+use Rattle.replay_gateway.specs.Setup.{Setup}
 use Rattle.session_run.specs.History.{AnswerInTurn, IsReply, ReplyInTurn}
 use Rattle.session_run.specs.Latest.{Jobs, latest_of}
 use Rattle.turn_cell.specs.Placed.{placed}

@@ -6,7 +6,7 @@ use Rattle.gate_journal.specs.Moments.{Told}
 use Rattle.gateway_book.specs.Opened.{StandsOrStarts}
 use Rattle.gw_base.specs.Owes.{Begins}
 use Rattle.gw_base.specs.declared.history.HistoryEntry.{HistoryEntry}
-use Rattle.replay_world.specs.Setup.{Setup}
+use Rattle.replay_gateway.specs.Setup.{Setup}
 use Rattle.cgf_jobs.specs.Served.{HasFirstFiles, HoldsHistory, files_at, header_for}
 use Rattle.cgf_jobs.specs.declared.serving.Serving.{Serving}
 

@@ -4,8 +4,8 @@ use Rattle.std.specs.Io.KnownBytes.{Consumes, IsAtEnd}
 use Rattle.gateway_book.specs.declared.outcome.Outcome.{Outcome}
 use Rattle.gateway_book.specs.declared.outcome.Outcome.TheVariants as outcome
 use Rattle.once_core.specs.declared.event.WorldKind.TheVariants.{Earlier}
-use Rattle.replay_world.specs.Setup.{Setup}
-use Rattle.replay_world.specs.declared.settings.Settings.{Settings}
+use Rattle.replay_gateway.specs.Setup.{Setup}
+use Rattle.replay_gateway.specs.declared.settings.Settings.{Settings}
 use Rattle.route_filter.specs.declared.rule.Rule.{Rule}
 use Rattle.cgf_jobs.specs.FeedReport.{Fed, FeedState, drop_line, octets_line}
 use Rattle.cgf_jobs.specs.NetworkReport.{HandsBack, lines_run}

@@ -18,8 +18,8 @@ use Rattle.gw_base.specs.Owes.{Begins}
 use Rattle.gw_base.specs.Written.{AppendsFront}
 use Rattle.gw_base.specs.declared.history.HistoryEntry.{HistoryEntry}
 use Rattle.node_session.specs.Settling.{closed_behind}
-use Rattle.replay_world.specs.Settled.{AreShut}
-use Rattle.replay_world.specs.Setup.{default_setup}
+use Rattle.replay_gateway.specs.AtRest.{AreShut}
+use Rattle.replay_gateway.specs.Setup.{default_setup}
 use Rattle.replay_world.specs.declared.replay.Played.{Played}
 use Rattle.file_writer.specs.Streams.{Settings}
 use Rattle.cgf_jobs.specs.Ending.{HasCause}

@@ -7,8 +7,8 @@ ghost use Rattle.file_writer.specs.Streams.{stream_count};
 ghost use Rattle.file_writer.specs.Writer.{IsAt, is_broken, settings_in, taken_of};
 ghost use Rattle.gateway_book.specs.Filed.{filed};
 ghost use Rattle.gateway_book.specs.Items.{items_of};
-ghost use Rattle.replay_world.specs.Settings.{AreSound};
-ghost use Rattle.replay_world.specs.Setup.{files_in};
+ghost use Rattle.replay_gateway.specs.Settings.{AreSound};
+ghost use Rattle.replay_gateway.specs.Setup.{files_in};
 ghost use Rattle.cgf_jobs.specs.Steps.{setup_seen};
 
 use crate::gateway::{GATEWAY, Gateway};
@@ -16,8 +16,8 @@ use cdr_shelf::{QuietShelf, Shelf};
 use file_writer::laws::parts_go_as_one;
 use file_writer::{ShelfFault, Writer};
 use gw_base::NoMemory;
-use replay_world::laws::a_history_filed_its_parts;
-use replay_world::{Settings, record_count};
+use replay_gateway::laws::a_history_filed_its_parts;
+use replay_gateway::{Settings, record_count};
 use route_filter::Rules;
 use std::alloc::Global;
 

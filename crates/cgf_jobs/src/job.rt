@@ -18,8 +18,8 @@ use crate::status::Status;
 use crate::watch::Watch;
 use crate::{feed, network, show};
 use gw_base::{NoMemory, Sink, Source};
+use replay_gateway::laws::a_script_is_short;
 use replay_world::Played;
-use replay_world::laws::a_script_is_short;
 use std::alloc::Global;
 use world_script::{InputFault, Script};
 

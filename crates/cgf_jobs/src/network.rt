@@ -18,9 +18,10 @@ use crate::report::{NoReport, Refusal, Report};
 use crate::watch::Watch;
 use gw_base::{NoMemory, Octets};
 use once_core::WorldKind;
+use replay_gateway::laws::a_script_is_short;
 use replay_world::laws::{
-    a_replay_files_each_record_once, a_script_is_short, a_settling_writes_all_files,
-    no_line_of_a_sample_is_refused, what_is_handed_out_is_read,
+    a_replay_files_each_record_once, a_settling_writes_all_files, no_line_of_a_sample_is_refused,
+    what_is_handed_out_is_read,
 };
 use replay_world::{LineEnd, Replay, print_summary};
 use std::alloc::Global;

@@ -2,7 +2,7 @@
 ghost use Rattle.std.specs.Prelude.{◌≡◌, ◌+◌, ◌-◌, ◌*◌, ◌^◌, ◌≤◌, ◌++◌, ◌∷◌, [], OnOk, length, min, vec_capacity};
 ghost use Rattle.std.specs.List.{flat_map};
 ghost use Rattle.cdr_shelf.specs.Files.{file_of, in_stream};
-ghost use Rattle.replay_world.specs.Report.{counts_text, digits, file_line, file_name};
+ghost use Rattle.replay_gateway.specs.GatewayReport.{counts_text, digits, file_line, file_name};
 ghost use Rattle.cgf_jobs.specs.FeedReport.{lines_size, octets_line};
 ghost use Rattle.cgf_jobs.specs.Steps.{outcome_line};
 

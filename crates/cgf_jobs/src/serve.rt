@@ -2,7 +2,7 @@
 ghost use Rattle.std.specs.Prelude.{◌≡◌, ◌+◌, ◌≤◌, ◌<◌, ◌^◌, ℕ, List, IfErr, IfOk, None, false};
 ghost use Rattle.gate_journal.specs.Format.{fewest_octets, most_octets};
 ghost use Rattle.gw_base.specs.declared.address.Addr.{Addr};
-ghost use Rattle.replay_world.specs.Setup.{setup_of};
+ghost use Rattle.replay_gateway.specs.Setup.{setup_of};
 ghost use Rattle.world_script.specs.Script.{most_text};
 ghost use Rattle.cgf_jobs.specs.Run.{IsRead, TakesUpTo, may_have_written};
 ghost use Rattle.cgf_jobs.specs.Job.{job_of};
@@ -22,7 +22,7 @@ use cdr_shelf::Shelf;
 use gateway_book::laws::what_stands_is_ours;
 use gw_base::{NoMemory, Sink, Source};
 use net_link::Links;
-use replay_world::{Settings, rules_of};
+use replay_gateway::{Settings, rules_of};
 use route_filter::Rules;
 use std::alloc::Global;
 use std::sync::Wait;

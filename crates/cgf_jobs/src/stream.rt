@@ -27,8 +27,8 @@ use gateway_book::{Book, Setup};
 use gtpp_stream::Deframer;
 use gw_base::{Caller, Sink, Source};
 use node_session::{SettleFault, settle};
-use replay_world::Settings;
-use replay_world::laws::no_file_is_open_where_no_close_is_due;
+use replay_gateway::Settings;
+use replay_gateway::laws::no_file_is_open_where_no_close_is_due;
 use route_filter::Rules;
 use std::alloc::Global;
 

@@ -18,7 +18,8 @@ use Rattle.loop_run.specs.declared.setup.LoopSetup.{LoopSetup}
 use Rattle.net_link.specs.Making.{LinksState}
 use Rattle.node_core.specs.Counting.{counts_of}
 use Rattle.node_core.specs.Value.{NodeValue}
-use Rattle.replay_world.specs.Report.{counts_line, node_text}
+use Rattle.replay_gateway.specs.GatewayReport.{counts_line}
+use Rattle.replay_world.specs.Report.{node_text}
 use Rattle.cgf_jobs.specs.Ending.{HasCause}
 use Rattle.cgf_jobs.specs.Job.{Job}
 use Rattle.cgf_top.specs.LoopEnds.{IsCalmEnd, IsFine, IsLoopEnd, Loops, loop_report}

@@ -13,7 +13,8 @@ use Rattle.loop_run.specs.declared.end.NodeSum.{NodeSum}
 use Rattle.loop_run.specs.declared.looped.Looped.{Looped}
 use Rattle.loop_run.specs.declared.setup.LoopSetup.{LoopSetup}
 use Rattle.net_link.specs.Making.{LinksState}
-use Rattle.replay_world.specs.Report.{counts_text, node_text}
+use Rattle.replay_gateway.specs.GatewayReport.{counts_text}
+use Rattle.replay_world.specs.Report.{node_text}
 use Rattle.cgf_top.specs.LoopEnds.{IsFine, loop_report}
 use Rattle.cgf_jobs.specs.declared.status.Status.{Status}
 use Rattle.cgf_jobs.specs.declared.status.Status.TheVariants as status

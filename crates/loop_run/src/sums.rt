@@ -9,8 +9,8 @@ use area_disk::QuietArea;
 use gateway_book::{Book, Counts, ItemsFault};
 use gw_base::NoMemory;
 use node_core::{Node, NodeCounts};
-use replay_world::count_records;
-use replay_world::laws::a_history_filed_its_parts;
+use replay_gateway::count_records;
+use replay_gateway::laws::a_history_filed_its_parts;
 use std::alloc::Global;
 
 /// What each node counts.

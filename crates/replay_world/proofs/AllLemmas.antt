@@ -7,11 +7,14 @@ use Rattle.node_core.specs.Counting.{counts_of}
 use Rattle.node_core.specs.Log.{LogEntry}
 use Rattle.once_core.specs.Gateway.{Gateway}
 use Rattle.once_core.specs.World.{node_value}
-use Rattle.replay_world.specs.Report.{gateway_lines, gateway_text, node_line, node_text, report_of, site_lines}
-use Rattle.replay_world.specs.Stands.{EachStands, MachineStands, Stands}
+use Rattle.replay_world.specs.Report.{gateway_lines, node_line, node_text, report_of, site_lines}
+use Rattle.replay_gateway.specs.GatewayReport.{gateway_text}
+use Rattle.replay_world.specs.Stands.{EachStands, Stands}
+use Rattle.replay_gateway.specs.Standing.{MachineStands}
 use Rattle.replay_world.specs.Steps.{site_with}
-use Rattle.replay_world.specs.Value.{Machine, ReplayValue}
-use Rattle.replay_world.specs.declared.machine.Machine as real
+use Rattle.replay_gateway.specs.Machine.{Machine}
+use Rattle.replay_world.specs.Value.{ReplayValue}
+use Rattle.replay_gateway.specs.declared.machine.Machine as real
 use Rattle.replay_world.specs.declared.replay.Replay.{Replay}
 use Rattle.replay_world.proofs.NodeHearLemmas.{set_same}
 use Rattle.replay_world.proofs.StandsLemmas.{each_set}

@@ -14,20 +14,23 @@ use Rattle.once_core.specs.declared.event.Event.TheVariants as event
 use Rattle.once_core.specs.declared.event.WorldKind.{WorldKind}
 use Rattle.once_core.specs.declared.event.WorldKind.TheVariants.{NoGateway, NoMessage, Stopped}
 use Rattle.once_core.specs.declared.message.Message.{Message}
-use Rattle.replay_world.specs.Taking.{IsDelivered}
-use Rattle.replay_world.specs.Device.{asked_by_message, asked_of, is_stop, place_asked, receiving_gateway, sequel_on}
+use Rattle.replay_gateway.specs.Taking.{IsDelivered, ending_at}
+use Rattle.replay_gateway.specs.Device.{asked_by_message, is_stop, sequel_on}
+use Rattle.replay_world.specs.Events.{asked_of, place_asked, receiving_gateway}
 use Rattle.replay_world.specs.Does.{DoesOrEnds}
-use Rattle.replay_world.specs.Moves.{GoesAsArmed, ending_notices}
+use Rattle.replay_gateway.specs.Moves.{GoesAsArmed}
+use Rattle.replay_world.specs.Telling.{delivery_notices, ending_notices, hearing_notices, message_notices, notices_last}
 use Rattle.replay_world.specs.Notices.{Notice, notice_lines}
 use Rattle.replay_world.specs.Sending.{HasSent, IsTo, came_notices, goes_on_after, passed}
-use Rattle.replay_world.specs.Setup.{rules_in}
+use Rattle.replay_gateway.specs.Setup.{rules_in}
 use Rattle.replay_world.specs.Stands.{Stands}
 use Rattle.replay_world.specs.Steps.{Site, Plays, machines_at, sequel_at, site_in, site_of, site_with, turn_at, world_after}
-use Rattle.replay_world.specs.Telling.{delivery_notices, gateway_notices, hearing_notices, message_notices, notices_last}
-use Rattle.replay_world.specs.Value.{Machine, ReplayValue}
-use Rattle.replay_world.specs.declared.machine.Machine as real
+use Rattle.replay_gateway.specs.Machine.{Machine}
+use Rattle.replay_world.specs.Value.{ReplayValue}
+use Rattle.replay_gateway.specs.declared.machine.Machine as real
 use Rattle.replay_world.specs.declared.replay.Replay.{Replay}
-use Rattle.replay_world.specs.declared.taking.Delivery.{Delivery}
+use Rattle.replay_gateway.specs.declared.taking.Delivery.{Delivery}
+use Rattle.replay_gateway.specs.declared.taking.Ending.{Ending}
 use Rattle.replay_world.proofs.GatewayEventLemmas.{does_event, moves_at}
 use Rattle.replay_world.proofs.NodeHearLemmas.{does_nothing}
 use Rattle.replay_world.proofs.StepLemmas.{IsAt, site_is}
@@ -112,12 +115,14 @@ module _ (v : ReplayValue) (number place : ℕ) (to : IsTo v number true place) 
     }
 
     last_here : notices_last v e
-        ≡ gateway_notices (rules_in v.setup) g machine.at_last number m (sequel_on machine (asked_by_message g m))
+        ≡ ending_notices number
+        (ending_at (rules_in v.setup) g machine.at_last m (sequel_on machine (asked_by_message g m)))
     last_here =
         last_is
         ∙ ap (λ (o : Option Site). option_map_or (delivery_notices v number m) o [])
         (site_is v e at g machine (λ f. delivered (rules_in v.setup) v.world.now f m) here)
-        ∙ ap (λ (a : Asked). gateway_notices (rules_in v.setup) g machine.at_last number m (sequel_on machine a)) (asked_is g)
+        ∙ ap (λ (a : Asked). ending_notices number (ending_at (rules_in v.setup) g machine.at_last m (sequel_on machine a)))
+        (asked_is g)
 
     pub arrived : (before after told : List ℕ) (delivery : Delivery) (r : real.Machine) (old mid new : Replay) (on : Bool) →
         Stands (passed number v) old →
@@ -135,7 +140,8 @@ module _ (v : ReplayValue) (number place : ℕ) (to : IsTo v number true place) 
         does_event v e at g machine move here refl before after delivery.sent r old mid new stands
         (moves_at v e at place g machine move here refl before after delivery.sent r old mid new stands (sym back) goes rest
         gateways sends) on told on_is
-        (told_is ∙ ap (λ (ns : List Notice). after ++ notice_lines ns) (done.told number ∙ sym last_here))
+        (told_is ∙ ap (λ (ns : List Notice). after ++ notice_lines ns)
+        (ap (λ (told : Ending). ending_notices number told) done.told ∙ sym last_here))
 
   -- Of one that isn't there nothing comes.
 

@@ -1,57 +1,23 @@
--- What a line asks of a gateway's book, call by call.
-use Rattle.std.proofs.Common.{◌≡◌, refl, ℕ, ◌-◌, true, false, All, [], Some, None}
+-- What a line asks of a gateway's book, as an event, call by call.
+use Rattle.std.proofs.Common.{◌≡◌, refl, ℕ, ◌-◌, false, [], Some, None}
 use Rattle.std.specs.Option.{option_map_or}
-use Rattle.gateway_book.specs.Answered.{no_caller}
-use Rattle.gateway_book.specs.Marks.{close_mark, tick_mark}
-use Rattle.gateway_book.specs.Up.{fortune_by}
-use Rattle.gateway_book.specs.Value.{Fortune, history_of, readied}
+use Rattle.gateway_book.specs.Value.{Fortune}
 use Rattle.once_core.specs.Answers.{making_close, making_tick}
-use Rattle.once_core.specs.Gateway.{Gateway, is_reached, with_book}
+use Rattle.once_core.specs.Gateway.{Gateway}
 use Rattle.once_core.specs.Turn.{at_gateway, no_running_gateway, refusal_of, turn_by}
-use Rattle.replay_world.specs.Asking.{asked_by, asked_move, asked_value, event_asked}
-use Rattle.replay_world.specs.Device.{asked_of, is_stop, place_asked, sequel_on}
-use Rattle.replay_world.specs.Moves.{GoesAsArmed}
-use Rattle.replay_world.specs.Setup.{Setup, rules_in}
+use Rattle.replay_gateway.specs.Asking.{asked_by, asked_move}
+use Rattle.replay_world.specs.Events.{asked_of, event_asked, place_asked}
+use Rattle.replay_gateway.specs.Machine.{Machine}
+use Rattle.replay_gateway.specs.Moves.{GoesAsArmed}
+use Rattle.replay_gateway.specs.Setup.{rules_in}
 use Rattle.replay_world.specs.Steps.{machines_at, machines_in, site_of, waiting_in}
 use Rattle.replay_world.specs.Telling.{notices_last}
-use Rattle.replay_world.specs.Value.{Machine, ReplayValue}
-use Rattle.replay_world.specs.declared.calls.GatewayCall.{GatewayCall}
-use Rattle.replay_world.specs.declared.calls.GatewayCall.TheVariants as call
-use Rattle.replay_world.specs.declared.machine.Machine as real
-use Rattle.replay_world.specs.declared.machine.Sent.{Sent}
-use Rattle.replay_world.proofs.BookLemmas.{Grows, Keeps, commit_grows, commit_keeps, mark_grows, mark_keeps}
+use Rattle.replay_world.specs.Value.{ReplayValue}
+use Rattle.replay_gateway.specs.declared.calls.GatewayCall.{GatewayCall}
+use Rattle.replay_gateway.specs.declared.calls.GatewayCall.TheVariants as call
+use Rattle.replay_gateway.specs.declared.machine.Machine as real
+use Rattle.replay_gateway.specs.declared.machine.Sent.{Sent}
 use Rattle.replay_world.proofs.GatewayEventLemmas.{at_now}
-use Rattle.replay_world.proofs.GoesLemmas.{close_is, committing_is, tick_is}
-
--- At a gateway.
-
-module _ (setup : Setup) (now : ℕ) (g : Gateway) (m : Machine) where
-  -- the firm entries stay
-  pub asked_grows : (asks : GatewayCall) (f : Fortune) → Grows g.book (asked_value setup now asks f g.book)
-  asked_grows call.Commit f = commit_grows f g.book
-  asked_grows call.Mark f = mark_grows f g.book now no_caller
-      (tick_mark setup.limits.open_time now (history_of (readied f g.book)) setup.size)
-  asked_grows call.Close f = mark_grows f g.book now no_caller (close_mark (history_of (readied f g.book)))
-
-  -- where it is stopped all stay
-  pub asked_keeps : (asks : GatewayCall) → is_stop (sequel_on m (asked_by asks g.book)) ≡ true →
-      Keeps g.book (asked_value setup now asks (fortune_by m.at_last (sequel_on m (asked_by asks g.book))) g.book)
-  asked_keeps call.Commit is = commit_keeps m.at_last (sequel_on m (asked_by call.Commit g.book)) g.book is
-  asked_keeps call.Mark is = mark_keeps m.armed m.at_last g.book now no_caller
-      (tick_mark setup.limits.open_time now (history_of (readied (fortune_by m.at_last (sequel_on m (asked_by call.Mark
-      g.book))) g.book)) setup.size) is
-  asked_keeps call.Close is = mark_keeps m.armed m.at_last g.book now no_caller
-      (close_mark (history_of (readied (fortune_by m.at_last (sequel_on m (asked_by call.Close g.book))) g.book))) is
-
-  -- and what it did is what its book became
-  pub asked_is : (asks : GatewayCall) → All (λ w. is_reached g.book w ≡ false) g.waiting →
-      (let f = fortune_by m.at_last (sequel_on m (asked_by asks g.book)) in
-      asked_move setup now asks f g ≡ with_book (asked_value setup now asks f g.book) g)
-  asked_is call.Commit none = committing_is g m.armed m.at_last
-  asked_is call.Mark none = tick_is setup (fortune_by m.at_last (sequel_on m (asked_by call.Mark g.book))) g now none
-  asked_is call.Close none = close_is setup (fortune_by m.at_last (sequel_on m (asked_by call.Close g.book))) g now none
-
--- As an event.
 
 module _ (v : ReplayValue) (number : ℕ) where
   pub asked_place : (asks : GatewayCall) → place_asked v.world (event_asked asks number) ≡ Some (number - 1)

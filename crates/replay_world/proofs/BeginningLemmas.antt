@@ -6,10 +6,12 @@ use Rattle.once_core.specs.Beginning.{IsReached, first_gateway, times_of}
 use Rattle.once_core.specs.Expired.{starts_in}
 use Rattle.once_core.specs.Gateway.{Gateway}
 use Rattle.once_core.specs.World.{node_value}
-use Rattle.replay_world.specs.Setup.{Setup, rules_in}
-use Rattle.replay_world.specs.Stands.{CountsStarts, EachStands, MachineStands, Stands, nodes_from}
-use Rattle.replay_world.specs.Value.{Machine, begun, first_machine}
-use Rattle.replay_world.specs.declared.machine.Machine as real
+use Rattle.replay_gateway.specs.Setup.{Setup, rules_in}
+use Rattle.replay_world.specs.Stands.{CountsStarts, EachStands, Stands, nodes_from}
+use Rattle.replay_gateway.specs.Standing.{MachineStands}
+use Rattle.replay_gateway.specs.Machine.{Machine, first_machine}
+use Rattle.replay_world.specs.Value.{begun}
+use Rattle.replay_gateway.specs.declared.machine.Machine as real
 use Rattle.replay_world.specs.declared.replay.Replay.{Replay}
 use Rattle.replay_world.proofs.StandsLemmas.{each_lengths}
 

@@ -17,11 +17,13 @@ use Rattle.once_core.specs.Turn.{is_down_in, no_running_gateway, refusing}
 use Rattle.once_core.specs.World.{World}
 use Rattle.once_core.specs.declared.event.Event.{Event}
 use Rattle.once_core.specs.declared.event.WorldKind.TheVariants.{NoGateway, Stopped}
-use Rattle.replay_world.specs.Device.{asked_of, is_stop, machine_after, machine_with, sequel_on}
-use Rattle.replay_world.specs.Moves.{moved_by}
+use Rattle.replay_world.specs.Events.{asked_of}
+use Rattle.replay_gateway.specs.Device.{is_stop, machine_after, machine_with, sequel_on}
+use Rattle.replay_gateway.specs.Moves.{moved_by}
 use Rattle.replay_world.specs.Settling.{AreUnarmed, IsIdle, Stays}
 use Rattle.replay_world.specs.Steps.{Site, Step, Plays, after_step, ends_line, machines_at, machines_in, sequel_at, site_of}
-use Rattle.replay_world.specs.Value.{Machine, ReplayValue}
+use Rattle.replay_gateway.specs.Machine.{Machine}
+use Rattle.replay_world.specs.Value.{ReplayValue}
 use Rattle.once_core.specs.declared.message.Message.{Message}
 use Rattle.replay_world.proofs.MovedLemmas.{machines_are, moved}
 use Rattle.replay_world.proofs.SetLemmas.{Sets}

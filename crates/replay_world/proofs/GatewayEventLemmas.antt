@@ -11,18 +11,20 @@ use Rattle.once_core.specs.World.{World}
 use Rattle.once_core.specs.declared.event.Event.{Event}
 use Rattle.once_core.specs.declared.event.WorldKind.TheVariants.{NoGateway, Stopped}
 use Rattle.once_core.specs.declared.message.Message.{Message}
-use Rattle.replay_world.specs.Device.{asked_of, place_asked}
+use Rattle.replay_world.specs.Events.{asked_of, place_asked}
 use Rattle.replay_world.specs.Does.{DoesOrEnds}
-use Rattle.replay_world.specs.Moves.{GoesAsArmed}
+use Rattle.replay_gateway.specs.Moves.{GoesAsArmed}
 use Rattle.replay_world.specs.Notices.{Notice, notice_lines}
 use Rattle.replay_world.specs.Sending.{HasSent, came_notices, goes_on_after, numbered_from}
-use Rattle.replay_world.specs.Setup.{Setup, rules_in}
-use Rattle.replay_world.specs.Stands.{MachineStands, Stands}
+use Rattle.replay_gateway.specs.Setup.{Setup, rules_in}
+use Rattle.replay_gateway.specs.Standing.{MachineStands}
+use Rattle.replay_world.specs.Stands.{Stands}
 use Rattle.replay_world.specs.Steps.{Plays, machines_at, machines_in, sent_by, site_of, waiting_in}
 use Rattle.replay_world.specs.Telling.{notices_last}
-use Rattle.replay_world.specs.Value.{Machine, ReplayValue}
-use Rattle.replay_world.specs.declared.machine.Machine as real
-use Rattle.replay_world.specs.declared.machine.Sent.{Sent}
+use Rattle.replay_gateway.specs.Machine.{Machine}
+use Rattle.replay_world.specs.Value.{ReplayValue}
+use Rattle.replay_gateway.specs.declared.machine.Machine as real
+use Rattle.replay_gateway.specs.declared.machine.Sent.{Sent}
 use Rattle.replay_world.specs.declared.replay.Replay.{Replay}
 use Rattle.replay_world.proofs.MovedLemmas.{Moves, sends_are, stands_after}
 use Rattle.replay_world.proofs.PrintedLemmas.{line_goes, step_told}

@@ -1,24 +1,14 @@
 -- The areas and the shelves that gateways hand out.
-use Rattle.std.proofs.Common.{◌≡◌, ◌∙◌, ◌⊎◌, inl, inr, refl, sym, ap, append-nil, subst, Bool, false, ℕ, zero, suc, ◌+◌, ◌<◌, ◌≤◌, List, [], ◌∷◌, ◌++◌, length, take, take_all, Option, Some, None, MatchOption, slice_get, arith, length-take}
+use Rattle.std.proofs.Common.{◌≡◌, refl, sym, ap, subst, ℕ, zero, suc, ◌+◌, ◌<◌, ◌≤◌, List, [], ◌∷◌, ◌++◌, length, take, Option, Some, None, MatchOption, slice_get, arith, length-take}
 use Rattle.area_disk.specs.declared.memory.MemoryArea.{MemoryArea}
-use Rattle.cdr_shelf.specs.Files.{UnsealedFile}
 use Rattle.cdr_shelf.specs.declared.memory.MemoryShelf.{MemoryShelf}
-use Rattle.file_rotate.specs.Items.{Filed}
-use Rattle.file_writer.specs.Files.{AreFilesOf, stream_files}
-use Rattle.file_writer.specs.Leaving.{AreOpenFiles, IsOpenFile}
-use Rattle.file_writer.specs.Streams.{Settings, closed_of, stream_count}
-use Rattle.gateway_book.specs.Items.{items_of}
-use Rattle.gateway_book.specs.Opened.{StandsFitFor}
-use Rattle.gw_base.specs.declared.history.HistoryEntry.{HistoryEntry}
-use Rattle.gw_base.specs.declared.item.Item.{Item}
 use Rattle.once_core.specs.Gateway.{Gateway}
-use Rattle.replay_world.specs.Played.{EachHandedOut, IsHandedOut, LeavesHistory}
-use Rattle.replay_world.specs.Settled.{AreShut, EachAtRest, IsAllWritten, IsAtRest}
-use Rattle.replay_world.specs.Setup.{Setup, files_in}
-use Rattle.replay_world.specs.Stands.{area_tells, header_at}
-use Rattle.replay_world.specs.Value.{Filing, Machine}
-use Rattle.replay_world.specs.Written.{shelf_tells}
-use Rattle.replay_world.proofs.WriterLemmas.{files_count}
+use Rattle.replay_gateway.specs.AtRest.{IsAllWritten, IsAtRest}
+use Rattle.replay_gateway.specs.HandedOut.{IsHandedOut}
+use Rattle.replay_gateway.specs.Machine.{Machine}
+use Rattle.replay_world.specs.Played.{EachHandedOut}
+use Rattle.replay_world.specs.Settled.{EachAtRest}
+use Rattle.replay_gateway.specs.Setup.{Setup, files_in}
 
 module _ (setup : Setup) where
   -- as many as there are gateways
@@ -85,67 +75,11 @@ module _ (setup : Setup) where
   area_there place g m None s is = absurd is
   area_there place g m (Some a) s is = (a, refl, is)
 
--- Where no file is open, none is unsealed.
+-- What is handed out of a gateway that wrote all is at rest.
 
-none_unsealed : (settings : Settings) (items : List Item) (unsealed : ℕ → Option UnsealedFile) →
-    AreOpenFiles settings (λ s. 0) items unsealed → AreShut items → (s : ℕ) → unsealed s ≡ None
-none_unsealed settings items unsealed are shut s =
-    elim (either_way s stream_count) [
-      | inl within ↦
-          subst (λ (run : List (Filed (List ℕ))). IsOpenFile
-          (record { stream = s; sequence = 0 + closed_of settings s items + 1 }) run (unsealed s)) (shut settings s)
-          (are.each s within)
-      | inr beyond ↦ are.beyond s beyond
-    ]
-  where
-    either_way : (n k : ℕ) → (n < k) ⊎ (k ≤ n)
-    either_way n k = grind arith
-
--- the area of a gateway that runs, all of whose entries are firm, stands for these
-left_firm : (g : Gateway) (h : List HistoryEntry) → LeavesHistory g.is_down g h → g.is_down ≡ false → g.book.rest ≡ [] →
-    h ≡ g.book.firm
-left_firm g h kept runs firm =
-    elim (subst (λ (b : Bool). LeavesHistory b g h) runs kept) [
-      | inl is ↦ is
-      | inr is ↦ is ∙ ap (λ (rest : List HistoryEntry). g.book.firm ++ rest) firm ∙ append-nil g.book.firm
-    ]
-
--- the files are all that the items close, and none is left
-module _ (setup : Setup) (place : ℕ) (g : Gateway) (m : Machine) (a : MemoryArea) (shelf : MemoryShelf)
-    (is : IsHandedOut setup place g m a shelf) (settled : IsAllWritten (files_in setup place) g m) where
-  abbrev items : List Item
-  items = items_of g.book.firm
-
-  abbrev settings : Settings
-  settings = files_in setup place
-
-  all_files : AreFilesOf settings items (shelf_tells.files shelf)
-  all_files = record {
-    each = λ s small. is.files.each s small
-        ∙ ap (λ (f : Filing). take (f.sealed s) (stream_files settings s items)) settled.written
-        ∙ take_all (closed_of settings s items) (stream_files settings s items) (omega (arith, files_count settings s items));
-    only = is.files.only;
-  }
-
-  all_open : AreOpenFiles settings (λ s. 0) items (shelf_tells.unsealed shelf)
-  all_open =
-      subst (λ (xs : List Item). AreOpenFiles settings (λ s. 0) xs (shelf_tells.unsealed shelf))
-      (take_all (length items) items (omega arith))
-      (is.unsealed (length items) (ap (λ (f : Filing). f.taken) settled.written))
-
-  gateway_at_rest : IsAtRest setup place g a shelf
-  gateway_at_rest = record {
-    runs = settled.runs;
-    whole = settled.whole;
-    firm = settled.firm;
-    area = subst (λ (h : List HistoryEntry). StandsFitFor (header_at setup place) (area_tells.octets a) h)
-        (left_firm g is.area.history is.area.kept settled.runs settled.firm) is.area.holds.stands;
-    size = is.area.size;
-    crash = is.area.crash settled.runs settled.whole;
-    files = all_files;
-    shut = settled.shut;
-    sealed = none_unsealed settings items (shelf_tells.unsealed shelf) all_open settled.shut;
-  }
+abbrev pub Rests : Type 0
+Rests = (setup : Setup) (place : ℕ) (g : Gateway) (m : Machine) (area : MemoryArea) (shelf : MemoryShelf) →
+    IsAllWritten (files_in setup place) g m → IsHandedOut setup place g m area shelf → IsAtRest setup place g area shelf
 
 first : (place : ℕ) → place + 0 ≡ place
 first place = omega arith
@@ -153,34 +87,34 @@ first place = omega arith
 next : (place k : ℕ) → place + suc k ≡ suc place + k
 next place k = omega arith
 
-gateways_at_rest : (setup : Setup) (place : ℕ) (gs : List Gateway) (ms : List Machine) (areas : List MemoryArea)
+gateways_at_rest : Rests → (setup : Setup) (place : ℕ) (gs : List Gateway) (ms : List Machine) (areas : List MemoryArea)
     (shelves : List MemoryShelf) → EachHandedOut setup place gs ms areas shelves →
     ((k : ℕ) (g : Gateway) (m : Machine) → slice_get gs k ≡ Some g → slice_get ms k ≡ Some m →
     IsAllWritten (files_in setup (place + k)) g m) → EachAtRest setup place gs areas shelves
-gateways_at_rest setup place [] [] [] [] each settled = tt
-gateways_at_rest setup place (g ∷ gs) (m ∷ ms) (a ∷ areas) (shelf ∷ shelves) each settled = (
-  gateway_at_rest setup place g m a shelf each.0
-      (subst (λ (p : ℕ). IsAllWritten (files_in setup p) g m) (first place) (settled 0 g m refl refl)),
-  gateways_at_rest setup (suc place) gs ms areas shelves each.1 (λ k f n has is.
+gateways_at_rest rests setup place [] [] [] [] each settled = tt
+gateways_at_rest rests setup place (g ∷ gs) (m ∷ ms) (a ∷ areas) (shelf ∷ shelves) each settled = (
+  rests setup place g m a shelf
+      (subst (λ (p : ℕ). IsAllWritten (files_in setup p) g m) (first place) (settled 0 g m refl refl)) each.0,
+  gateways_at_rest rests setup (suc place) gs ms areas shelves each.1 (λ k f n has is.
       subst (λ (p : ℕ). IsAllWritten (files_in setup p) f n) (next place k) (settled (suc k) f n has is)),
 )
-gateways_at_rest setup place [] [] [] (s ∷ shelves) each settled = absurd each
-gateways_at_rest setup place [] [] (a ∷ areas) shelves each settled = absurd each
-gateways_at_rest setup place [] (m ∷ ms) areas shelves each settled = absurd each
-gateways_at_rest setup place (g ∷ gs) [] areas shelves each settled = absurd each
-gateways_at_rest setup place (g ∷ gs) (m ∷ ms) [] shelves each settled = absurd each
-gateways_at_rest setup place (g ∷ gs) (m ∷ ms) (a ∷ areas) [] each settled = absurd each
+gateways_at_rest rests setup place [] [] [] (s ∷ shelves) each settled = absurd each
+gateways_at_rest rests setup place [] [] (a ∷ areas) shelves each settled = absurd each
+gateways_at_rest rests setup place [] (m ∷ ms) areas shelves each settled = absurd each
+gateways_at_rest rests setup place (g ∷ gs) [] areas shelves each settled = absurd each
+gateways_at_rest rests setup place (g ∷ gs) (m ∷ ms) [] shelves each settled = absurd each
+gateways_at_rest rests setup place (g ∷ gs) (m ∷ ms) (a ∷ areas) [] each settled = absurd each
 
 -- the same of all gateways
 from_none : (k : ℕ) → k ≡ 0 + k
 from_none k = omega arith
 
-pub all_at_rest : (setup : Setup) (gs : List Gateway) (ms : List Machine) (areas : List MemoryArea)
+pub all_at_rest : Rests → (setup : Setup) (gs : List Gateway) (ms : List Machine) (areas : List MemoryArea)
     (shelves : List MemoryShelf) → EachHandedOut setup 0 gs ms areas shelves →
     ((k : ℕ) (g : Gateway) (m : Machine) → slice_get gs k ≡ Some g → slice_get ms k ≡ Some m →
     IsAllWritten (files_in setup k) g m) → EachAtRest setup 0 gs areas shelves
-all_at_rest setup gs ms areas shelves each settled =
-    gateways_at_rest setup 0 gs ms areas shelves each (λ k g m has is.
+all_at_rest rests setup gs ms areas shelves each settled =
+    gateways_at_rest rests setup 0 gs ms areas shelves each (λ k g m has is.
     subst (λ (p : ℕ). IsAllWritten (files_in setup p) g m) (from_none k) (settled k g m has is))
 
 -- there is room for one more

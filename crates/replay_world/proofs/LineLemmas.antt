@@ -5,7 +5,7 @@ use Rattle.once_core.specs.Turn.{Turn, turn, turns}
 use Rattle.once_core.specs.World.{World}
 use Rattle.replay_world.specs.Lines.{after_steps, line_after, steps_of, turns_by, turns_of}
 use Rattle.replay_world.specs.Report.{lines_after, turns_from}
-use Rattle.replay_world.specs.Setup.{Setup, rules_in}
+use Rattle.replay_gateway.specs.Setup.{Setup, rules_in}
 use Rattle.replay_world.specs.Steps.{Step, after_step, ends_line, step_turns}
 use Rattle.replay_world.specs.Value.{ReplayValue}
 use Rattle.world_script.specs.declared.line.Line.{Line}

@@ -13,9 +13,10 @@ use Rattle.once_core.specs.declared.message.Message.{Message}
 use Rattle.replay_world.specs.Lines.{after_steps, line_after, steps_of}
 use Rattle.replay_world.specs.Report.{lines_after}
 use Rattle.replay_world.specs.Settled.{HaveMachines}
-use Rattle.replay_world.specs.Setup.{Setup, rules_in}
+use Rattle.replay_gateway.specs.Setup.{Setup, rules_in}
 use Rattle.replay_world.specs.Steps.{Site, Step, Arms, ArmsShelf, Disarms, Plays, Writes, after_step, ends_line, machines_after, machines_at, machines_in, site_of, turn_of, with_machine, world_after}
-use Rattle.replay_world.specs.Value.{Machine, ReplayValue, begun}
+use Rattle.replay_gateway.specs.Machine.{Machine}
+use Rattle.replay_world.specs.Value.{ReplayValue, begun}
 use Rattle.world_script.specs.declared.line.Line.{Line}
 use Rattle.replay_world.proofs.BeginningLemmas.{times_length}
 

@@ -8,14 +8,17 @@ use Rattle.once_core.specs.Gateway.{Gateway, Moved}
 use Rattle.once_core.specs.World.{World}
 use Rattle.once_core.specs.declared.event.Event.{Event}
 use Rattle.once_core.specs.declared.message.Message.{Message}
-use Rattle.replay_world.specs.Device.{asked_of, machine_after, sequel_on}
-use Rattle.replay_world.specs.Moves.{GoesAsArmed, moved_by}
+use Rattle.replay_world.specs.Events.{asked_of}
+use Rattle.replay_gateway.specs.Device.{machine_after, sequel_on}
+use Rattle.replay_gateway.specs.Moves.{GoesAsArmed, moved_by}
 use Rattle.replay_world.specs.Sending.{HasSent, numbered_from}
-use Rattle.replay_world.specs.Stands.{CountsStarts, EachStands, HasRoom, MachineStands, Stands, nodes_from}
+use Rattle.replay_world.specs.Stands.{CountsStarts, EachStands, HasRoom, Stands, nodes_from}
+use Rattle.replay_gateway.specs.Standing.{MachineStands}
 use Rattle.replay_world.specs.Steps.{Site, Plays, after_step, machines_at, machines_in, sent_by, site_of, waiting_in, world_after}
-use Rattle.replay_world.specs.Value.{Machine, ReplayValue}
-use Rattle.replay_world.specs.declared.machine.Machine as real
-use Rattle.replay_world.specs.declared.machine.Sent.{Sent}
+use Rattle.replay_gateway.specs.Machine.{Machine}
+use Rattle.replay_world.specs.Value.{ReplayValue}
+use Rattle.replay_gateway.specs.declared.machine.Machine as real
+use Rattle.replay_gateway.specs.declared.machine.Sent.{Sent}
 use Rattle.replay_world.specs.declared.replay.Replay.{Replay}
 use Rattle.replay_world.proofs.StandsLemmas.{each_set}
 use Rattle.replay_world.proofs.StepLemmas.{IsAt, reached_after, site_is, world_moved}

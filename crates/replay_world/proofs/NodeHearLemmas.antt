@@ -17,11 +17,11 @@ use Rattle.once_core.specs.declared.event.Event.TheVariants as event
 use Rattle.once_core.specs.declared.event.WorldKind.{WorldKind}
 use Rattle.once_core.specs.declared.event.WorldKind.TheVariants.{NoMessage}
 use Rattle.once_core.specs.declared.message.Message.{Message}
-use Rattle.replay_world.specs.Device.{receiving_gateway}
+use Rattle.replay_world.specs.Events.{receiving_gateway}
 use Rattle.replay_world.specs.Does.{Does}
 use Rattle.replay_world.specs.Notices.{Notice, notice_lines}
 use Rattle.replay_world.specs.Sending.{HasSent, IsTo, passed}
-use Rattle.replay_world.specs.Setup.{rules_in}
+use Rattle.replay_gateway.specs.Setup.{rules_in}
 use Rattle.replay_world.specs.Stands.{Stands}
 use Rattle.replay_world.specs.Steps.{Site, Plays, after_step, machines_at, machines_in, sent_by, sequel_at, site_in, site_of, turn_at, waiting_in, world_after}
 use Rattle.replay_world.specs.Telling.{delivery_notices, device_notices, hearing_notices, message_notices, notices_first, notices_last, sent_notices}

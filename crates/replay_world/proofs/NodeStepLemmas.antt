@@ -15,15 +15,16 @@ use Rattle.once_core.specs.declared.message.Message.{Message}
 use Rattle.path_mgmt.specs.NodePath.{PathsOfNode, node_after}
 use Rattle.path_mgmt.specs.declared.event.PathEvent.{PathEvent}
 use Rattle.path_mgmt.specs.declared.event.PathEvent.TheVariants.{EchoAsked}
-use Rattle.replay_world.specs.Device.{is_stop}
+use Rattle.replay_gateway.specs.Device.{is_stop}
 use Rattle.replay_world.specs.Does.{Does}
 use Rattle.replay_world.specs.Notices.{Notice, notice_lines}
 use Rattle.replay_world.specs.Sending.{HasSent, numbered_from}
-use Rattle.replay_world.specs.Setup.{rules_in}
+use Rattle.replay_gateway.specs.Setup.{rules_in}
 use Rattle.replay_world.specs.Stands.{CountsStarts, EachStands, Stands, nodes_from}
 use Rattle.replay_world.specs.Steps.{Site, Plays, after_step, ends_line, machines_in, sent_by, sequel_at, site_of, turn_at, waiting_in, world_after}
 use Rattle.replay_world.specs.Telling.{device_notices, notices_first, notices_last, sent_notices}
-use Rattle.replay_world.specs.Value.{Machine, ReplayValue}
+use Rattle.replay_gateway.specs.Machine.{Machine}
+use Rattle.replay_world.specs.Value.{ReplayValue}
 use Rattle.replay_world.specs.declared.replay.Replay.{Replay}
 use Rattle.replay_world.proofs.MovedLemmas.{all_within, drop_front, numbers_from_one, numbers_within}
 use Rattle.replay_world.proofs.PrintedLemmas.{lines_join}

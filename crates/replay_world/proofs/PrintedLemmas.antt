@@ -7,14 +7,16 @@ use Rattle.gateway_book.specs.Value.{Fortune}
 use Rattle.once_core.specs.Gateway.{Gateway, Moved}
 use Rattle.once_core.specs.declared.event.Event.{Event}
 use Rattle.once_core.specs.declared.message.Message.{Message}
-use Rattle.replay_world.specs.Device.{asked_of, is_stop, sequel_on}
-use Rattle.replay_world.specs.Moves.{came_of}
+use Rattle.replay_world.specs.Events.{asked_of}
+use Rattle.replay_gateway.specs.Device.{is_stop, sequel_on}
+use Rattle.replay_gateway.specs.Moves.{came_of}
 use Rattle.replay_world.specs.Notices.{Notice, notice_line, notice_lines}
 use Rattle.replay_world.specs.Sending.{came_notices, goes_on_after}
 use Rattle.replay_world.specs.Steps.{Site, Plays, ends_line, sent_by, sequel_at}
 use Rattle.replay_world.specs.Telling.{device_notices, notices_first, notices_last, sent_notices, step_notices}
-use Rattle.replay_world.specs.Value.{Machine, ReplayValue}
-use Rattle.replay_world.specs.declared.machine.Came.{Came}
+use Rattle.replay_gateway.specs.Machine.{Machine}
+use Rattle.replay_world.specs.Value.{ReplayValue}
+use Rattle.replay_gateway.specs.declared.machine.Came.{Came}
 use Rattle.replay_world.proofs.StepLemmas.{IsAt, site_is}
 
 came_told : (place : ℕ) (s : Sequel) → came_notices place (came_of s) ≡ device_notices place s

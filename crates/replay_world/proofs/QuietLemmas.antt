@@ -16,20 +16,21 @@ use Rattle.once_core.specs.declared.event.WorldKind.{WorldKind}
 use Rattle.once_core.specs.declared.event.WorldKind.TheVariants.{NoGateway, Running}
 use Rattle.once_core.specs.declared.message.Message.{Message}
 use Rattle.replay_world.specs.Does.{Does}
-use Rattle.replay_world.specs.Moves.{HasMoved}
+use Rattle.replay_gateway.specs.Moves.{HasMoved}
 use Rattle.replay_world.specs.Notices.{Notice}
-use Rattle.replay_world.specs.Sending.{HasSent}
-use Rattle.replay_world.specs.Filing.{filing_then, shelf_came}
+use Rattle.replay_world.specs.Sending.{HasSent, steps_behind}
+use Rattle.replay_gateway.specs.Filing.{filing_then, shelf_came}
 use Rattle.replay_world.specs.Lines.{came_of_write, came_steps, write_steps}
-use Rattle.replay_world.specs.Setup.{files_in, rules_in}
-use Rattle.replay_world.specs.Stands.{MachineStands, Stands}
+use Rattle.replay_gateway.specs.Setup.{files_in, rules_in}
+use Rattle.replay_gateway.specs.Standing.{MachineStands}
+use Rattle.replay_world.specs.Stands.{Stands}
 use Rattle.replay_world.specs.Steps.{Site, Step, Arms, ArmsShelf, Disarms, Plays, Writes, files_written, items_firm, machines_in, sent_by, sequel_at, site_of, turn_at, waiting_left, with_machine, world_after}
 use Rattle.replay_world.specs.Telling.{device_notices, notices_last, sent_notices, step_notices}
-use Rattle.replay_world.specs.Value.{Machine, ReplayValue, shelf_armed, unarmed}
-use Rattle.replay_world.specs.Written.{wrote_by}
-use Rattle.replay_world.specs.WritingFiles.{steps_behind}
-use Rattle.replay_world.specs.declared.files.Wrote.{Wrote}
-use Rattle.replay_world.specs.declared.machine.Machine as real
+use Rattle.replay_gateway.specs.Machine.{Machine, shelf_armed, unarmed}
+use Rattle.replay_world.specs.Value.{ReplayValue}
+use Rattle.replay_gateway.specs.Written.{wrote_by}
+use Rattle.replay_gateway.specs.declared.files.Wrote.{Wrote}
+use Rattle.replay_gateway.specs.declared.machine.Machine as real
 use Rattle.replay_world.specs.declared.replay.Replay.{Replay}
 use Rattle.replay_world.proofs.GatewayEventLemmas.{machines_count, none_of}
 use Rattle.replay_world.proofs.NodeHearLemmas.{set_same}

@@ -8,10 +8,12 @@ use Rattle.once_core.specs.Expired.{starts_in}
 use Rattle.once_core.specs.Gateway.{Gateway}
 use Rattle.once_core.specs.World.{log_at, node_value}
 use Rattle.once_core.specs.declared.message.Message.{Message}
-use Rattle.replay_world.specs.Stands.{CountsStarts, Stands, MachineStands}
-use Rattle.replay_world.specs.Value.{Machine, ReplayValue}
-use Rattle.replay_world.specs.Setup.{Setup}
-use Rattle.replay_world.specs.declared.machine.Machine as real
+use Rattle.replay_world.specs.Stands.{CountsStarts, Stands}
+use Rattle.replay_gateway.specs.Standing.{MachineStands}
+use Rattle.replay_gateway.specs.Machine.{Machine}
+use Rattle.replay_world.specs.Value.{ReplayValue}
+use Rattle.replay_gateway.specs.Setup.{Setup}
+use Rattle.replay_gateway.specs.declared.machine.Machine as real
 use Rattle.replay_world.specs.declared.replay.Replay.{Replay}
 use Rattle.replay_world.proofs.NodeStepLemmas.{counter_is}
 use Rattle.replay_world.proofs.StandsLemmas.{StandsAt, each_at, each_lengths, nodes_get, nodes_length}

@@ -12,7 +12,7 @@ use Rattle.once_core.specs.declared.event.WorldKind.TheVariants as kind
 use Rattle.replay_world.specs.Does.{Does, LineRan, Makes, RunsIf}
 use Rattle.replay_world.specs.Lines.{line_after, line_notices, refusal_of_line, steps_of}
 use Rattle.replay_world.specs.Notices.{notice_lines}
-use Rattle.replay_world.specs.Opening.{ArmsAs}
+use Rattle.replay_gateway.specs.Opening.{ArmsAs}
 use Rattle.replay_world.specs.Report.{report_after}
 use Rattle.replay_world.specs.Stands.{Stands}
 use Rattle.replay_world.specs.Steps.{Step}

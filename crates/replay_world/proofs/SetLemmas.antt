@@ -8,11 +8,13 @@ use Rattle.once_core.specs.declared.message.Message.{Message}
 use Rattle.replay_world.specs.Does.{Does}
 use Rattle.replay_world.specs.Notices.{Notice, notice_lines}
 use Rattle.replay_world.specs.Sending.{HasSent, numbered_from}
-use Rattle.replay_world.specs.Stands.{CountsStarts, EachStands, HasRoom, MachineStands, Stands, nodes_from}
+use Rattle.replay_world.specs.Stands.{CountsStarts, EachStands, HasRoom, Stands, nodes_from}
+use Rattle.replay_gateway.specs.Standing.{MachineStands}
 use Rattle.replay_world.specs.Steps.{Step, after_step, machines_after, sent_by, waiting_left, world_after}
 use Rattle.replay_world.specs.Telling.{sent_notices, step_notices}
-use Rattle.replay_world.specs.Value.{Machine, ReplayValue}
-use Rattle.replay_world.specs.declared.machine.Machine as real
+use Rattle.replay_gateway.specs.Machine.{Machine}
+use Rattle.replay_world.specs.Value.{ReplayValue}
+use Rattle.replay_gateway.specs.declared.machine.Machine as real
 use Rattle.replay_world.specs.declared.replay.Replay.{Replay}
 use Rattle.replay_world.proofs.MovedLemmas.{all_within, drop_front, numbers_from_one, numbers_within}
 use Rattle.replay_world.proofs.StandsLemmas.{each_set}

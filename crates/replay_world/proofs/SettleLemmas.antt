@@ -20,12 +20,13 @@ use Rattle.once_core.specs.declared.event.WorldKind.{WorldKind}
 use Rattle.once_core.specs.declared.event.WorldKind.TheVariants.{NoGateway, Running, Stopped}
 use Rattle.replay_world.specs.Does.{Does, DoesAll, DoesOrEnds, Makes}
 use Rattle.replay_world.specs.Lines.{after_steps, settle_steps, settling_steps}
-use Rattle.replay_world.specs.Filing.{all_filed, filing_after, filing_then, shelf_calls}
-use Rattle.replay_world.specs.Setup.{files_in, rules_in}
+use Rattle.replay_gateway.specs.Filing.{all_filed, filing_after, filing_then, shelf_calls}
+use Rattle.replay_gateway.specs.Setup.{files_in, rules_in}
 use Rattle.replay_world.specs.Settling.{AreUnarmed, IsIdle, Settles, Stays, opening_steps}
 use Rattle.replay_world.specs.Stands.{Stands}
 use Rattle.replay_world.specs.Steps.{Step, Disarms, Plays, Writes, after_step, ends_line}
-use Rattle.replay_world.specs.Value.{Filing, Machine, ReplayValue, unarmed as unarmed_one}
+use Rattle.replay_gateway.specs.Machine.{Filing, Machine, unarmed as unarmed_one}
+use Rattle.replay_world.specs.Value.{ReplayValue}
 use Rattle.replay_world.specs.declared.replay.Replay.{Replay}
 use Rattle.replay_world.proofs.CalmLemmas.{close_stays_up, commit_stays_up, found, get_other, get_same, line_goes_on, running_there, runs_after, stays_at, stays_none, stays_set, stays_then, there_then, unarmed_there}
 use Rattle.replay_world.proofs.GatewayEventLemmas.{is_there, none_of, runs_there}

@@ -21,15 +21,18 @@ use Rattle.once_core.specs.declared.event.Event.{Event}
 use Rattle.once_core.specs.declared.event.Event.TheVariants as event
 use Rattle.once_core.specs.declared.event.WorldKind.TheVariants.{NoGateway}
 use Rattle.once_core.specs.declared.message.Message.{Message}
-use Rattle.replay_world.specs.Device.{asked_of, machine_after, sequel_on}
+use Rattle.replay_world.specs.Events.{asked_of}
+use Rattle.replay_gateway.specs.Device.{machine_after, sequel_on}
 use Rattle.replay_world.specs.Does.{goes_on}
 use Rattle.replay_world.specs.Lines.{after_steps, settle_steps, settled, settling_steps}
-use Rattle.replay_world.specs.Moves.{moved_by}
-use Rattle.replay_world.specs.Settled.{AreShut, AreWritten, HaveMachines, IsAllWritten}
+use Rattle.replay_gateway.specs.Moves.{moved_by}
+use Rattle.replay_gateway.specs.AtRest.{AreShut, IsAllWritten}
+use Rattle.replay_world.specs.Settled.{AreWritten, HaveMachines}
 use Rattle.replay_world.specs.Settling.{AreUnarmed, IsIdle}
-use Rattle.replay_world.specs.Setup.{Setup, files_in, rules_in}
+use Rattle.replay_gateway.specs.Setup.{Setup, files_in, rules_in}
 use Rattle.replay_world.specs.Steps.{Step, Disarms, Plays, Writes, after_step, ends_line, machines_at, machines_in, site_of}
-use Rattle.replay_world.specs.Value.{Filing, Machine, ReplayValue, unarmed as unarmed_one}
+use Rattle.replay_gateway.specs.Machine.{Filing, Machine, unarmed as unarmed_one}
+use Rattle.replay_world.specs.Value.{ReplayValue}
 use Rattle.replay_world.proofs.CalmLemmas.{commit_stays_up, close_stays_up, found, get_other, get_same, line_goes_on, running_there, sets_at, stays_set, there_then, unarmed_after, unarmed_there, goes_on_then}
 use Rattle.replay_world.proofs.QuietLemmas.{filed_machine, machines_stay, plays, writes}
 use Rattle.replay_world.proofs.SetLemmas.{Sets}

@@ -3,10 +3,11 @@ use Rattle.std.proofs.Common.{◌≡◌, ◌∙◌, refl, sym, ap, subst, ℕ, z
 use Rattle.node_core.specs.Log.{LogEntry}
 use Rattle.once_core.specs.Gateway.{Gateway}
 use Rattle.once_core.specs.World.{node_value}
-use Rattle.replay_world.specs.Setup.{Setup}
-use Rattle.replay_world.specs.Stands.{EachStands, MachineStands, nodes_from}
-use Rattle.replay_world.specs.Value.{Machine}
-use Rattle.replay_world.specs.declared.machine.Machine as real
+use Rattle.replay_gateway.specs.Setup.{Setup}
+use Rattle.replay_world.specs.Stands.{EachStands, nodes_from}
+use Rattle.replay_gateway.specs.Standing.{MachineStands}
+use Rattle.replay_gateway.specs.Machine.{Machine}
+use Rattle.replay_gateway.specs.declared.machine.Machine as real
 
 pub nodes_length : (gateways place : ℕ) (logs : List (List LogEntry)) → length (nodes_from gateways place logs) ≡ length logs
 nodes_length gateways place [] = refl

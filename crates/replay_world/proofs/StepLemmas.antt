@@ -10,11 +10,13 @@ use Rattle.once_core.specs.Turn.{Turn, at_gateway, calm, gateway_moved, lost_if,
 use Rattle.once_core.specs.World.{World}
 use Rattle.once_core.specs.declared.event.Event.{Event}
 use Rattle.once_core.specs.declared.event.WorldKind.{WorldKind}
-use Rattle.replay_world.specs.Device.{asked_of, entries_kept, is_stop, place_asked, sequel_on, turn_with}
-use Rattle.replay_world.specs.Moves.{moved_by}
-use Rattle.replay_world.specs.Setup.{rules_in}
+use Rattle.replay_world.specs.Events.{asked_of, place_asked, turn_with}
+use Rattle.replay_gateway.specs.Device.{entries_kept, is_stop, sequel_on}
+use Rattle.replay_gateway.specs.Moves.{moved_by}
+use Rattle.replay_gateway.specs.Setup.{rules_in}
 use Rattle.replay_world.specs.Steps.{Site, Step, Plays, site_in, site_of, site_with, turn_at, turn_of, world_after}
-use Rattle.replay_world.specs.Value.{Machine, ReplayValue}
+use Rattle.replay_gateway.specs.Machine.{Machine}
+use Rattle.replay_world.specs.Value.{ReplayValue}
 
 -- a step of a world that is reached reaches one
 pub reached_after : (v : ReplayValue) (step : Step) → IsReached v.world → IsReached (world_after v step)

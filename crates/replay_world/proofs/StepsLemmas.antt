@@ -14,7 +14,7 @@ use Rattle.node_core.specs.Log.{LogEntry}
 use Rattle.replay_world.specs.Does.{Does, DoesAll, DoesOrEnds, Makes, goes_on}
 use Rattle.replay_world.specs.Lines.{after_steps, notices_of}
 use Rattle.replay_world.specs.Notices.{Notice, notice_lines}
-use Rattle.replay_world.specs.Setup.{rules_in}
+use Rattle.replay_gateway.specs.Setup.{rules_in}
 use Rattle.replay_world.specs.Stands.{Stands}
 use Rattle.replay_world.specs.Steps.{Step, Plays, after_step, ends_line, turn_of, world_after}
 use Rattle.replay_world.specs.Telling.{step_notices}

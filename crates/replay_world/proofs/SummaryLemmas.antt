@@ -8,7 +8,7 @@ use Rattle.node_core.specs.declared.counts.NodeCounts.{NodeCounts}
 use Rattle.once_core.specs.Gateway.{Gateway}
 use Rattle.once_core.specs.World.{node_value}
 use Rattle.replay_world.specs.Summary.{AreGatewaySums, AreNodeSums, TalliesIf, counts_at, filed_of, gateway_sums, held_of, node_sums, stranded_of}
-use Rattle.replay_world.specs.declared.report.Tally.{Tally}
+use Rattle.replay_gateway.specs.declared.gateway_report.Tally.{Tally}
 use Rattle.replay_world.specs.declared.summary.GatewaySums.{GatewaySums}
 use Rattle.replay_world.specs.declared.summary.NodeSums.{NodeSums}
 

@@ -9,9 +9,10 @@ use Rattle.once_core.specs.Gateway.{Gateway}
 use Rattle.once_core.specs.Turn.{Turn}
 use Rattle.replay_world.specs.Lines.{line_after, refusal_of_line, turns_of}
 use Rattle.replay_world.specs.Report.{refused_from, refused_or, turns_from}
-use Rattle.replay_world.specs.Setup.{Setup, after_setting, after_settings, default_setup, rules_in}
+use Rattle.replay_gateway.specs.Setup.{Setup, after_setting, after_settings, default_setup, rules_in}
 use Rattle.replay_world.specs.Taken.{Allows, IsAsSaid}
-use Rattle.replay_world.specs.Value.{ReplayValue, begun, first_machine, replay_of}
+use Rattle.replay_world.specs.Value.{ReplayValue, begun, replay_of}
+use Rattle.replay_gateway.specs.Machine.{first_machine}
 use Rattle.replay_world.proofs.TakenSteps.{Unarmed}
 use Rattle.world_script.specs.Script.{is_action_line, is_blank_line, is_setting_line}
 use Rattle.world_script.specs.World.{Scene, after_line, are_settings_first, first_scene, takes, takes_all}

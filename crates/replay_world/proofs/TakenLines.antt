@@ -14,13 +14,14 @@ use Rattle.once_core.specs.declared.message.Message.{Message}
 use Rattle.once_core.specs.declared.event.WorldKind.TheVariants.{Earlier, Halted, NoGateway, NoMessage, NoNode, Running, Stopped}
 use Rattle.rand_pcg.specs.Lcg.{Lcg}
 use Rattle.rand_pcg.specs.Pcg.{pcg32}
-use Rattle.replay_world.specs.Filing.{shelf_calls}
+use Rattle.replay_gateway.specs.Filing.{shelf_calls}
 use Rattle.replay_world.specs.Lines.{came_of_write, came_steps, delivers, lot_steps, mixed_steps, settling_steps, write_steps}
 use Rattle.replay_world.specs.Notices.{ShelfFaulted}
-use Rattle.replay_world.specs.Setup.{files_in, rules_in}
+use Rattle.replay_gateway.specs.Setup.{files_in, rules_in}
 use Rattle.replay_world.specs.Steps.{Disarms, Loses, Plays, Step, Tells, Writes, items_firm}
 use Rattle.replay_world.specs.Taken.{IsAsSaid}
-use Rattle.replay_world.specs.Value.{Machine, ReplayValue, disarmed}
+use Rattle.replay_gateway.specs.Machine.{Machine, disarmed}
+use Rattle.replay_world.specs.Value.{ReplayValue}
 use Rattle.replay_world.proofs.TakenPasses.{Facts, Holds, HoldsOf, Passes, calm_passes, disarms_passes, loses_passes, passes_none, quiet_passes, tells_passes, within, writes_passes}
 use Rattle.replay_world.proofs.TakenSteps.{Unarmed, all_get, calls_calm, is_calm, is_there, with_unarmed}
 use Rattle.world_script.specs.World.{Scene, is_stopped}

@@ -15,13 +15,15 @@ use Rattle.once_core.specs.declared.event.Event.{Event}
 use Rattle.once_core.specs.declared.event.Event.TheVariants as event
 use Rattle.once_core.specs.declared.event.WorldKind.{WorldKind}
 use Rattle.once_core.specs.declared.message.Message.{Message}
-use Rattle.replay_world.specs.Device.{asked_of, machine_after}
+use Rattle.replay_world.specs.Events.{asked_of}
+use Rattle.replay_gateway.specs.Device.{machine_after}
 use Rattle.replay_world.specs.Lines.{after_steps, turns_by}
-use Rattle.replay_world.specs.Filing.{filing_after, filing_then, shelf_calls, shelf_came}
-use Rattle.replay_world.specs.Setup.{files_in, rules_in}
+use Rattle.replay_gateway.specs.Filing.{filing_after, filing_then, shelf_calls, shelf_came}
+use Rattle.replay_gateway.specs.Setup.{files_in, rules_in}
 use Rattle.replay_world.specs.Steps.{Plays, Loses, Disarms, Writes, files_written, Site, Step, after_step, ends_line, items_firm, machines_at, machines_after, machines_in, site_of, step_turns, turn_of, waiting_after, waiting_left, world_after}
 use Rattle.replay_world.specs.Taken.{Allows, arms_stop}
-use Rattle.replay_world.specs.Value.{Filing, ReplayValue, unarmed as unarmed_one}
+use Rattle.replay_gateway.specs.Machine.{Filing, unarmed as unarmed_one}
+use Rattle.replay_world.specs.Value.{ReplayValue}
 use Rattle.replay_world.proofs.TakenSteps.{Unarmed, after_unarmed, all_append, all_filter, all_weaker, calls_calm, event_is, is_calm, numbered, still_there, stops_none, with_unarmed}
 use Rattle.replay_world.proofs.TakenWorlds.{Same, is_quiet, turn_same}
 

@@ -11,7 +11,7 @@ use Rattle.replay_world.specs.Lines.{line_after, refusal_of_line, settle_steps, 
 use Rattle.replay_world.specs.Notices.{Refused, draft_fault_name}
 use Rattle.replay_world.specs.Packets.{drafted}
 use Rattle.replay_world.specs.Report.{refused_from, refused_or, turns_from}
-use Rattle.replay_world.specs.Setup.{Setup, rules_in}
+use Rattle.replay_gateway.specs.Setup.{Setup, rules_in}
 use Rattle.replay_world.specs.Steps.{Tells}
 use Rattle.replay_world.specs.Taken.{Allows, IsAsSaid}
 use Rattle.replay_world.specs.Value.{ReplayValue}

@@ -12,10 +12,12 @@ use Rattle.once_core.specs.Gateway.{Gateway}
 use Rattle.once_core.specs.Turn.{calm, is_none_of}
 use Rattle.once_core.specs.declared.event.Event.{Event}
 use Rattle.once_core.specs.declared.message.Message.{Message}
-use Rattle.replay_world.specs.Device.{asked_of, is_stop, machine_after, machine_with, place_asked, sequel_on, turn_with}
+use Rattle.replay_world.specs.Events.{asked_of, place_asked, turn_with}
+use Rattle.replay_gateway.specs.Device.{is_stop, machine_after, machine_with, sequel_on}
 use Rattle.replay_world.specs.Steps.{Site, is_stopped_in, sequel_at, site_in, site_of, site_with, turn_at, turn_of, with_machine}
 use Rattle.replay_world.specs.Taken.{arms_stop}
-use Rattle.replay_world.specs.Value.{Machine, ReplayValue}
+use Rattle.replay_gateway.specs.Machine.{Machine}
+use Rattle.replay_world.specs.Value.{ReplayValue}
 
 -- ---- what holds of each element
 

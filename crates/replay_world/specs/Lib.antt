@@ -1,35 +1,21 @@
 -- What public clauses cite: a replay, what its lines make of it, and what they print.
-pub mod Setup
-pub mod Settings
 pub mod Value
 pub mod Notices
-pub mod Device
-pub mod Filing
+pub mod Events
 pub mod Packets
 pub mod Steps
 pub mod Telling
 pub mod Lines
 pub mod Report
 pub mod Taken
-pub mod Written
-pub mod Parts
 pub mod Stands
 pub mod Does
 pub mod Failing
 pub mod Settled
 pub mod Played
-pub mod Tally
 pub mod Summary
 pub mod Worked
--- What the calls of a gateway and steps of proofs cite.
-pub mod Ends
-pub mod Moves
-pub mod Called
-pub mod Asking
-pub mod Taking
-pub mod Redirecting
-pub mod Opening
-pub mod WritingFiles
+-- What inner calls and steps of proofs cite.
 pub mod Sending
 pub mod Receiving
 pub mod Settling

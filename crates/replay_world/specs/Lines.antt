@@ -15,13 +15,14 @@ use Rattle.once_core.specs.declared.event.Event.TheVariants as event
 use Rattle.once_core.specs.declared.event.WorldKind.{WorldKind}
 use Rattle.rand_pcg.specs.Lcg.{Lcg}
 use Rattle.rand_pcg.specs.Pcg.{pcg32}
-use Rattle.replay_world.specs.Filing.{shelf_came}
-use Rattle.replay_world.specs.Setup.{files_in}
+use Rattle.replay_gateway.specs.Filing.{shelf_came}
+use Rattle.replay_gateway.specs.Setup.{files_in}
 use Rattle.replay_world.specs.Notices.{Notice, Refused, ShelfFaulted, Stopped, draft_fault_name}
 use Rattle.replay_world.specs.Packets.{drafted}
 use Rattle.replay_world.specs.Steps.{Step, Plays, Loses, Arms, ArmsShelf, Disarms, Writes, Tells, after_step, ends_line, items_firm, step_turns}
 use Rattle.replay_world.specs.Telling.{step_notices}
-use Rattle.replay_world.specs.Value.{Machine, ReplayValue}
+use Rattle.replay_gateway.specs.Machine.{Machine}
+use Rattle.replay_world.specs.Value.{ReplayValue}
 use Rattle.world_script.specs.Sample.{seeded}
 use Rattle.world_script.specs.declared.line.Line.{Line}
 use Rattle.world_script.specs.declared.line.Line.TheVariants as line

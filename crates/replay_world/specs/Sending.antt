@@ -1,16 +1,19 @@
--- Messages that a replay sends: they are printed, and wait. What its parts stand for between two steps.
+-- Messages that a replay sends: they are printed, and wait. What its parts stand for between two steps, and what
+-- follows a write.
 use Rattle.std.specs.Prelude.{◌≡◌, ◌-◌, ℕ, suc, ◌≤◌, Bool, true, false, All, List, [], ◌∷◌, ◌++◌, length, map, Some, slice_get, if◌then◌else◌}
 use Rattle.std.specs.List.{enumerate_from}
+use Rattle.once_core.specs.declared.event.Event.TheVariants as event
 use Rattle.once_core.specs.declared.message.Message.{Message}
-use Rattle.replay_world.specs.Moves.{ending_notices}
-use Rattle.replay_world.specs.Notices.{Notice, Faulted, Stopped, notice_lines}
-use Rattle.replay_world.specs.Steps.{without}
-use Rattle.replay_world.specs.Telling.{sent_notices}
+use Rattle.replay_world.specs.Notices.{Notice, Faulted, ShelfFaulted, Stopped, notice_lines}
+use Rattle.replay_world.specs.Steps.{Step, Plays, Tells, without}
+use Rattle.replay_world.specs.Telling.{ending_notices, sent_notices}
 use Rattle.replay_world.specs.Value.{ReplayValue}
-use Rattle.replay_world.specs.declared.machine.Came.{Came}
-use Rattle.replay_world.specs.declared.machine.Came.TheVariants as came
+use Rattle.replay_gateway.specs.declared.files.Wrote.{Wrote}
+use Rattle.replay_gateway.specs.declared.files.Wrote.TheVariants as wrote
+use Rattle.replay_gateway.specs.declared.machine.Came.{Came}
+use Rattle.replay_gateway.specs.declared.machine.Came.TheVariants as came
 use Rattle.replay_world.specs.declared.replay.Replay.{Replay}
-use Rattle.replay_world.specs.declared.taking.Delivery.{Delivery}
+use Rattle.replay_gateway.specs.declared.taking.Delivery.{Delivery}
 
 -- messages with their numbers, where so many were sent before
 abbrev pub numbered_from : ℕ → List Message → List (ℕ × Message)
@@ -61,3 +64,9 @@ pub record SendsDelivered (place number : ℕ) (delivery : Delivery) (before aft
       middle old new
   pub told : after ≡ middle ++ notice_lines (ending_notices number delivery.ending)
   pub goes : on ≡ goes_on_after delivery.sent.came
+
+-- what follows a write of the files of the gateway with this number, by what is seen of it
+abbrev pub steps_behind : ℕ → Wrote → List Step
+steps_behind gateway wrote.All = []
+steps_behind gateway wrote.Failed = Tells (ShelfFaulted (gateway - 1)) ∷ []
+steps_behind gateway wrote.Stopped = Tells (Stopped (gateway - 1)) ∷ Plays (event.Cut gateway 0) ∷ []

@@ -6,7 +6,8 @@ use Rattle.once_core.specs.declared.event.Event.TheVariants as event
 use Rattle.replay_world.specs.Does.{DoesAll}
 use Rattle.replay_world.specs.Lines.{after_steps}
 use Rattle.replay_world.specs.Steps.{Step, Plays}
-use Rattle.replay_world.specs.Value.{Machine, ReplayValue}
+use Rattle.replay_gateway.specs.Machine.{Machine}
+use Rattle.replay_world.specs.Value.{ReplayValue}
 use Rattle.replay_world.specs.declared.replay.Replay.{Replay}
 
 abbrev pub IsIdle : Machine → Type 0

@@ -13,11 +13,13 @@ use Rattle.once_core.specs.World.{World}
 use Rattle.once_core.specs.declared.event.Event.{Event}
 use Rattle.once_core.specs.declared.event.Event.TheVariants as event
 use Rattle.once_core.specs.declared.message.Message.{Message}
-use Rattle.replay_world.specs.Device.{asked_of, is_stop, machine_after, place_asked, sequel_on, turn_with}
-use Rattle.replay_world.specs.Filing.{filing_then}
+use Rattle.replay_world.specs.Events.{asked_of, place_asked, turn_with}
+use Rattle.replay_gateway.specs.Device.{is_stop, machine_after, sequel_on}
+use Rattle.replay_gateway.specs.Filing.{filing_then}
 use Rattle.replay_world.specs.Notices.{Notice}
-use Rattle.replay_world.specs.Setup.{files_in, rules_in}
-use Rattle.replay_world.specs.Value.{Machine, ReplayValue, disarmed, shelf_armed, unarmed}
+use Rattle.replay_gateway.specs.Setup.{files_in, rules_in}
+use Rattle.replay_gateway.specs.Machine.{Machine, disarmed, shelf_armed, unarmed}
+use Rattle.replay_world.specs.Value.{ReplayValue}
 
 -- An event; a waiting message that is lost; what is armed for a gateway's area from now on, or for its shelf, or that
 -- nothing is armed for either; files that are written of a gateway's firm entries; or something that is only told.

@@ -10,10 +10,10 @@ use Rattle.node_core.specs.Log.{LogEntry}
 use Rattle.node_core.specs.declared.counts.NodeCounts.{NodeCounts}
 use Rattle.once_core.specs.Gateway.{Gateway}
 use Rattle.once_core.specs.World.{node_value}
-use Rattle.replay_world.specs.Report.{book_of}
-use Rattle.replay_world.specs.Tally.{IsTallied}
+use Rattle.replay_gateway.specs.GatewayReport.{book_of}
+use Rattle.replay_gateway.specs.Tally.{IsTallied}
 use Rattle.replay_world.specs.Value.{ReplayValue}
-use Rattle.replay_world.specs.declared.report.Tally.{Tally}
+use Rattle.replay_gateway.specs.declared.gateway_report.Tally.{Tally}
 use Rattle.replay_world.specs.declared.summary.GatewaySums.{GatewaySums}
 use Rattle.replay_world.specs.declared.summary.NodeSums.{NodeSums}
 use Rattle.replay_world.specs.declared.summary.Summary.{Summary}

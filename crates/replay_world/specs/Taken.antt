@@ -7,7 +7,8 @@ use Rattle.node_core.specs.Log.{runs}
 use Rattle.once_core.specs.Gateway.{Rules}
 use Rattle.once_core.specs.Turn.{Turn, is_down_in, is_none_of, log_in, refusal_of, turn}
 use Rattle.once_core.specs.World.{World}
-use Rattle.replay_world.specs.Value.{Machine, ReplayValue}
+use Rattle.replay_gateway.specs.Machine.{Machine}
+use Rattle.replay_world.specs.Value.{ReplayValue}
 use Rattle.world_script.specs.World.{Scene, has_gateway, has_node, is_stopped}
 
 abbrev pub arms_stop : Armed → Bool

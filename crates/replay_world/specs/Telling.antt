@@ -1,13 +1,9 @@
 -- What is told of each step of a line.
-use Rattle.std.specs.Prelude.{ℕ, suc, ◌-◌, nat_lt, not, Bool, if◌then◌else◌, List, [], ◌∷◌, ◌++◌, length, map, Option, Some, None}
+use Rattle.std.specs.Prelude.{ℕ, suc, ◌-◌, nat_lt, not, if◌then◌else◌, List, [], ◌∷◌, ◌++◌, length, map, Option, Some, None}
 use Rattle.std.specs.Option.{option_map_or}
-use Rattle.gateway_book.specs.Answer.{Decided, Says, Silent, decided, failure_answer}
-use Rattle.gateway_book.specs.Preparing.{prepared_of}
-use Rattle.gateway_book.specs.Up.{Sequel, GoesOn, Breaks, Stops, fortune_by}
-use Rattle.gateway_book.specs.Value.{history_of, readied}
+use Rattle.gateway_book.specs.Up.{Sequel, GoesOn, Breaks, Stops}
 use Rattle.gtpp_message.specs.Packet.{PacketForm}
 use Rattle.gtpp_message.specs.declared.reading.Why.{Why}
-use Rattle.gw_base.specs.declared.history.HistoryEntry.{HistoryEntry}
 use Rattle.gw_base.specs.declared.packet.PacketId.{PacketId}
 use Rattle.node_core.specs.Hearing.{heeds}
 use Rattle.node_core.specs.Reached.{most_submissions}
@@ -16,18 +12,19 @@ use Rattle.node_core.specs.Value.{NodeValue}
 use Rattle.node_core.specs.declared.fault.SubmitFault.{SubmitFault}
 use Rattle.node_core.specs.declared.message.Heeded.{Heeded}
 use Rattle.once_core.specs.Addresses.{gateway_address}
-use Rattle.once_core.specs.Answers.{answer_at}
-use Rattle.once_core.specs.Expired.{is_expired, is_expired_at_node}
-use Rattle.once_core.specs.Gateway.{Gateway, Rules}
+use Rattle.once_core.specs.Expired.{is_expired_at_node}
 use Rattle.once_core.specs.World.{draft_of, log_at, node_value}
 use Rattle.once_core.specs.declared.event.Event.{Event}
 use Rattle.once_core.specs.declared.event.Event.TheVariants as event
 use Rattle.once_core.specs.declared.message.Message.{Message}
-use Rattle.replay_world.specs.Device.{message_numbered}
+use Rattle.replay_world.specs.Events.{message_numbered}
 use Rattle.replay_world.specs.Notices.{Notice, Sent, Took, Refused, Resolved, Finished, Expired, Down, Dropped, Faulted, Stopped, submit_fault_name}
-use Rattle.replay_world.specs.Setup.{rules_in}
+use Rattle.replay_gateway.specs.Setup.{rules_in}
 use Rattle.replay_world.specs.Steps.{Site, Step, Plays, Tells, sent_by, sequel_at, site_of}
+use Rattle.replay_gateway.specs.Taking.{ending_at}
 use Rattle.replay_world.specs.Value.{ReplayValue}
+use Rattle.replay_gateway.specs.declared.taking.Ending.{Ending}
+use Rattle.replay_gateway.specs.declared.taking.Ending.TheVariants as ending
 
 -- First, what the device did.
 
@@ -43,34 +40,16 @@ notices_first v e = option_map_or (λ (site : Site). device_notices site.place (
 
 -- At a gateway: that it is down, that the message is expired, or that it is dropped.
 
-abbrev pub silence_notices : ℕ → Decided → List Notice
-silence_notices number (Silent why) = Dropped number why ∷ []
-silence_notices number (Says octets act) = []
-
-abbrev pub answer_notices : Rules → List HistoryEntry → ℕ → Message → List Notice
-answer_notices rules h number m =
-    if is_expired h m then Expired number ∷ [] else silence_notices number (answer_at rules h m)
-
--- a gateway that broke in the delivery; one that was broken already prints nothing more
-abbrev pub failure_notices : Gateway → ℕ → Message → List Notice
-failure_notices g number m =
-    if g.book.is_broken then [] else silence_notices number (decided (failure_answer (prepared_of m.octets)))
-
-abbrev pub notices_by : Rules → Gateway → Bool → ℕ → Message → Sequel → List Notice
-notices_by rules g at_last number m (GoesOn armed) =
-    answer_notices rules (history_of (readied (fortune_by at_last (GoesOn armed)) g.book)) number m
-notices_by rules g at_last number m (Breaks last) = failure_notices g number m
-notices_by rules g at_last number m (Stops stands) = []
-
--- the gateway is down, or its area was asked, of which this came
-abbrev pub gateway_notices : Rules → Gateway → Bool → ℕ → Message → Sequel → List Notice
-gateway_notices rules g at_last number m sequel =
-    if g.is_down then Down number ∷ [] else notices_by rules g at_last number m sequel
+abbrev pub ending_notices : ℕ → Ending → List Notice
+ending_notices number ending.Quiet = []
+ending_notices number ending.Down = Down number ∷ []
+ending_notices number ending.Expired = Expired number ∷ []
+ending_notices number (ending.Dropped why) = Dropped number why ∷ []
 
 abbrev pub delivery_notices : ReplayValue → ℕ → Message → Site → List Notice
 delivery_notices v number m site =
-    gateway_notices (rules_in v.setup) site.gateway site.machine.at_last number m
-    (sequel_at v (event.Deliver number) site)
+    ending_notices number (ending_at (rules_in v.setup) site.gateway site.machine.at_last m
+    (sequel_at v (event.Deliver number) site))
 
 -- At a node: that it is halted, that the message is expired, that it is dropped, or which packets became resolved and
 -- done.

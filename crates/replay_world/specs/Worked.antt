@@ -4,7 +4,8 @@ use Rattle.once_core.specs.Gateway.{Gateway}
 use Rattle.replay_world.specs.Lines.{line_notices}
 use Rattle.replay_world.specs.Notices.{Notice}
 use Rattle.replay_world.specs.Report.{lines_after, replayed}
-use Rattle.replay_world.specs.Value.{Machine, ReplayValue}
+use Rattle.replay_gateway.specs.Machine.{Machine}
+use Rattle.replay_world.specs.Value.{ReplayValue}
 use Rattle.world_script.specs.declared.line.Line.{Line}
 use Rattle.world_script.specs.declared.line.Line.TheVariants as line
 use Rattle.world_script.specs.declared.mode.Mode.{Mode}

@@ -3,29 +3,25 @@ ghost use Rattle.std.specs.Prelude.{◌≡◌, ◌-◌, ◌∷◌, ◌++◌, [],
 ghost use Rattle.area_disk.specs.Armed.{Armed};
 ghost use Rattle.once_core.specs.Turn.{no_running_gateway, refusal_of};
 ghost use Rattle.once_core.specs.declared.event.Event.TheVariants as event;
-ghost use Rattle.replay_world.specs.Asking.{event_asked};
+ghost use Rattle.replay_world.specs.Events.{event_asked};
 ghost use Rattle.replay_world.specs.Does.{Does, DoesOrEnds, Makes};
 ghost use Rattle.replay_world.specs.Lines.{write_steps};
-ghost use Rattle.replay_world.specs.Moves.{ending_notices};
+ghost use Rattle.replay_world.specs.Telling.{ending_notices};
 ghost use Rattle.replay_world.specs.Notices.{notice_lines};
-ghost use Rattle.replay_world.specs.Opening.{ArmsAs};
-ghost use Rattle.replay_world.specs.Sending.{HasSent, IsTo, SendsDelivered, came_notices, goes_on_after, passed};
+ghost use Rattle.replay_gateway.specs.Opening.{ArmsAs};
+ghost use Rattle.replay_world.specs.Sending.{HasSent, IsTo, SendsDelivered, came_notices, goes_on_after, passed, steps_behind};
 ghost use Rattle.replay_world.specs.Stands.{Stands};
 ghost use Rattle.replay_world.specs.Steps.{Arms, ArmsShelf, Plays, Writes};
 ghost use Rattle.replay_world.specs.Value.{ReplayValue};
-ghost use Rattle.replay_world.specs.WritingFiles.{steps_behind};
 
-use crate::calls::GatewayCall;
-use crate::files::Wrote;
-use crate::machine::{Came, Sent};
 use crate::notices::{
     print_down, print_drop, print_expired, print_fault, print_shelf_fault, print_stopped,
 };
 use crate::replay::Replay;
-use crate::taking::{Delivery, Ending};
 use area_disk::Plan;
 use gw_base::{NoMemory, Octets};
 use once_core::world_laws::paths_lead_to_nodes;
+use replay_gateway::{Came, Delivery, Ending, GatewayCall, Sent, Wrote};
 use std::alloc::Global;
 
 impl Replay {

@@ -1,31 +1,33 @@
 //! Laws of replays. Each stands on a function that does nothing.
 
-ghost use Rattle.std.specs.Prelude.{◌≡◌, ◌≤◌, ℕ, List, None, Ok, count_by, false, length, true};
-ghost use Rattle.gateway_book.specs.Filed.{filed};
+ghost use Rattle.std.specs.Prelude.{◌≡◌, ◌≤◌, ℕ, List, None, Ok, false, true};
 ghost use Rattle.gateway_book.specs.Items.{items_of};
-ghost use Rattle.gw_base.specs.History.{is_close_due};
-ghost use Rattle.gw_base.specs.declared.history.HistoryEntry.{HistoryEntry};
-ghost use Rattle.replay_world.specs.Tally.{is_part};
 ghost use Rattle.std.specs.List.{list_any};
 ghost use Rattle.once_core.specs.Gateway.{Gateway};
 ghost use Rattle.once_core.specs.Once.{Once};
 ghost use Rattle.once_core.specs.StandsOnce.{StandsOnce};
 ghost use Rattle.once_core.specs.Turn.{turns};
 ghost use Rattle.replay_world.specs.Lines.{line_after, refusal_of_line, settled, turns_of};
-ghost use Rattle.replay_world.specs.Report.{book_of, gateway_report, gateway_text, lines_after, refused_from, refusal_of_lines, replayed, turns_from, turns_of_lines};
-ghost use Rattle.replay_world.specs.Settled.{AreRead, AreShut, AreWritten, HasPlayedOut, HaveMachines, IsAllWritten, StandInFiles};
-ghost use Rattle.replay_world.specs.Setup.{Setup, files_in, rules_in, setup_of};
+ghost use Rattle.replay_gateway.specs.GatewayReport.{book_of, gateway_report, gateway_text};
+ghost use Rattle.replay_world.specs.Report.{lines_after, refused_from, refusal_of_lines, replayed, turns_from, turns_of_lines};
+ghost use Rattle.replay_world.specs.Settled.{AreRead, AreWritten, HasPlayedOut, HaveMachines, StandInFiles};
+ghost use Rattle.replay_gateway.specs.AtRest.{IsAllWritten};
+ghost use Rattle.replay_gateway.specs.Setup.{Setup, files_in, rules_in, setup_of};
 ghost use Rattle.replay_world.specs.Taken.{Allows, IsAsSaid};
-ghost use Rattle.replay_world.specs.Value.{Machine, ReplayValue, begun, replay_of};
+ghost use Rattle.replay_gateway.specs.Machine.{Machine};
+ghost use Rattle.replay_world.specs.Value.{ReplayValue, begun, replay_of};
 ghost use Rattle.replay_world.specs.declared.replay.Played.{Played};
 ghost use Rattle.world_script.specs.Sample.{sample_of};
-ghost use Rattle.world_script.specs.Script.{is_setting_line, most_text, script_in};
+ghost use Rattle.world_script.specs.Script.{is_setting_line, script_in};
 ghost use Rattle.world_script.specs.World.{Scene, after_line, are_settings_first, first_scene, takes, takes_all};
 ghost use Rattle.world_script.specs.declared.extent.Extent.{Extent};
 ghost use Rattle.world_script.specs.declared.kind.ScriptKind.{ScriptKind};
 ghost use Rattle.world_script.specs.declared.line.Line.{Line};
 
-use gw_base::Octets;
+use replay_gateway::laws::{
+    a_gateway_that_wrote_all_rests, no_file_is_open_where_no_close_is_due,
+    what_a_gateway_at_rest_filed_is_read,
+};
 
 /// A line moves the world as its turns do, and lines as theirs, one after the other. Settings stay.
 #[tactic(auto, using(crate::proofs::LineLemmas::line_world, crate::proofs::LineLemmas::line_setup, crate::proofs::LineLemmas::lines_world))]
@@ -55,14 +57,6 @@ pub fn a_replay_files_each_record_once()
     a_line_is_its_turns();
 }
 
-/// Where no Close is due of a history, none of its records stands in a file that is open, whatever decides the files.
-pub fn no_file_is_open_where_no_close_is_due()
-    ensures { (h : List HistoryEntry) → is_close_due h ≡ false → AreShut (items_of h) }
-{
-    gateway_book::laws::filed_records_stay();
-    file_rotate::division_goes_on::<Octets>();
-}
-
 /// After a settling each gateway runs, its whole history is firm and written, and no file is open: the files that are
 /// sealed have all records that it filed. What is reported of it are the files that all its items make. Each gateway of
 /// a replay has a machine.
@@ -74,16 +68,8 @@ pub fn a_settling_writes_all_files()
     ensures machines { (setup : Setup) (lines : List Line) → HaveMachines (lines_after (begun setup) lines) }
 {
     no_file_is_open_where_no_close_is_due();
+    a_gateway_that_wrote_all_rests();
 }
-
-/// The text of a script has no more octets than it may have, and it has no more lines than that.
-#[tactic(auto, using(crate::proofs::RangeLemmas::script_within, crate::proofs::RangeLemmas::script_few))]
-pub fn a_script_is_short()
-    ensures text { (of : ScriptKind) (text : List ℕ) (lines : List Line) →
-        script_in of text ≡ Ok lines → length text ≤ most_text }
-    ensures lines { (of : ScriptKind) (text : List ℕ) (lines : List Line) →
-        script_in of text ≡ Ok lines → length lines ≤ most_text }
-{}
 
 /// What a world surely takes, as the lines before it say, isn't refused: neither the line nor any of
 /// its turns. So it is line by line in a replay that is as the scene says, whatever failures are armed
@@ -117,11 +103,6 @@ pub fn no_line_of_a_sample_is_refused()
     what_a_world_surely_takes_is_not_refused();
 }
 
-/// Of all items of a history as many are records as it filed.
-pub fn a_history_filed_its_parts()
-    ensures { (h : List HistoryEntry) → count_by is_part (items_of h) ≡ length (filed h) }
-{}
-
 /// Each record that the gateways of a script filed is read at its place, in the files that are handed out once nothing
 /// is left to do.
 pub fn what_is_handed_out_is_read()
@@ -129,6 +110,5 @@ pub fn what_is_handed_out_is_read()
         script_in of text ≡ Ok lines → HasPlayedOut (replayed lines) played →
         AreRead (files_in (setup_of lines)) (replayed lines).world played.shelves.items }
 {
-    once_core::world_laws::what_stands_at_a_place_was_filed();
-    once_core::reading_laws::what_a_history_files_is_read();
+    what_a_gateway_at_rest_filed_is_read();
 }

@@ -1,6 +1,6 @@
 //! A whole network from a script: what each line makes of gateways, nodes and messages, and what it
-//! prints. [`Replay`] runs the lines on real parts in memory: books over areas, writers over shelves,
-//! and nodes.
+//! prints. [`Replay`] runs the lines on real parts in memory: the gateways of `replay_gateway`, and
+//! nodes.
 //!
 //! The model is `ReplayValue` of `specs/Value.antt`; a replay stands for one by `specs/Stands.antt`. The
 //! contract is that of `Replay::run_line`: a line does and prints what `specs/Lines.antt` and
@@ -12,32 +12,18 @@
 //!     let played = replay.into_played();
 #![tactic(auto)]
 
-mod calls;
-mod counting;
 mod delivering;
-mod fallen;
-mod files;
 mod gateway_lines;
 pub mod laws;
 mod lines;
-mod machine;
-mod messages;
 mod node_lines;
 mod notices;
-mod redirecting;
 mod refusals;
 mod replay;
 mod report;
-mod settings;
 mod settling;
-mod site;
 mod summary;
-mod taking;
-mod writing;
 
-pub use counting::count_records;
 pub use lines::LineEnd;
 pub use replay::{Played, Replay};
-pub use report::record_count;
-pub use settings::{Settings, rules_of};
 pub use summary::{GatewaySums, NodeSums, Summary, print_summary};

@@ -7,12 +7,11 @@ ghost use Rattle.replay_world.specs.Report.{report_of};
 ghost use Rattle.replay_world.specs.Stands.{Stands, has_failed};
 ghost use Rattle.replay_world.specs.Value.{ReplayValue};
 
-use crate::calls::GatewayCall;
-use crate::machine::{failing, stopping};
 use crate::replay::Replay;
 use area_disk::Outcome3;
 use gw_base::{NoMemory, Octets};
 use once_core::WorldKind;
+use replay_gateway::{GatewayCall, failing, stopping};
 use std::alloc::Global;
 use world_script::{Line, Mode};
 

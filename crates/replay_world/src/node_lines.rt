@@ -1,9 +1,11 @@
 // What befalls a node of a replay. One that isn't there is left alone.
-ghost use Rattle.std.specs.Prelude.{◌≡◌, ◌-◌, ◌++◌, [], ℕ, ◌≢◌, IfErr, IfOk, IfSome, OnOk, MatchOption, None, Some, Ok, Err, false, true, map};
+ghost use Rattle.std.specs.Prelude.{◌≡◌, ◌-◌, ◌++◌, [], ℕ, List, ◌≢◌, IfErr, IfOk, IfSome, OnOk, MatchOption, None, Some, Ok, Err, false, true, map};
 ghost use Rattle.node_core.specs.Drafts.{is_without_records, value_octets};
+ghost use Rattle.node_core.specs.Log.{LogEntry};
 ghost use Rattle.node_core.specs.declared.fault.DraftFault.TheVariants as draft_fault;
 ghost use Rattle.node_core.specs.declared.fault.SubmitFault.TheVariants as submit_fault;
 ghost use Rattle.node_core.specs.Submitting.{refusal_of as refusal_by};
+ghost use Rattle.once_core.specs.Expired.{is_expired_at_node, starts_in};
 ghost use Rattle.once_core.specs.Turn.{no_running_node, refusal_of};
 ghost use Rattle.once_core.specs.declared.event.Event.TheVariants as event;
 ghost use Rattle.once_core.specs.NodeMoves.{message_kept};
@@ -13,7 +15,7 @@ ghost use Rattle.replay_world.specs.Does.{Does, DoesAll};
 ghost use Rattle.replay_world.specs.Lines.{submit_steps};
 ghost use Rattle.replay_world.specs.Notices.{Refused, draft_fault_name, notice_line, notice_lines, submit_fault_name};
 ghost use Rattle.replay_world.specs.Packets.{drafted};
-ghost use Rattle.replay_world.specs.Ends.{ends_kept};
+ghost use Rattle.replay_gateway.specs.Ends.{ends_kept};
 ghost use Rattle.replay_world.specs.Sending.{HasSent, IsTo, passed};
 ghost use Rattle.replay_world.specs.Stands.{Stands};
 ghost use Rattle.replay_world.specs.Steps.{Plays};
@@ -21,14 +23,16 @@ ghost use Rattle.replay_world.specs.Telling.{heeded_notices};
 ghost use Rattle.replay_world.specs.Value.{ReplayValue};
 
 use crate::gateway_lines::index_of;
-use crate::messages::{Ends, is_expired_at_node, kept};
 use crate::notices::{
     print_done, print_down, print_drop, print_expired, print_refused, print_resolved, print_took,
 };
 use crate::replay::Replay;
 use gw_base::{NoMemory, Octets};
-use node_core::{Draft, DraftFault, Heeded, Outgoing, SubmitFault, a_node_stands_for_its_log};
+use node_core::{
+    Draft, DraftFault, Heeded, Node, Outgoing, SubmitFault, a_node_stands_for_its_log,
+};
 use once_core::{Message, gateway_address};
+use replay_gateway::Ends;
 use std::alloc::Global;
 
 /// The most packets of a node.
@@ -234,9 +238,17 @@ impl Replay {
         let Some(reply) = &heeded.reply else {
             return Ok(());
         };
-        let message = ends.answer(kept(alloc, reply)?);
+        let message = ends.answer(alloc, reply)?;
         self.send(alloc, message, out)
     }
+}
+
+/// Whether a message is expired at a node.
+fn is_expired_at_node(node: &Node, message: &Message) -> bool
+    ensures { (log : List LogEntry) → node.now.paths.counter ≡ starts_in log →
+        result ≡ is_expired_at_node log node.now message.now }
+{
+    once_core::is_expired_at_node(node.counter(), node, message)
 }
 
 /// The draft that takes these records, one after the other, or why one of them isn't taken.

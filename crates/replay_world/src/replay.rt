@@ -6,15 +6,14 @@ ghost use Rattle.once_core.specs.Beginning.{first_gateway, times_of};
 ghost use Rattle.once_core.specs.Gateway.{Gateway};
 ghost use Rattle.replay_world.specs.Played.{EachHandedOut, HasPlayed, HaveRoom};
 ghost use Rattle.replay_world.specs.Sending.{HasSent};
-ghost use Rattle.replay_world.specs.Settings.{AreSet, AreSound};
+ghost use Rattle.replay_gateway.specs.Settings.{AreSet, AreSound};
 ghost use Rattle.replay_world.specs.Settled.{AreWritten, HasPlayedOut};
-ghost use Rattle.replay_world.specs.Setup.{Setup, rules_in, setup_of};
+ghost use Rattle.replay_gateway.specs.Setup.{Setup, rules_in, setup_of};
 ghost use Rattle.replay_world.specs.Stands.{EachStands, Stands, nodes_from};
-ghost use Rattle.replay_world.specs.Value.{Machine as MachineValue, ReplayValue, first_machine, replay_of};
+ghost use Rattle.replay_gateway.specs.Machine.{Machine as MachineValue, first_machine};
+ghost use Rattle.replay_world.specs.Value.{ReplayValue, replay_of};
 
-use crate::machine::Machine;
 use crate::notices::print_sent;
-use crate::settings::{Settings, rules_of};
 use area_disk::MemoryArea;
 use cdr_shelf::MemoryShelf;
 use gw_base::{Addr, Moment, NoMemory, Octets};
@@ -22,6 +21,8 @@ use indexmap::IndexSet;
 use node_core::Node;
 use once_core::world_laws::turns_reach_worlds;
 use once_core::{Message, addresses_of, node_id};
+use replay_gateway::laws::a_gateway_that_wrote_all_rests;
+use replay_gateway::{Machine, Settings, rules_of};
 use std::alloc::Global;
 use world_script::Script;
 
@@ -119,6 +120,7 @@ impl Replay {
         ensures played { (v : ReplayValue) → Stands v self → HasPlayed v result }
         ensures at_rest { (v : ReplayValue) → Stands v self → AreWritten v → HasPlayedOut v result }
     {
+        a_gateway_that_wrote_all_rests();
         let Replay {
             gateways,
             nodes,

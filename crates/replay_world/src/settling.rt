@@ -10,9 +10,9 @@ ghost use Rattle.replay_world.specs.Stands.{Stands};
 ghost use Rattle.replay_world.specs.Steps.{Disarms, Plays, Writes};
 ghost use Rattle.replay_world.specs.Value.{ReplayValue};
 
-use crate::calls::GatewayCall;
 use crate::replay::Replay;
 use gw_base::{NoMemory, Octets};
+use replay_gateway::GatewayCall;
 use std::alloc::Global;
 
 impl Replay {

@@ -7,9 +7,9 @@ ghost use Rattle.replay_world.specs.Summary.{AreGatewaySums, AreNodeSums, Tallie
 ghost use Rattle.replay_world.specs.Value.{ReplayValue};
 
 use crate::replay::Replay;
-use crate::report::Tally;
 use gw_base::{NoMemory, Octets};
 use node_core::NodeCounts;
+use replay_gateway::Tally;
 use std::alloc::Global;
 
 /// What all nodes count together: packets that were submitted, that became resolved, and that became done.

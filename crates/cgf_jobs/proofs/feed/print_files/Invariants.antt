@@ -4,7 +4,7 @@ use Rattle.cdr_shelf.specs.Files.{in_stream}
 use Rattle.file_writer.specs.Files.{files_below, stream_files}
 use Rattle.file_writer.specs.Streams.{Settings, stream_count}
 use Rattle.gw_base.specs.declared.item.Item.{Item}
-use Rattle.replay_world.specs.Report.{file_line}
+use Rattle.replay_gateway.specs.GatewayReport.{file_line}
 use Rattle.cgf_jobs.proofs.feed.print_files.Given as goal
 
 -- the lines of the files of the streams so far were printed

@@ -1,7 +1,7 @@
 use Rattle.std.proofs.Common.{◌≡◌, ◌≤◌, ◌+◌, ◌-◌, length, drop}
 use Rattle.cgf_jobs.specs.FeedReport.{fed_from, fed_of, with_print}
-use Rattle.replay_world.specs.Settings.{AreSound}
-use Rattle.replay_world.specs.Setup.{setup_of}
+use Rattle.replay_gateway.specs.Settings.{AreSound}
+use Rattle.replay_gateway.specs.Setup.{setup_of}
 use Rattle.cgf_jobs.specs.Steps.{state_of}
 use Rattle.cgf_jobs.proofs.feed.report.Given as goal
 

@@ -3,7 +3,7 @@ use Rattle.cdr_shelf.specs.contracts.quiet.QuietShelfShelf.TheImpl.{ghosts as sh
 use Rattle.file_writer.specs.Parts.{HasAdvanced}
 use Rattle.file_writer.specs.Writer.{is_broken, settings_in, taken_of}
 use Rattle.gateway_book.specs.Items.{items_of}
-use Rattle.replay_world.specs.Tally.{is_part}
+use Rattle.replay_gateway.specs.Tally.{is_part}
 use Rattle.cgf_jobs.proofs.files.tell_all.Given as goal
 
 -- the items of the parts that were told are taken, and their records counted

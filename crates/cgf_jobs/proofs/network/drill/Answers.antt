@@ -1,6 +1,6 @@
 use Rattle.std.proofs.Common.{◌∙◌, refl, sym, ap, ℕ, List, ◌++◌, arith}
 use Rattle.std.proofs.lemmas.Option.{slice_get_within}
-use Rattle.replay_world.specs.Setup.{setup_of}
+use Rattle.replay_gateway.specs.Setup.{setup_of}
 use Rattle.replay_world.specs.Value.{replay_of}
 use Rattle.cgf_jobs.proofs.EndingLemmas.{ended_told, ended_written, reads_ends}
 use Rattle.replay_world.specs.Summary.{summary_text}

@@ -1,5 +1,5 @@
 use Rattle.std.proofs.Common.{ℕ, ◌+◌, ◌-◌, ◌/◌, ◌%◌, List, [], ◌∷◌, ◌++◌, ap, ◌∙◌, append_assoc}
-use Rattle.replay_world.specs.Report.{digits}
+use Rattle.replay_gateway.specs.GatewayReport.{digits}
 use Rattle.cgf_jobs.proofs.PrintLemmas.{last_digit}
 use Rattle.cgf_jobs.proofs.printing.+print_digits.Goals as goal
 

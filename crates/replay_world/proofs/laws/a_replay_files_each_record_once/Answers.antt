@@ -4,7 +4,7 @@ use Rattle.once_core.specs.StandsOnce.{StandsOnce}
 use Rattle.once_core.specs.Turn.{turns}
 use Rattle.once_core.specs.World.{World}
 use Rattle.replay_world.specs.Report.{lines_after, turns_from}
-use Rattle.replay_world.specs.Setup.{files_in, rules_in}
+use Rattle.replay_gateway.specs.Setup.{files_in, rules_in}
 use Rattle.replay_world.specs.Value.{begun}
 use Rattle.replay_world.proofs.LineLemmas.{lines_world}
 use Rattle.replay_world.proofs.laws.a_replay_files_each_record_once.Goals as goal

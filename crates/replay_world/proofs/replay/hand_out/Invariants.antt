@@ -1,9 +1,9 @@
 use Rattle.std.proofs.Common.{◌≤◌, List, length, take, vec_capacity}
 use Rattle.once_core.specs.Gateway.{Gateway}
 use Rattle.replay_world.specs.Played.{EachHandedOut, HaveRoom}
-use Rattle.replay_world.specs.Setup.{Setup}
+use Rattle.replay_gateway.specs.Setup.{Setup}
 use Rattle.replay_world.specs.Stands.{EachStands}
-use Rattle.replay_world.specs.Value.{Machine}
+use Rattle.replay_gateway.specs.Machine.{Machine}
 use Rattle.replay_world.proofs.replay.hand_out.Given as goal
 
 -- the gateways so far handed out what they have, and there is room for the others

@@ -1,9 +1,9 @@
 use Rattle.std.proofs.Common.{sym, subst, [], ◌+◌, List}
 use Rattle.once_core.specs.Beginning.{first_gateway, times_of}
-use Rattle.replay_world.specs.Setup.{rules_in, setup_of}
+use Rattle.replay_gateway.specs.Setup.{rules_in, setup_of}
 use Rattle.replay_world.specs.Stands.{EachStands}
-use Rattle.replay_world.specs.Value.{first_machine}
-use Rattle.replay_world.specs.declared.machine.Machine as real
+use Rattle.replay_gateway.specs.Machine.{first_machine}
+use Rattle.replay_gateway.specs.declared.machine.Machine as real
 use Rattle.replay_world.proofs.BeginningLemmas.{each_next}
 use Rattle.replay_world.proofs.replay.machines_of.Goals as goal
 

@@ -4,7 +4,7 @@ use Rattle.gateway_book.specs.Calls.{counts_of}
 use Rattle.gateway_book.specs.Filed.{filed}
 use Rattle.gateway_book.specs.Items.{items_of}
 use Rattle.gateway_book.specs.Value.{standing_for}
-use Rattle.replay_world.specs.Setup.{Setup, files_in}
+use Rattle.replay_gateway.specs.Setup.{Setup, files_in}
 use Rattle.cgf_jobs.specs.Gateway.{GatewayValue, after_close}
 use Rattle.cgf_jobs.specs.Steps.{setup_seen}
 use Rattle.cgf_jobs.proofs.FeedLemmas.{end_printed}

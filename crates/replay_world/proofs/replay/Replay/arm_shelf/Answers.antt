@@ -1,7 +1,7 @@
 use Rattle.std.proofs.Common.{◌≡◌, ◌∙◌, refl, sym, ap, ℕ, ◌-◌, ◌<◌, length, set, Some, slice_get, arith}
 use Rattle.std.proofs.lemmas.Option.{slice_get_read}
 use Rattle.replay_world.specs.Steps.{ArmsShelf}
-use Rattle.replay_world.specs.Value.{shelf_armed}
+use Rattle.replay_gateway.specs.Machine.{shelf_armed}
 use Rattle.replay_world.proofs.GatewayEventLemmas.{called_stands, machine_at, no_machine, runs_there}
 use Rattle.replay_world.proofs.QuietLemmas.{arms_shelf, does_quietly, told_nothing}
 use Rattle.replay_world.proofs.replay.Replay.arm_shelf.Goals as goal

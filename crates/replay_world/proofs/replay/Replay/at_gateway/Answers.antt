@@ -1,6 +1,7 @@
 use Rattle.std.proofs.Common.{◌≡◌, ◌∙◌, refl, sym, ap, subst, List, ℕ, ◌-◌, ◌<◌, length, set, Some, slice_get, arith}
 use Rattle.std.proofs.lemmas.Option.{slice_get_read}
-use Rattle.replay_world.specs.Asking.{asked_move, event_asked}
+use Rattle.replay_gateway.specs.Asking.{asked_move}
+use Rattle.replay_world.specs.Events.{event_asked}
 use Rattle.replay_world.specs.Stands.{Stands}
 use Rattle.replay_world.proofs.AskingLemmas.{asked_allowed, asked_machines, asked_place, asked_tells, asked_there, asked_turn, asked_waiting}
 use Rattle.replay_world.proofs.GatewayEventLemmas.{at_running, called_stands, machine_at, no_machine, runs_there, sent_quietly}

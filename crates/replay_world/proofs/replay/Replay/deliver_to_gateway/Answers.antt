@@ -1,12 +1,12 @@
 use Rattle.std.proofs.Common.{◌≡◌, ◌∙◌, refl, sym, ap, subst, ℕ, ◌+◌, ◌-◌, ◌<◌, List, length, set, Some, None, slice_get, arith}
 use Rattle.std.proofs.lemmas.Option.{slice_get_past, slice_get_read}
+use Rattle.std.proofs.lemmas.Result.{IfOk-weaker}
 use Rattle.once_core.specs.declared.message.Message.{Message}
-use Rattle.replay_world.specs.Taking.{IsDelivered}
+use Rattle.replay_gateway.specs.Taking.{IsDelivered}
 use Rattle.replay_world.specs.Sending.{passed}
-use Rattle.replay_world.specs.Stands.{MachineStands}
+use Rattle.replay_gateway.specs.Standing.{MachineStands}
 use Rattle.replay_world.proofs.ArrivalLemmas.{arrived, arrived_nowhere, message_here}
 use Rattle.replay_world.proofs.GatewayEventLemmas.{called_stands, machine_at, machines_count}
-use Rattle.replay_world.proofs.GoesLemmas.{if_ok}
 use Rattle.replay_world.proofs.replay.Replay.deliver_to_gateway.Goals as goal
 
 pub returns-then-index-len : goal.returns-then-index-len
@@ -56,7 +56,7 @@ returns c = λ v stands to.
     (subst (λ (t : ℕ). IsDelivered v.setup c.args.place here.gateway here.machine t c.index.result.now
     c.in_ok-delivery.delivery c.deliver.new.self) stands.now
     (c.in_ok-delivery.ensures v.setup c.args.place here.gateway here.machine there)) in
-    if_ok c.send_delivered.result (λ on sends. arrived v c.args.number c.args.place to here.gateway here.machine
+    IfOk-weaker c.send_delivered.result _ _ (λ on sends. arrived v c.args.number c.args.place to here.gateway here.machine
     here.has_gateway here.has_machine c.args.out.now sends.middle c.send_delivered.new.out c.in_ok-delivery.delivery
     c.deliver.new.self c.args.self.now _ c.send_delivered.new.self on stands done refl
     (ap (λ (k : ℕ). set c.args.self.now.gateways.items k c.deliver.new.self) c.from-index.ensures) sends.sent sends.goes

@@ -1,13 +1,13 @@
 use Rattle.std.proofs.Common.{◌≡◌, ◌∙◌, refl, sym, ap, ℕ, ◌-◌, ◌<◌, true, false, List, length, set, Some, None, slice_get, arith}
 use Rattle.std.proofs.lemmas.Option.{slice_get_past, slice_get_read}
+use Rattle.std.proofs.lemmas.Result.{on_ok_weaker}
 use Rattle.node_core.specs.Value.{NodeValue}
 use Rattle.once_core.specs.Addresses.{gateway_address}
 use Rattle.once_core.specs.Expired.{is_expired_at_node, starts_in}
 use Rattle.once_core.specs.declared.message.Message.{Message}
-use Rattle.replay_world.specs.Ends.{ends_kept}
+use Rattle.replay_gateway.specs.Ends.{ends_kept}
 use Rattle.replay_world.specs.Sending.{passed}
-use Rattle.replay_world.specs.declared.messages.Ends.{Ends}
-use Rattle.replay_world.proofs.GoesLemmas.{on_ok}
+use Rattle.replay_gateway.specs.declared.messages.Ends.{Ends}
 use Rattle.replay_world.proofs.NodeHearLemmas.{message_is}
 use Rattle.replay_world.proofs.NodeToldLemmas.{at_world, counter_there, down_told, expired_told, hears}
 use Rattle.replay_world.proofs.RefusalLemmas.{no_node_runs, node_at, node_runs}
@@ -29,7 +29,7 @@ returns-then-index-len c = λ v stands to.
     let gone : slice_get old.nodes.items c.args.place ≡ None =
     slice_get_past old.nodes.items c.args.place
     (omega (arith, c.if-index-len.true, c.len-2.ensures, c.from-index.ensures, old.nodes.ok.0)) in
-    on_ok c.print_down.result (λ told. down_told v c.args.number c.args.place to c.args.out.now c.print_down.new.out old
+    on_ok_weaker c.print_down.result (λ told. down_told v c.args.number c.args.place to c.args.out.now c.print_down.new.out old
     stands (no_node_runs (passed c.args.number v) old stands c.args.place gone) told) c.print_down.ensures
 
 pub returns-then-not-runs : goal.returns-then-not-runs
@@ -41,7 +41,7 @@ returns-then-not-runs c = λ v stands to.
     ap (λ (k : ℕ). slice_get old.nodes.items k) (sym c.from-index.ensures)
     ∙ slice_get_read old.nodes.items (length old.nodes.items) c.from-index.result c.index.result.now refl within
     c.index.ensures in
-    on_ok c.print_down-then-not-runs.result (λ told. down_told v c.args.number c.args.place to c.args.out.now
+    on_ok_weaker c.print_down-then-not-runs.result (λ told. down_told v c.args.number c.args.place to c.args.out.now
     c.print_down-then-not-runs.new.out old stands
     (sym (node_runs (passed c.args.number v) old stands c.args.place c.index.result.now has) ∙ sym c.runs.ensures
     ∙ c.if-not-runs.true) told) c.print_down-then-not-runs.ensures
@@ -77,7 +77,7 @@ returns-then-is_expired_at_node c = λ v stands to.
     sym (ap (λ (m : Message). is_expired_at_node there.log c.index-3.result.now m) message)
     ∙ sym (c.is_expired_at_node.ensures there.log (counter_there v place c.index-3.result.now there))
     ∙ c.if-is_expired_at_node.true in
-    on_ok c.print_expired.result (λ told. expired_told v c.args.number place to c.index-3.result.now there c.args.out.now
+    on_ok_weaker c.print_expired.result (λ told. expired_told v c.args.number place to c.index-3.result.now there c.args.out.now
     c.print_expired.new.out old stands running expired told) c.print_expired.ensures
 
 pub returns : goal.returns
@@ -128,7 +128,7 @@ returns c = λ v stands to.
     let from : c.gateway_address.result ≡ gateway_address to.message.gateway =
     c.gateway_address.ensures ∙ ap (λ (e : Ends). gateway_address e.gateway) ends in
     let octets : c.octets.result.now ≡ to.message.octets = c.octets.ensures ∙ ap (λ (m : Message). m.octets) third in
-    on_ok c.print_heeded.result (λ told. hears v c.args.number place to c.a_node_stands_for_its_log.ensures n there
+    on_ok_weaker c.print_heeded.result (λ told. hears v c.args.number place to c.a_node_stands_for_its_log.ensures n there
     c.args.out.now c.send_reply.new.out c.print_heeded.new.out old _ c.send_reply.new.self c.of-ends.result.port
     c.gateway_address.result c.octets.result.now c.hear-heeded.result c.hear-heeded.new.self port from octets running fresh
     stands refl (ap (λ (k : ℕ). set old.nodes.items k c.hear-heeded.new.self) c.from-index.ensures)

@@ -1,8 +1,8 @@
 use Rattle.std.proofs.Common.{subst, Bool, [], ◌∷◌}
+use Rattle.std.proofs.lemmas.Result.{IfOk-weaker}
 use Rattle.replay_world.specs.Does.{DoesAll}
 use Rattle.replay_world.specs.Lines.{after_steps, delivers}
 use Rattle.replay_world.proofs.FlowLemmas.{may_come_again}
-use Rattle.replay_world.proofs.GoesLemmas.{if_ok}
 use Rattle.replay_world.proofs.StepsLemmas.{does_ended, does_one, does_then}
 use Rattle.replay_world.proofs.replay.Replay.deliver_twice.Goals as goal
 
@@ -22,7 +22,7 @@ returns c = λ v stands none.
     (does_one v (delivers c.args.number) c.args.out.now c.deliver.new.out c.deliver.new.self c.in_ok-goes_on.goes_on
     (c.in_ok-goes_on.ensures v stands none)) in
     let u = after_steps v (delivers c.args.number ∷ []) in
-    if_ok c.deliver-2.result (λ on done. does_then v (delivers c.args.number ∷ []) (delivers c.args.number ∷ [])
+    IfOk-weaker c.deliver-2.result _ _ (λ on done. does_then v (delivers c.args.number ∷ []) (delivers c.args.number ∷ [])
     c.args.out.now c.deliver.new.out c.deliver.new.self c.deliver-2.new.out c.deliver-2.new.self on first
     (does_one u (delivers c.args.number) c.deliver.new.out c.deliver-2.new.out c.deliver-2.new.self on done))
     (c.deliver-2.ensures u first.makes.stands

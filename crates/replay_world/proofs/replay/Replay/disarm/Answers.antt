@@ -1,8 +1,8 @@
 use Rattle.std.proofs.Common.{◌≡◌, refl, subst, ℕ, ◌+◌, length, Some, slice_get, length-set, arith}
 use Rattle.std.proofs.lemmas.Option.{slice_get_read}
-use Rattle.replay_world.specs.Stands.{MachineStands}
+use Rattle.replay_gateway.specs.Standing.{MachineStands}
 use Rattle.replay_world.specs.Steps.{Disarms}
-use Rattle.replay_world.specs.Value.{unarmed}
+use Rattle.replay_gateway.specs.Machine.{unarmed}
 use Rattle.replay_world.proofs.QuietLemmas.{disarms, does_quietly, told_nothing}
 use Rattle.replay_world.proofs.RefusalLemmas.{gateway_at}
 use Rattle.replay_world.proofs.replay.Replay.disarm.Goals as goal

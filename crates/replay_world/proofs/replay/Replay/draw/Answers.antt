@@ -1,9 +1,9 @@
 use Rattle.std.proofs.Common.{sym, subst, true, List}
+use Rattle.std.proofs.lemmas.Result.{IfOk-weaker}
 use Rattle.replay_world.specs.Does.{DoesAll}
 use Rattle.replay_world.specs.Lines.{delivers}
 use Rattle.replay_world.specs.Steps.{Step}
 use Rattle.replay_world.proofs.FlowLemmas.{does_lose, lot_comes, lot_lost, lot_twice, lot_waits}
-use Rattle.replay_world.proofs.GoesLemmas.{if_ok}
 use Rattle.replay_world.proofs.StepsLemmas.{does_none, does_one}
 use Rattle.replay_world.proofs.replay.Replay.draw.Goals as goal
 
@@ -15,7 +15,7 @@ returns-then-lot-eq0 c = λ v stands none.
 
 pub returns-then-lot-eq1 : goal.returns-then-lot-eq1
 returns-then-lot-eq1 c = λ v stands none.
-    if_ok c.deliver_twice.result (λ on done. subst (λ (ss : List Step). DoesAll v ss c.args.out.now
+    IfOk-weaker c.deliver_twice.result _ _ (λ on done. subst (λ (ss : List Step). DoesAll v ss c.args.out.now
     c.deliver_twice.new.out c.deliver_twice.new.self on) (sym (lot_twice c.args.lot c.args.number c.if-lot-eq1.true)) done)
     (c.deliver_twice.ensures v stands none)
 
@@ -26,7 +26,7 @@ returns-then-lot-eq2 c = λ v stands none.
 
 pub returns : goal.returns
 returns c = λ v stands none.
-    if_ok c.deliver.result (λ on done. subst (λ (ss : List Step). DoesAll v ss c.args.out.now c.deliver.new.out
+    IfOk-weaker c.deliver.result _ _ (λ on done. subst (λ (ss : List Step). DoesAll v ss c.args.out.now c.deliver.new.out
     c.deliver.new.self on)
     (sym (lot_comes c.args.lot c.args.number c.if-lot-eq0.false c.if-lot-eq1.false c.if-lot-eq2.false))
     (does_one v (delivers c.args.number) c.args.out.now c.deliver.new.out c.deliver.new.self on done))

@@ -1,11 +1,11 @@
 use Rattle.std.proofs.Common.{◌∙◌, refl, sym, ap, subst, ℕ, [], ◌∷◌, ◌++◌, ◌-◌, append-nil}
+use Rattle.std.proofs.lemmas.Result.{on_ok_weaker}
 use Rattle.once_core.specs.declared.event.Event.TheVariants as event
 use Rattle.replay_world.specs.Does.{Makes}
 use Rattle.replay_world.specs.Notices.{ShelfFaulted, Stopped, notice_line}
 use Rattle.replay_world.specs.Steps.{Plays, Tells, after_step}
-use Rattle.replay_world.specs.WritingFiles.{steps_behind}
-use Rattle.replay_world.specs.declared.files.Wrote.{Wrote}
-use Rattle.replay_world.proofs.GoesLemmas.{on_ok}
+use Rattle.replay_world.specs.Sending.{steps_behind}
+use Rattle.replay_gateway.specs.declared.files.Wrote.{Wrote}
 use Rattle.replay_world.proofs.NodeSubmitLemmas.{does_behind, does_tell, one_step}
 use Rattle.replay_world.proofs.StepsLemmas.{makes_one, makes_then}
 use Rattle.replay_world.proofs.replay.Replay.end_write.Goals as goal
@@ -17,7 +17,7 @@ returns-in-All c = λ v number stands is none.
 
 pub returns-in-Failed : goal.returns-in-Failed
 returns-in-Failed c = λ v number stands is none.
-    on_ok c.print_shelf_fault.result (λ prints.
+    on_ok_weaker c.print_shelf_fault.result (λ prints.
     subst (λ (w : Wrote). Makes v (steps_behind number w) c.args.out.now c.print_shelf_fault.new.out c.args.self.now)
     (sym c.in-Failed.is)
     (makes_one v (Tells (ShelfFaulted (number - 1))) c.args.out.now c.print_shelf_fault.new.out c.args.self.now

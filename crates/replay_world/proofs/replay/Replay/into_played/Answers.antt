@@ -14,7 +14,8 @@ returns-clause-played c = λ v stands. record {
 
 pub returns-clause-at_rest : goal.returns-clause-at_rest
 returns-clause-at_rest c = λ v stands are. record {
-  gateways = all_at_rest v.setup v.world.gateways v.machines c.hand_out-areas.result.0.items
+  gateways = all_at_rest c.a_gateway_that_wrote_all_rests.ensures.rests v.setup v.world.gateways v.machines
+      c.hand_out-areas.result.0.items
       c.hand_out-areas.result.1.items
       (c.hand_out-areas.ensures v.setup v.world.gateways v.machines stands.gateways (record {
         no_areas = stands.room.no_areas;

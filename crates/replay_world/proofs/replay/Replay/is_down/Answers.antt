@@ -2,7 +2,7 @@ use Rattle.std.proofs.Common.{◌≡◌, ◌∙◌, refl, sym, ap, ℕ, ◌-◌,
 use Rattle.std.proofs.lemmas.Option.{slice_get_past, slice_get_read}
 use Rattle.std.specs.Option.{option_map_or}
 use Rattle.once_core.specs.Gateway.{Gateway}
-use Rattle.replay_world.specs.declared.machine.Machine as real
+use Rattle.replay_gateway.specs.declared.machine.Machine as real
 use Rattle.replay_world.proofs.RefusalLemmas.{gateway_down, gateways_count}
 use Rattle.replay_world.proofs.replay.Replay.is_down.Goals as goal
 

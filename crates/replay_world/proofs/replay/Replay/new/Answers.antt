@@ -1,9 +1,9 @@
 use Rattle.std.proofs.Common.{◌≡◌, ◌∙◌, sym, ap, subst, ℕ, ◌≤◌, [], ◌∷◌, rules}
 use Rattle.node_core.specs.Log.{Began}
 use Rattle.once_core.specs.Beginning.{first_gateway, times_of}
-use Rattle.replay_world.specs.Setup.{rules_in, setup_of}
+use Rattle.replay_gateway.specs.Setup.{rules_in, setup_of}
 use Rattle.replay_world.specs.Stands.{EachStands, nodes_from}
-use Rattle.replay_world.specs.Value.{first_machine}
+use Rattle.replay_gateway.specs.Machine.{first_machine}
 use Rattle.replay_world.proofs.BeginningLemmas.{begun_stands}
 use Rattle.replay_world.proofs.replay.Replay.new.Goals as goal
 

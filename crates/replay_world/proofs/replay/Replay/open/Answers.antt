@@ -1,12 +1,12 @@
 use Rattle.std.proofs.Common.{◌≡◌, ◌∙◌, refl, sym, ap, ℕ, ◌-◌, ◌<◌, length, set, Some, slice_get, arith}
 use Rattle.std.proofs.lemmas.Option.{slice_get_read}
+use Rattle.std.proofs.lemmas.Result.{on_ok_weaker}
 use Rattle.once_core.specs.Gateway.{opened, still}
 use Rattle.once_core.specs.declared.event.Event.TheVariants as event
-use Rattle.replay_world.specs.Setup.{rules_in}
-use Rattle.replay_world.specs.Stands.{MachineStands}
+use Rattle.replay_gateway.specs.Setup.{rules_in}
+use Rattle.replay_gateway.specs.Standing.{MachineStands}
 use Rattle.replay_world.specs.Steps.{Plays}
 use Rattle.replay_world.proofs.GatewayEventLemmas.{called_stands, machine_at}
-use Rattle.replay_world.proofs.GoesLemmas.{on_ok}
 use Rattle.replay_world.proofs.QuietLemmas.{does_quietly, down_there, is_there_down, machines_stay, no_machine_down, plays, told_sent}
 use Rattle.replay_world.proofs.replay.Replay.open.Goals as goal
 
@@ -26,7 +26,7 @@ returns c = λ v number stands is none.
     let here = machine_at v c.args.self.now stands number c.args.place c.index_mut.result.now is has in
     let there = called_stands v number c.index_mut.result.now here in
     let down = down_there v.world number here.gateway here.has_gateway (is_there_down v.world number none).2 in
-    on_ok {P = MachineStands v.setup (number - 1) (opened (rules_in v.setup) here.gateway) here.machine c.open.new.self}
+    on_ok_weaker {P = MachineStands v.setup (number - 1) (opened (rules_in v.setup) here.gateway) here.machine c.open.new.self}
     c.open.result (λ stood. does_quietly v (Plays (event.Open number)) (number - 1)
     (opened (rules_in v.setup) here.gateway) here.machine c.open.new.self c.args.self.now _
     (plays v (number - 1) here.gateway here.machine here.has_gateway here.has_machine (event.Open number)

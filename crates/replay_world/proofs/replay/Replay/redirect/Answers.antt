@@ -1,15 +1,15 @@
 use Rattle.std.proofs.Common.{◌≡◌, ◌∙◌, refl, sym, ap, subst, ℕ, ◌-◌, ◌<◌, length, set, Option, Some, slice_get, arith}
 use Rattle.std.proofs.lemmas.List.Elements.{All-weaker}
 use Rattle.std.proofs.lemmas.Option.{slice_get_read}
+use Rattle.std.proofs.lemmas.Result.{on_ok_weaker}
 use Rattle.gateway_book.specs.Told.{paths_of}
 use Rattle.gateway_book.specs.Value.{history_of}
 use Rattle.once_core.specs.Addresses.{node_at}
 use Rattle.once_core.specs.Answers.{redirected}
-use Rattle.replay_world.specs.Moves.{HasMoved}
-use Rattle.replay_world.specs.Redirecting.{KnowsNear}
-use Rattle.replay_world.specs.Stands.{MachineStands}
+use Rattle.replay_gateway.specs.Moves.{HasMoved}
+use Rattle.replay_gateway.specs.Redirecting.{KnowsNear}
+use Rattle.replay_gateway.specs.Standing.{MachineStands}
 use Rattle.replay_world.proofs.GatewayEventLemmas.{called_stands, machine_at, no_machine, runs_there}
-use Rattle.replay_world.proofs.GoesLemmas.{on_ok}
 use Rattle.replay_world.proofs.QuietLemmas.{does_redirect, runs_to_redirect}
 use Rattle.replay_world.proofs.replay.Replay.redirect.Goals as goal
 
@@ -42,7 +42,7 @@ returns c = λ v number other stands is same none.
     (sym same)
     (subst (λ (p : ℕ). HasMoved v.setup p (redirected p c.args.cause c.args.to here.gateway) here.machine
     c.in_ok-messages.messages.items c.redirect.new.self) (sym is) moved) in
-    on_ok c.send_all.result (λ sends. does_redirect v number c.args.cause other here.gateway here.machine
+    on_ok_weaker c.send_all.result (λ sends. does_redirect v number c.args.cause other here.gateway here.machine
     c.in_ok-messages.messages.items c.args.out.now c.send_all.new.out c.redirect.new.self c.args.self.now _
     c.send_all.new.self here.has_gateway here.has_machine none stands as_said refl
     (ap (λ (k : ℕ). set c.args.self.now.gateways.items k c.redirect.new.self) (c.from-index.ensures ∙ sym is)) sends) c.send_all.ensures

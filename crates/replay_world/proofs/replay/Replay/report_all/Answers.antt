@@ -1,11 +1,11 @@
+use Rattle.std.proofs.lemmas.Result.{on_ok_weaker}
 use Rattle.replay_world.proofs.AllLemmas.{reports}
-use Rattle.replay_world.proofs.GoesLemmas.{on_ok}
 use Rattle.replay_world.proofs.replay.Replay.report_all.Goals as goal
 
 pub returns : goal.returns
 returns c = λ v stands.
     let first = c.in_ok-report_gateways.ensures v stands in
-    on_ok c.report_nodes.result (λ later. (
+    on_ok_weaker c.report_nodes.result (λ later. (
       first.0,
       reports v c.args.out.now c.report_gateways.new.out c.report_nodes.new.out first.1 later,
     ))

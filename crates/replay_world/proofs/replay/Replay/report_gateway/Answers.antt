@@ -1,10 +1,10 @@
 use Rattle.std.proofs.Common.{◌≡◌, ◌∙◌, refl, sym, ap, subst, ℕ, ◌+◌, ◌<◌, List, ◌++◌, length, Some, slice_get, length-set, arith}
 use Rattle.std.proofs.lemmas.Option.{slice_get_read}
-use Rattle.replay_world.specs.Report.{gateway_text}
-use Rattle.replay_world.specs.Stands.{MachineStands}
+use Rattle.std.proofs.lemmas.Result.{on_ok_weaker}
+use Rattle.replay_gateway.specs.GatewayReport.{gateway_text}
+use Rattle.replay_gateway.specs.Standing.{MachineStands}
 use Rattle.replay_world.proofs.AllLemmas.{lines_there, small_place, stands_same}
 use Rattle.replay_world.proofs.GatewayEventLemmas.{machines_count}
-use Rattle.replay_world.proofs.GoesLemmas.{on_ok}
 use Rattle.replay_world.proofs.RefusalLemmas.{gateway_at}
 use Rattle.replay_world.proofs.replay.Replay.report_gateway.Goals as goal
 
@@ -24,7 +24,7 @@ returns-clause-lines c = λ v stands.
     let first : 0 + k ≡ c.octet.result = omega (arith, place) in
     let there = subst (λ (p : ℕ). MachineStands v.setup p here.gateway here.machine c.index_mut.result.now) first
     here.stands in
-    on_ok c.report.result (λ done. (
+    on_ok_weaker c.report.result (λ done. (
       stands_same v k here.gateway here.machine c.args.self.now _ c.report.new.self stands
           (subst (λ (p : ℕ). MachineStands v.setup p here.gateway here.machine c.report.new.self) place done.0)
           here.has_gateway here.has_machine refl refl,

@@ -1,6 +1,6 @@
 use Rattle.std.proofs.Common.{◌∙◌, sym, subst}
+use Rattle.std.proofs.lemmas.Result.{on_ok_weaker}
 use Rattle.replay_world.specs.Stands.{Stands}
-use Rattle.replay_world.proofs.GoesLemmas.{on_ok}
 use Rattle.replay_world.proofs.RunLemmas.{printed_none, went_on}
 use Rattle.replay_world.proofs.replay.Replay.run_elsewhere.Goals as goal
 
@@ -23,7 +23,7 @@ returns c = λ v stands none elsewhere.
     let stands_then = subst (λ r. Stands v r) (sym kept.0) stands in
     let second = c.in_ok-ran-2.ensures v stands_then none in
     let kept_then = second.kept c.if-ran-2.false in
-    on_ok c.run_of_all.result (λ ran. went_on v c.args.line.now c.args.out.now _ c.run_of_all.new.out
+    on_ok_weaker c.run_of_all.result (λ ran. went_on v c.args.line.now c.args.out.now _ c.run_of_all.new.out
     c.run_of_all.new.self kept.1 ran)
     (c.run_of_all.ensures v (subst (λ r. Stands v r) (sym kept_then.0) stands_then) none elsewhere
     (sym first.kind ∙ c.if-ran.false) (sym second.kind ∙ c.if-ran-2.false))

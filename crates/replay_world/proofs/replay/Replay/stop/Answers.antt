@@ -2,7 +2,7 @@ use Rattle.std.proofs.Common.{◌≡◌, ◌∙◌, refl, sym, ap, ℕ, ◌-◌,
 use Rattle.std.proofs.lemmas.Option.{slice_get_read}
 use Rattle.once_core.specs.Gateway.{cut, still}
 use Rattle.once_core.specs.declared.event.Event.TheVariants as event
-use Rattle.replay_world.specs.Value.{disarmed}
+use Rattle.replay_gateway.specs.Machine.{disarmed}
 use Rattle.replay_world.specs.Steps.{Plays}
 use Rattle.replay_world.proofs.GatewayEventLemmas.{called_stands, machine_at, no_machine, runs_there}
 use Rattle.replay_world.proofs.QuietLemmas.{changed, does_quietly, plays, told_sent}

@@ -5,9 +5,9 @@ use Rattle.node_core.specs.Reached.{most_submissions}
 use Rattle.node_core.specs.Value.{NodeValue}
 use Rattle.node_core.specs.declared.counts.NodeCounts.{NodeCounts}
 use Rattle.std.proofs.lemmas.Bool.{le-ltb, lt-ltb}
+use Rattle.std.proofs.lemmas.Result.{on_ok_weaker}
 use Rattle.gw_base.specs.declared.packet.PacketId.{PacketId}
 use Rattle.replay_world.specs.Notices.{Took, notice_line, submit_fault_name}
-use Rattle.replay_world.proofs.GoesLemmas.{on_ok}
 use Rattle.replay_world.proofs.NodeEventLemmas.{no_node_beyond}
 use Rattle.replay_world.proofs.NodeSubmitLemmas.{emptied, full, refused, submitted}
 use Rattle.replay_world.proofs.NodeTickLemmas.{node_running}
@@ -67,7 +67,7 @@ returns c = λ v number stands is none read.
     let one : c.index-2.result.now ≡ c.index_mut.result.now = cc in
     let packets : c.counts.result.packets ≡ c.index_mut.result.now.submissions =
     ap (λ (n : NodeCounts). n.packets) c.counts.ensures ∙ ap (λ (n : NodeValue). n.submissions) one in
-    on_ok c.print_took.result (λ told. submitted v number c.args.place c.index_mut.result.now c.args.self.now stands is none
+    on_ok_weaker c.print_took.result (λ told. submitted v number c.args.place c.index_mut.result.now c.args.self.now stands is none
     has c.args.draft (value_octets c.args.draft) (read some) c.a_node_stands_for_its_log.ensures c.args.out.now
     c.print_took.new.out _ c.in-Ok.ensures.unrefused
     (lt-ltb c.index_mut.result.now.submissions most_submissions (omega (arith, packets))) refl
@@ -95,7 +95,7 @@ returns-in-Err c = λ v number stands is none read.
     let one : c.index-2.result.now ≡ n = cc in
     let packets : c.counts.result.packets ≡ n.submissions =
     ap (λ (m : NodeCounts). m.packets) c.counts.ensures ∙ ap (λ (m : NodeValue). m.submissions) one in
-    on_ok c.refuse.result (λ told.
+    on_ok_weaker c.refuse.result (λ told.
     let own = reason_there _ c.submit_fault_name.result c.submit_fault_name.ensures.own told in
     let text = reason_told c.submit_fault_name.result (λ m. m.now) (submit_fault_name c.in-Err.fault) c.args.out.now
     c.refuse.new.out c.submit_fault_name.ensures.name told in

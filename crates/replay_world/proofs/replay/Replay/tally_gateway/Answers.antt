@@ -1,10 +1,10 @@
 use Rattle.std.proofs.Common.{◌≡◌, refl, sym, subst, ℕ, ◌+◌, length, Option, Some, slice_get, length-set, arith}
 use Rattle.std.proofs.lemmas.Option.{slice_get_read}
+use Rattle.std.proofs.lemmas.Result.{IfOk-weaker}
 use Rattle.once_core.specs.Gateway.{Gateway}
-use Rattle.replay_world.specs.Stands.{MachineStands}
+use Rattle.replay_gateway.specs.Standing.{MachineStands}
 use Rattle.replay_world.specs.Summary.{TalliesIf}
 use Rattle.replay_world.proofs.AllLemmas.{stands_same}
-use Rattle.replay_world.proofs.GoesLemmas.{if_ok}
 use Rattle.replay_world.proofs.RefusalLemmas.{gateway_at}
 use Rattle.replay_world.proofs.replay.Replay.tally_gateway.Goals as goal
 
@@ -21,7 +21,7 @@ returns-clause-tallies c = λ v stands.
     let same : 0 + k ≡ k = omega arith in
     let there = subst (λ (p : ℕ). MachineStands v.setup p here.gateway here.machine c.index_mut.result.now) same
     here.stands in
-    if_ok c.tally.result (λ tally done. (
+    IfOk-weaker c.tally.result _ _ (λ tally done. (
       stands_same v k here.gateway here.machine c.args.self.now _ c.tally.new.self stands done.1 here.has_gateway
           here.has_machine refl refl,
       subst (λ (o : Option Gateway). TalliesIf o tally) (sym here.has_gateway) done.0,

@@ -1,9 +1,9 @@
 use Rattle.std.proofs.Common.{◌≡◌, ◌∙◌, refl, sym, ap, ℕ, ◌<◌, true≢false, List, length, map, set, Some, slice_get, arith}
 use Rattle.std.proofs.lemmas.Option.{get_or_from_slice_get, slice_get_read}
+use Rattle.std.proofs.lemmas.Result.{on_ok_weaker}
 use Rattle.node_core.specs.Value.{NodeValue}
 use Rattle.node_core.specs.declared.message.Outgoing.{Outgoing}
 use Rattle.once_core.specs.NodeMoves.{message_kept}
-use Rattle.replay_world.proofs.GoesLemmas.{on_ok}
 use Rattle.replay_world.proofs.NodeEventLemmas.{no_node_beyond}
 use Rattle.replay_world.proofs.NodeTickLemmas.{node_running, ticked}
 use Rattle.replay_world.proofs.replay.Replay.tick.Goals as goal
@@ -36,7 +36,7 @@ returns c = λ v number stands is none.
     c.index-2.ensures ∙ get_or_from_slice_get c.args.self.now.nodes.items c.from-index.result c.index_mut.result.now _
     (slice_get_read c.args.self.now.nodes.items (length c.args.self.now.nodes.items) c.from-index.result
     c.index_mut.result.now refl within c.index_mut.ensures.value) in
-    on_ok c.send_all.result (λ sends. ticked c.a_node_stands_for_its_log.ensures v number c.args.place
+    on_ok_weaker c.send_all.result (λ sends. ticked c.a_node_stands_for_its_log.ensures v number c.args.place
     c.index_mut.result.now c.in_ok-messages.messages.items c.args.out.now c.send_all.new.out c.args.self.now _
     c.send_all.new.self stands is none has refl
     (ap (λ (k : ℕ). set c.args.self.now.nodes.items k c.tick.new.self) c.from-index.ensures

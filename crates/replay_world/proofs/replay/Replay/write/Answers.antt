@@ -1,10 +1,16 @@
-use Rattle.std.proofs.Common.{◌≡◌, ◌∙◌, refl, sym, ap, ℕ, ◌-◌, ◌<◌, length, set, Some, slice_get, arith}
+use Rattle.std.proofs.Common.{◌≡◌, ◌∙◌, refl, sym, ap, ℕ, ◌-◌, ◌<◌, length, set, Some, Result, Ok, Err, IfOk, OnOk, slice_get, arith}
 use Rattle.std.proofs.lemmas.Option.{slice_get_read}
+use Rattle.std.proofs.lemmas.Result.{IfOk-weaker}
 use Rattle.replay_world.specs.Steps.{Writes}
 use Rattle.replay_world.proofs.GatewayEventLemmas.{called_stands, machine_at, no_machine, runs_there}
-use Rattle.replay_world.proofs.GoesLemmas.{if_ok, ok_on}
 use Rattle.replay_world.proofs.QuietLemmas.{does_quietly, filed_machine, told_nothing, writes, written_behind}
 use Rattle.replay_world.proofs.replay.Replay.write.Goals as goal
+
+-- what follows from what was answered
+ok_on : {T E : Type 0} {P : T → Type 0} {Q : Type 0} (result : Result T E) → ((x : T) → P x → Q) → IfOk result P →
+    OnOk result Q
+ok_on (Ok x) implies holds = implies x holds
+ok_on (Err e) implies holds = tt
 
 pub returns-then-index-len-clause-writes : goal.returns-then-index-len-clause-writes
 returns-then-index-len-clause-writes c = λ v number stands is none.
@@ -44,7 +50,7 @@ returns-clause-came c = λ v number stands is none.
     c.index_mut.result.now refl within c.index_mut.ensures.value in
     let here = machine_at v c.args.self.now stands number c.args.place c.index_mut.result.now is has in
     let there = called_stands v number c.index_mut.result.now here in
-    if_ok c.write.result (λ wrote written. written_behind v (number - 1) here.gateway here.machine here.has_gateway
+    IfOk-weaker c.write.result _ _ (λ wrote written. written_behind v (number - 1) here.gateway here.machine here.has_gateway
     here.has_machine number wrote refl written.came)
     (c.write.ensures v.setup (number - 1) here.gateway here.machine there
     (runs_there v.world number here.gateway here.has_gateway none))

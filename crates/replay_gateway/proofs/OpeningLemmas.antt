@@ -1,0 +1,320 @@
+-- A gateway that is opened on an empty area.
+use Rattle.std.proofs.Common.{◌≡◌, ◌∙◌, inl, refl, sym, ap, subst, ℕ, ◌≤◌, ◌&&◌, Bool, true, false, true≢false, if◌then◌else◌, List, [], ◌++◌, slice_index, Option, None, Some, Result, Ok, Err, arith, append-nil}
+use Rattle.std.proofs.lemmas.List.{get_or-replicate}
+use Rattle.area_disk.specs.Armed.{Armed, IsArmed}
+use Rattle.area_disk.specs.Armed.Armed.{Nothing}
+use Rattle.area_disk.specs.Course.{IsTied}
+use Rattle.area_disk.specs.Disk.{zeros}
+use Rattle.area_disk.specs.Plan.{Schedule, armed, schedule_of}
+use Rattle.area_disk.specs.declared.memory.MemoryArea.{MemoryArea}
+use Rattle.area_disk.specs.declared.plan.Plan.{Plan}
+use Rattle.area_disk.specs.declared.plan.Outcome3.TheVariants.{New}
+use Rattle.cgf_journal.specs.Trail.{stop_stands}
+use Rattle.gate_journal.specs.Format.{Starts, header}
+use Rattle.gateway_book.specs.Answered.{no_caller, room_for}
+use Rattle.gateway_book.specs.Book.{area_of, header_of, size_of, value_of}
+use Rattle.gateway_book.specs.Comes.{LeavesFit, asked_to_commit, left_by_stop, plan_of}
+use Rattle.gateway_book.specs.Filed.{along}
+use Rattle.gateway_book.specs.Items.{items_by, items_of}
+use Rattle.gateway_book.specs.OpenPlan.{OpensAsPlanned, is_device, is_memory_fault}
+use Rattle.gateway_book.specs.Opened.{FindsHistory, IsMadeAnew, IsNotOurs, IsOpened, IsRefused, StandsFitFor}
+use Rattle.gateway_book.specs.Up.{GoesOn, IsUp, Sequel, fortune_by, sequel_of}
+use Rattle.gateway_book.specs.Value.{BookValue, after_commit, committed, history_of, opened, recorded, standing_for}
+use Rattle.gateway_book.specs.declared.book.Book.{Book}
+use Rattle.gateway_book.specs.declared.outcome.BookFault.{BookFault}
+use Rattle.gateway_book.specs.declared.outcome.BookFault.TheVariants.{Device, NoMemory, NotOurs}
+use Rattle.gw_base.specs.declared.history.HistoryAct.TheVariants.{Start}
+use Rattle.gw_base.specs.declared.history.HistoryEntry.{HistoryEntry}
+use Rattle.gw_base.specs.declared.item.Item.{Item}
+use Rattle.once_core.specs.Addresses.{gateway_address}
+use Rattle.once_core.specs.Beginning.{first_gateway}
+use Rattle.once_core.specs.Gateway.{Gateway, opened as reopened}
+use Rattle.replay_gateway.specs.Called.{BookStands}
+use Rattle.replay_gateway.specs.Device.{sequel_on}
+use Rattle.replay_gateway.specs.Opening.{IsOpenedForCounts, SiteIsOpened, begun_gateway}
+use Rattle.replay_gateway.specs.Setup.{Setup, files_in, rules_in}
+use Rattle.replay_gateway.specs.Standing.{MachineStands, SiteStands, StandsDown, StandsUp, area_tells, header_at}
+use Rattle.replay_gateway.specs.Written.{FilesStand}
+use Rattle.replay_gateway.specs.Machine.{Machine, first_machine}
+use Rattle.replay_gateway.specs.declared.machine.Machine as real
+use Rattle.replay_gateway.specs.declared.site.Site.{Site}
+use Rattle.replay_gateway.specs.declared.site.Site.TheVariants.{Up, Down}
+use Rattle.replay_gateway.proofs.CallLemmas.{WrittenStays}
+
+-- what an empty plan arms
+abbrev pub ArmsNothing : Type 0
+ArmsNothing = (plan : Plan) (s : Schedule) → s.stopped ≡ false → plan.read_fail.items ≡ [] → plan.fail.items ≡ [] →
+    plan.stop ≡ None → IsArmed Nothing (armed plan s)
+
+-- a book that was opened is up
+abbrev pub OpenedIsUp : Type 0
+OpenedIsUp = (header : List ℕ) (area : MemoryArea) (open_time : ℕ) (book : Book MemoryArea area_tells) (w : BookValue)
+    (armed : Armed) → IsOpened header area open_time book → value_of book ≡ w → IsTied armed (plan_of book) →
+    (w.is_broken ≡ false) × IsUp header w armed false book
+
+first_zero : (n : ℕ) → 1 ≤ n → slice_index (zeros n) 0 ≡ 0
+unfolding zeros
+first_zero n le = get_or-replicate n 0 0 0 (omega (arith, le))
+
+-- an opening that was refused
+abbrev pub refused_with : BookFault → MemoryArea → Result (Book MemoryArea area_tells) (BookFault × MemoryArea)
+refused_with fault left = Err (fault, left)
+
+-- what is another's doesn't start
+abbrev pub ForeignAndStarts : Type 0
+ForeignAndStarts = (size address : ℕ) (octets : List ℕ) (at : ℕ) → IsNotOurs (header size address 0) octets at →
+    Starts (header size address 0) octets → ⊥
+
+-- A new area.
+module _ (address size : ℕ) (area : MemoryArea) (plan : Plan) where
+  -- it starts, and nothing is armed
+  pub begun_starts : 100 ≤ size → area_tells.octets area ≡ zeros size → Starts (header (area_tells.size area) address 0) (area_tells.octets area)
+  begun_starts long octets = inl (ap (λ (o : List ℕ). slice_index o 0) octets ∙ first_zero size (omega (arith, long)))
+
+  pub begun_armed : (area_tells.fate area).schedule ≡ schedule_of plan → ArmsNothing → plan.read_fail.items ≡ [] →
+      plan.fail.items ≡ [] → plan.stop ≡ None → IsArmed Nothing (area_tells.fate area).schedule
+  begun_armed planned nothing reads fails stops =
+      subst (λ (q : Schedule). IsArmed Nothing q) (sym planned) (nothing plan (schedule_of plan) refl reads fails stops)
+
+  -- so the device doesn't refuse it, and it isn't another's
+  pub begun_runs : (fault : BookFault) (left : MemoryArea) → 100 ≤ size → area_tells.octets area ≡ zeros size →
+      IsArmed Nothing (area_tells.fate area).schedule →
+      OpensAsPlanned area (refused_with fault left) (header (area_tells.size area) address 0) → fault ≡ Device → ⊥
+  begun_runs fault left long octets is_armed plans is =
+      true≢false (sym (ap (λ (f : BookFault). is_device (refused_with f left)) is)
+      ∙ (plans.anew (refl, refl) (begun_starts long octets) Nothing Nothing is_armed refl).runs)
+
+  pub begun_ours : (fault : BookFault) (left : MemoryArea) (at : ℕ) → 100 ≤ size →
+      area_tells.octets area ≡ zeros size → ForeignAndStarts →
+      IsRefused area_tells area (header (area_tells.size area) address 0) (fault, left) → fault ≡ NotOurs at → ⊥
+  begun_ours fault left at long octets others refused is =
+      others (area_tells.size area) address (area_tells.octets area) at (refused.place (refl, refl) at is)
+      (begun_starts long octets)
+
+module _ (s : Setup) (place address size open_time : ℕ) (area : MemoryArea) (plan : Plan)
+    (book : Book MemoryArea area_tells) where
+  abbrev front : List ℕ
+  front = header (area_tells.size area) address 0
+
+  pub begun_stands : address ≡ (gateway_address place).ip → open_time ≡ s.limits.open_time → size ≡ s.size →
+      100 ≤ size → area_tells.size area ≡ size → area_tells.octets area ≡ zeros size →
+      (area_tells.fate area).schedule ≡ schedule_of plan → ArmsNothing → plan.read_fail.items ≡ [] →
+      plan.fail.items ≡ [] → plan.stop ≡ None → OpenedIsUp → IsOpened front area open_time book →
+      (Starts front (area_tells.octets area) → IsMadeAnew area (Ok book) front) → OpensAsPlanned area (Ok book) front →
+      size_of book ≡ area_tells.size area → StandsUp s place (begun_gateway s) first_machine book
+  begun_stands address_is open_time_is size_is long area_is octets planned nothing reads fails stops law is_opened anew plans
+      kept =
+      let starts : Starts front (area_tells.octets area) =
+      begun_starts address size area plan long octets in
+      let is_armed : IsArmed Nothing (area_tells.fate area).schedule =
+      begun_armed address size area plan planned nothing reads fails stops in
+      let same_size : area_tells.size area ≡ s.size = area_is ∙ size_is in
+      let value : value_of book ≡ opened s.size [] =
+      (anew starts).value ∙ ap (λ (n : ℕ). opened n []) same_size in
+      let tied : IsTied Nothing (plan_of book) = (plans.anew (refl, refl) starts Nothing Nothing is_armed refl).tied in
+      let up : IsUp front (opened s.size []) Nothing false book =
+      (law front area open_time book (opened s.size []) Nothing is_opened value tied).1 in
+      record {
+        runs = refl;
+        up = subst (λ (h : List ℕ). IsUp h (opened s.size []) Nothing false book)
+            (ap (λ (n : ℕ). header n address 0) same_size ∙ ap (λ (a : ℕ). header s.size a 0) address_is) up;
+        size = kept ∙ same_size;
+        open_time = is_opened.set ∙ open_time_is;
+      }
+
+-- Its Start is made firm.
+
+firm_is : (b : Bool) →
+    (let w = if b then recorded (standing_for []) 0 no_caller Start else standing_for [] in
+    (after_commit (fortune_by false (sequel_of (asked_to_commit w) Nothing false)) w ≡ committed w)
+    × (sequel_of (asked_to_commit w) Nothing false ≡ GoesOn Nothing))
+firm_is true = (refl, refl)
+firm_is false = (refl, refl)
+
+pub firm_stands : (s : Setup) (place : ℕ) (book : Book MemoryArea area_tells) →
+    (let q = sequel_on first_machine (asked_to_commit (begun_gateway s).book) in
+    BookStands s place (after_commit (fortune_by false q) (begun_gateway s).book) q book) →
+    StandsUp s place (first_gateway (rules_in s)) first_machine book
+firm_stands s place book stands =
+    let is = firm_is (room_for [] s.size Start) in
+    let w : BookValue = opened s.size [] in
+    let q : Sequel = sequel_of (asked_to_commit w) Nothing false in
+    let up : BookStands s place (committed w) (GoesOn Nothing) book =
+    subst (λ (r : Sequel). BookStands s place (committed w) r book) is.1
+    (subst (λ (v : BookValue). BookStands s place v q book) is.0 stands) in
+    record { runs = refl; up = up.stands.1; size = up.size; open_time = up.open_time }
+
+-- A gateway that was down is opened again.
+
+-- where it isn't refused by the device or as another's it is refused for want of memory
+not_memory : (fault : BookFault) (left area : MemoryArea) (first : List ℕ) → ((at : ℕ) → fault ≡ NotOurs at → ⊥) →
+    is_device (refused_with fault left) ≡ false → is_memory_fault fault ≡ false → ⊥
+not_memory Device left area first ours runs other = true≢false runs
+not_memory (NotOurs at) left area first ours runs other = ours at refl
+not_memory NoMemory left area first ours runs other = true≢false other
+
+-- what stands for a history isn't another's
+abbrev pub StandsAndForeign : Type 0
+StandsAndForeign = (size address : ℕ) (octets : List ℕ) (h : List HistoryEntry) (at : ℕ) →
+    StandsFitFor (header size address 0) octets h → IsNotOurs (header size address 0) octets at → ⊥
+
+-- what stands for a history doesn't start
+abbrev pub StandsAndStarts : Type 0
+StandsAndStarts = (size address : ℕ) (octets : List ℕ) (h : List HistoryEntry) →
+    StandsFitFor (header size address 0) octets h → Starts (header size address 0) octets → ⊥
+
+module _ (setup : Setup) (place : ℕ) (g : Gateway) (m : Machine) where
+  abbrev again : Gateway
+  again = reopened (rules_in setup) g
+
+  abbrev h : List HistoryEntry
+  h = history_of g.book
+
+  pub opened_up : (address open_time : ℕ) (area : MemoryArea) (book : Book MemoryArea area_tells) →
+      StandsDown setup place g m area_tells area → address ≡ (gateway_address place).ip →
+      open_time ≡ setup.limits.open_time → StandsAndStarts → OpenedIsUp →
+      IsOpened (header (area_tells.size area) address 0) area open_time book →
+      (StandsFitFor (header (area_tells.size area) address 0) (area_tells.octets area) h → FindsHistory area (Ok book) h) →
+      OpensAsPlanned area (Ok book) (header (area_tells.size area) address 0) →
+      size_of book ≡ area_tells.size area → StandsUp setup place again first_machine book
+  opened_up address open_time area book stands address_is open_time_is apart law is_opened finds plans kept =
+      let first : List ℕ = header (area_tells.size area) address 0 in
+      let first_is : first ≡ header_at setup place =
+      ap (λ (n : ℕ). header n address 0) stands.size ∙ ap (λ (a : ℕ). header setup.size a 0) address_is in
+      let fit : StandsFitFor first (area_tells.octets area) h =
+      subst (λ (f : List ℕ). StandsFitFor f (area_tells.octets area) h) (sym first_is) stands.down.stands in
+      let value : value_of book ≡ again.book = (finds fit).value ∙ ap (λ (n : ℕ). opened n h) stands.size in
+      let tied : IsTied Nothing (plan_of book) =
+      (plans.found (refl, refl) (apart (area_tells.size area) address (area_tells.octets area) h fit) Nothing Nothing
+      stands.is_armed refl).tied in
+      record {
+        runs = refl;
+        up = subst (λ (f : List ℕ). IsUp f again.book Nothing false book) first_is
+            (law first area open_time book again.book Nothing is_opened value tied).1;
+        size = kept ∙ stands.size;
+        open_time = is_opened.set ∙ open_time_is;
+      }
+
+  -- It is ours, and nothing is armed that would fail.
+  pub never_refused : (address : ℕ) (area : MemoryArea) (fault : BookFault) (left : MemoryArea) →
+      StandsDown setup place g m area_tells area → address ≡ (gateway_address place).ip → StandsAndStarts →
+      StandsAndForeign → IsRefused area_tells area (header (area_tells.size area) address 0) (fault, left) →
+      (is_memory_fault fault ≡ false →
+      OpensAsPlanned area (refused_with fault left) (header (area_tells.size area) address 0)) →
+      is_memory_fault fault ≡ false → ⊥
+  never_refused address area fault left stands address_is apart ours refused plans other =
+      let first : List ℕ = header (area_tells.size area) address 0 in
+      let first_is : first ≡ header_at setup place =
+      ap (λ (n : ℕ). header n address 0) stands.size ∙ ap (λ (a : ℕ). header setup.size a 0) address_is in
+      let fit : StandsFitFor first (area_tells.octets area) h =
+      subst (λ (f : List ℕ). StandsFitFor f (area_tells.octets area) h) (sym first_is) stands.down.stands in
+      not_memory fault left area first
+      (λ at is. ours (area_tells.size area) address (area_tells.octets area) h at fit (refused.place (refl, refl) at is))
+      ((plans other).found (refl, refl) (apart (area_tells.size area) address (area_tells.octets area) h fit) Nothing
+      Nothing stands.is_armed refl).runs other
+
+  -- Its book has the history, all of it firm, and isn't broken.
+
+  firm_by : (b : Bool) → (if b then recorded (standing_for h) 0 no_caller Start else standing_for h).firm ≡ h
+  firm_by true = refl
+  firm_by false = refl
+
+  pub firm_again : again.book.firm ≡ h
+  firm_again = firm_by (room_for (history_of (standing_for h)) setup.size Start)
+
+  whole_by : (b : Bool) → (if b then recorded (standing_for h) 0 no_caller Start else standing_for h).is_broken ≡ false
+  whole_by true = refl
+  whole_by false = refl
+
+  pub whole_again : again.book.is_broken ≡ false
+  whole_again = whole_by (room_for (history_of (standing_for h)) setup.size Start)
+
+  -- What was armed is armed still: nothing.
+  armed_up : (book : Book MemoryArea area_tells) → m.armed ≡ Nothing → StandsUp setup place again first_machine book →
+      StandsUp setup place again m book
+  armed_up book unarmed stands = record {
+    runs = stands.runs;
+    up = record {
+      value = stands.up.value;
+      named = stands.up.named;
+      is_armed = subst (λ (a : Armed). IsArmed a (plan_of book).schedule) (sym unarmed) stands.up.is_armed;
+      has_spare = stands.up.has_spare;
+      torn = λ breaks outcome. absurd (true≢false (sym breaks ∙ whole_again));
+    };
+    size = stands.size;
+    open_time = stands.open_time;
+  }
+
+  site_again : (s : Option Site) → m.armed ≡ Nothing → SiteIsOpened setup place g s → SiteStands setup place again m s
+  site_again None unarmed is_opened = absurd is_opened
+  site_again (Some (Up book)) unarmed is_opened = armed_up book unarmed is_opened
+  site_again (Some (Down fallen)) unarmed is_opened = absurd is_opened
+
+  -- what a site tells that is down
+  pub down_tells : (s : Option Site) → g.is_down ≡ true → SiteStands setup place g m s →
+      ((m.armed ≡ Nothing) × (m.filing.armed ≡ Nothing)) × (g.waiting ≡ [])
+  down_tells None down stands = absurd stands
+  down_tells (Some (Up book)) down stands = absurd (true≢false (sym down ∙ stands.runs))
+  down_tells (Some (Down fallen)) down stands = (stands.unarmed, stands.silent)
+
+  history_more : (b : Bool) → (more : List HistoryEntry)
+      × ((if b then g.book.firm else g.book.firm ++ g.book.rest) ≡ g.book.firm ++ more)
+  history_more true = ([], sym (append-nil g.book.firm))
+  history_more false = (g.book.rest, refl)
+
+  pub opened_machine :
+      ((firm more : List HistoryEntry) → items_of (firm ++ more) ≡ items_of firm ++ along items_by firm more) →
+      WrittenStays → (old mid : real.Machine) → MachineStands setup place g m old → g.is_down ≡ true →
+      IsOpenedForCounts setup place g old mid → MachineStands setup place again m (record mid { redirects = 0 })
+  opened_machine items_more stay old mid stands down is_opened =
+      let tells = down_tells old.site down stands.site in
+      let grown = history_more g.book.is_broken in
+      let more : List HistoryEntry = grown.0 in
+      record {
+        site = site_again mid.site tells.0.0 is_opened.site;
+        waiting = ap (λ (r : real.Machine). r.waiting.items) is_opened.rest ∙ stands.waiting ∙ tells.1;
+        unreached = λ k d h. absurd (omega (arith, h));
+        redirects = refl;
+        named = ap (λ (r : real.Machine). r.setup) is_opened.rest ∙ stands.named;
+        writes = subst (λ (r : real.Machine). FilesStand (files_in setup place) m.filing
+            (items_of again.book.firm) r.files) (sym is_opened.rest)
+            (subst (λ (xs : List Item). FilesStand (files_in setup place) m.filing xs old.files)
+            (sym (ap items_of (firm_again ∙ grown.1) ∙ items_more g.book.firm more))
+            (stay (files_in setup place) m.filing (items_of g.book.firm) (along items_by g.book.firm more) old.files
+            stands.writes));
+      }
+
+  -- It is closed again, with nothing but what is firm.
+
+  left_by : (b stands : Bool) (w : BookValue) → b ≡ false →
+      (if b && stands then w.firm ++ w.rest else w.firm) ≡ w.firm
+  left_by true stands w is = absurd (true≢false is)
+  left_by false stands w is = refl
+
+  pub closed_down : (book : Book MemoryArea area_tells) (area : MemoryArea) (s : Option Site) → g.is_down ≡ true →
+      SiteStands setup place g m s → StandsUp setup place again first_machine book → LeavesFit book → area ≡ area_of book →
+      StandsDown setup place g m area_tells area
+  closed_down book area s down stands up leaves is =
+      let tells = down_tells s down stands in
+      let whole : (value_of book).is_broken ≡ false = ap (λ (w : BookValue). w.is_broken) up.up.value ∙ whole_again in
+      let left : left_by_stop New book ≡ h =
+      left_by (value_of book).is_broken (stop_stands New book.trail) (value_of book) whole
+      ∙ ap (λ (w : BookValue). w.firm) up.up.value ∙ firm_again in
+      record {
+        stopped = down;
+        down = record {
+          stands = subst (λ (a : MemoryArea). StandsFitFor (header_at setup place) (area_tells.octets a) h) (sym is)
+              (subst (λ (f : List ℕ). StandsFitFor f (area_tells.octets (area_of book)) h) up.up.named
+              (subst (λ (q : List HistoryEntry). StandsFitFor (header_of book) (area_tells.octets (area_of book)) q) left
+              (leaves.reads refl (refl, refl))));
+        };
+        is_armed = subst (λ (a : MemoryArea). IsArmed Nothing (area_tells.fate a).schedule) (sym is) up.up.is_armed;
+        unarmed = tells.0;
+        silent = tells.1;
+        size = ap (λ (a : MemoryArea). area_tells.size a) is ∙ up.size;
+      }
+
+-- the site was set, and set again
+pub site_later : (before mid new : real.Machine) → mid ≡ record before { site = mid.site } →
+    new ≡ record mid { site = new.site } → new ≡ record before { site = new.site }
+site_later before mid new first later = later ∙ ap (λ (r : real.Machine). record r { site = new.site }) first

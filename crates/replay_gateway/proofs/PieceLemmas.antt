@@ -1,0 +1,79 @@
+-- How many records of a history's items are counted, piece by piece.
+use Rattle.std.proofs.Common.{◌≡◌, ℕ, ◌+◌, ◌-◌, ◌<◌, ◌≤◌, ◌^◌, min, List, ◌++◌, length, take, drop, cond, sym, ap, ◌∙◌, arith, length-drop}
+use Rattle.std.proofs.Math.Seq.{take-add}
+use Rattle.std.proofs.lemmas.List.{length-take, take_all}
+use Rattle.std.proofs.lemmas.List.Sums.{count_by-le-length, sum_by-append}
+use Rattle.area_disk.specs.declared.area.Area.{Ghosts}
+use Rattle.gateway_book.specs.Read.{IsUnchanged}
+use Rattle.gateway_book.specs.declared.book.Book.{Book}
+use Rattle.gw_base.specs.declared.item.Item.{Item}
+use Rattle.replay_gateway.specs.Tally.{is_part, part_count}
+
+counts_both : (xs ys : List Item) → part_count (xs ++ ys) ≡ part_count xs + part_count ys
+counts_both xs ys = sum_by-append (λ (item : Item). cond (is_part item) 1 0) xs ys
+
+-- there are no more records than items
+few_parts : (xs : List Item) → part_count xs ≤ length xs
+few_parts xs = count_by-le-length is_part xs
+
+-- with the next piece
+pub counted_on : (xs items : List Item) (from n : ℕ) → items ≡ take n (drop from xs)
+    → part_count (take from xs) + part_count items ≡ part_count (take (from + n) xs)
+counted_on xs items from n is =
+    ap (λ (l : List Item). part_count (take from xs) + part_count l) is
+    ∙ sym (counts_both (take from xs) (take n (drop from xs))) ∙ sym (ap (λ (l : List Item). part_count l) (take-add from n xs))
+
+-- with a last piece, which is shorter
+pub counted_all : (xs items : List Item) (from n : ℕ) → items ≡ take n (drop from xs) → length items < n
+    → part_count (take from xs) + part_count items ≡ part_count xs
+counted_all xs items from n is short =
+    let long : length items ≡ min n (length (drop from xs)) = ap (λ (l : List Item). length l) is ∙ length-take n (drop from xs) in
+    let rest = length-drop from xs in
+    counted_on xs items from n is ∙ ap (λ (l : List Item). part_count l) (take_all (from + n) xs (omega (arith, long, short, rest)))
+
+-- a whole piece was there to be taken
+pub goes_on_within : (xs items : List Item) (from n : ℕ) → items ≡ take n (drop from xs) → n ≤ length items → from ≤ length xs
+    → from + n ≤ length xs
+goes_on_within xs items from n is long within =
+    let counted : length items ≡ min n (length (drop from xs)) = ap (λ (l : List Item). length l) is ∙ length-take n (drop from xs) in
+    let rest = length-drop from xs in
+    omega (arith, counted, long, rest, within)
+
+-- a sum that isn't too large is exact
+exact_sum : (xs items : List Item) (records n sum from : ℕ) → sum ≡ min (records + n) (2 ^ 64 - 1) → n ≡ part_count items
+    → items ≡ take 4096 (drop from xs) → length xs < 2 ^ 32 → records ≡ part_count (take from xs)
+    → sum ≡ part_count (take from xs) + part_count items
+exact_sum xs items records n sum from is_sum is_n is few counted =
+    let on = counted_on xs items from 4096 is in
+    let le = few_parts (take (from + 4096) xs) in
+    let long = length-take (from + 4096) xs in
+    omega (arith, is_sum, is_n, on, le, long, few, counted)
+
+pub counted_more : (xs items : List Item) (records n sum from : ℕ) → sum ≡ min (records + n) (2 ^ 64 - 1) → n ≡ part_count items
+    → items ≡ take 4096 (drop from xs) → length xs < 2 ^ 32 → records ≡ part_count (take from xs) → sum ≡ part_count (take (from + 4096) xs)
+counted_more xs items records n sum from is_sum is_n is few counted =
+    exact_sum xs items records n sum from is_sum is_n is few counted ∙ counted_on xs items from 4096 is
+
+pub counted_last : (xs items : List Item) (records n sum from : ℕ) → sum ≡ min (records + n) (2 ^ 64 - 1) → n ≡ part_count items
+    → items ≡ take 4096 (drop from xs) → length xs < 2 ^ 32 → records ≡ part_count (take from xs) → length items < 4096 → sum ≡ part_count xs
+counted_last xs items records n sum from is_sum is_n is few counted short =
+    exact_sum xs items records n sum from is_sum is_n is few counted ∙ counted_all xs items from 4096 is short
+
+module _ {A : Type 0} {tells : Ghosts A} where
+  pub unchanged_then : (a b c : Book A tells) → IsUnchanged a b → IsUnchanged b c → IsUnchanged a c
+  unchanged_then a b c first second = record {
+    value = λ told. second.value told ∙ first.value told;
+    broken = second.broken ∙ first.broken;
+    cuts = second.cuts ∙ first.cuts;
+    kept = second.kept ∙ first.kept;
+    entries = second.entries ∙ first.entries;
+    firm = second.firm ∙ first.firm;
+    free = second.free ∙ first.free;
+    index = second.index ∙ first.index;
+    torn_stands = second.torn_stands ∙ first.torn_stands;
+    stays = record {
+      size = second.stays.size ∙ first.stays.size;
+      header = second.stays.header ∙ first.stays.header;
+      open_time = second.stays.open_time ∙ first.stays.open_time;
+    };
+  }

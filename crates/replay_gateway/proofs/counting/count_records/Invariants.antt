@@ -1,0 +1,19 @@
+use Rattle.std.proofs.Common.{◌≡◌, ◌+◌, ◌-◌, ◌≤◌, ◌^◌, length, take}
+use Rattle.gate_journal.specs.Moments.{Told}
+use Rattle.gateway_book.specs.Book.{area_of, value_of}
+use Rattle.gateway_book.specs.Items.{items_of}
+use Rattle.gateway_book.specs.Read.{IsUnchanged}
+use Rattle.replay_gateway.specs.Tally.{part_count}
+use Rattle.replay_gateway.proofs.counting.count_records.Given as goal
+
+-- the items up to a place were counted
+abbrev pub invariant-pieces : goal.invariant-pieces
+invariant-pieces g l = record {
+  same : IsUnchanged l.initial.book l.book × (g.A.Area.faults (area_of l.initial.book) ≤ g.A.Area.faults (area_of l.book));
+  counted : Told g.A.Area → l.records ≡ part_count (take l.from (items_of (value_of l.initial.book).firm));
+  within : Told g.A.Area → l.from ≤ length (items_of (value_of l.initial.book).firm);
+  small : l.from ≤ 2 ^ 28 + 4096;
+}
+
+abbrev pub decreases-pieces : goal.decreases-pieces
+decreases-pieces g l = 2 ^ 28 + 4097 - l.from

@@ -1,0 +1,18 @@
+use Rattle.std.proofs.Common.{◌∙◌, sym}
+use Rattle.std.proofs.lemmas.Result.{IfOk-weaker}
+use Rattle.replay_gateway.proofs.ReportLemmas.{tallied_up}
+use Rattle.replay_gateway.proofs.WritingLemmas.{site_set}
+use Rattle.replay_gateway.proofs.machine.Machine.tally.Goals as goal
+
+pub returns-then-is_down : goal.returns-then-is_down
+returns-then-is_down c = λ setup place g m stands.
+    c.tally_down.ensures setup place g m stands (sym (c.is_down.ensures setup place g m stands) ∙ c.if-is_down.true)
+
+pub returns : goal.returns
+returns c = λ setup place g m stands.
+    let runs = sym (c.is_down.ensures setup place g m stands) ∙ c.if-is_down.false in
+    IfOk-weaker c.tell.result _ _ (λ tally told. (
+      tallied_up setup place g m tally runs told.0,
+      site_set setup place g m c.args.self.now c.tell.new.self stands told.1 c.tell.ensures.rest,
+    ))
+    (c.tell.ensures.told setup place g m stands.site runs)

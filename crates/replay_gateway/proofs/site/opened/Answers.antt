@@ -1,0 +1,9 @@
+use Rattle.replay_gateway.specs.Opening.{begun_gateway}
+use Rattle.replay_gateway.specs.Machine.{first_machine}
+use Rattle.replay_gateway.proofs.OpeningLemmas.{firm_stands}
+use Rattle.replay_gateway.proofs.site.opened.Goals as goal
+
+pub returns : goal.returns
+returns c = λ s place named sized.
+    firm_stands s place c.commit.new.book
+    (c.commit.ensures s place (begun_gateway s) first_machine (c.in_ok-book.ensures s place named sized))

@@ -1,0 +1,29 @@
+use Rattle.std.proofs.Common.{◌≡◌, ℕ, ◌+◌, ◌-◌, ◌<◌, ◌≤◌, ◌^◌, [], length, take, false, Some}
+use Rattle.file_writer.specs.Parts.{HasAdvanced}
+use Rattle.file_writer.specs.Writer.{IsAt, is_broken, settings_in, taken_of}
+use Rattle.gateway_book.specs.Items.{items_of}
+use Rattle.once_core.specs.Gateway.{Gateway}
+use Rattle.replay_gateway.specs.Setup.{Setup}
+use Rattle.replay_gateway.specs.Standing.{SiteStands}
+use Rattle.replay_gateway.specs.Machine.{Machine}
+use Rattle.replay_gateway.specs.Written.{shelf_tells}
+use Rattle.replay_gateway.proofs.writing.tell_all.Given as goal
+
+-- the items of the parts that were told are taken
+abbrev pub invariant-loop-count : goal.invariant-loop-count
+invariant-loop-count l = record {
+  ready : is_broken l.writer ≡ false;
+  taken : taken_of l.writer ≡ l.taken;
+  few : l.taken < 2 ^ 31;
+  short : l.count ≤ 64;
+  settings : settings_in l.writer ≡ settings_in l.fn.writer;
+  goes : (setup : Setup) (place : ℕ) (g : Gateway) (m : Machine) → g.is_down ≡ false
+      → SiteStands setup place g m (Some l.fn.site) → IsAt l.fn.writer (λ s. 0) []
+      → SiteStands setup place g m (Some l.site)
+      × HasAdvanced shelf_tells (λ s. 0) (take l.taken (items_of g.book.firm)) l.fn.writer l.writer
+      × (l.taken ≤ length (items_of g.book.firm))
+      × (l.count < 64 → (l.taken ≡ length (items_of g.book.firm)) × (length (items_of g.book.firm) < 2 ^ 31));
+}
+
+abbrev pub decreases-loop-count : goal.decreases-loop-count
+decreases-loop-count l = 2 ^ 31 + l.count - l.taken

@@ -1,9 +1,0 @@
-use Rattle.replay_world.specs.Opening.{begun_gateway}
-use Rattle.replay_world.specs.Value.{first_machine}
-use Rattle.replay_world.proofs.OpeningLemmas.{firm_stands}
-use Rattle.replay_world.proofs.site.opened.Goals as goal
-
-pub returns : goal.returns
-returns c = λ s place named sized.
-    firm_stands s place c.commit.new.book
-    (c.commit.ensures s place (begun_gateway s) first_machine (c.in_ok-book.ensures s place named sized))

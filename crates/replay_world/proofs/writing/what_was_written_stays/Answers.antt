@@ -1,6 +1,0 @@
-use Rattle.replay_world.proofs.WriterLemmas.{more_stands}
-use Rattle.replay_world.proofs.writing.what_was_written_stays.Goals as goal
-
-pub returns : goal.returns
-returns c = λ settings f items more r stands.
-    more_stands c.files_only_grow.ensures c.begun_files_only_grow.ensures.shut settings items more f r stands
