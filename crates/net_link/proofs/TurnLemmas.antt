@@ -1,5 +1,5 @@
 -- Tallies of turns by addresses, of which one is raised.
-use Rattle.std.proofs.Common.{◌≡◌, ◌≢◌, ◌⊎◌, ⊎_elim, inl, inr, ℕ, ◌+◌, ◌-◌, ◌^◌, ◌<◌, ◌≤◌, ◌==◌, ◌&&◌, min, Bool, true, false, true≢false, if◌then◌else◌, List, length, get_or, set, map, sum_by, sym, ap, ◌∙◌, arith}
+use Rattle.std.proofs.Common.{◌≡◌, ◌≢◌, ◌⊎◌, ⊎_elim, inl, inr, ℕ, ◌+◌, ◌-◌, ◌^◌, ◌<◌, ◌==◌, ◌&&◌, Bool, true, false, true≢false, if◌then◌else◌, List, length, get_or, set, map, sym, ap, ◌∙◌, arith}
 use Rattle.std.proofs.lemmas.Bool.{cases_lt}
 use Rattle.std.proofs.lemmas.Bool.Decides.{eqb_tells}
 use Rattle.std.proofs.lemmas.List.{get_or-map, map-set, set-get_or}
@@ -50,13 +50,6 @@ turns_own a tally here = ap (λ t. if t then tally.turns else 0) (is_at_same a t
 turns_other : (a : Addr) (tally : Tally) → a ≢ tally.at → turns_in a tally ≡ 0
 turns_other a tally other = ap (λ t. if t then tally.turns else 0) (is_at_other a tally.at other)
 
-capped : (now was old new part more : ℕ) → now + old ≡ was + new → old ≤ was → old ≡ part →
-    new ≡ min (part + more) (2 ^ 64 - 1) → min now (2 ^ 64 - 1) ≡ min (min was (2 ^ 64 - 1) + more) (2 ^ 64 - 1)
-capped now was old new part more sum within own grown = omega arith
-
-same_sum : (now was old new : ℕ) → now + old ≡ was + new → old ≡ 0 → new ≡ 0 → now ≡ was
-same_sum now was old new sum none gone = omega arith
-
 -- One tally is raised: then the turns at its address are more, those at others are the same, and so are the addresses.
 module _ (tallies : List Tally) (place : ℕ) (none : Tally) (more : ℕ) (within : place < length tallies) where
   abbrev tally : Tally
@@ -66,31 +59,23 @@ module _ (tallies : List Tally) (place : ℕ) (none : Tally) (more : ℕ) (withi
       turns_at at (set tallies place (raised tally more)) ≡ added (turns_at at tallies) more
   turns_raised at here =
       let f : Tally → ℕ = turns_in at in
-      capped
-      (sum_by f (set tallies place (raised tally more)))
-      (sum_by f tallies)
-      (f tally)
-      (f (raised tally more))
-      tally.turns
-      more
-      (sum_by-set f tallies place (raised tally more) none within)
-      (get_or-le-sum_by f tallies place none within)
-      (turns_own at tally here)
-      (turns_own at (raised tally more) here)
+      omega (
+        arith,
+        sum_by-set f tallies place (raised tally more) none within,
+        get_or-le-sum_by f tallies place none within,
+        turns_own at tally here,
+        turns_own at (raised tally more) here,
+      )
 
   turns_elsewhere : (a : Addr) → a ≢ tally.at → turns_at a (set tallies place (raised tally more)) ≡ turns_at a tallies
   turns_elsewhere a other =
       let f : Tally → ℕ = turns_in a in
-      ap
-      (λ (n : ℕ). min n (2 ^ 64 - 1))
-      (same_sum
-      (sum_by f (set tallies place (raised tally more)))
-      (sum_by f tallies)
-      (f tally)
-      (f (raised tally more))
-      (sum_by-set f tallies place (raised tally more) none within)
-      (turns_other a tally other)
-      (turns_other a (raised tally more) other))
+      omega (
+        arith,
+        sum_by-set f tallies place (raised tally more) none within,
+        turns_other a tally other,
+        turns_other a (raised tally more) other,
+      )
 
   places_stay : map place_of (set tallies place (raised tally more)) ≡ map place_of tallies
   places_stay =

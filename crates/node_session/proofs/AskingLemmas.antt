@@ -1,8 +1,8 @@
 -- Why an answer isn't pending behind a turn that commits where it has to, and is lost only where the device failed.
-use Rattle.std.proofs.Common.{◌≡◌, ◌≢◌, ℕ, ◌<◌, ◌≤◌, ◌^◌, ◌-◌, ◌==◌, ◌||◌, Bool, true, false, if◌then◌else◌, List, [], ◌∷◌, ◌++◌, length, refl, sym, ap, subst, ◌∙◌, append_assoc, arith, inl, inr}
+use Rattle.std.proofs.Common.{◌≡◌, ◌≢◌, ℕ, ◌<◌, ◌≤◌, ◌^◌, ◌-◌, ◌==◌, Bool, true, false, if◌then◌else◌, List, [], ◌∷◌, ◌++◌, length, refl, sym, ap, subst, ◌∙◌, append_assoc, arith, inl, inr}
 use Rattle.std.specs.Prelude.{nat_lt}
 use Rattle.std.specs.List.{Contains}
-use Rattle.std.proofs.lemmas.Bool.{true≢false, ltb-false, ltb-true, eq-eqb, eqb-true}
+use Rattle.std.proofs.lemmas.Bool.{cases_lt, eqb-false, eqb-true, false_from_ne_true, ltb-false, ltb-true, or_cases, or_parts}
 use Rattle.std.proofs.lemmas.List.Elements.{All-contains}
 use Rattle.area_disk.specs.Disk.{Rose, last_count}
 use Rattle.area_disk.specs.declared.area.Area.{Ghosts}
@@ -27,35 +27,30 @@ begins_then xs ys zs a b = (a.0 ++ b.0, b.1 ∙ ap (λ (h : List HistoryEntry). 
 
 -- a count that isn't above another is no greater, and isn't the last one
 no_greater : (count other : ℕ) → is_above count other ≡ false → count ≤ other
-no_greater count other is = by_tests (count == last_count) (nat_lt other count) refl refl
-  where
-    by_tests : (a b : Bool) → (count == last_count) ≡ a → nat_lt other count ≡ b → count ≤ other
-    by_tests true b at lt = absurd (true≢false (sym (ap (λ t. t || nat_lt other count) at) ∙ is))
-    by_tests false true at lt = absurd (true≢false (sym (λ i. at i || lt i) ∙ is))
-    by_tests false false at lt = ltb-false other count lt
+no_greater count other is = ltb-false other count (or_parts (count == last_count) (nat_lt other count) is).1
 
 not_last : (count other : ℕ) → is_above count other ≡ false → count ≢ last_count
-not_last count other is last = true≢false (sym (ap (λ t. t || nat_lt other count) (eq-eqb count last_count last)) ∙ is)
+not_last count other is = eqb-false count last_count (or_parts (count == last_count) (nat_lt other count) is).0
 
 -- a count that is above another is greater, or the last one
 is_greater : (count other : ℕ) → is_above count other ≡ true → count ≤ other → count ≡ last_count
-is_greater count other is most = by_tests (count == last_count) refl
-  where
-    by_tests : (a : Bool) → (count == last_count) ≡ a → count ≡ last_count
-    by_tests true at = eqb-true count last_count at
-    by_tests false at = let lt = ltb-true other count (sym (ap (λ t. t || nat_lt other count) at) ∙ is) in absurd (omega (arith, lt, most))
+is_greater count other is most =
+    elim (or_cases (count == last_count) (nat_lt other count) is) [
+      | inl at ↦ eqb-true count last_count at
+      | inr lt ↦ absurd (omega (arith, ltb-true other count lt, most))
+    ]
 
 -- a count that never falls and didn't stand rose
 risen_by : (before after : ℕ) → before ≤ after → ¬ (Stood before after) → Rose before after
-risen_by before after later moved = by_tests (nat_lt before after) refl
-  where
-    last_by : (b : Bool) → nat_lt before (2 ^ 64 - 1) ≡ b → after ≤ before → Rose before after
-    last_by true lt most = let low = ltb-true before (2 ^ 64 - 1) lt in absurd (moved (omega (arith, later, most), low))
-    last_by false lt most = let high = ltb-false before (2 ^ 64 - 1) lt in omega (arith, high, later)
-
-    by_tests : (b : Bool) → nat_lt before after ≡ b → Rose before after
-    by_tests true lt = let more = ltb-true before after lt in omega (arith, more)
-    by_tests false lt = last_by (nat_lt before (2 ^ 64 - 1)) refl (ltb-false before after lt)
+risen_by before after later moved =
+    elim (cases_lt before after) [
+      | inl more ↦ omega (arith, more)
+      | inr most ↦
+          elim (cases_lt before (2 ^ 64 - 1)) [
+            | inl low ↦ absurd (moved (omega (arith, later, most), low))
+            | inr high ↦ omega (arith, high, later)
+          ]
+    ]
 
 -- of two beginnings of one list the shorter one begins the other
 begins_shorter : (xs ys rest : List HistoryEntry) → Begins xs (ys ++ rest) → length xs ≤ length ys → Begins xs ys
@@ -102,13 +97,10 @@ module _ (told : Bool) (front faults : ℕ) (t : KeptTurn) (found left : Facts) 
 
   goes_on : (commits : HasCommitted told front faults found left firm_found firm_left settled added) → is_above left.cuts faults ≡ false
       → commits.is_broken ≡ false
-  goes_on commits not = by_state commits.is_broken refl
-    where
-      by_state : (b : Bool) → commits.is_broken ≡ b → commits.is_broken ≡ false
-      by_state true broken =
-          let cut = commits.cut broken in let stood = stood_then not in let same = stood.0 in let below = stood.1 in
-          absurd (omega (arith, cut, same, below))
-      by_state false goes = goes
+  goes_on commits not =
+      false_from_ne_true commits.is_broken (λ broken.
+      let cut = commits.cut broken in let stood = stood_then not in let same = stood.0 in let below = stood.1 in
+      omega (arith, cut, same, below))
 
   -- a commit made all that the answer rests on firm
   long_enough : (commits : HasCommitted told front faults found left firm_found firm_left settled added) → is_above left.cuts faults ≡ false

@@ -1,8 +1,8 @@
 -- What a writer holds that recovered, or was given items behind those that it had taken.
-use Rattle.std.proofs.Common.{◌≡◌, ℕ, zero, suc, ◌+◌, ◌<◌, ◌≤◌, ◌^◌, Bool, true, false, List, [], ◌∷◌, ◌++◌, length, take, drop, Ok, Err, refl, sym, ap, subst, ◌∙◌, append_assoc, arith, length-append}
+use Rattle.std.proofs.Common.{◌≡◌, ℕ, ◌+◌, ◌<◌, ◌^◌, Bool, true, false, List, [], ◌++◌, length, take, drop, Ok, Err, refl, sym, ap, subst, ◌∙◌, append_assoc, arith, length-append}
 use Rattle.std.specs.Prelude.{IsTrue, nat_eq}
 use Rattle.std.proofs.lemmas.Bool.{true≢false, eq-eqb, eqb-true}
-use Rattle.std.proofs.lemmas.List.{append-nil, nil_from_length, take-append-drop}
+use Rattle.std.proofs.lemmas.List.{append-nil, drop_at, length-drop, length-take, nil_from_length, take-append-drop, take_at}
 use Rattle.cdr_shelf.specs.Files.{SealedFile}
 use Rattle.cdr_shelf.specs.declared.shelf.Shelf.{Ghosts}
 use Rattle.gateway_book.specs.Items.{items_between, items_of}
@@ -17,14 +17,6 @@ use Rattle.file_writer.specs.declared.fault.ShelfFault.{ShelfFault}
 use Rattle.file_writer.specs.declared.writer.Writer.{Writer}
 use Rattle.node_session.specs.Settling.{HasGivenSome, HasTakenAll}
 use Rattle.node_session.specs.Writing.{AreNext, Begins, HasTakenOf, HoldsFilesOf, IsWriterOf, none_closed, none_stood}
-
-take_front : (xs ys : List Item) → take (length xs) (xs ++ ys) ≡ xs
-take_front [] ys = refl
-take_front (x ∷ xs) ys = ap (λ (zs : List Item). x ∷ zs) (take_front xs ys)
-
-drop_front : (xs ys : List Item) → drop (length xs) (xs ++ ys) ≡ ys
-drop_front [] ys = refl
-drop_front (x ∷ xs) ys = drop_front xs ys
 
 module _ {F : Type 0} {tells : Ghosts F} (old new : Writer F tells) where
   -- one that recovered has taken none
@@ -64,7 +56,7 @@ module _ {F : Type 0} {tells : Ghosts F} (old new : Writer F tells) where
   next_in told h w next are it_is =
       let begins = w.begins it_is in let behind = are it_is in
       let rest : begins.0 ≡ next ++ behind.0 =
-      sym (drop_front w.items begins.0)
+      sym (drop_at w.items begins.0 (length w.items) refl)
       ∙ ap (λ (xs : List Item). drop (length w.items) xs) (sym begins.1)
       ∙ ap (λ n. drop n (items_of h)) w.count ∙ behind.1 in
       (behind.0, begins.1 ∙ ap (λ (xs : List Item). w.items ++ xs) rest ∙ sym (append_assoc w.items next behind.0))
@@ -95,7 +87,7 @@ module _ {F : Type 0} {tells : Ghosts F} (old new : Writer F tells) where
     held_before ready holds =
         let same : take (taken_of old) all ≡ w.items =
         ap (λ (xs : List Item). take (taken_of old) xs) (all_is ∙ append_assoc w.items next rest)
-        ∙ ap (λ n. take n (w.items ++ (next ++ rest))) (sym w.count) ∙ take_front w.items (next ++ rest) in
+        ∙ ap (λ n. take n (w.items ++ (next ++ rest))) (sym w.count) ∙ take_at w.items (next ++ rest) (length w.items) refl in
         subst (λ (xs : List Item). Holds old none_closed none_stood xs w.items) all_is
         (subst (λ (xs : List Item). Holds old none_closed none_stood all xs) same (holds.held ready))
 
@@ -105,7 +97,7 @@ module _ {F : Type 0} {tells : Ghosts F} (old new : Writer F tells) where
         let same : w.items ++ next ≡ take (taken_of new) all =
         sym (ap (λ (xs : List Item). take (taken_of new) xs) all_is
         ∙ ap (λ n. take n ((w.items ++ next) ++ rest)) (count ∙ ap (λ n. n + length next) (sym w.count) ∙ sym (length-append w.items next))
-        ∙ take_front (w.items ++ next) rest) in
+        ∙ take_at (w.items ++ next) rest (length (w.items ++ next)) refl) in
         record {
           begun = λ broken. absurd (true≢false (sym broken ∙ runs));
           held = λ still. subst (λ (xs : List Item). Holds new none_closed none_stood all xs) same
@@ -131,25 +123,6 @@ pub next_ones : (told : Bool) (h : List HistoryEntry) (from most : ℕ) (items :
 next_ones told h from most items are it_is =
     (drop most (drop from (items_of h)), sym (ap (λ (xs : List Item). xs ++ drop most (drop from (items_of h))) (are it_is) ∙ take-append-drop most (drop from (items_of h))))
 
--- fewer than were asked for are all that are left
-few_taken : (most : ℕ) (xs : List Item) → length (take most xs) < most → length (take most xs) ≡ length xs
-few_taken zero xs few = absurd (omega (arith, few))
-few_taken (suc n) [] few = refl
-few_taken (suc n) (x ∷ xs) few = ap (λ k. suc k) (few_taken n xs (omega (arith, few)))
-
-left_behind : (n : ℕ) (xs : List Item) → n ≤ length xs → n + length (drop n xs) ≡ length xs
-left_behind zero xs less = omega arith
-left_behind (suc n) [] less = absurd (omega (arith, less))
-left_behind (suc n) (x ∷ xs) less = let more = left_behind n xs (omega (arith, less)) in omega (arith, more)
-
-taken_part : (n : ℕ) (xs : List Item) → length (take n xs) ≤ length xs
-taken_part (suc n) (x ∷ xs) = let less = taken_part n xs in omega (arith, less)
-taken_part _ _ = omega arith
-
-dropped_length : (n : ℕ) (xs : List Item) → length xs ≤ n + length (drop n xs)
-dropped_length (suc n) (x ∷ xs) = let less = dropped_length n xs in omega (arith, less)
-dropped_length _ _ = omega arith
-
 -- a writer that took the items to their end has taken all
 pub all_given : {F : Type 0} {tells : Ghosts F} (h : List HistoryEntry) (new : Writer F tells) (from most : ℕ) (items : List Item)
     → items ≡ items_between from most h → length items < most → is_broken new ≡ false → taken_of new ≡ from + length items
@@ -157,20 +130,14 @@ pub all_given : {F : Type 0} {tells : Ghosts F} (h : List HistoryEntry) (new : W
 all_given h new from most items are few ready count w =
     let begins = w.begins refl in
     let same : length items ≡ length (take most (drop from (items_of h))) = ap (λ (xs : List Item). length xs) are in
-    let left = few_taken most (drop from (items_of h)) (omega (arith, few, same)) in
-    let most_in = dropped_length from (items_of h) in
     let long : length (items_of h) ≡ length w.items + length begins.0 = ap (λ (xs : List Item). length xs) begins.1 ∙ length-append w.items begins.0 in
     let is_taken = w.count in
-    let none : begins.0 ≡ [] = nil_from_length begins.0 (omega (arith, same, left, most_in, long, is_taken, count)) in
+    let none : begins.0 ≡ [] = nil_from_length begins.0 (omega (arith, few, same, length-take most (drop from (items_of h)), length-drop from (items_of h), long, is_taken, count)) in
     record {
       ready = ready;
       at = subst (λ (xs : List Item). IsAt new none_closed xs) (sym (begins.1 ∙ ap (λ (xs : List Item). w.items ++ xs) none ∙ append-nil w.items)) w.at;
       count = let empty : length begins.0 ≡ 0 = ap (λ (xs : List Item). length xs) none in omega (arith, long, is_taken, empty);
     }
-
-taken_within : (n : ℕ) (xs : List Item) → length (take n xs) ≤ n
-taken_within (suc n) (x ∷ xs) = let less = taken_within n xs in omega (arith, less)
-taken_within _ _ = omega arith
 
 -- a writer was given so many items at most, and took them
 pub given_some : {F : Type 0} {tells : Ghosts F} (told : Bool) (h : List HistoryEntry) (old new : Writer F tells) (most : ℕ) (items : List Item)
@@ -182,9 +149,8 @@ given_some told h old new most items n long are ready count few writer some = re
   moves = λ more. let is = eqb-true n most more in (omega (arith, is, long, count, some), few);
   all = λ less it_is.
       let not : n ≡ most → ⊥ = λ same. true≢false (sym (eq-eqb n most same) ∙ less) in
-      let within = taken_within most (drop (taken_of old) (items_of h)) in
       let same : length items ≡ length (take most (drop (taken_of old) (items_of h))) = ap (λ (xs : List Item). length xs) (are it_is) in
-      let fewer : length items < most = omega (arith, within, same, long, not) in
+      let fewer : length items < most = omega (arith, length-take most (drop (taken_of old) (items_of h)), same, long, not) in
       all_given h new (taken_of old) most items (are it_is) fewer ready count
       (subst (λ (b : Bool). HasTakenOf b h new) it_is (writer ready));
 }
@@ -197,6 +163,4 @@ room_within h w most items has are few =
     let long : length (items_of h) ≡ length has.items + length begins.0 = ap (λ (xs : List Item). length xs) begins.1 ∙ length-append has.items begins.0 in
     let taken = has.count in
     let same : length items ≡ length (take most (drop (taken_of w) (items_of h))) = ap (λ (xs : List Item). length xs) are in
-    let within = taken_part most (drop (taken_of w) (items_of h)) in
-    let left = left_behind (taken_of w) (items_of h) (omega (arith, long, taken)) in
-    omega (arith, long, taken, same, within, left, few)
+    omega (arith, long, taken, same, length-take most (drop (taken_of w) (items_of h)), length-drop (taken_of w) (items_of h), few)

@@ -21,9 +21,8 @@ use Rattle.node_session.specs.declared.dispatcher.Dispatcher.{Dispatcher}
 -- as many passes as inboxes
 pub as_many : (inboxes : List Inbox) (passes : List InboxPass) → AreOfEach inboxes passes → length passes ≡ length inboxes
 as_many [] [] own = refl
-as_many [] (p ∷ ps) own = absurd own
-as_many (b ∷ bs) [] own = absurd own
 as_many (b ∷ bs) (p ∷ ps) own = ap (λ n. suc n) (as_many bs ps own.1)
+as_many _ _ own = absurd own
 
 pub pass_at : (inboxes : List Inbox) (passes : List InboxPass) (k : ℕ) (inbox : Inbox) (pass : InboxPass) → AreOfEach inboxes passes
     → k < length inboxes → inbox ≡ slice_index_or inboxes k inbox → pass ≡ slice_index_or passes k pass → IsPassOf inbox pass

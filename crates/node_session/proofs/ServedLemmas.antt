@@ -1,5 +1,5 @@
 -- What a session tells of a job, by what it did step by step.
-use Rattle.std.proofs.Common.{◌≡◌, ◌⊎◌, inl, inr, ℕ, ◌<◌, ◌≤◌, Bool, true, List, [], ◌∷◌, ◌++◌, length, Option, Some, None, Result, Ok, Err, refl, sym, ap, subst, ◌∙◌, append_assoc, arith}
+use Rattle.std.proofs.Common.{◌≡◌, ◌⊎◌, inl, inr, ℕ, ◌≤◌, Bool, true, List, [], ◌∷◌, ◌++◌, length, Option, Some, None, Result, Ok, Err, refl, sym, ap, subst, ◌∙◌, append_assoc, arith}
 use Rattle.std.specs.Prelude.{All, IfSome, MatchOption, slice_index_or}
 use Rattle.std.specs.List.{Contains}
 use Rattle.std.proofs.lemmas.List.{append-nil}
@@ -32,7 +32,7 @@ use Rattle.turn_cell.specs.declared.cell.Pass.{Pass}
 use Rattle.turn_cell.specs.declared.knowing.KeptTurn.{KeptTurn}
 use Rattle.turn_cell.specs.declared.knowing.Knowledge.{Knowledge}
 use Rattle.node_session.specs.Answering.{AddsAnswers, HasSent, IsAnswerTo, IsFaultAt, IsReplyAt, KeepsTurns, MayHave, Tells, TellsBehind, called_at, history_at}
-use Rattle.node_session.specs.Asking.{IsAsked, SettlesIn, TakesIn}
+use Rattle.node_session.specs.Asking.{IsAsked, TakesIn}
 use Rattle.node_session.specs.Learning.{HasTurnFor, IsCountedBy, Learns}
 use Rattle.node_session.specs.Passes.{known_by}
 use Rattle.node_session.specs.Serving.{Concludes, GoesOn, IsServed, SendsFor, SendsTo, caller_of, once_sent}
@@ -90,29 +90,29 @@ none_settled (inr commits) = commits.adds
 
 module _ {A : Type 0} (tells : Ghosts A) where
   later_asked : (front faults : ℕ) (taken after : Knowledge) (s : Settled) → IsAsked tells front faults taken s after → Later taken after
-  later_asked front faults taken after s asked = by_end asked.ends
-    where
-      by_end : ((front ≤ asked.seen) × (s ≡ settled.Firm) × (after ≡ asked.looked))
-          ⊎ ((asked.seen < front) × SettlesIn tells front faults asked.looked s after) → Later taken after
-      by_end (inl seen) = record {
-        later = [];
-        turns = ap (λ (k : Knowledge). k.turns) (seen.2 ∙ asked.saw.same) ∙ sym (append-nil taken.turns);
-        number = ap (λ (k : Knowledge). k.number) (seen.2 ∙ asked.saw.same);
-        size = ap (λ (k : Knowledge). k.size) (seen.2 ∙ asked.saw.same);
-        one_more = omega arith;
-        adds_none = All-nil (λ (t : KeptTurn). t.added ≡ []);
-      }
-      by_end (inr more) =
-          let took = more.1 in
-          let u : KeptTurn = kept (book_facts took.found) (book_facts took.left) took.drops took.added in
-          record {
-            later = u ∷ [];
-            turns = ap (λ (k : Knowledge). k.turns) took.kept ∙ ap (λ (k : Knowledge). k.turns ++ u ∷ []) asked.saw.same;
-            number = ap (λ (k : Knowledge). k.number) took.kept ∙ ap (λ (k : Knowledge). k.number) asked.saw.same;
-            size = ap (λ (k : Knowledge). k.size) took.kept ∙ ap (λ (k : Knowledge). k.size) asked.saw.same;
-            one_more = omega arith;
-            adds_none = All-cons (λ (t : KeptTurn). t.added ≡ []) u [] (none_settled took.does_so) (All-nil (λ (t : KeptTurn). t.added ≡ []));
-          }
+  later_asked front faults taken after s asked =
+      elim asked.ends [
+        | inl seen ↦
+            record {
+              later = [];
+              turns = ap (λ (k : Knowledge). k.turns) (seen.2 ∙ asked.saw.same) ∙ sym (append-nil taken.turns);
+              number = ap (λ (k : Knowledge). k.number) (seen.2 ∙ asked.saw.same);
+              size = ap (λ (k : Knowledge). k.size) (seen.2 ∙ asked.saw.same);
+              one_more = omega arith;
+              adds_none = All-nil (λ (t : KeptTurn). t.added ≡ []);
+            }
+        | inr more ↦
+            let took = more.1 in
+            let u : KeptTurn = kept (book_facts took.found) (book_facts took.left) took.drops took.added in
+            record {
+              later = u ∷ [];
+              turns = ap (λ (k : Knowledge). k.turns) took.kept ∙ ap (λ (k : Knowledge). k.turns ++ u ∷ []) asked.saw.same;
+              number = ap (λ (k : Knowledge). k.number) took.kept ∙ ap (λ (k : Knowledge). k.number) asked.saw.same;
+              size = ap (λ (k : Knowledge). k.size) took.kept ∙ ap (λ (k : Knowledge). k.size) asked.saw.same;
+              one_more = omega arith;
+              adds_none = All-cons (λ (t : KeptTurn). t.added ≡ []) u [] (none_settled took.does_so) (All-nil (λ (t : KeptTurn). t.added ≡ []));
+            }
+      ]
 
   module _ (may : ℕ → ℕ → Go → Type 0) (session : ℕ) (job : Job) (old new : LinkState) (result : Served) where
     pub later_on : (taken after : Knowledge) (o : Outcome) → GoesOn tells may session job old new result taken after o → Later taken after
@@ -125,17 +125,13 @@ module _ {A : Type 0} (tells : Ghosts A) where
     abbrev first_of : {before after : Knowledge} → IsServed tells may session job old new result before after → KeptTurn
     first_of is = kept (book_facts is.first.found) (book_facts is.first.left) is.first.drops is.first.added
 
-    abbrev IsFirstOf : {before after : Knowledge} → IsServed tells may session job old new result before after → Type 0
-    IsFirstOf is = turns.IsOneOf job.from job.octets job.moment (caller_of session job) (book_facts is.first.found)
-        (book_facts is.first.left) is.first.added is.outcome is.first.drops
-
     adds_by : {before after : Knowledge} (is : IsServed tells may session job old new result before after) → WhereTold (tells_lists tells)
         (((first_of is).added ≡ []) ⊎ ((first_of is).added ≡ called_at (tells_lists tells) session job (first_of is)))
-    adds_by is told = by_case (is.first.does_so.answers told)
-      where
-        by_case : IsFirstOf is → ((first_of is).added ≡ []) ⊎ ((first_of is).added ≡ called_at (tells_lists tells) session job (first_of is))
-        by_case (inl taken) = inr taken.adds
-        by_case (inr failed) = inl failed.adds
+    adds_by is told =
+        elim (is.first.does_so.answers told) [
+          | inl taken ↦ inr taken.adds
+          | inr failed ↦ inl failed.adds
+        ]
 
     pub keeps_turns : (before after : Knowledge) → IsServed tells may session job old new result before after
         → KeepsTurns (tells_lists tells) session job before after
@@ -196,10 +192,6 @@ module _ {A : Type 0} (tells : Ghosts A) where
       abbrev t : KeptTurn
       t = kept (book_facts is.first.found) (book_facts is.first.left) is.first.drops is.first.added
 
-      abbrev IsFirst : Type 0
-      IsFirst = turns.IsOneOf job.from job.octets job.moment (caller_of session job) (book_facts is.first.found)
-          (book_facts is.first.left) is.first.added is.outcome is.first.drops
-
       abbrev TellsSo : Served → Type 0
       TellsSo r = TellsBehind told session job between before after old new r
 
@@ -222,30 +214,34 @@ module _ {A : Type 0} (tells : Ghosts A) where
           let counts = subst (λ (x : Outcome). turns.IsCountedAt (book_facts is.first.left) x) o is.first.does_so.counts in
           record { front_is = counts.0; faults_is = counts.1; long = λ it_is. counts.0 ∙ is.first.sound.1.counted it_is }
 
+      said : (receipt : Receipt) → is.outcome ≡ outcome.Answer receipt → {d : Decided} → turns.Tells d is.outcome
+          → ((act : Option HistoryAct) × (d ≡ Says receipt.reply act)) × (receipt.cause ≡ cause_in receipt.reply)
+      said receipt o {d} tells = says_of d receipt (subst (λ (x : Outcome). turns.Tells d x) o tells)
+
       answers_of : (receipt : Receipt) → is.outcome ≡ outcome.Answer receipt → WhereTold told
           (IsReplyAt told session job t receipt.reply ⊎ IsFaultAt told session job t receipt.reply)
-      answers_of receipt o it_is = by_case (is.first.does_so.answers it_is)
-        where
-          by_case : IsFirst → IsReplyAt told session job t receipt.reply ⊎ IsFaultAt told session job t receipt.reply
-          by_case (inl taken) =
-              let says = (says_of _ receipt (subst (λ (x : Outcome). turns.Tells (turns.decided_at (history_at t) t.found.size job.from job.octets) x) o taken.tells)).0 in
-              inl (record {
-                whole = taken.whole;
-                act = says.0;
-                decides = says.1;
-                adds = taken.adds ∙ ap (λ d. turns.entries_of (history_at t) job.moment (caller_of session job) (act_decided d)) says.1;
-                list = taken.list;
-              })
-          by_case (inr failed) =
-              let says = (says_of _ receipt (subst (λ (x : Outcome). turns.Tells (turns.decided_by_fault job.octets) x) o failed.tells)).0 in
-              inr (record { act = says.0; rose = failed.rose; decides = says.1; adds = failed.adds })
+      answers_of receipt o it_is =
+          elim (is.first.does_so.answers it_is) [
+            | inl taken ↦
+                let says = (said receipt o taken.tells).0 in
+                inl (record {
+                  whole = taken.whole;
+                  act = says.0;
+                  decides = says.1;
+                  adds = taken.adds ∙ ap (λ d. turns.entries_of (history_at t) job.moment (caller_of session job) (act_decided d)) says.1;
+                  list = taken.list;
+                })
+            | inr failed ↦
+                let says = (said receipt o failed.tells).0 in
+                inr (record { act = says.0; rose = failed.rose; decides = says.1; adds = failed.adds })
+          ]
 
       cause_of : (receipt : Receipt) → is.outcome ≡ outcome.Answer receipt → WhereTold told (receipt.cause ≡ cause_in receipt.reply)
-      cause_of receipt o it_is = by_case (is.first.does_so.answers it_is)
-        where
-          by_case : IsFirst → receipt.cause ≡ cause_in receipt.reply
-          by_case (inl taken) = (says_of _ receipt (subst (λ (x : Outcome). turns.Tells (turns.decided_at (history_at t) t.found.size job.from job.octets) x) o taken.tells)).1
-          by_case (inr failed) = (says_of _ receipt (subst (λ (x : Outcome). turns.Tells (turns.decided_by_fault job.octets) x) o failed.tells)).1
+      cause_of receipt o it_is =
+          elim (is.first.does_so.answers it_is) [
+            | inl taken ↦ (said receipt o taken.tells).1
+            | inr failed ↦ (said receipt o failed.tells).1
+          ]
 
       module _ (receipt : Receipt) (o : is.outcome ≡ outcome.Answer receipt) (on : Concludes tells job old new result now after receipt) where
         abbrev learnt : Learns told t now after on.settled
@@ -320,10 +316,10 @@ module _ {A : Type 0} (tells : Ghosts A) where
       goes_on = is.goes_on;
     })
 
--- the entries that a pass added, with those of one job more
-pub more_jobs : (size session : ℕ) (jobs : List Job) (job : Job) (t : KeptTurn) → IsAnswerTo size session jobs t → IsAnswerTo size session (jobs ++ job ∷ []) t
-more_jobs size session jobs job t (inl none) = inl none
-more_jobs size session jobs job t (inr is) = inr (is.0, Contains-append_left jobs (job ∷ []) is.0 is.1, is.2)
+-- the entries that a pass added, with those of more jobs
+pub more_jobs : (size session : ℕ) (jobs more : List Job) (t : KeptTurn) → IsAnswerTo size session jobs t → IsAnswerTo size session (jobs ++ more) t
+more_jobs size session jobs more t (inl none) = inl none
+more_jobs size session jobs more t (inr is) = inr (is.0, Contains-append_left jobs more is.0 is.1, is.2)
 
 pub none_added : (size session : ℕ) (jobs : List Job) (later : List KeptTurn) → All (λ t. t.added ≡ []) later → All (IsAnswerTo size session jobs) later
 none_added size session jobs later none k d lt = inl (none k d lt)
@@ -331,13 +327,11 @@ none_added size session jobs later none k d lt = inl (none k d lt)
 pub adds_answers : (told : Bool) (session : ℕ) (job : Job) (before after : Knowledge) → KeepsTurns told session job before after → told ≡ true
     → session ≡ before.number → (jobs : List Job) → AddsAnswers jobs before → AddsAnswers (jobs ++ job ∷ []) after
 adds_answers told session job before after keeps it_is own jobs adds =
-    subst (λ (ts : List KeptTurn). All (IsAnswerTo after.size after.number (jobs ++ job ∷ [])) ts) (sym keeps.turns)
-    (subst (λ (n : ℕ). All (IsAnswerTo n after.number (jobs ++ job ∷ [])) (before.turns ++ keeps.first ∷ keeps.later)) (sym keeps.size.0)
-    (subst (λ (n : ℕ). All (IsAnswerTo before.size n (jobs ++ job ∷ [])) (before.turns ++ keeps.first ∷ keeps.later)) (sym keeps.number)
+    rw (keeps.turns, keeps.size.0, keeps.number)
     (All-append (IsAnswerTo before.size before.number (jobs ++ job ∷ [])) before.turns (keeps.first ∷ keeps.later)
-    (λ k d lt. more_jobs before.size before.number jobs job (slice_index_or before.turns k d) (adds k d lt))
+    (λ k d lt. more_jobs before.size before.number jobs (job ∷ []) (slice_index_or before.turns k d) (adds k d lt))
     (All-cons (IsAnswerTo before.size before.number (jobs ++ job ∷ [])) keeps.first keeps.later (by_case (keeps.adds it_is))
-    (none_added before.size before.number (jobs ++ job ∷ []) keeps.later keeps.adds_none)))))
+    (none_added before.size before.number (jobs ++ job ∷ []) keeps.later keeps.adds_none)))
   where
     by_case : (keeps.first.added ≡ []) ⊎ (keeps.first.added ≡ called_at told session job keeps.first)
         → IsAnswerTo before.size before.number (jobs ++ job ∷ []) keeps.first

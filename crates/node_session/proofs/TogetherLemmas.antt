@@ -13,7 +13,6 @@ use Rattle.gateway_book.specs.declared.book.Book.{Book}
 use Rattle.gateway_book.specs.declared.outcome.Outcome.{Outcome}
 use Rattle.gateway_book.specs.declared.outcome.Outcome.TheVariants as outcome
 use Rattle.gateway_book.specs.declared.outcome.Settled.{Settled}
-use Rattle.gateway_book.specs.declared.outcome.Settled.TheVariants.{Firm}
 use Rattle.job_inbox.specs.declared.job.Job.{Job}
 use Rattle.net_link.specs.Datagrams.{LinkState}
 use Rattle.turn_cell.specs.Cell.{knowledge}
@@ -23,7 +22,7 @@ use Rattle.turn_cell.specs.declared.cell.Pass.{Pass}
 use Rattle.turn_cell.specs.declared.knowing.KeptTurn.{KeptTurn}
 use Rattle.turn_cell.specs.declared.knowing.Knowledge.{Knowledge}
 use Rattle.node_session.specs.Answering.{AddsAnswers, IsAnswerTo, called_at, history_at}
-use Rattle.node_session.specs.Asking.{IsAsked, SettlesIn, TakesIn}
+use Rattle.node_session.specs.Asking.{IsAsked, TakesIn}
 use Rattle.node_session.specs.Learning.{HasTurnFor}
 use Rattle.node_session.specs.Passes.{known_by}
 use Rattle.node_session.specs.Serving.{GoesOn, caller_of}
@@ -32,7 +31,7 @@ use Rattle.node_session.specs.Turns as turns
 use Rattle.node_session.specs.declared.gate.Go.{Go}
 use Rattle.node_session.specs.declared.served.Served.{Served}
 use Rattle.node_session.proofs.AskingLemmas.{begins_then}
-use Rattle.node_session.proofs.ServedLemmas.{Later, later_on, may_on, none_added, own_turn, tells_behind}
+use Rattle.node_session.proofs.ServedLemmas.{Later, later_on, may_on, more_jobs, none_added, own_turn, tells_behind}
 
 -- what becomes of what a pass knows: it began with as many faults, and it knows no less
 record OnFrom (told : Bool) (before after : Knowledge) : Type 0 where
@@ -86,20 +85,18 @@ module _ {A : Type 0} (tells : Ghosts A) (session : ℕ) where
       → TookEach told (λ (book : Book A tells). book_facts book) made start (Some session) DoesTake jobs outcomes before after
       → AreTaken tells session jobs outcomes before after
   taken_each made start [] [] before after took = took
-  taken_each made start [] (o ∷ outcomes) before after took = absurd took
-  taken_each made start (job ∷ jobs) [] before after took = absurd took
   taken_each made start (job ∷ jobs) (o ∷ outcomes) before after took =
       (took.0, took.1.0, taken_each made start jobs outcomes took.0 after took.2)
+  taken_each made start _ _ before after took = absurd took
 
   -- more were taken behind these
   pub taken_then : (earlier jobs : List Job) (old more : List Outcome) (first before after : Knowledge)
       → AreTaken tells session earlier old first before → AreTaken tells session jobs more before after
       → AreTaken tells session (earlier ++ jobs) (old ++ more) first after
   taken_then [] jobs [] more first before after taken then = subst (λ (k : Knowledge). AreTaken tells session jobs more k after) taken then
-  taken_then [] jobs (o ∷ old) more first before after taken then = absurd taken
-  taken_then (job ∷ earlier) jobs [] more first before after taken then = absurd taken
   taken_then (job ∷ earlier) jobs (o ∷ old) more first before after taken then =
       (taken.0, taken.1, taken_then earlier jobs old more taken.0 before after taken.2 then)
+  taken_then _ jobs _ more first before after taken then = absurd taken
 
   -- the same of turns under one ticket, whose outcomes stand behind others
   pub taken_behind : (made : ℕ) (start : Facts) (earlier jobs : List Job) (old new : List Outcome) (first before after : Knowledge)
@@ -113,9 +110,8 @@ module _ {A : Type 0} (tells : Ghosts A) (session : ℕ) where
   pub as_many : (jobs : List Job) (outcomes : List Outcome) (before after : Knowledge)
       → AreTaken tells session jobs outcomes before after → length outcomes ≡ length jobs
   as_many [] [] before after taken = refl
-  as_many [] (o ∷ outcomes) before after taken = absurd taken
-  as_many (job ∷ jobs) [] before after taken = absurd taken
   as_many (job ∷ jobs) (o ∷ outcomes) before after taken = ap suc (as_many jobs outcomes taken.0 after taken.2)
+  as_many _ _ before after taken = absurd taken
 
   -- a turn, as the pass keeps it
   abbrev turn_of : {job : Job} {before after : Knowledge} {outcome : Outcome} → Takes job before outcome after → KeptTurn
@@ -129,12 +125,11 @@ module _ {A : Type 0} (tells : Ghosts A) (session : ℕ) where
   adds_first : (job : Job) (before after : Knowledge) (outcome : Outcome) (took : Takes job before outcome after)
       → WhereTold told (((turn_of {job = job} took).added ≡ [])
       ⊎ ((turn_of {job = job} took).added ≡ called_at told session job (turn_of {job = job} took)))
-  adds_first job before after outcome took it_is = by_case (took.does_so.answers it_is)
-    where
-      by_case : turns.IsOneOf job.from job.octets job.moment (caller_of session job) (book_facts took.found) (book_facts took.left) took.added outcome took.drops
-          → ((turn_of {job = job} took).added ≡ []) ⊎ ((turn_of {job = job} took).added ≡ called_at told session job (turn_of {job = job} took))
-      by_case (inl taken) = inr taken.adds
-      by_case (inr failed) = inl failed.adds
+  adds_first job before after outcome took it_is =
+      elim (took.does_so.answers it_is) [
+        | inl taken ↦ inr taken.adds
+        | inr failed ↦ inl failed.adds
+      ]
 
   -- the turns that took datagrams, one for each job
   record Firsts (jobs : List Job) (before after : Knowledge) : Type 0 where
@@ -153,8 +148,6 @@ module _ {A : Type 0} (tells : Ghosts A) (session : ℕ) where
     size = ap (λ (k : Knowledge). k.size) taken;
     each = refl;
   }
-  firsts_of [] (o ∷ outcomes) before after taken = absurd taken
-  firsts_of (job ∷ jobs) [] before after taken = absurd taken
   firsts_of (job ∷ jobs) (outcome ∷ outcomes) before after taken =
       let took = taken.1 in
       let t : KeptTurn = turn_of {job = job} took in
@@ -172,16 +165,16 @@ module _ {A : Type 0} (tells : Ghosts A) (session : ℕ) where
           subst (λ (n : ℕ). AreFirstsOf told session n jobs rest.firsts) size rest.each,
         );
       }
+  firsts_of _ _ before after taken = absurd taken
 
   -- it knows no less behind the turns that took datagrams
   on_taken : (jobs : List Job) (outcomes : List Outcome) (before after : Knowledge) → AreTaken tells session jobs outcomes before after
       → OnFrom told before after
   on_taken [] [] before after taken = on_same told before after taken
-  on_taken [] (o ∷ outcomes) before after taken = absurd taken
-  on_taken (job ∷ jobs) [] before after taken = absurd taken
   on_taken (job ∷ jobs) (o ∷ outcomes) before after taken =
       on_then told before taken.0 after (on_took told (λ book. book_facts book) _ _ before o taken.0 taken.1)
       (on_taken jobs outcomes taken.0 after taken.2)
+  on_taken _ _ before after taken = absurd taken
 
   from_taken : (jobs : List Job) (outcomes : List Outcome) (before after : Knowledge) → AreTaken tells session jobs outcomes before after
       → GoesFrom told before after
@@ -194,53 +187,45 @@ module _ {A : Type 0} (tells : Ghosts A) (session : ℕ) where
   pub have_turns : (jobs : List Job) (outcomes : List Outcome) (before after : Knowledge) → AreTaken tells session jobs outcomes before after
       → HaveTurnsFor told outcomes after
   have_turns [] [] before after taken = All-nil (λ (o : Outcome). HasTurnFor told o after)
-  have_turns [] (o ∷ outcomes) before after taken = absurd taken
-  have_turns (job ∷ jobs) [] before after taken = absurd taken
   have_turns (job ∷ jobs) (o ∷ outcomes) before after taken =
       let rest : GoesFrom told taken.0 after = from_taken jobs outcomes taken.0 after taken.2 in
       All-cons (λ (x : Outcome). HasTurnFor told x after) o outcomes
       (turn_stays told o taken.0 after rest.later rest.turns (own_turn tells job.from job.octets job.moment (caller_of session job) before taken.0 o taken.1))
       (have_turns jobs outcomes taken.0 after taken.2)
+  have_turns _ _ before after taken = absurd taken
 
   -- the same behind other outcomes, whose turns the pass kept
-  pub turns_behind : (made : ℕ) (start : Facts) (jobs : List Job) (old new : List Outcome) (before after : Knowledge)
-      → TookMore told (λ (book : Book A tells). book_facts book) made start (Some session) DoesTake jobs old new before after
-      → HaveTurnsFor told old before → HaveTurnsFor told new after
-  turns_behind made start jobs old new before after took have =
-      let taken = taken_each made start jobs took.0 before after took.2 in
-      let goes : GoesFrom told before after = from_taken jobs took.0 before after taken in
-      subst (λ (os : List Outcome). HaveTurnsFor told os after) (sym took.1)
-      (All-append (λ (o : Outcome). HasTurnFor told o after) old took.0
-      (λ k d lt receipt at. let t = have k d lt receipt at in (
-        t.0,
-        subst (λ (ts : List KeptTurn). Contains ts t.0) (sym goes.turns) (Contains-append_left before.turns goes.later t.0 t.1),
-        t.2,
-      ))
-      (have_turns jobs took.0 before after taken))
+  module _ (made : ℕ) (start : Facts) (jobs : List Job) (old new : List Outcome) (before after : Knowledge)
+      (took : TookMore told (λ (book : Book A tells). book_facts book) made start (Some session) DoesTake jobs old new before after) where
+    all_took : AreTaken tells session jobs took.0 before after
+    all_took = taken_each made start jobs took.0 before after took.2
 
-  pub number_behind : (made : ℕ) (start : Facts) (jobs : List Job) (old new : List Outcome) (before after : Knowledge)
-      → TookMore told (λ (book : Book A tells). book_facts book) made start (Some session) DoesTake jobs old new before after
-      → after.number ≡ before.number
-  number_behind made start jobs old new before after took =
-      (firsts_of jobs took.0 before after (taken_each made start jobs took.0 before after took.2)).number
+    pub turns_behind : HaveTurnsFor told old before → HaveTurnsFor told new after
+    turns_behind have =
+        let goes : GoesFrom told before after = from_taken jobs took.0 before after all_took in
+        subst (λ (os : List Outcome). HaveTurnsFor told os after) (sym took.1)
+        (All-append (λ (o : Outcome). HasTurnFor told o after) old took.0
+        (λ k d lt. turn_stays told (slice_index_or old k d) before after goes.later goes.turns (have k d lt))
+        (have_turns jobs took.0 before after all_took))
 
-  pub as_many_behind : (made : ℕ) (start : Facts) (jobs : List Job) (old new : List Outcome) (before after : Knowledge)
-      → TookMore told (λ (book : Book A tells). book_facts book) made start (Some session) DoesTake jobs old new before after
-      → length new ≡ length old + length jobs
-  as_many_behind made start jobs old new before after took =
-      ap (λ (os : List Outcome). length os) took.1 ∙ length-append old took.0
-      ∙ ap (λ (n : ℕ). length old + n) (as_many jobs took.0 before after (taken_each made start jobs took.0 before after took.2))
+    pub number_behind : after.number ≡ before.number
+    number_behind = (firsts_of jobs took.0 before after all_took).number
+
+    pub as_many_behind : length new ≡ length old + length jobs
+    as_many_behind =
+        ap (λ (os : List Outcome). length os) took.1 ∙ length-append old took.0
+        ∙ ap (λ (n : ℕ). length old + n) (as_many jobs took.0 before after all_took)
 
   module _ (may : ℕ → ℕ → Go → Type 0) where
     on_asked : (front faults : ℕ) (before : Knowledge) (settled : Settled) (after : Knowledge)
         → IsAsked tells front faults before settled after → OnFrom told before after
     on_asked front faults before settled after a =
-        on_then told before a.looked after (on_saw told a.seen before a.looked a.saw) (by_end a.ends)
-      where
-        by_end : ((front ≤ a.seen) × (settled ≡ Firm) × (after ≡ a.looked)) ⊎ ((a.seen < front) × SettlesIn tells front faults a.looked settled after)
-            → OnFrom told a.looked after
-        by_end (inl firm) = on_same told a.looked after firm.2
-        by_end (inr second) = on_took told (λ book. book_facts book) _ _ a.looked settled after second.1
+        let saw = on_saw told a.seen before a.looked a.saw in
+        elim a.ends [
+          | inl firm ↦ on_then told before a.looked after saw (on_same told a.looked after firm.2)
+          | inr second ↦
+              on_then told before a.looked after saw (on_took told (λ book. book_facts book) _ _ a.looked settled after second.1)
+        ]
 
     on_goes : (job : Job) (old new : LinkState) (result : Served) (taken after : Knowledge) (o : Outcome)
         → GoesOn tells may session job old new result taken after o → OnFrom told taken after
@@ -291,11 +276,7 @@ module _ {A : Type 0} (tells : Ghosts A) (session : ℕ) where
         → Goes job old new result now after outcome → HaveTurnsFor told outcomes now → HaveTurnsFor told outcomes after
     turns_stay job old new result now after outcome outcomes goes have =
         let one : Later now after = later_on tells may session job old new result now after outcome goes in
-        λ k d lt receipt at. let t = have k d lt receipt at in (
-          t.0,
-          subst (λ (ts : List KeptTurn). Contains ts t.0) (sym one.turns) (Contains-append_left now.turns one.later t.0 t.1),
-          t.2,
-        )
+        λ k d lt. turn_stays told (slice_index_or outcomes k d) now after one.later one.turns (have k d lt)
 
     -- the turns behind those that took the datagrams: at most one for each job, which added nothing
     record Laters (jobs : List Job) (taken after : Knowledge) : Type 0 where
@@ -413,16 +394,14 @@ pub taken_on : {A : Type 0} (tells : Ghosts A) (session : ℕ) (jobs : List Job)
     → (AreTaken tells session front old before (knowledge pass) → AreTaken tells session (front ++ back) new before after)
     → AreTaken tells session jobs new before after
 taken_on tells session jobs old new p pass before after is js front back n lent long first splits taken step =
-    subst (λ (xs : List Job). AreTaken tells session xs new before after) (sym splits ∙ lent)
-    (step (subst (λ (xs : List Job). AreTaken tells session xs old before (knowledge pass)) (sym (first ∙ (λ i. take (long i) (lent i))))
-    (subst (λ (k : Knowledge). AreTaken tells session (take (length old) jobs) old before k) (ap known_by is) taken)))
+    rw (← lent, splits) (step (rw (first, long, lent) (rw is at taken)))
 
 -- where all were taken in one call
 pub all_taken : {A : Type 0} (tells : Ghosts A) (session : ℕ) (jobs js : List Job) (old new : List Outcome) (before after : Knowledge) → old ≡ []
     → ((k : Knowledge) → FirstAreTaken tells session jobs old k before → AreTaken tells session js new k after)
     → AreTaken tells session js new before after
 all_taken tells session jobs js old new before after none step =
-    step before (subst (λ (os : List Outcome). FirstAreTaken tells session jobs os before before) (sym none) refl)
+    step before (rw none refl)
 
 -- a session went on, with the lists as the parts of the call were lent them
 pub gone_on : {A : Type 0} (tells : Ghosts A) (may : ℕ → ℕ → Go → Type 0) (session : ℕ) (jobs : List Job) (outcomes : List Outcome)
@@ -430,9 +409,7 @@ pub gone_on : {A : Type 0} (tells : Ghosts A) (may : ℕ → ℕ → Go → Type
     → (js : List Job) (os : List Outcome) → js ≡ jobs → os ≡ outcomes → GoOn tells may session js os results (knowledge pass) after old new
     → GoOn tells may session jobs outcomes results (known_by p) after old new
 gone_on tells may session jobs outcomes results p pass after old new is js os first second goes =
-    subst (λ (k : Knowledge). GoOn tells may session jobs outcomes results k after old new) (ap known_by (sym is))
-    (subst (λ (x : List Job). GoOn tells may session x outcomes results (knowledge pass) after old new) first
-    (subst (λ (o : List Outcome). GoOn tells may session js o results (knowledge pass) after old new) second goes))
+    rw (is, ← first, ← second) goes
 
 -- a session that took all datagrams and then went on with each served the jobs
 pub both_served : {A : Type 0} (tells : Ghosts A) (may : ℕ → ℕ → Go → Type 0) (session : ℕ) (jobs : List Job) (outcomes : List Outcome)
@@ -442,9 +419,8 @@ pub both_served : {A : Type 0} (tells : Ghosts A) (may : ℕ → ℕ → Go → 
 both_served tells may session jobs outcomes results before taken after old new s js own same takes goes = record {
   outcomes = outcomes;
   taken = taken;
-  first = subst (λ (x : List Job). AreTaken tells session x outcomes before taken) same takes;
-  go_on = subst (λ (x : List Job). GoOn tells may session x outcomes results taken after old new) same
-      (subst (λ (n : ℕ). GoOn tells may n js outcomes results taken after old new) own goes);
+  first = rw (← same) takes;
+  go_on = rw (← same, ← own) goes;
 }
 
 -- what was added to several jobs' answers stands among those to more
@@ -474,18 +450,11 @@ module _ (told : Bool) (session size : ℕ) where
 pub adds_answers_of : (told : Bool) (session : ℕ) (jobs : List Job) (before after : Knowledge) → KeepsTurnsOf told session jobs before after
     → told ≡ true → session ≡ before.number → (earlier : List Job) → AddsAnswers earlier before → AddsAnswers (earlier ++ jobs) after
 adds_answers_of told session jobs before after keeps it_is own earlier adds =
-    subst (λ (ts : List KeptTurn). All (IsAnswerTo after.size after.number (earlier ++ jobs)) ts) (sym keeps.turns)
-    (subst (λ (n : ℕ). All (IsAnswerTo n after.number (earlier ++ jobs)) (before.turns ++ (keeps.firsts ++ keeps.later))) (sym keeps.size)
-    (subst (λ (n : ℕ). All (IsAnswerTo before.size n (earlier ++ jobs)) (before.turns ++ (keeps.firsts ++ keeps.later))) (sym keeps.number)
+    rw (keeps.turns, keeps.size, keeps.number)
     (All-append (IsAnswerTo before.size before.number (earlier ++ jobs)) before.turns (keeps.firsts ++ keeps.later)
-    (λ k d lt. more_answers (slice_index_or before.turns k d) (adds k d lt))
+    (λ k d lt. more_jobs before.size before.number earlier jobs (slice_index_or before.turns k d) (adds k d lt))
     (All-append (IsAnswerTo before.size before.number (earlier ++ jobs)) keeps.firsts keeps.later
     (subst (λ (js : List Job). All (IsAnswerTo before.size before.number (earlier ++ js)) keeps.firsts) (append-nil jobs)
     (subst (λ (n : ℕ). All (IsAnswerTo before.size n (earlier ++ (jobs ++ []))) keeps.firsts) own
     (firsts_answer told session before.size earlier jobs [] keeps.firsts it_is keeps.each)))
-    (none_added before.size before.number (earlier ++ jobs) keeps.later keeps.adds_none)))))
-  where
-    more_answers : (t : KeptTurn) → IsAnswerTo before.size before.number earlier t
-        → IsAnswerTo before.size before.number (earlier ++ jobs) t
-    more_answers t (inl none) = inl none
-    more_answers t (inr is) = inr (is.0, Contains-append_left earlier jobs is.0 is.1, is.2)
+    (none_added before.size before.number (earlier ++ jobs) keeps.later keeps.adds_none)))

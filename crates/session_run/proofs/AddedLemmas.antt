@@ -1,6 +1,6 @@
 -- What the turns of a pass added, in turn, and what stands of it in the history.
 use Rattle.std.proofs.Common.{◌≡◌, ◌⊎◌, ⊎_elim, inl, inr, ℕ, ◌==◌, Bool, true, false, if◌then◌else◌, List, [], ◌∷◌, ◌++◌, Option, None, Some, refl, sym, ap, subst, ◌∙◌, append_assoc, arith}
-use Rattle.std.specs.Prelude.{All}
+use Rattle.std.specs.Prelude.{All, slice_index_or}
 use Rattle.std.proofs.lemmas.Bool.Decides.{nat_tests}
 use Rattle.std.proofs.lemmas.List.{append-nil}
 use Rattle.std.proofs.lemmas.List.Elements.{All-cons, All-head, All-nil, All-tail}
@@ -83,16 +83,11 @@ added_on told session earlier jobs before after size y sized keeps p =
 
 -- a pass that answered no job added nothing
 pub none_added : (k : Knowledge) → AddsAnswers [] k → added_by k.turns ≡ []
-none_added k adds = added_none k.turns (no_answers k.turns adds)
+none_added k adds = added_none k.turns (λ n d lt. empty (slice_index_or k.turns n d) (adds n d lt))
   where
     empty : (t : KeptTurn) → IsAnswerTo k.size k.number [] t → t.added ≡ []
     empty t (inl none) = none
     empty t (inr some) = absurd (let lt = some.1.1 in omega (arith, lt))
-
-    no_answers : (ts : List KeptTurn) → All (IsAnswerTo k.size k.number []) ts → All (λ t. t.added ≡ []) ts
-    no_answers [] all = All-nil (λ (t : KeptTurn). t.added ≡ [])
-    no_answers (t ∷ ts) all = All-cons (λ (t : KeptTurn). t.added ≡ []) t ts (empty t (All-head (IsAnswerTo k.size k.number []) t ts all))
-        (no_answers ts (All-tail (IsAnswerTo k.size k.number []) t ts all))
 
 -- ---- the history
 

@@ -14,7 +14,7 @@ use Rattle.job_inbox.specs.declared.inbox.InboxPass.{InboxPass}
 use Rattle.net_link.specs.Datagrams.{Datagram, IsNewAt}
 use Rattle.net_link.specs.declared.link.Link as paths
 use Rattle.node_session.specs.Answering.{AddsAnswers, IsAnswerTo}
-use Rattle.node_session.specs.Passes.{IsOf, known_by, pass_of}
+use Rattle.node_session.specs.Passes.{IsOf, known_by}
 use Rattle.node_session.specs.Receiving.{AreOfEach, hands_of}
 use Rattle.node_session.specs.Writing as writing
 use Rattle.node_session.specs.declared.actor.FileActor.{FileActor}
@@ -104,17 +104,6 @@ writer_begun files told start n actor knows ready = record {
   };
 }
 
-abbrev head_or : {X : Type 0} → X → List X → X
-head_or d [] = d
-head_or d (x ∷ xs) = x
-
-abbrev tail_or : {X : Type 0} → List X → List X
-tail_or [] = []
-tail_or (x ∷ xs) = xs
-
-same_head : {X : Type 0} (x y : X) (xs ys : List X) → x ∷ xs ≡ y ∷ ys → x ≡ y
-same_head x y xs ys is = ap (λ l. head_or x l) is
-
 -- what is known by passes that some have
 known_as : (passes : List Pass) (some : List (Option Pass)) → some ≡ map Some passes → map known_by some ≡ cells.known_by passes
 known_as passes some is = ap (λ (l : List (Option Pass)). map known_by l) is ∙ known_some passes
@@ -132,79 +121,20 @@ module _ {F L : Type 0} (files : shelves.Ghosts F) (tells : paths.Ghosts L) (tol
   abbrev IsNew : L → Type 0
   IsNew link = IsNewAt at (tells.state link)
 
-  -- the links and the desks after the first ones
-  abbrev links3 : List L
-  links3 = team.second.0.link ∷ team.second.1.link ∷ []
-
-  abbrev links2 : List L
-  links2 = team.first.1.link ∷ links3
-
-  abbrev links1 : List L
-  links1 = team.first.0.link ∷ links2
-
-  abbrev desks2 : List (Desk L)
-  desks2 = team.second.0 ∷ team.second.1 ∷ []
-
-  abbrev desks1 : List (Desk L)
-  desks1 = team.first.1 ∷ desks2
-
   module _ (knows : cells.known_by passes ≡ newcomers start 5) (hands : inboxes.known_by pops ≡ idle ∷ idle ∷ idle ∷ idle ∷ [])
       (new : All IsNew links) (none_pushed : hands_of seats.reception.dispatcher ≡ idle ∷ idle ∷ idle ∷ idle ∷ [])
       (runs : seats.reception.stop ≡ None) (ready : writing.IsWriterOf told start.firm writer) where
     known : known_among team ≡ newcomer 0 start ∷ newcomer 1 start ∷ newcomer 2 start ∷ newcomer 3 start ∷ newcomer 4 start ∷ []
     known = known_as passes (passes_among team) seated.has ∙ knows
 
-    known1 : known_at team.first.1 ∷ known_at team.second.0 ∷ known_at team.second.1 ∷ writing.knowledge_of team.actor ∷ []
-        ≡ newcomer 1 start ∷ newcomer 2 start ∷ newcomer 3 start ∷ newcomer 4 start ∷ []
-    known1 = ap (λ (l : List Knowledge). tail_or l) known
-
-    known2 : known_at team.second.0 ∷ known_at team.second.1 ∷ writing.knowledge_of team.actor ∷ [] ≡ newcomer 2 start ∷ newcomer 3 start ∷ newcomer 4 start ∷ []
-    known2 = ap (λ (l : List Knowledge). tail_or l) known1
-
-    known3 : known_at team.second.1 ∷ writing.knowledge_of team.actor ∷ [] ≡ newcomer 3 start ∷ newcomer 4 start ∷ []
-    known3 = ap (λ (l : List Knowledge). tail_or l) known2
-
-    known4 : writing.knowledge_of team.actor ∷ [] ≡ newcomer 4 start ∷ []
-    known4 = ap (λ (l : List Knowledge). tail_or l) known3
-
     taken : hand_at team.first.0 ∷ hand_at team.first.1 ∷ hand_at team.second.0 ∷ hand_at team.second.1 ∷ [] ≡ idle ∷ idle ∷ idle ∷ idle ∷ []
     taken = ap inboxes.known_by seated.takes ∙ hands
 
-    taken1 : hand_at team.first.1 ∷ hand_at team.second.0 ∷ hand_at team.second.1 ∷ [] ≡ idle ∷ idle ∷ idle ∷ []
-    taken1 = ap (λ (l : List Hand). tail_or l) taken
-
-    taken2 : hand_at team.second.0 ∷ hand_at team.second.1 ∷ [] ≡ idle ∷ idle ∷ []
-    taken2 = ap (λ (l : List Hand). tail_or l) taken1
-
-    taken3 : hand_at team.second.1 ∷ [] ≡ idle ∷ []
-    taken3 = ap (λ (l : List Hand). tail_or l) taken2
-
-    new0 : All IsNew (links_of seats.reception team)
-    new0 = subst (All IsNew) (sym seated.sends) new
-
-    new1 : All IsNew links1
-    new1 = All-tail IsNew seats.reception.link links1 new0
-
-    new2 : All IsNew links2
-    new2 = All-tail IsNew team.first.0.link links2 new1
-
-    new3 : All IsNew links3
-    new3 = All-tail IsNew team.first.1.link links3 new2
-
-    new4 : All IsNew (team.second.1.link ∷ [])
-    new4 = All-tail IsNew team.second.0.link (team.second.1.link ∷ []) new3
-
-    fresh1 : All IsFresh desks1
-    fresh1 = All-tail IsFresh team.first.0 desks1 seated.fresh
-
-    fresh2 : All IsFresh desks2
-    fresh2 = All-tail IsFresh team.first.1 desks2 fresh1
-
-    fresh3 : All IsFresh (team.second.1 ∷ [])
-    fresh3 = All-tail IsFresh team.second.0 (team.second.1 ∷ []) fresh2
+    all_new : All IsNew (links_of seats.reception team)
+    all_new = subst (All IsNew) (sym seated.sends) new
 
     knows_firm : writing.knowledge_of team.actor ≡ newcomer 4 start
-    knows_firm = same_head (writing.knowledge_of team.actor) (newcomer 4 start) [] [] known4
+    knows_firm = cc known
 
     pub is_ready : IsReady told team.actor
     is_ready = subst (λ (w : Writer F files). writing.IsWriterOf told (writing.knowledge_of team.actor).known w) (sym seated.writes)
@@ -212,15 +142,15 @@ module _ {F L : Type 0} (files : shelves.Ghosts F) (tells : paths.Ghosts L) (tol
 
     pub all_begun : HaveServed files tells told at start writer seats.reception team
     all_begun = record {
-      dispatched = reception_begun tells told at start seats.reception none_pushed (All-head IsNew seats.reception.link links1 new0) runs;
-      one = desk_begun tells told at start 0 team.first.0 (same_head (known_at team.first.0) (newcomer 0 start) _ _ known)
-          (same_head (hand_at team.first.0) idle _ _ taken) (All-head IsNew team.first.0.link links2 new1) (All-head IsFresh team.first.0 desks1 seated.fresh);
-      two = desk_begun tells told at start 1 team.first.1 (same_head (known_at team.first.1) (newcomer 1 start) _ _ known1)
-          (same_head (hand_at team.first.1) idle _ _ taken1) (All-head IsNew team.first.1.link links3 new2) (All-head IsFresh team.first.1 desks2 fresh1);
-      three = desk_begun tells told at start 2 team.second.0 (same_head (known_at team.second.0) (newcomer 2 start) _ _ known2)
-          (same_head (hand_at team.second.0) idle _ _ taken2) (All-head IsNew team.second.0.link (team.second.1.link ∷ []) new3) (All-head IsFresh team.second.0 (team.second.1 ∷ []) fresh2);
-      four = desk_begun tells told at start 3 team.second.1 (same_head (known_at team.second.1) (newcomer 3 start) _ _ known3)
-          (same_head (hand_at team.second.1) idle _ _ taken3) (All-head IsNew team.second.1.link [] new4) (All-head IsFresh team.second.1 [] fresh3);
+      dispatched = reception_begun tells told at start seats.reception none_pushed (all_new 0 seats.reception.link (omega arith)) runs;
+      one = desk_begun tells told at start 0 team.first.0 (cc known) (cc taken)
+          (all_new 1 team.first.0.link (omega arith)) (seated.fresh 0 team.first.0 (omega arith));
+      two = desk_begun tells told at start 1 team.first.1 (cc known) (cc taken)
+          (all_new 2 team.first.1.link (omega arith)) (seated.fresh 1 team.first.1 (omega arith));
+      three = desk_begun tells told at start 2 team.second.0 (cc known) (cc taken)
+          (all_new 3 team.second.0.link (omega arith)) (seated.fresh 2 team.second.0 (omega arith));
+      four = desk_begun tells told at start 3 team.second.1 (cc known) (cc taken)
+          (all_new 4 team.second.1.link (omega arith)) (seated.fresh 3 team.second.1 (omega arith));
       written = subst (λ (w : Writer F files). HasWritten files told (began_at start 4) w team.actor) seated.writes
           (writer_begun files told start 4 team.actor knows_firm is_ready);
     }
@@ -233,13 +163,10 @@ module _ {V : Type 0} (cell : TurnCell V) where
 
   desks_of : {L : Type 0} (list : List Inbox) (a b c d : Desk L) → AreOfEach list (a.pass ∷ b.pass ∷ c.pass ∷ d.pass ∷ [])
       → IsOf cell a.worker.pass → IsOf cell b.worker.pass → IsOf cell c.worker.pass → IsOf cell d.worker.pass → AreDesksOf cell list (a, b) (c, d)
-  desks_of (i ∷ j ∷ k ∷ l ∷ []) a b c d pops wa wb wc wd =
-      let p1 : AreOfEach (j ∷ k ∷ l ∷ []) (b.pass ∷ c.pass ∷ d.pass ∷ []) = pops.1 in
-      let p2 : AreOfEach (k ∷ l ∷ []) (c.pass ∷ d.pass ∷ []) = p1.1 in
-      let p3 : AreOfEach (l ∷ []) (d.pass ∷ []) = p2.1 in (
-        (record { worker = wa; pass = pops.0 }, record { worker = wb; pass = p1.0 }),
-        (record { worker = wc; pass = p2.0 }, record { worker = wd; pass = p3.0 }),
-      )
+  desks_of (i ∷ j ∷ k ∷ l ∷ []) a b c d pops wa wb wc wd = (
+    (record { worker = wa; pass = pops.0 }, record { worker = wb; pass = pops.1.0 }),
+    (record { worker = wc; pass = pops.1.1.0 }, record { worker = wd; pass = pops.1.1.1.0 }),
+  )
   desks_of [] a b c d pops wa wb wc wd = absurd pops
   desks_of (i ∷ []) a b c d pops wa wb wc wd = absurd pops.1
   desks_of (i ∷ j ∷ []) a b c d pops wa wb wc wd = absurd pops.1.1
@@ -251,19 +178,10 @@ module _ {V : Type 0} (cell : TurnCell V) where
   team_of files list passes links pops writer seats seated own of_each =
       let team = seats.team in
       let all : All (IsOf cell) (passes_among team) = subst (All (IsOf cell)) (sym seated.has) (all_of passes own) in
-      let p4 : List (Option Pass) = writing.pass_of team.actor ∷ [] in
-      let p3 : List (Option Pass) = pass_of team.second.1.worker ∷ p4 in
-      let p2 : List (Option Pass) = pass_of team.second.0.worker ∷ p3 in
-      let p1 : List (Option Pass) = pass_of team.first.1.worker ∷ p2 in
-      let all1 : All (IsOf cell) p1 = All-tail (IsOf cell) (pass_of team.first.0.worker) p1 all in
-      let all2 : All (IsOf cell) p2 = All-tail (IsOf cell) (pass_of team.first.1.worker) p2 all1 in
-      let all3 : All (IsOf cell) p3 = All-tail (IsOf cell) (pass_of team.second.0.worker) p3 all2 in
-      let all4 : All (IsOf cell) p4 = All-tail (IsOf cell) (pass_of team.second.1.worker) p4 all3 in
       record {
         desks = desks_of list team.first.0 team.first.1 team.second.0 team.second.1 (subst (AreOfEach list) (sym seated.takes) of_each)
-            (All-head (IsOf cell) (pass_of team.first.0.worker) p1 all) (All-head (IsOf cell) (pass_of team.first.1.worker) p2 all1)
-            (All-head (IsOf cell) (pass_of team.second.0.worker) p3 all2) (All-head (IsOf cell) (pass_of team.second.1.worker) p4 all3);
-        actor = All-head (IsOf cell) (writing.pass_of team.actor) [] all4;
+            (all 0 None (omega arith)) (all 1 None (omega arith)) (all 2 None (omega arith)) (all 3 None (omega arith));
+        actor = all 4 None (omega arith);
       }
 
 -- new passes are numbered in their order
@@ -293,6 +211,6 @@ pub receiver_new : {F L : Type 0} (files : shelves.Ghosts F) (tells : paths.Ghos
     (writer : Writer F files) (seats : Seats F L files) → IsSeated passes links pops writer seats → All (λ link. IsNewAt at (tells.state link)) links
     → IsNewAt at (link_of tells seats.reception)
 receiver_new files tells at passes links pops writer seats seated new =
-    let team = seats.team in
-    All-head (λ link. IsNewAt at (tells.state link)) seats.reception.link (team.first.0.link ∷ team.first.1.link ∷ team.second.0.link ∷ team.second.1.link ∷ [])
-    (subst (All (λ link. IsNewAt at (tells.state link))) (sym seated.sends) new)
+    let all : All (λ link. IsNewAt at (tells.state link)) (links_of seats.reception seats.team) =
+    subst (All (λ link. IsNewAt at (tells.state link))) (sym seated.sends) new in
+    all 0 seats.reception.link (omega arith)

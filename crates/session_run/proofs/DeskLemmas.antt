@@ -41,6 +41,21 @@ Entries = List HistoryEntry
 pub begins_then : (xs ys zs : Entries) → Begins xs ys → Begins ys zs → Begins xs zs
 begins_then xs ys zs p q = (p.0 ++ q.0, q.1 ∙ ap (λ (l : Entries). l ++ q.0) p.1 ∙ append_assoc xs p.0 q.0)
 
+-- what was said of a datagram is said still once more is firm
+pub says_later : {size size' : ℕ} {firm later : Entries} {asked : Datagram} {octets : List ℕ} {P Q : Type 0} → size ≡ size'
+    → Begins firm later → (P → Q) → IsAnswered size firm asked octets ⊎ (TellsFailure asked octets × P)
+    → IsAnswered size' later asked octets ⊎ (TellsFailure asked octets × Q)
+says_later {firm = firm} {later = later} {asked = asked} {octets = octets} same begins more (inl a) =
+    inl (subst (λ (n : ℕ). IsAnswered n later asked octets) same (record {
+      history = a.history;
+      act = a.act;
+      says = a.says;
+      now = a.now;
+      who = a.who;
+      rests = begins_then (a.history ++ entries_of a.history a.now a.who a.act) firm later a.rests begins;
+    }))
+says_later same begins more (inr f) = inr (f.0, more f.1)
+
 -- a count that rose from a later value rose from an earlier one, and rose to a later one
 pub rose_since : (s a b : ℕ) → s ≤ a → Rose a b → Rose s b
 rose_since s a b le rose = ⊎_elim (λ (lt : a < b). inl (omega (arith, le, lt))) (λ last. inr last) rose
@@ -108,12 +123,11 @@ module _ {A : Type 0} (tells : Ghosts A) where
     on_taken : (jobs : List Job) (outcomes : List Outcome) (before after : Knowledge) → AreTaken tells session jobs outcomes before after
         → OnFrom (tells_lists tells) before after
     on_taken [] [] before after taken = on_same (tells_lists tells) before after taken
-    on_taken [] (o ∷ outcomes) before after taken = absurd taken
-    on_taken (job ∷ jobs) [] before after taken = absurd taken
     on_taken (job ∷ jobs) (o ∷ outcomes) before after taken =
         on_then (tells_lists tells) before taken.0 after
         (on_took (tells_lists tells) (λ book. book_facts book) _ _ before o taken.0 taken.1)
         (on_taken jobs outcomes taken.0 after taken.2)
+    on_taken _ _ before after taken = absurd taken
 
     on_gone : (jobs : List Job) (outcomes : List Outcome) (results : List Served) (taken after : Knowledge) (old new : LinkState)
         → GoOn tells may session jobs outcomes results taken after old new → OnFrom (tells_lists tells) taken after
@@ -143,20 +157,8 @@ module _ (told : Bool) (before after : Knowledge) (goes : GoesFrom told before a
   reply_stays : (job : Job) (d : Datagram) → RepliesTo before job d → RepliesTo after job d
   reply_stays job d r = record {
     peer = r.peer;
-    says = ⊎_elim
-        (λ (a : IsAnswered before.size before.known (datagram_of job) d.octets).
-        inl (subst (λ (n : ℕ). IsAnswered n after.known (datagram_of job) d.octets) (sym goes.size)
-        (record {
-          history = a.history;
-          act = a.act;
-          says = a.says;
-          now = a.now;
-          who = a.who;
-          rests = begins_then (a.history ++ entries_of a.history a.now a.who a.act) before.known after.known a.rests (goes.known y);
-        })))
-        (λ (f : TellsFailure (datagram_of job) d.octets × HasFailedSince before).
-        inr (f.0, (f.1.0, more_turns told before after goes f.1.0 f.1.1, subst (λ (n : ℕ). disk.Rose n f.1.0.left.faults) (sym goes.faults) f.1.2)))
-        r.says;
+    says = says_later (sym goes.size) (goes.known y) (λ (f : HasFailedSince before).
+        (f.0, more_turns told before after goes f.0 f.1, subst (λ (n : ℕ). disk.Rose n f.0.left.faults) (sym goes.faults) f.2)) r.says;
   }
 
   pub replies_stay : (jobs : List Job) (sent : Option (List Datagram)) → AreRepliesTo jobs before sent → AreRepliesTo jobs after sent

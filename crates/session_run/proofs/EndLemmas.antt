@@ -1,6 +1,6 @@
 -- What a gateway hands back that served, or that had no memory to.
 use Rattle.std.proofs.Common.{◌≡◌, inl, inr, ℕ, Bool, true, false, if◌then◌else◌, List, [], ◌∷◌, ◌++◌, length, Option, None, Some, refl, sym, ap, subst, ◌∙◌, arith}
-use Rattle.std.specs.Prelude.{All, IfSome}
+use Rattle.std.specs.Prelude.{All, IfSome, slice_index_or}
 use Rattle.std.specs.Option.{option_or}
 use Rattle.std.proofs.lemmas.List.{append-nil}
 use Rattle.std.proofs.lemmas.List.Elements.{All-cons, All-head, All-nil, All-tail}
@@ -158,10 +158,7 @@ module _ {L : Type 0} (tells : paths.Ghosts L) (at : Addr) where
 
   -- new links have sent nothing
   none_replied : (heard : Option (List Datagram)) (start now : Facts) (all : List L) → All IsNew all → AreReplies tells heard start now all
-  none_replied heard start now [] new = All-nil (λ (x : L). IfSome (tells.state x).sent (All (IsReply heard start.size now.firm start.faults now.faults)))
-  none_replied heard start now (link ∷ others) new =
-      All-cons (λ (x : L). IfSome (tells.state x).sent (All (IsReply heard start.size now.firm start.faults now.faults))) link others
-      (unsent (tells.state link).sent (All-head IsNew link others new).sent) (none_replied heard start now others (All-tail IsNew link others new))
+  none_replied heard start now all new = λ k d lt. unsent (tells.state (slice_index_or all k d)).sent (new k d lt).sent
     where
       unsent : (sent : Option (List Datagram)) → IfSome sent (λ list. list ≡ []) → IfSome sent (All (IsReply heard start.size now.firm start.faults now.faults))
       unsent None is = tt
@@ -198,16 +195,14 @@ module _ {L : Type 0} (tells : paths.Ghosts L) (at : Addr) where
   Hears link = HearsNothing at (tells.state link)
 
   hear_nothing : (all : List L) → All IsNew all → All Hears all
-  hear_nothing [] new = All-nil Hears
-  hear_nothing (link ∷ others) new =
-      let first = All-head IsNew link others new in
-      All-cons Hears link others (record { address = first.at; turns = first.turns; received = first.received }) (hear_nothing others (All-tail IsNew link others new))
+  hear_nothing all new = λ k d lt.
+      let first = new k d lt in record { address = first.at; turns = first.turns; received = first.received }
 
   -- five new links are five of the address
   pub new_five : (all : List L) → AreNewAt tells at all → AreFiveOf tells at all
   new_five [] are = absurd (let n = are.count in omega (arith, n))
   new_five (link ∷ others) are =
-      let first = All-head IsNew link others are.new in (
+      let first = are.new 0 link (omega arith) in (
         (let n = are.count in omega (arith, n)),
         record { address = first.at; sent = first.sent },
         hear_nothing others (All-tail IsNew link others are.new),
@@ -222,9 +217,8 @@ never_served stopped is n m none = absurd (cc (sym is ∙ none))
 -- as many passes as inboxes
 pub each_length : (list : List Inbox) (passes : List InboxPass) → AreOfEach list passes → length passes ≡ length list
 each_length [] [] of_each = refl
-each_length [] (p ∷ passes) of_each = absurd of_each
-each_length (i ∷ list) [] of_each = absurd of_each
 each_length (i ∷ list) (p ∷ passes) of_each = let n = each_length list passes of_each.1 in omega (arith, n)
+each_length _ _ of_each = absurd of_each
 
 module _ {V : Type 0} (cell : TurnCell V) {L : Type 0} where
   -- the passes that the desks and who writes give back are those of the cell

@@ -1,5 +1,5 @@
 -- What is in turn stays so, and what links sent all together.
-use Rattle.std.proofs.Common.{◌≡◌, inl, inr, ⊎_elim, ℕ, ◌==◌, Bool, true, false, if◌then◌else◌, List, [], ◌∷◌, ◌++◌, Option, None, Some, refl, sym, ap, subst, ◌∙◌, append_assoc}
+use Rattle.std.proofs.Common.{◌≡◌, ℕ, ◌==◌, Bool, true, false, if◌then◌else◌, List, [], ◌∷◌, ◌++◌, Option, None, Some, refl, sym, ap, subst, ◌∙◌, append_assoc}
 use Rattle.std.specs.Prelude.{IfSome}
 use Rattle.std.proofs.lemmas.List.{append-nil}
 use Rattle.std.proofs.lemmas.Option.{same_Some}
@@ -9,13 +9,12 @@ use Rattle.gw_base.specs.declared.history.HistoryEntry.{HistoryEntry}
 use Rattle.net_link.specs.Datagrams.{Datagram, joined}
 use Rattle.net_link.specs.Making.{GrowsBy}
 use Rattle.net_link.specs.declared.link.Link as paths
-use Rattle.node_session.specs.Turns.{entries_of}
 use Rattle.turn_cell.specs.Placed.{by_session, placed}
-use Rattle.session_run.specs.History.{AnswerInTurn, AnswersJob, InTurn, IsAnswered, IsJobOf, IsReplyTo, ReplyInTurn, TellsFailure, those_of}
+use Rattle.session_run.specs.History.{AnswerInTurn, AnswersJob, InTurn, IsJobOf, IsReplyTo, ReplyInTurn, those_of}
 use Rattle.session_run.specs.Latest.{Jobs}
 use Rattle.session_run.specs.Links.{sent_with}
 use Rattle.session_run.specs.Running.{sent_by}
-use Rattle.session_run.proofs.DeskLemmas.{begins_then}
+use Rattle.session_run.proofs.DeskLemmas.{says_later}
 use Rattle.session_run.proofs.InTurnLemmas.{in_turn_before, in_turn_front, in_turn_weaker}
 
 abbrev Placed : Type 0
@@ -73,17 +72,7 @@ module _ (size : ℕ) (firm later : List HistoryEntry) (before now before' now' 
   reply_later session asked sent r = record {
     session_is = r.session_is;
     peer = r.peer;
-    says = ⊎_elim
-        (λ (a : IsAnswered size firm asked sent.octets). inl (record {
-          history = a.history;
-          act = a.act;
-          says = a.says;
-          now = a.now;
-          who = a.who;
-          rests = begins_then (a.history ++ entries_of a.history a.now a.who a.act) firm later a.rests begins;
-        }))
-        (λ (f : TellsFailure asked sent.octets × Rose before now). inr (f.0, rises f.1))
-        r.says;
+    says = says_later refl begins rises r.says;
   }
 
   pub replies_later : (earlier heard all sent : Option (List Datagram)) → GrowsBy earlier heard all

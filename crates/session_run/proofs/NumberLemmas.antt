@@ -10,14 +10,6 @@ number pass = (knowledge pass).number
 abbrev pub numbers : List Pass → List ℕ
 numbers passes = map (λ pass. (knowledge pass).number) passes
 
-abbrev rest_of : List ℕ → List ℕ
-rest_of [] = []
-rest_of (n ∷ ns) = ns
-
-abbrev head_of : List ℕ → ℕ
-head_of [] = 0
-head_of (n ∷ ns) = n
-
 never_none : (xs : List Pass) (x : Pass) → numbers (xs ++ x ∷ []) ≢ []
 never_none [] x is = cc is
 never_none (y ∷ ys) x is = cc is
@@ -29,20 +21,18 @@ never_empty (m ∷ ns) n is = cc is
 -- without the last
 shorter : (ns : List ℕ) (n : ℕ) (xs : List Pass) (x : Pass) → numbers (xs ++ x ∷ []) ≡ ns ++ n ∷ [] → numbers xs ≡ ns
 shorter [] n [] x is = refl
-shorter [] n (y ∷ ys) x is = absurd (never_none ys x (ap (λ ns. rest_of ns) is))
-shorter (m ∷ ns) n [] x is = absurd (never_empty ns n (sym (ap (λ ns. rest_of ns) is)))
-shorter (m ∷ ns) n (y ∷ ys) x is = λ i. ap (λ ns. head_of ns) is i ∷ shorter ns n ys x (ap (λ ns. rest_of ns) is) i
+shorter [] n (y ∷ ys) x is = absurd (never_none ys x (cc))
+shorter (m ∷ ns) n [] x is = absurd (never_empty ns n (cc))
+shorter (m ∷ ns) n (y ∷ ys) x is = cc (shorter ns n ys x (cc))
 
 pub without_last : (ns : List ℕ) (n : ℕ) (all xs : List Pass) (x : Pass) → all ≡ xs ++ x ∷ [] → numbers all ≡ ns ++ n ∷ [] → numbers xs ≡ ns
 without_last ns n all xs x is are = shorter ns n xs x (sym (ap (λ (ps : List Pass). numbers ps) is) ∙ are)
 
 -- the last of two, and of three
 pub last_of_two : (xs : List Pass) (a b : ℕ) (d : Pass) → numbers xs ≡ a ∷ b ∷ [] → number (slice_index_or xs (length xs - 1) d) ≡ b
-last_of_two (x ∷ []) a b d is = absurd (cc (ap (λ ns. rest_of ns) is))
-last_of_two (x ∷ y ∷ []) a b d is = ap (λ ns. head_of (rest_of ns)) is
-last_of_two _ a b d is = absurd (cc is)
+last_of_two (x ∷ y ∷ []) a b d is = cc
+last_of_two _ a b d is = cc
 
 pub last_of_three : (xs : List Pass) (a b c : ℕ) (d : Pass) → numbers xs ≡ a ∷ b ∷ c ∷ [] → number (slice_index_or xs (length xs - 1) d) ≡ c
-last_of_three (x ∷ []) a b c d is = absurd (cc (ap (λ ns. rest_of ns) is))
-last_of_three (x ∷ y ∷ z ∷ []) a b c d is = ap (λ ns. head_of (rest_of (rest_of ns))) is
-last_of_three _ a b c d is = absurd (cc is)
+last_of_three (x ∷ y ∷ z ∷ []) a b c d is = cc
+last_of_three _ a b c d is = cc

@@ -72,9 +72,8 @@ module _ (sessions : ℕ) where
 -- as many hands as passes, and as many of these as inboxes
 same_count : (inboxes : List Inbox) (passes : List InboxPass) → AreOfEach inboxes passes → length (known_by passes) ≡ length inboxes
 same_count [] [] own = refl
-same_count [] (p ∷ passes) own = absurd own
-same_count (i ∷ inboxes) [] own = absurd own
 same_count (i ∷ inboxes) (p ∷ passes) own = ap suc (same_count inboxes passes own.1)
+same_count _ _ own = absurd own
 
 set_count : (hands : List Hand) (k : ℕ) (job : Job) → length (with_job k job hands) ≡ length hands
 set_count (hand ∷ hands) (suc k) job = ap suc (set_count hands k job)

@@ -1,7 +1,7 @@
 -- What links of several sessions sent, all together: replies in turn.
-use Rattle.std.proofs.Common.{◌≡◌, ◌≢◌, ◌⊎◌, inl, inr, ℕ, suc, ◌%◌, ◌<◌, ◌≤◌, ◌==◌, nat_eq, Bool, true, false, List, [], ◌∷◌, ◌++◌, Option, None, Some, refl, sym, ap, subst, ◌∙◌, arith}
+use Rattle.std.proofs.Common.{◌≡◌, ◌≢◌, ◌⊎◌, inl, inr, ℕ, suc, ◌%◌, ◌<◌, ◌≤◌, ◌==◌, false, List, [], ◌∷◌, ◌++◌, Option, None, Some, refl, sym, ap, subst, ◌∙◌, arith}
 use Rattle.std.specs.Prelude.{All, IfSome}
-use Rattle.std.proofs.lemmas.Bool.Decides.{nat_tests}
+use Rattle.std.proofs.lemmas.Bool.{cases_eq, ne_eqb}
 use Rattle.std.proofs.lemmas.List.{append-nil}
 use Rattle.std.proofs.lemmas.List.Elements.{All-append, All-nil, All-weaker, filter-append}
 use Rattle.gw_base.specs.declared.history.HistoryEntry.{HistoryEntry}
@@ -23,10 +23,7 @@ module _ (size : ℕ) (firm : List HistoryEntry) (before now : ℕ) (asked : Lis
   none_for : (session other : ℕ) (sent : List Datagram) → session ≢ other → All (IsFor other) sent → those_of session sent ≡ []
   none_for session other sent apart all = filter_none (λ (d : Datagram). d.peer.ip % session_count == session) sent
       (All-weaker (IsFor other) (λ (d : Datagram). (d.peer.ip % session_count == session) ≡ false)
-      (λ d is. not_equal (d.peer.ip % session_count) session (λ e. apart (sym e ∙ is))) sent all)
-    where
-      not_equal : (a b : ℕ) → a ≢ b → (a == b) ≡ false
-      not_equal a b apart = grind (arith, nat_tests, apart)
+      (λ d is. ne_eqb (d.peer.ip % session_count) session (λ e. apart (sym e ∙ is))) sent all)
 
   -- The first list went to nodes of this session and later ones, and those of each session in turn.
   pub record InTurnFrom (session : ℕ) (sent : List Datagram) : Type 0 where
@@ -38,10 +35,7 @@ module _ (size : ℕ) (firm : List HistoryEntry) (before now : ℕ) (asked : Lis
       → those_of s sent ≡ []
   none_before session s sent lt all = filter_none (λ (d : Datagram). d.peer.ip % session_count == s) sent
       (All-weaker (λ (d : Datagram). session ≤ d.peer.ip % session_count) (λ (d : Datagram). (d.peer.ip % session_count == s) ≡ false)
-      (λ d le. apart (d.peer.ip % session_count) le) sent all)
-    where
-      apart : (n : ℕ) → session ≤ n → (n == s) ≡ false
-      apart n le = grind (arith, nat_tests, le, lt)
+      (λ d le. ne_eqb (d.peer.ip % session_count) s (λ e. omega (arith, le, lt))) sent all)
 
   pub none_in_turn : (session : ℕ) → InTurnFrom session []
   none_in_turn session = record { later = All-nil (λ (d : Datagram). session ≤ d.peer.ip % session_count); each = λ s. tt }
@@ -53,7 +47,7 @@ module _ (size : ℕ) (firm : List HistoryEntry) (before now : ℕ) (asked : Lis
     later = All-append Later others mine
         (All-weaker (λ (d : Datagram). suc session ≤ d.peer.ip % session_count) Later (λ d le. omega (arith, le)) others rest.later)
         (All-weaker (IsFor session) Later (λ d is. omega (arith, is)) mine own);
-    each = λ s. by s (one_of s session);
+    each = λ s. by s (cases_eq s session);
   }
     where
       Later : Datagram → Type 0
@@ -61,13 +55,6 @@ module _ (size : ℕ) (firm : List HistoryEntry) (before now : ℕ) (asked : Lis
 
       own : All (IsFor session) mine
       own = went_to session mine p
-
-      one_of : (a b : ℕ) → (a ≡ b) ⊎ (a ≢ b)
-      one_of a b = by_test (nat_eq a b) refl
-        where
-          by_test : (t : Bool) → nat_eq a b ≡ t → (a ≡ b) ⊎ (a ≢ b)
-          by_test true is = inl (grind (arith, nat_tests, is))
-          by_test false is = inr (grind (arith, nat_tests, is))
 
       split : (s : ℕ) → those_of s (others ++ mine) ≡ those_of s others ++ those_of s mine
       split s = filter-append (λ (d : Datagram). d.peer.ip % session_count == s) others mine

@@ -1,8 +1,8 @@
 -- What a gateway that served hands back, by what each of its parts has done.
-use Rattle.std.proofs.Common.{◌≡◌, ◌⊎◌, ⊎_elim, inl, inr, ℕ, zero, suc, ◌≤◌, Bool, true, List, [], ◌∷◌, ◌++◌, length, Option, None, Some, refl, sym, ap, subst, ◌∙◌, append_assoc, arith}
+use Rattle.std.proofs.Common.{◌≡◌, ◌⊎◌, ℕ, zero, suc, ◌≤◌, Bool, true, List, [], ◌∷◌, ◌++◌, length, Option, None, Some, refl, sym, ap, subst, ◌∙◌, append_assoc, arith}
 use Rattle.std.specs.Prelude.{All, IfSome}
 use Rattle.std.specs.List.{Contains}
-use Rattle.std.proofs.lemmas.List.Elements.{All-cons, All-contains, All-head, All-nil, All-tail}
+use Rattle.std.proofs.lemmas.List.Elements.{All-cons, All-contains, All-nil}
 use Rattle.area_disk.specs.Disk.{Rose}
 use Rattle.cdr_shelf.specs.declared.shelf.Shelf as shelves
 use Rattle.file_writer.specs.declared.writer.Writer.{Writer}
@@ -18,7 +18,6 @@ use Rattle.net_link.specs.declared.link.Link as paths
 use Rattle.node_session.specs.Receiving.{hands_of}
 use Rattle.node_session.specs.Serving.{caller_of}
 use Rattle.node_session.specs.Writing as writing
-use Rattle.node_session.specs.Turns.{entries_of}
 use Rattle.turn_cell.specs.Knowing.{Follows, IsLegal, facts_of}
 use Rattle.turn_cell.specs.Passes.{Ended}
 use Rattle.turn_cell.specs.Placed.{added_by, by_session, placed}
@@ -26,17 +25,17 @@ use Rattle.turn_cell.specs.declared.knowing.KeptTurn.{KeptTurn}
 use Rattle.turn_cell.specs.declared.knowing.Knowledge.{Knowledge}
 use Rattle.session_run.specs.Desks.{AreRepliesTo, HasFailedSince, HasWorked, RepliesTo, began_at, hand_at, known_at, link_at}
 use Rattle.session_run.specs.Ending.{AreAllSettled, known_among, links_of}
-use Rattle.session_run.specs.Filing.{HasWritten, KeepsWriter}
+use Rattle.session_run.specs.Filing.{KeepsWriter}
 use Rattle.session_run.specs.History.{AnswersJob, GoesOnUntil, InTurn, IsAnswered, IsCalledFor, IsHeard, IsJobOf, IsReply, IsReplyTo, TellsFailure, datagram_of, session_count}
 use Rattle.session_run.specs.Latest.{later_of, latest, latest_of}
-use Rattle.session_run.specs.Reception.{ArePushed, HasDispatched, IsOneFor, PushedOf, link_of}
-use Rattle.session_run.specs.Running.{HaveReplied, StaysAs, heard_by}
+use Rattle.session_run.specs.Reception.{ArePushed, IsOneFor, PushedOf, link_of}
+use Rattle.session_run.specs.Running.{HaveReplied, StaysAs}
 use Rattle.session_run.specs.Team.{HaveServed, last_among}
 use Rattle.session_run.specs.declared.desk.Desk.{Desk}
 use Rattle.session_run.specs.declared.reception.Reception.{Reception}
 use Rattle.session_run.specs.declared.round.Team.{Team}
 use Rattle.session_run.proofs.AddedLemmas.{all_in_turn, all_sessions, none_added}
-use Rattle.session_run.proofs.DeskLemmas.{begins_then}
+use Rattle.session_run.proofs.DeskLemmas.{says_later}
 use Rattle.session_run.proofs.InTurnLemmas.{each_contains, in_turn_all, in_turn_through}
 use Rattle.session_run.proofs.InboxLemmas.{taken_in_turn}
 use Rattle.session_run.proofs.LatestLemmas.{latest_of_both}
@@ -46,18 +45,12 @@ use Rattle.session_run.proofs.WriterLemmas.{Stays, writer_on}
 abbrev IsHeardJob : Option (List Datagram) → Job → Type 0
 IsHeardJob heard job = IsHeard heard (datagram_of job)
 
--- a count that rose to some value has risen to a later one
-rose_to : (s b c : ℕ) → b ≤ c → Rose s b → Rose s c
-rose_to s b c later rose = omega (arith, later, rose)
-
 -- what is firm begins the list with the torn entries
 firm_first : (f : Facts) → (rest : List HistoryEntry) × (f.list ≡ f.firm ++ rest) → owes.Begins f.firm (joined f)
 firm_first f b = (b.0 ++ f.torn, ap (λ (l : List HistoryEntry). l ++ f.torn) b.1 ∙ append_assoc f.firm b.0 f.torn)
 
-module _ {F L : Type 0} (files : shelves.Ghosts F) (tells : paths.Ghosts L) (told : Bool) (at : Addr) (start now : Facts)
-    (reception : Reception L) (team : Team F L files) (dispatched : HasDispatched tells at reception)
-    (one : HasWorked tells told at (began_at start 0) team.first.0) (two : HasWorked tells told at (began_at start 1) team.first.1)
-    (three : HasWorked tells told at (began_at start 2) team.second.0) (four : HasWorked tells told at (began_at start 3) team.second.1)
+module _ {F L : Type 0} (files : shelves.Ghosts F) (tells : paths.Ghosts L) (told : Bool) (at : Addr) (start now : Facts) (writer : Writer F files)
+    (reception : Reception L) (team : Team F L files) (served : HaveServed files tells told at start writer reception team)
     (ended : Ended told start now (known_among team)) where
   abbrev heard : Option (List Datagram)
   heard = (link_of tells reception).received
@@ -88,12 +81,11 @@ module _ {F L : Type 0} (files : shelves.Ghosts F) (tells : paths.Ghosts L) (tol
   none_heard session (Some list) = tt
 
   all_heard : (hands : List Hand) → ArePushed (length hands) 0 heard hands → AreAllSettled hands team → (n : ℕ) → AreHeard n (jobs n)
-  all_heard (a ∷ b ∷ c ∷ d ∷ []) all s zero = taken_heard 0 a team.first.0 all.0 s.0 one.none_put
-  all_heard (a ∷ b ∷ c ∷ d ∷ []) all s (suc zero) = taken_heard 1 b team.first.1 all.1.0 s.1 two.none_put
-  all_heard (a ∷ b ∷ c ∷ d ∷ []) all s (suc (suc zero)) = taken_heard 2 c team.second.0 all.1.1.0 s.2 three.none_put
-  all_heard (a ∷ b ∷ c ∷ d ∷ []) all s (suc (suc (suc zero))) = taken_heard 3 d team.second.1 all.1.1.1.0 s.3 four.none_put
+  all_heard (a ∷ b ∷ c ∷ d ∷ []) all s zero = taken_heard 0 a team.first.0 all.0 s.0 served.one.none_put
+  all_heard (a ∷ b ∷ c ∷ d ∷ []) all s (suc zero) = taken_heard 1 b team.first.1 all.1.0 s.1 served.two.none_put
+  all_heard (a ∷ b ∷ c ∷ d ∷ []) all s (suc (suc zero)) = taken_heard 2 c team.second.0 all.1.1.0 s.2 served.three.none_put
+  all_heard (a ∷ b ∷ c ∷ d ∷ []) all s (suc (suc (suc zero))) = taken_heard 3 d team.second.1 all.1.1.1.0 s.3 served.four.none_put
   all_heard (a ∷ b ∷ c ∷ d ∷ []) all s (suc (suc (suc (suc n)))) = none_heard (suc (suc (suc (suc n)))) heard
-  all_heard [] all s n = absurd s
   all_heard _ all s n = absurd s
 
   no_more_jobs : (session : ℕ) → session_count ≤ session → jobs session ≡ []
@@ -132,10 +124,9 @@ module _ {F L : Type 0} (files : shelves.Ghosts F) (tells : paths.Ghosts L) (tol
   adds_at : (k : Knowledge) (n : ℕ) → k.number ≡ n → InTurn (AnswersJob start.size n) (jobs n) (added_by k.turns) → Adds k
   adds_at k n is adds = subst (λ m. InTurn (AnswersJob start.size m) (jobs m) (added_by k.turns)) (sym is) adds
 
-  module _ (writer : Writer F files) (written : HasWritten files told (began_at start 4) writer team.actor)
-      (settled : AreAllSettled (hands_of reception.dispatcher) team) where
+  module _ (settled : AreAllSettled (hands_of reception.dispatcher) team) where
     jobs_heard : (n : ℕ) → AreHeard n (jobs n)
-    jobs_heard = all_heard (hands_of reception.dispatcher) dispatched.pushed settled
+    jobs_heard = all_heard (hands_of reception.dispatcher) served.dispatched.pushed settled
 
     each_heard : (n : ℕ) → All (IsHeardJob heard) (jobs n)
     each_heard n = by heard (jobs_heard n)
@@ -148,20 +139,20 @@ module _ {F L : Type 0} (files : shelves.Ghosts F) (tells : paths.Ghosts L) (tol
 
     all_add : told ≡ true → All Adds (known_among team)
     all_add y =
-        All-cons Adds (known_at team.first.0) known1 (adds_at (known_at team.first.0) 0 one.number (one.answers y))
-        (All-cons Adds (known_at team.first.1) known2 (adds_at (known_at team.first.1) 1 two.number (two.answers y))
-        (All-cons Adds (known_at team.second.0) known3 (adds_at (known_at team.second.0) 2 three.number (three.answers y))
-        (All-cons Adds (known_at team.second.1) known4 (adds_at (known_at team.second.1) 3 four.number (four.answers y))
+        All-cons Adds (known_at team.first.0) known1 (adds_at (known_at team.first.0) 0 served.one.number (served.one.answers y))
+        (All-cons Adds (known_at team.first.1) known2 (adds_at (known_at team.first.1) 1 served.two.number (served.two.answers y))
+        (All-cons Adds (known_at team.second.0) known3 (adds_at (known_at team.second.0) 2 served.three.number (served.three.answers y))
+        (All-cons Adds (known_at team.second.1) known4 (adds_at (known_at team.second.1) 3 served.four.number (served.four.answers y))
         (All-cons Adds (writing.knowledge_of team.actor) [] writer_adds (All-nil Adds)))))
       where
         writer_adds : Adds (writing.knowledge_of team.actor)
         writer_adds = subst (λ l. InTurn (AnswersJob start.size (writing.knowledge_of team.actor).number)
-            (jobs (writing.knowledge_of team.actor).number) l) (sym (none_added (writing.knowledge_of team.actor) written.adds)) tt
+            (jobs (writing.knowledge_of team.actor).number) l) (sym (none_added (writing.knowledge_of team.actor) served.written.adds)) tt
 
     last_of_all : last_among team ≡ latest_of jobs
     last_of_all =
         let each : last_among team ≡ later_of (later_of (latest (jobs 0)) (latest (jobs 1))) (later_of (latest (jobs 2)) (latest (jobs 3))) =
-        λ i. later_of (later_of (one.last i) (two.last i)) (later_of (three.last i) (four.last i)) in
+        λ i. later_of (later_of (served.one.last i) (served.two.last i)) (later_of (served.three.last i) (served.four.last i)) in
         let halves : later_of (latest (jobs 0 ++ jobs 1)) (latest (jobs 2 ++ jobs 3))
         ≡ later_of (later_of (latest (jobs 0)) (latest (jobs 1))) (later_of (latest (jobs 2)) (latest (jobs 3))) =
         λ i. later_of (latest_of_both (jobs 0) (jobs 1) i) (latest_of_both (jobs 2) (jobs 3) i) in
@@ -177,8 +168,8 @@ module _ {F L : Type 0} (files : shelves.Ghosts F) (tells : paths.Ghosts L) (tol
       called = a;
     }
 
-    history_goes_on : (last : Option ℕ) → last ≡ last_among team → WhereTold told (GoesOnUntil heard start now last)
-    history_goes_on last is y =
+    pub run_goes_on : (last : Option ℕ) → last ≡ last_among team → WhereTold told (GoesOnUntil heard start now last)
+    run_goes_on last is y =
         let owned = ended.entries y in
         let ps = placed owned.stood owned.tail in
         let in_turn : (session : ℕ) → InTurn (AnswersJob start.size session) (jobs session) (by_session session ps) =
@@ -210,26 +201,9 @@ module _ {F L : Type 0} (files : shelves.Ghosts F) (tells : paths.Ghosts L) (tol
         → (job : Job) (d : Datagram) → RepliesTo k job d → At (datagram_of job) d
     reply_at k size faults legal y job d r = (
       r.peer,
-      ⊎_elim
-          (λ (a : IsAnswered k.size k.known (datagram_of job) d.octets).
-          inl (subst (λ (n : ℕ). IsAnswered n now.firm (datagram_of job) d.octets) size
-          (record {
-            history = a.history;
-            act = a.act;
-            says = a.says;
-            now = a.now;
-            who = a.who;
-            rests = begins_then (a.history ++ entries_of a.history a.now a.who a.act) k.known now.firm a.rests (legal.known y);
-          })))
-          (λ (f : TellsFailure (datagram_of job) d.octets × HasFailedSince k).
-          let t = f.1.0 in
-          let follows : Follows told (facts_of t.left) now = All-contains (λ (u : KeptTurn). Follows told (facts_of u.left) now) k.turns t legal.turns f.1.1 in
-          inr (
-            f.0,
-            subst (λ (n : ℕ). Rose n now.faults) faults
-                (rose_to k.faults t.left.faults now.faults follows.faults f.1.2),
-          ))
-          r.says,
+      says_later size (legal.known y) (λ (f : HasFailedSince k).
+      let follows : Follows told (facts_of f.0.left) now = All-contains (λ (u : KeptTurn). Follows told (facts_of u.left) now) k.turns f.0 legal.turns f.1 in
+      omega (arith, faults, follows.faults, f.2)) r.says,
     )
 
     replies_at : (n : ℕ) (desk : Desk L) → HasWorked tells told at (began_at start n) desk → All (IsHeardJob heard) (hand_at desk).taken
@@ -273,30 +247,26 @@ module _ {F L : Type 0} (files : shelves.Ghosts F) (tells : paths.Ghosts L) (tol
     abbrev Legal : Knowledge → Type 0
     Legal k = IsLegal told k now
 
-    all_replies : WhereTold told (HaveReplied tells heard start now (links_of reception team))
-    all_replies y =
-        let l1 = ended.legal in
-        let l2 : All Legal known1 = All-tail Legal (known_at team.first.0) known1 l1 in
-        let l3 : All Legal known2 = All-tail Legal (known_at team.first.1) known2 l2 in
-        let l4 : All Legal known3 = All-tail Legal (known_at team.second.0) known3 l3 in
-        let legal0 = All-head Legal (known_at team.first.0) known1 l1 in
-        let legal1 = All-head Legal (known_at team.first.1) known2 l2 in
-        let legal2 = All-head Legal (known_at team.second.0) known3 l3 in
-        let legal3 = All-head Legal (known_at team.second.1) known4 l4 in
+    pub run_replies : WhereTold told (HaveReplied tells heard start now (links_of reception team))
+    run_replies y =
+        let legal0 : Legal (known_at team.first.0) = ended.legal 0 (known_at team.first.0) (omega arith) in
+        let legal1 : Legal (known_at team.first.1) = ended.legal 1 (known_at team.first.1) (omega arith) in
+        let legal2 : Legal (known_at team.second.0) = ended.legal 2 (known_at team.second.0) (omega arith) in
+        let legal3 : Legal (known_at team.second.1) = ended.legal 3 (known_at team.second.1) (omega arith) in
         record {
-          each = All-cons Sent reception.link links0 (none_sent (link_of tells reception).sent dispatched.unsent (IsReply heard start.size now.firm start.faults now.faults))
-              (All-cons Sent team.first.0.link links1 (replies_at 0 team.first.0 one (each_heard 0) legal0 y)
-              (All-cons Sent team.first.1.link links2 (replies_at 1 team.first.1 two (each_heard 1) legal1 y)
-              (All-cons Sent team.second.0.link links3 (replies_at 2 team.second.0 three (each_heard 2) legal2 y)
-              (All-cons Sent team.second.1.link [] (replies_at 3 team.second.1 four (each_heard 3) legal3 y)
+          each = All-cons Sent reception.link links0 (none_sent (link_of tells reception).sent served.dispatched.unsent (IsReply heard start.size now.firm start.faults now.faults))
+              (All-cons Sent team.first.0.link links1 (replies_at 0 team.first.0 served.one (each_heard 0) legal0 y)
+              (All-cons Sent team.first.1.link links2 (replies_at 1 team.first.1 served.two (each_heard 1) legal1 y)
+              (All-cons Sent team.second.0.link links3 (replies_at 2 team.second.0 served.three (each_heard 2) legal2 y)
+              (All-cons Sent team.second.1.link [] (replies_at 3 team.second.1 served.four (each_heard 3) legal3 y)
               (All-nil Sent)))));
-          in_turn = all_replied tells start.size now.firm start.faults now.faults heard reception.link links0 dispatched.unsent (
-            in_turn_at 0 team.first.0 one (jobs_heard 0) legal0 y,
+          in_turn = all_replied tells start.size now.firm start.faults now.faults heard reception.link links0 served.dispatched.unsent (
+            in_turn_at 0 team.first.0 served.one (jobs_heard 0) legal0 y,
             (
-              in_turn_at 1 team.first.1 two (jobs_heard 1) legal1 y,
+              in_turn_at 1 team.first.1 served.two (jobs_heard 1) legal1 y,
               (
-                in_turn_at 2 team.second.0 three (jobs_heard 2) legal2 y,
-                (in_turn_at 3 team.second.1 four (jobs_heard 3) legal3 y, refl),
+                in_turn_at 2 team.second.0 served.three (jobs_heard 2) legal2 y,
+                (in_turn_at 3 team.second.1 served.four (jobs_heard 3) legal3 y, refl),
               ),
             ),
           );
@@ -305,36 +275,15 @@ module _ {F L : Type 0} (files : shelves.Ghosts F) (tells : paths.Ghosts L) (tol
     first_since : (k : Knowledge) → k.faults ≡ start.faults → Legal k → start.faults ≤ now.faults
     first_since k same l = let s = l.since in omega (arith, same, s)
 
-    stays_as : StaysAs start now
-    stays_as = record {
+    pub run_stays : StaysAs start now
+    run_stays = record {
       size = ended.size;
       name = ended.name;
-      later = first_since (known_at team.first.0) one.faults (All-head Legal (known_at team.first.0) known1 ended.legal);
+      later = first_since (known_at team.first.0) served.one.faults (ended.legal 0 (known_at team.first.0) (omega arith));
     }
 
-    writer_stays : Stays → KeepsWriter files told now.firm writer (writing.writer_of team.actor)
-    writer_stays stays =
-        let l1 = ended.legal in
-        let l2 : All Legal known1 = All-tail Legal (known_at team.first.0) known1 l1 in
-        let l3 : All Legal known2 = All-tail Legal (known_at team.first.1) known2 l2 in
-        let l4 : All Legal known3 = All-tail Legal (known_at team.second.0) known3 l3 in
-        let l5 : All Legal known4 = All-tail Legal (known_at team.second.1) known4 l4 in
+    pub run_writer : Stays → KeepsWriter files told now.firm writer (writing.writer_of team.actor)
+    run_writer stays =
+        let legal : Legal (writing.knowledge_of team.actor) = ended.legal 4 (writing.knowledge_of team.actor) (omega arith) in
         writer_on stays files told (writing.knowledge_of team.actor).known now.firm writer (writing.writer_of team.actor)
-        (All-head Legal (writing.knowledge_of team.actor) [] l5).known written.keeps
-
--- the same of all that have served since they began
-module _ {F L : Type 0} (files : shelves.Ghosts F) (tells : paths.Ghosts L) (told : Bool) (at : Addr) (start now : Facts) (writer : Writer F files)
-    (reception : Reception L) (team : Team F L files) (s : HaveServed files tells told at start writer reception team)
-    (ended : Ended told start now (known_among team)) (settled : AreAllSettled (hands_of reception.dispatcher) team) where
-  pub run_goes_on : (last : Option ℕ) → last ≡ last_among team
-      → WhereTold told (GoesOnUntil (heard_by tells (links_of reception team)) start now last)
-  run_goes_on last is = history_goes_on files tells told at start now reception team s.dispatched s.one s.two s.three s.four ended writer s.written settled last is
-
-  pub run_replies : WhereTold told (HaveReplied tells (heard_by tells (links_of reception team)) start now (links_of reception team))
-  run_replies = all_replies files tells told at start now reception team s.dispatched s.one s.two s.three s.four ended writer s.written settled
-
-  pub run_stays : StaysAs start now
-  run_stays = stays_as files tells told at start now reception team s.dispatched s.one s.two s.three s.four ended writer s.written settled
-
-  pub run_writer : Stays → KeepsWriter files told now.firm writer (writing.writer_of team.actor)
-  run_writer stays = writer_stays files tells told at start now reception team s.dispatched s.one s.two s.three s.four ended writer s.written settled stays
+        legal.known served.written.keeps

@@ -1,67 +1,56 @@
 use Rattle.std.proofs.Common.{rules, ◌≡◌, ℕ, Bool, arith, ap, length, subst, ◌∙◌}
 use Rattle.std.proofs.lemmas.Bool.{and_parts, false≢true}
+use Rattle.file_writer.specs.Writer.{taken_of}
 use Rattle.gateway_book.specs.Book.{value_of}
 use Rattle.gateway_book.specs.Turning.{tells_lists}
 use Rattle.gateway_book.specs.Items.{items_between}
-use Rattle.node_session.specs.Writing.{AreNext, HasTakenOf, IsWriterOf}
+use Rattle.gw_base.specs.Facts.{WhereTold}
+use Rattle.node_session.specs.Writing.{AreNext, HasTakenOf, IsWriterOf, KeepsFiles}
 use Rattle.node_session.proofs.GivenLemmas.{given_some, next_ones, room_within}
 use Rattle.node_session.proofs.settling.give_some.Goals as goal
+use Rattle.node_session.proofs.settling.give_some.Goals.{After-give}
+
+-- what the writer was given are the next items
+next : (g : _) (c : After-give g) → AreNext (tells_lists g.A.Area) (value_of c.args.book.now).firm (taken_of c.args.writer.now) c.deref.result.now
+next g c =
+    subst (λ (n : ℕ). AreNext (tells_lists g.A.Area) (value_of c.args.book.now).firm n c.deref.result.now) c.taken.ensures
+    (next_ones (tells_lists g.A.Area) (value_of c.args.book.now).firm c.taken.result 4096 c.deref.result.now
+    (λ told. c.deref.ensures.value ∙ c.in-Ok.ensures.items (and_parts _ _ told)))
+
+writer : (g : _) (c : After-give g) → IsWriterOf (tells_lists g.A.Area) (value_of c.args.book.now).firm c.give.new.writer
+writer g c = c.give.ensures.writer (tells_lists g.A.Area) (value_of c.args.book.now).firm c.requires.writer (next g c)
+
+files : (g : _) (c : After-give g)
+    → WhereTold (tells_lists g.A.Area) (KeepsFiles g.F.Shelf (value_of c.args.book.now).firm c.args.writer.now c.give.new.writer)
+files g c = λ told it_is all begins holds.
+    c.give.ensures.files it_is (value_of c.args.book.now).firm all
+    (subst (λ (b : Bool). IsWriterOf b (value_of c.args.book.now).firm c.args.writer.now) told c.requires.writer) (λ x. next g c told) begins holds
 
 pub returns-in-Ok-give-clause-writer : goal.returns-in-Ok-give-clause-writer
-returns-in-Ok-give-clause-writer g c =
-    c.give.ensures.writer (tells_lists g.A.Area) (value_of c.args.book.now).firm c.requires.writer
-    (subst (λ (n : ℕ). AreNext (tells_lists g.A.Area) (value_of c.args.book.now).firm n c.deref.result.now) c.taken.ensures
-    (next_ones (tells_lists g.A.Area) (value_of c.args.book.now).firm c.taken.result 4096 c.deref.result.now
-    (λ told. c.deref.ensures.value ∙ c.in-Ok.ensures.items (and_parts _ _ told))))
-
-pub returns-in-Err-Device-give-clause-writer : goal.returns-in-Err-Device-give-clause-writer
-returns-in-Err-Device-give-clause-writer g c =
-    c.give.ensures.writer (tells_lists g.A.Area) (value_of c.args.book.now).firm c.requires.writer
-    (subst (λ (n : ℕ). AreNext (tells_lists g.A.Area) (value_of c.args.book.now).firm n c.deref.result.now) c.taken.ensures
-    (next_ones (tells_lists g.A.Area) (value_of c.args.book.now).firm c.taken.result 4096 c.deref.result.now
-    (λ told. c.deref.ensures.value ∙ c.in-Ok.ensures.items (and_parts _ _ told))))
-
-pub returns-clause-writer : goal.returns-clause-writer
-returns-clause-writer g c =
-    c.give.ensures.writer (tells_lists g.A.Area) (value_of c.args.book.now).firm c.requires.writer
-    (subst (λ (n : ℕ). AreNext (tells_lists g.A.Area) (value_of c.args.book.now).firm n c.deref.result.now) c.taken.ensures
-    (next_ones (tells_lists g.A.Area) (value_of c.args.book.now).firm c.taken.result 4096 c.deref.result.now
-    (λ told. c.deref.ensures.value ∙ c.in-Ok.ensures.items (and_parts _ _ told))))
+returns-in-Ok-give-clause-writer g c = writer g (goal.at.returns-in-Ok-give-clause-writer g c).After-give
 
 pub returns-in-Ok-give-clause-files : goal.returns-in-Ok-give-clause-files
-returns-in-Ok-give-clause-files g c = λ told it_is all begins holds.
-    let next = subst (λ (n : ℕ). AreNext (tells_lists g.A.Area) (value_of c.args.book.now).firm n c.deref.result.now) c.taken.ensures
-    (next_ones (tells_lists g.A.Area) (value_of c.args.book.now).firm c.taken.result 4096 c.deref.result.now
-    (λ told. c.deref.ensures.value ∙ c.in-Ok.ensures.items (and_parts _ _ told))) in
-    c.give.ensures.files it_is (value_of c.args.book.now).firm all
-    (subst (λ (b : Bool). IsWriterOf b (value_of c.args.book.now).firm c.args.writer.now) told c.requires.writer) (λ x. next told) begins holds
+returns-in-Ok-give-clause-files g c = files g (goal.at.returns-in-Ok-give-clause-files g c).After-give
+
+pub returns-in-Err-Device-give-clause-writer : goal.returns-in-Err-Device-give-clause-writer
+returns-in-Err-Device-give-clause-writer g c = writer g (goal.at.returns-in-Err-Device-give-clause-writer g c).After-give
 
 pub returns-in-Err-Device-give-clause-files : goal.returns-in-Err-Device-give-clause-files
-returns-in-Err-Device-give-clause-files g c = λ told it_is all begins holds.
-    let next = subst (λ (n : ℕ). AreNext (tells_lists g.A.Area) (value_of c.args.book.now).firm n c.deref.result.now) c.taken.ensures
-    (next_ones (tells_lists g.A.Area) (value_of c.args.book.now).firm c.taken.result 4096 c.deref.result.now
-    (λ told. c.deref.ensures.value ∙ c.in-Ok.ensures.items (and_parts _ _ told))) in
-    c.give.ensures.files it_is (value_of c.args.book.now).firm all
-    (subst (λ (b : Bool). IsWriterOf b (value_of c.args.book.now).firm c.args.writer.now) told c.requires.writer) (λ x. next told) begins holds
+returns-in-Err-Device-give-clause-files g c = files g (goal.at.returns-in-Err-Device-give-clause-files g c).After-give
+
+pub returns-clause-writer : goal.returns-clause-writer
+returns-clause-writer g c = writer g (goal.at.returns-clause-writer g c).After-give
 
 pub returns-clause-files : goal.returns-clause-files
-returns-clause-files g c = λ told it_is all begins holds.
-    let next = subst (λ (n : ℕ). AreNext (tells_lists g.A.Area) (value_of c.args.book.now).firm n c.deref.result.now) c.taken.ensures
-    (next_ones (tells_lists g.A.Area) (value_of c.args.book.now).firm c.taken.result 4096 c.deref.result.now
-    (λ told. c.deref.ensures.value ∙ c.in-Ok.ensures.items (and_parts _ _ told))) in
-    c.give.ensures.files it_is (value_of c.args.book.now).firm all
-    (subst (λ (b : Bool). IsWriterOf b (value_of c.args.book.now).firm c.args.writer.now) told c.requires.writer) (λ x. next told) begins holds
+returns-clause-files g c = files g (goal.at.returns-clause-files g c).After-give
 
 pub returns-in-Ok-give-clause-some : goal.returns-in-Ok-give-clause-some
 returns-in-Ok-give-clause-some g c =
-    let writer = c.give.ensures.writer (tells_lists g.A.Area) (value_of c.args.book.now).firm c.requires.writer
-    (subst (λ (n : ℕ). AreNext (tells_lists g.A.Area) (value_of c.args.book.now).firm n c.deref.result.now) c.taken.ensures
-    (next_ones (tells_lists g.A.Area) (value_of c.args.book.now).firm c.taken.result 4096 c.deref.result.now
-    (λ told. c.deref.ensures.value ∙ c.in-Ok.ensures.items (and_parts _ _ told)))) in
     given_some (tells_lists g.A.Area) (value_of c.args.book.now).firm c.args.writer.now c.give.new.writer 4096 c.deref.result.now c.len-in-Ok-give.result
     (let n = c.len-in-Ok-give.ensures in let v = ap (λ xs. length xs) c.deref.ensures.value in omega (arith, n, v)) (λ told. subst (λ (n : ℕ). c.deref.result.now ≡ items_between n 4096 (value_of c.args.book.now).firm) c.taken.ensures
     (c.deref.ensures.value ∙ c.in-Ok.ensures.items (and_parts _ _ told)))
-    c.in-Ok-give.ensures.count.0 c.in-Ok-give.ensures.count.1 c.in-Ok-give.ensures.count.2 writer (omega arith)
+    c.in-Ok-give.ensures.count.0 c.in-Ok-give.ensures.count.1 c.in-Ok-give.ensures.count.2
+    (writer g (goal.at.returns-in-Ok-give-clause-some g c).After-give) (omega arith)
 
 pub returns-in-Ok-give-clause-still : goal.returns-in-Ok-give-clause-still
 returns-in-Ok-give-clause-still g c =

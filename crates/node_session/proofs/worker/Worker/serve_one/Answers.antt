@@ -11,26 +11,16 @@ returns-clause-served g c =
 
 pub returns-clause-turns : goal.returns-clause-turns
 returns-clause-turns g c =
-    let is = sym c.take.ensures.value ∙ c.in-Some.is in
-    let served = at_pass c.args.self.now.pass c.in-Some.pass is c.serve-served.ensures.served in
-    keeps_turns g.A.Area _ _ _ _ _ _ (known_by c.args.self.now.pass) (knowledge c.serve-served.result.1) served
+    keeps_turns g.A.Area _ _ _ _ _ _ (known_by c.args.self.now.pass) (knowledge c.serve-served.result.1) (returns-clause-served g c)
 
 pub returns-clause-tells : goal.returns-clause-tells
-returns-clause-tells g c =
-    let is = sym c.take.ensures.value ∙ c.in-Some.is in
-    let served = at_pass c.args.self.now.pass c.in-Some.pass is c.serve-served.ensures.served in
-    tells_so g.A.Area _ _ _ _ _ _ served
+returns-clause-tells g c = tells_so g.A.Area _ _ _ _ _ _ (returns-clause-served g c)
 
 pub returns-clause-gate : goal.returns-clause-gate
 returns-clause-gate g c =
-    let is = sym c.take.ensures.value ∙ c.in-Some.is in
-    let served = at_pass c.args.self.now.pass c.in-Some.pass is c.serve-served.ensures.served in
-    may_have g.A.Area _ _ _ _ _ _ (known_by c.args.self.now.pass) (knowledge c.serve-served.result.1) served
+    may_have g.A.Area _ _ _ _ _ _ (known_by c.args.self.now.pass) (knowledge c.serve-served.result.1) (returns-clause-served g c)
 
 pub returns-clause-answers : goal.returns-clause-answers
-returns-clause-answers g c =
-    let is = sym c.take.ensures.value ∙ c.in-Some.is in
-    let served = at_pass c.args.self.now.pass c.in-Some.pass is c.serve-served.ensures.served in
-    let turns = keeps_turns g.A.Area _ _ _ _ _ _ (known_by c.args.self.now.pass) (knowledge c.serve-served.result.1) served in
-    λ told. adds_answers (tells_lists g.A.Area) c.args.self.now.session c.args.job _ _ turns told
-    (own_number c.args.self.now.session c.args.self.now.pass c.in-Some.pass is c.args.self.now.own)
+returns-clause-answers g c = λ told.
+    adds_answers (tells_lists g.A.Area) c.args.self.now.session c.args.job _ _ (returns-clause-turns g c) told
+    (own_number c.args.self.now.session c.args.self.now.pass c.in-Some.pass (sym c.take.ensures.value ∙ c.in-Some.is) c.args.self.now.own)
