@@ -1,5 +1,5 @@
 -- What a change of sorted keys makes of those that are held.
-use Rattle.std.proofs.Common.{inl, inr, ◌⊎◌, ◌≡◌, ℕ, ◌+◌, ◌<◌, ◌≤◌, ◌==◌, ◌&&◌, ◌||◌, not, cond, Bool, true, false, List, [], ◌∷◌, ◌++◌, length, take, drop, filter, refl, sym, ap, ◌∙◌, arith}
+use Rattle.std.proofs.Common.{inl, inr, ◌≡◌, ℕ, ◌+◌, ◌<◌, ◌≤◌, ◌==◌, ◌&&◌, ◌||◌, not, cond, Bool, true, false, List, [], ◌∷◌, ◌++◌, length, take, drop, filter, refl, sym, ap, ◌∙◌, arith}
 use Rattle.std.specs.Prelude.{slice_index_or, slice_set}
 use Rattle.std.specs.List.{list_any}
 use Rattle.std.proofs.lemmas.Bool.{and_parts, cases_eq, cases_lt, eq-eqb, eqb-true, ne_eqb, true≢false}
@@ -13,13 +13,14 @@ use Rattle.gw_base.specs.declared.history.HistoryAct.{HistoryAct}
 use Rattle.gw_base.specs.declared.held.HeldKey.{HeldKey}
 use Rattle.gw_base.specs.declared.history.HistoryAct.TheVariants.{Close, Path, Release, Seal, Start, Tick}
 use Rattle.gw_base.specs.View.{stays_held}
-use Rattle.cgf_journal.specs.Keys.{IsAbsent, IsFirstOf, IsFound, changed_key, counted_keys, counts, is_named, key_of, rank, rank_of}
+use Rattle.cgf_journal.specs.Keys.{IsAbsent, IsFirstOf, IsFound, changed_key, counted_keys, counts, is_named, key_of}
 use Rattle.cgf_journal.specs.Sorted.{GrowsBy, IsChanged, firm_keys, live_keys}
 use Rattle.cgf_journal.specs.Tally.{held_after, held_with, key_in_order}
 use Rattle.cgf_journal.specs.declared.key.KeptKey.{KeptKey}
 use Rattle.cgf_journal.specs.declared.sorted.SortedKeys.{SortedKeys}
 use Rattle.cgf_journal.proofs.KeysLemmas.{count-changed, firm-changed, firm-inserted, held_kept, length-key_in_order, let_go, live-changed, live-inserted, others_stay, with_change}
 use Rattle.cgf_journal.proofs.Ranks.{before_node, not_of_node, of_node, past_node}
+use Rattle.cgf_journal.proofs.Orders.{field-set}
 
 abbrev pub new_key : NodeId → ℕ → ℕ → KeptKey
 new_key n x r = record { node = n; number = x; was_held = false; is_held = true; round = r }
@@ -72,11 +73,10 @@ grows_more more a b grows = record { firm = grows.firm; count = omega (arith, gr
 
 pub absent_stay : (n : NodeId) (x : ℕ) (s : Bool) (r : ℕ) (keys : List KeptKey) (at : ℕ) → IsAbsent keys at n.0 x
     → filter (λ (key : HeldKey). stays_held (Seal n x) key) (counted_keys s r keys) ≡ counted_keys s r keys
-absent_stay n x s r keys at absent = others_stay n x s r keys (λ j d lt e. by_place j d lt e (cases_lt j at))
-  where
-    by_place : (j : ℕ) (d : KeptKey) → j < length keys → rank (slice_index_or keys j d) ≡ rank_of n.0 x → (j < at) ⊎ (at ≤ j) → ⊥
-    by_place j d lt e (inl before) = omega (arith, absent.before j d before, e)
-    by_place j d lt e (inr later) = omega (arith, absent.later j d later lt, e)
+absent_stay n x s r keys at absent = others_stay n x s r keys (λ j d lt e. elim (cases_lt j at) [
+  | inl before ↦ omega (arith, absent.before j d before, e)
+  | inr later ↦ omega (arith, absent.later j d later lt, e)
+])
 
 pub live_more : (n : NodeId) (x r : ℕ) (keys now : List KeptKey) (at : ℕ) → IsAbsent keys at n.0 x → now ≡ take at keys ++ new_key n x r ∷ drop at keys
     → counted_keys false r now ≡ held_with n x (counted_keys false r keys)
@@ -117,13 +117,16 @@ next_named n x xs keys =
     both_pass (λ (key : HeldKey). stays_held (Seal n x) key) (λ (key : HeldKey). stays_held (Release n xs) key) (λ (key : HeldKey). stays_held (Release n (xs ++ x ∷ [])) key)
     (λ key. ap (λ (b : Bool). not ((n.0 == key.node.0) && b)) (list_any-append (λ (y : ℕ). y == key.number) xs (x ∷ [])) ∙ one_of_more (n.0 == key.node.0) (list_any (λ (y : ℕ). y == key.number) xs) (x == key.number)) keys
 
+pub all_stay : (act : HistoryAct) → ((key : HeldKey) → stays_held act key ≡ true) → (keys : List HeldKey) → filter (λ (key : HeldKey). stays_held act key) keys ≡ keys
+all_stay act stay [] = refl
+all_stay act stay (key ∷ keys) = rw (stay key) (ap (λ (l : List HeldKey). key ∷ l) (all_stay act stay keys))
+
 none_of_none : (a : Bool) → not (a && false) ≡ true
 none_of_none true = refl
 none_of_none false = refl
 
 pub none_named : (n : NodeId) (keys : List HeldKey) → filter (λ (key : HeldKey). stays_held (Release n []) key) keys ≡ keys
-none_named n [] = refl
-none_named n (key ∷ keys) = rw (none_of_none (n.0 == key.node.0)) (ap (λ (l : List HeldKey). key ∷ l) (none_named n keys))
+none_named n keys = all_stay (Release n []) (λ key. none_of_none (n.0 == key.node.0)) keys
 
 -- ---- the numbers of a node
 
@@ -135,16 +138,6 @@ other_passes n key ne = rw (ne_eqb n.0 key.node.0 ne) refl
 
 pub own_fails : (n : NodeId) (key : HeldKey) → n.0 ≡ key.node.0 → of_others n key ≡ false
 own_fails n key e = rw (eq-eqb n.0 key.node.0 e) refl
-
-key-set : (keys : List KeptKey) (at : ℕ) (now e : KeptKey) → at < length keys → key_of now ≡ key_of (slice_index_or keys at e)
-    → (j : ℕ) (d : KeptKey) → key_of (slice_index_or (slice_set keys at now) j d) ≡ key_of (slice_index_or keys j d)
-key-set keys at now e inside same j d = by_place (cases_eq j at)
-  where
-    by_place : (j ≡ at) ⊎ (j ≡ at → ⊥) → key_of (slice_index_or (slice_set keys at now) j d) ≡ key_of (slice_index_or keys j d)
-    by_place (inl here) =
-        ap (λ (k : ℕ). key_of (slice_index_or (slice_set keys at now) k d)) here ∙ ap (λ (k : KeptKey). key_of k) (get_or-set_same keys at now d inside)
-        ∙ same ∙ ap (λ (k : KeptKey). key_of k) (get_or_default keys at e d inside) ∙ ap (λ (k : ℕ). key_of (slice_index_or keys k d)) (sym here)
-    by_place (inr other) = ap (λ (k : KeptKey). key_of k) (get_or-set_other keys at j now d other)
 
 -- What stands while the numbers of a node are let go, from `first` on up to `at`; they end at `end`.
 pub record IsLettingGo (n : NodeId) (begun s : SortedKeys) (at end : ℕ) : Type 0 where
@@ -180,7 +173,8 @@ goes_on n begun s next at end more change so_far =
     let within : at < length s.keys.items = omega (arith, more, so_far.inside.1) in
     let now = changed_key false s.round (slice_index_or s.keys.items at d0) in
     let is = change.keys d0 in
-    let same = key-set s.keys.items at now d0 within refl in
+    let same = field-set (λ (k : KeptKey). key_of k) s.keys.items at now within
+    (λ e. ap (λ (k : KeptKey). key_of k) (get_or_default s.keys.items at d0 e within)) in
     let long : length next.keys.items ≡ length s.keys.items = ap (λ (l : List KeptKey). length l) is ∙ length-set s.keys.items at now in
     let node : (j : ℕ) (d : KeptKey) → (slice_index_or next.keys.items j d).node.0 ≡ (slice_index_or s.keys.items j d).node.0 =
     λ j d. ap (λ (l : List KeptKey). (slice_index_or l j d).node.0) is ∙ ap (λ (key : HeldKey). key.node.0) (same j d) in
@@ -198,10 +192,7 @@ goes_on n begun s next at end more change so_far =
             absurd (true≢false (sym held ∙ free))
         | inr other ↦
             let was : slice_index_or next.keys.items j d ≡ slice_index_or s.keys.items j d = ap (λ (l : List KeptKey). slice_index_or l j d) is ∙ get_or-set_other s.keys.items at j now d other in
-            ap (λ (k : KeptKey). of_others n (key_of k)) was ∙ so_far.gone j d (elim (cases_lt j at) [
-              | inl below ↦ below
-              | inr ge ↦ absurd (other (omega (arith, lt, ge)))
-            ]) (sym (ap (λ (k : KeptKey). k.is_held) was) ∙ held)
+            ap (λ (k : KeptKey). of_others n (key_of k)) was ∙ so_far.gone j d (omega (arith, lt, other)) (sym (ap (λ (k : KeptKey). k.is_held) was) ∙ held)
       ];
       own = λ j d le lt. so_far.own j d (omega (arith, le)) lt ∙ sym (node j d);
       past = λ j d le lt e. so_far.past j d le (omega (arith, lt, long)) (e ∙ node j d);
@@ -216,10 +207,6 @@ ends_free n begun s at end done so_far =
     ])) ∙ so_far.live
 
 -- ---- entries that name nothing
-
-pub all_stay : (act : HistoryAct) → ((key : HeldKey) → stays_held act key ≡ true) → (keys : List HeldKey) → filter (λ (key : HeldKey). stays_held act key) keys ≡ keys
-all_stay act stay [] = refl
-all_stay act stay (key ∷ keys) = rw (stay key) (ap (λ (l : List HeldKey). key ∷ l) (all_stay act stay keys))
 
 pub after_start : (act : Act) (keys : List HeldKey) → act ≡ lent.Start → keys ≡ held_after (act_view act) keys
 after_start act keys is = sym (ap (λ (a : Act). held_after (act_view a) keys) is ∙ all_stay Start (λ key. refl) keys)

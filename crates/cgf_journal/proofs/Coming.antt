@@ -1,5 +1,5 @@
 -- What a plan that arms one call of the device makes of the calls of a commit and of an opening again.
-use Rattle.std.proofs.Common.{◌≡◌, ◌≢◌, ℕ, zero, suc, ◌||◌, Bool, true, false, [], refl, sym, ◌∙◌, ap, subst}
+use Rattle.std.proofs.Common.{[], ◌≡◌, ◌≢◌, ℕ, zero, suc, ◌||◌, Bool, true, false, refl, sym, ◌∙◌, ap, subst}
 use Rattle.std.specs.Prelude.{IsTrue, Result, is_err}
 use Rattle.area_disk.specs.Armed.{Armed, IsArmed, after_one, calls_under, planned_in}
 use Rattle.area_disk.specs.Armed.Armed.{Nothing, Fail, Stop}
@@ -14,7 +14,7 @@ use Rattle.area_disk.specs.declared.plan.Outcome3.{Outcome3}
 use Rattle.gate_journal.specs.Moments.{Told}
 use Rattle.gate_journal.specs.Planned.{Ending, after_put, append_fails, batch_stands, course_after, course_by, ending_by, ending_of, is_ended, outcome_left, with_reads}
 use Rattle.gate_journal.specs.Planned.Ending.{BothRan, AtWrite, AtSync}
-use Rattle.cgf_journal.specs.Comes.{CommitComes, HasRun, ReopenComes, plan_of}
+use Rattle.cgf_journal.specs.Comes.{CommitComes, HasFailed, HasRun, HasStopped, ReopenComes, plan_of}
 use Rattle.cgf_journal.specs.Follows.{CommitFollows, ReopenFollows}
 use Rattle.cgf_journal.specs.Outcomes.{CommitPlanned, ReopenPlanned}
 use Rattle.cgf_journal.specs.Trail.{stop_stands, waiting_octets}
@@ -60,6 +60,20 @@ module _ (a : Armed) (course : Course) (tied : IsTied a course) where
   gate_leaves : after_put (after_sync Runs (after_write Runs course)) ≡ course_by (planned_in (after_one (after_one a)) 0) (planned_in (after_one (after_one (after_one a))) 0) (after_sync Runs (after_write Runs course))
   gate_leaves = λ i. course_by (third i) (fourth i) (after_sync Runs (after_write Runs course))
 
+-- a call that failed, and one at which the device was stopped, where the plan is such a rest
+module _ {A : Type 0} {tells : Ghosts A} {new : Trail A tells} {failed : Bool} where
+  fails_so : (stands : Outcome3 → Bool) (rest : Course) → failed ≡ true → plan_of new ≡ rest →
+      IsArmed Nothing rest.schedule →
+      (failed ≡ true → (outcome : Outcome3) → stop_stands outcome new ≡ stands outcome) → HasFailed new failed stands
+  fails_so stands rest fails is armed left =
+      record { fails = fails; armed = subst (λ (c : Course).
+          IsArmed Nothing c.schedule) (sym is) armed; left = left fails }
+
+  stops_so : (stands : Bool) (rest : Course) → failed ≡ true → plan_of new ≡ rest → rest.schedule.stopped ≡ true →
+      (failed ≡ true → (outcome : Outcome3) → stop_stands outcome new ≡ stands) → HasStopped new failed stands
+  stops_so stands rest fails is stopped left =
+      record { fails = fails; stopped = ap (λ (c : Course). c.schedule.stopped) is ∙ stopped; left = left fails }
+
 module _ {A : Type 0} {tells : Ghosts A} (old new : Trail A tells) (failed : Bool) (follows : CommitFollows old new failed) where
   -- where the writing of the frame ended
   module _ (end : Ending) (ends : ending_of (plan_of old) ≡ end) where
@@ -104,75 +118,64 @@ module _ {A : Type 0} {tells : Ghosts A} (old new : Trail A tells) (failed : Boo
   commit_comes Nothing tied = all_ran Nothing tied refl refl refl refl
   commit_comes (Fail zero) tied =
       let ends = frame_ends (Fail zero) (plan_of old) tied in
-      record {
-        fails = frame_fails (AtWrite Fails) ends;
-        armed = subst (λ (c : Course). IsArmed Nothing c.schedule) (sym (frame_course (AtWrite Fails) ends ∙ frame_leaves (Fail zero) (plan_of old) tied)) (armed_failed (plan_of old).schedule tied.is_armed);
-        left = frame_stands (AtWrite Fails) ends (frame_fails (AtWrite Fails) ends);
-      }
+      fails_so _ _ (frame_fails (AtWrite Fails) ends)
+          (frame_course (AtWrite Fails) ends ∙ frame_leaves (Fail zero) (plan_of old) tied)
+          (armed_failed (plan_of old).schedule tied.is_armed) (frame_stands (AtWrite Fails) ends)
   commit_comes (Fail (suc zero)) tied =
       let ends = frame_ends (Fail (suc zero)) (plan_of old) tied in
-      record {
-        fails = frame_fails (AtSync Fails) ends;
-        armed = subst (λ (c : Course). IsArmed Nothing c.schedule) (sym (frame_course (AtSync Fails) ends ∙ frame_leaves (Fail (suc zero)) (plan_of old) tied))
-            (armed_failed (after_write Runs (plan_of old)).schedule (one_armed (Fail (suc zero)) (plan_of old) tied));
-        left = frame_stands (AtSync Fails) ends (frame_fails (AtSync Fails) ends);
-      }
+      fails_so _ _ (frame_fails (AtSync Fails) ends)
+          (frame_course (AtSync Fails) ends ∙ frame_leaves (Fail (suc zero)) (plan_of old) tied)
+          (armed_failed (after_write Runs (plan_of old)).schedule (one_armed (Fail (suc zero)) (plan_of old) tied))
+              (frame_stands (AtSync Fails) ends)
   commit_comes (Fail (suc (suc zero))) tied =
       let ran = frame_ends (Fail (suc (suc zero))) (plan_of old) tied in
       let put = frame_leaves (Fail (suc (suc zero))) (plan_of old) tied in
       let ends = gate_ends (Fail (suc (suc zero))) (plan_of old) tied in
-      record {
-        fails = gate_fails ran put (AtWrite Fails) ends;
-        armed = subst (λ (c : Course). IsArmed Nothing c.schedule) (sym (gate_course ran put (AtWrite Fails) ends ∙ gate_leaves (Fail (suc (suc zero))) (plan_of old) tied))
-            (armed_failed (after_sync Runs (after_write Runs (plan_of old))).schedule (tied_two (Fail (suc (suc zero))) (plan_of old) tied).is_armed);
-        left = gate_stands ran put (AtWrite Fails) ends (gate_fails ran put (AtWrite Fails) ends);
-      }
+      fails_so _ _ (gate_fails ran put (AtWrite Fails) ends)
+          (gate_course ran put (AtWrite Fails) ends ∙ gate_leaves (Fail (suc (suc zero))) (plan_of old) tied)
+          (armed_failed (after_sync Runs (after_write Runs (plan_of old))).schedule (tied_two (Fail (suc (suc zero)))
+              (plan_of old) tied).is_armed) (gate_stands ran put (AtWrite Fails) ends)
   commit_comes (Fail (suc (suc (suc zero)))) tied =
       let ran = frame_ends (Fail (suc (suc (suc zero)))) (plan_of old) tied in
       let put = frame_leaves (Fail (suc (suc (suc zero)))) (plan_of old) tied in
       let ends = gate_ends (Fail (suc (suc (suc zero)))) (plan_of old) tied in
-      record {
-        fails = gate_fails ran put (AtSync Fails) ends;
-        armed = subst (λ (c : Course). IsArmed Nothing c.schedule) (sym (gate_course ran put (AtSync Fails) ends ∙ gate_leaves (Fail (suc (suc (suc zero)))) (plan_of old) tied))
-            (armed_failed (after_write Runs (after_sync Runs (after_write Runs (plan_of old)))).schedule (three_armed (Fail (suc (suc (suc zero)))) (plan_of old) tied));
-        left = gate_stands ran put (AtSync Fails) ends (gate_fails ran put (AtSync Fails) ends);
-      }
+      fails_so _ _ (gate_fails ran put (AtSync Fails) ends)
+          (gate_course ran put (AtSync Fails) ends ∙ gate_leaves (Fail (suc (suc (suc zero)))) (plan_of old) tied)
+          (armed_failed (after_write Runs (after_sync Runs (after_write Runs (plan_of old)))).schedule
+              (three_armed (Fail (suc (suc (suc zero)))) (plan_of old) tied)) (gate_stands ran put (AtSync Fails) ends)
   commit_comes (Fail (suc (suc (suc (suc k))))) tied = all_ran (Fail (suc (suc (suc (suc k))))) tied refl refl refl refl
   commit_comes (Stop zero outcome) tied =
       let ends = frame_ends (Stop zero outcome) (plan_of old) tied in
-      record {
-        fails = frame_fails (AtWrite (Stops outcome)) ends;
-        stopped = ap (λ (c : Course). c.schedule.stopped) (frame_course (AtWrite (Stops outcome)) ends ∙ frame_leaves (Stop zero outcome) (plan_of old) tied) ∙ stop_is_one (plan_of old).schedule.stopped tied.is_armed.running;
-        left = frame_stands (AtWrite (Stops outcome)) ends (frame_fails (AtWrite (Stops outcome)) ends);
-      }
+      stops_so _ _ (frame_fails (AtWrite (Stops outcome)) ends)
+          (frame_course (AtWrite (Stops outcome)) ends ∙ frame_leaves (Stop zero outcome) (plan_of old) tied)
+          (stop_is_one (plan_of old).schedule.stopped tied.is_armed.running) (frame_stands (AtWrite (Stops outcome))
+              ends)
   commit_comes (Stop (suc zero) outcome) tied =
       let ends = frame_ends (Stop (suc zero) outcome) (plan_of old) tied in
-      record {
-        fails = frame_fails (AtSync (Stops outcome)) ends;
-        stopped = ap (λ (c : Course). c.schedule.stopped) (frame_course (AtSync (Stops outcome)) ends ∙ frame_leaves (Stop (suc zero) outcome) (plan_of old) tied)
-            ∙ stop_is_one (after_write Runs (plan_of old)).schedule.stopped (one_armed (Stop (suc zero) outcome) (plan_of old) tied).running;
-        left = frame_stands (AtSync (Stops outcome)) ends (frame_fails (AtSync (Stops outcome)) ends);
-      }
+      stops_so _ _ (frame_fails (AtSync (Stops outcome)) ends)
+          (frame_course (AtSync (Stops outcome)) ends ∙ frame_leaves (Stop (suc zero) outcome) (plan_of old) tied)
+          (stop_is_one (after_write Runs (plan_of old)).schedule.stopped (one_armed (Stop (suc zero) outcome)
+              (plan_of old) tied).running) (frame_stands (AtSync (Stops outcome)) ends)
   commit_comes (Stop (suc (suc zero)) outcome) tied =
       let ran = frame_ends (Stop (suc (suc zero)) outcome) (plan_of old) tied in
       let put = frame_leaves (Stop (suc (suc zero)) outcome) (plan_of old) tied in
       let ends = gate_ends (Stop (suc (suc zero)) outcome) (plan_of old) tied in
-      record {
-        fails = gate_fails ran put (AtWrite (Stops outcome)) ends;
-        stopped = ap (λ (c : Course). c.schedule.stopped) (gate_course ran put (AtWrite (Stops outcome)) ends ∙ gate_leaves (Stop (suc (suc zero)) outcome) (plan_of old) tied)
-            ∙ stop_is_one (after_sync Runs (after_write Runs (plan_of old))).schedule.stopped (tied_two (Stop (suc (suc zero)) outcome) (plan_of old) tied).is_armed.running;
-        left = gate_stands ran put (AtWrite (Stops outcome)) ends (gate_fails ran put (AtWrite (Stops outcome)) ends);
-      }
+      stops_so _ _ (gate_fails ran put (AtWrite (Stops outcome)) ends)
+          (gate_course ran put (AtWrite (Stops outcome)) ends
+          ∙ gate_leaves (Stop (suc (suc zero)) outcome) (plan_of old) tied)
+          (stop_is_one (after_sync Runs (after_write Runs (plan_of old))).schedule.stopped
+              (tied_two (Stop (suc (suc zero)) outcome) (plan_of old) tied).is_armed.running) (gate_stands ran put
+              (AtWrite (Stops outcome)) ends)
   commit_comes (Stop (suc (suc (suc zero))) outcome) tied =
       let ran = frame_ends (Stop (suc (suc (suc zero))) outcome) (plan_of old) tied in
       let put = frame_leaves (Stop (suc (suc (suc zero))) outcome) (plan_of old) tied in
       let ends = gate_ends (Stop (suc (suc (suc zero))) outcome) (plan_of old) tied in
-      record {
-        fails = gate_fails ran put (AtSync (Stops outcome)) ends;
-        stopped = ap (λ (c : Course). c.schedule.stopped) (gate_course ran put (AtSync (Stops outcome)) ends ∙ gate_leaves (Stop (suc (suc (suc zero))) outcome) (plan_of old) tied)
-            ∙ stop_is_one (after_write Runs (after_sync Runs (after_write Runs (plan_of old)))).schedule.stopped (three_armed (Stop (suc (suc (suc zero))) outcome) (plan_of old) tied).running;
-        left = gate_stands ran put (AtSync (Stops outcome)) ends (gate_fails ran put (AtSync (Stops outcome)) ends);
-      }
+      stops_so _ _ (gate_fails ran put (AtSync (Stops outcome)) ends)
+          (gate_course ran put (AtSync (Stops outcome)) ends
+          ∙ gate_leaves (Stop (suc (suc (suc zero))) outcome) (plan_of old) tied)
+          (stop_is_one (after_write Runs (after_sync Runs (after_write Runs (plan_of old)))).schedule.stopped
+              (three_armed (Stop (suc (suc (suc zero))) outcome) (plan_of old) tied).running) (gate_stands ran put
+              (AtSync (Stops outcome)) ends)
   commit_comes (Stop (suc (suc (suc (suc k)))) outcome) tied = all_ran (Stop (suc (suc (suc (suc k)))) outcome) tied refl refl refl refl
 
 -- an opening again is a sync
@@ -200,20 +203,14 @@ module _ {A : Type 0} {tells : Ghosts A} (old new : Trail A tells) (failed : Boo
   reopen_comes Nothing armed = sync_ran Nothing armed (tied_sync Nothing (plan_of old) armed)
   reopen_comes (Fail zero) armed =
       let is = tied_sync (Fail zero) (plan_of old) armed in
-      record {
-        fails = sync_fails Fails is armed.reads;
-        armed = subst (λ (c : Course). IsArmed Nothing c.schedule) (sym (sync_course Fails is armed.reads))
-            (armed_reads Nothing (after_sync Fails (plan_of old)).schedule (plan_of new).schedule.reads (armed_failed (plan_of old).schedule armed));
-        left = sync_stands Fails is armed.reads (sync_fails Fails is armed.reads);
-      }
+      fails_so _ _ (sync_fails Fails is armed.reads) (sync_course Fails is armed.reads)
+          (armed_reads Nothing (after_sync Fails (plan_of old)).schedule (plan_of new).schedule.reads
+              (armed_failed (plan_of old).schedule armed)) (sync_stands Fails is armed.reads)
   reopen_comes (Fail (suc k)) armed = sync_ran (Fail (suc k)) armed (tied_sync (Fail (suc k)) (plan_of old) armed)
   reopen_comes (Stop zero outcome) armed =
       let is = tied_sync (Stop zero outcome) (plan_of old) armed in
-      record {
-        fails = sync_fails (Stops outcome) is armed.reads;
-        stopped = ap (λ (c : Course). c.schedule.stopped) (sync_course (Stops outcome) is armed.reads) ∙ stop_is_one (plan_of old).schedule.stopped armed.running;
-        left = sync_stands (Stops outcome) is armed.reads (sync_fails (Stops outcome) is armed.reads);
-      }
+      stops_so _ _ (sync_fails (Stops outcome) is armed.reads) (sync_course (Stops outcome) is armed.reads)
+          (stop_is_one (plan_of old).schedule.stopped armed.running) (sync_stands (Stops outcome) is armed.reads)
   reopen_comes (Stop (suc k) outcome) armed = sync_ran (Stop (suc k) outcome) armed (tied_sync (Stop (suc k) outcome) (plan_of old) armed)
 
 -- the clauses of a commit and of an opening again

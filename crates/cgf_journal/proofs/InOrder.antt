@@ -1,7 +1,7 @@
 -- Lists of held keys in order: they are the same where as many keys of each pass each test.
-use Rattle.std.proofs.Common.{inl, inr, ◌≡◌, ℕ, suc, ◌+◌, ◌<◌, ◌≤◌, ◌^◌, ◌==◌, ◌&&◌, Bool, true, false, cond, nat_lt, List, [], ◌∷◌, length, map, filter, refl, sym, ap, ◌∙◌, arith}
+use Rattle.std.proofs.Common.{inl, inr, ◌≡◌, ℕ, suc, ◌+◌, ◌<◌, ◌≤◌, ◌^◌, ◌==◌, ◌&&◌, Bool, true, cond, nat_lt, List, [], ◌∷◌, length, map, filter, refl, sym, ap, ◌∙◌, arith}
 use Rattle.std.specs.Prelude.{slice_index_or, ⊤}
-use Rattle.std.proofs.lemmas.Bool.{cases_order, eq-eqb, ltb-false, ltb-true, ne_eqb}
+use Rattle.std.proofs.lemmas.Bool.{cases_order, cond_both, eq-eqb, ltb-false, ltb-true, ne_eqb}
 use Rattle.gw_base.specs.declared.held.HeldKey.{HeldKey}
 use Rattle.gw_base.specs.declared.history.HistoryAct.{HistoryAct}
 use Rattle.gw_base.specs.HeldKeys.{held_by}
@@ -38,21 +38,18 @@ from_low low q (key ∷ keys) le from = (omega (arith, le, from.0), from_low low
 
 from_placed : (q : ℕ) (key : HeldKey) (keys : List HeldKey) → q ≤ place key → AreFrom q keys → AreFrom q (key_in_order key keys)
 from_placed q key [] here from = (here, tt)
-from_placed q key (first ∷ keys) here from = by_order (nat_lt (place first) (place key)) (from_placed q key keys here from.1)
-  where
-    by_order : (b : Bool) → AreFrom q (key_in_order key keys) → AreFrom q (cond b (first ∷ key_in_order key keys) (key ∷ first ∷ keys))
-    by_order true rest = (from.0, rest)
-    by_order false rest = (here, from)
+from_placed q key (first ∷ keys) here from =
+    cond_both (nat_lt (place first) (place key)) (first ∷ key_in_order key keys) (key ∷ first ∷ keys) (AreFrom q)
+    (λ _. (from.0, from_placed q key keys here from.1)) (λ _. (here, from))
 
 placed : (key : HeldKey) (keys : List HeldKey) → key.number < 2 ^ 64 → AreInOrder keys → AreInOrder (key_in_order key keys)
 placed key [] small up = (small, (tt, tt))
-placed key (first ∷ keys) small up = by_order (nat_lt (place first) (place key)) refl (placed key keys small up.1.1)
-  where
-    by_order : (b : Bool) → nat_lt (place first) (place key) ≡ b → AreInOrder (key_in_order key keys) → AreInOrder (cond b (first ∷ key_in_order key keys) (key ∷ first ∷ keys))
-    by_order true is rest = (up.0, (from_placed (place first) key keys (omega (arith, ltb-true (place first) (place key) is)) up.1.0, rest))
-    by_order false is rest =
-        let le = ltb-false (place first) (place key) is in
-        (small, ((omega (arith, le), from_low (place key) (place first) keys (omega (arith, le)) up.1.0), up))
+placed key (first ∷ keys) small up =
+    cond_both (nat_lt (place first) (place key)) (first ∷ key_in_order key keys) (key ∷ first ∷ keys) AreInOrder
+    (λ is. (up.0, (from_placed (place first) key keys (omega (arith, ltb-true (place first) (place key) is))
+        up.1.0, placed key keys small up.1.1)))
+    (λ is. let le = ltb-false (place first) (place key) is in
+    (small, ((omega (arith, le), from_low (place key) (place first) keys (omega (arith, le)) up.1.0), up)))
 
 pub all_placed : (more keys : List HeldKey) → AreInOrder more → AreInOrder keys → AreInOrder (keys_in_order more keys)
 all_placed [] keys first up = up
@@ -60,38 +57,37 @@ all_placed (key ∷ more) keys first up = placed key (keys_in_order more keys) f
 
 from_filter : (q : ℕ) (p : HeldKey → Bool) (keys : List HeldKey) → AreFrom q keys → AreFrom q (filter p keys)
 from_filter q p [] from = tt
-from_filter q p (key ∷ keys) from = by_test (p key) (from_filter q p keys from.1)
-  where
-    by_test : (b : Bool) → AreFrom q (filter p keys) → AreFrom q (cond b (key ∷ filter p keys) (filter p keys))
-    by_test true rest = (from.0, rest)
-    by_test false rest = rest
+from_filter q p (key ∷ keys) from =
+    let rest = from_filter q p keys from.1 in
+    cond_both (p key) (key ∷ filter p keys) (filter p keys) (AreFrom q) (λ _. (from.0, rest)) (λ _. rest)
 
 filtered : (p : HeldKey → Bool) (keys : List HeldKey) → AreInOrder keys → AreInOrder (filter p keys)
 filtered p [] up = tt
-filtered p (key ∷ keys) up = by_test (p key) (filtered p keys up.1.1)
-  where
-    by_test : (b : Bool) → AreInOrder (filter p keys) → AreInOrder (cond b (key ∷ filter p keys) (filter p keys))
-    by_test true rest = (up.0, (from_filter (place key) p keys up.1.0, rest))
-    by_test false rest = rest
+filtered p (key ∷ keys) up =
+    let rest = filtered p keys up.1.1 in
+    cond_both (p key) (key ∷ filter p keys) (filter p keys) AreInOrder
+        (λ _. (up.0, (from_filter (place key) p keys up.1.0, rest))) (λ _. rest)
 
 -- ---- keys that are kept in order
 
 from_counted : (q : ℕ) (s : Bool) (r : ℕ) (keys : List KeptKey) → ((j : ℕ) (d : KeptKey) → j < length keys → q ≤ rank (slice_index_or keys j d)) → AreFrom q (counted_keys s r keys)
 from_counted q s r [] above = tt
-from_counted q s r (kept ∷ keys) above = by_count (counts s r kept) (from_counted q s r keys (λ j d lt. above (suc j) d (omega (arith, lt))))
-  where
-    by_count : (b : Bool) → AreFrom q (counted_keys s r keys) → AreFrom q (map key_of (cond b (kept ∷ filter (λ (k : KeptKey). counts s r k) keys) (filter (λ (k : KeptKey). counts s r k) keys)))
-    by_count true rest = (above 0 kept (omega arith), rest)
-    by_count false rest = rest
+from_counted q s r (kept ∷ keys) above =
+    let counted : List KeptKey = filter (λ (k : KeptKey). counts s r k) keys in
+    let rest = from_counted q s r keys (λ j d lt. above (suc j) d (omega (arith, lt))) in
+    cond_both (counts s r kept) (kept ∷ counted) counted
+        (λ (l : List KeptKey). AreFrom q (map key_of l)) (λ _. (above 0 kept (omega arith), rest)) (λ _. rest)
 
 counted_up : (s : Bool) (r t : ℕ) (keys : List KeptKey) → AreAscending keys → AreUpTo t keys → AreInOrder (counted_keys s r keys)
 counted_up s r t [] up small = tt
 counted_up s r t (kept ∷ keys) up small =
-    by_count (counts s r kept) (counted_up s r t keys (λ i j d lt within. up (suc i) (suc j) d (omega (arith, lt)) (omega (arith, within))) (λ j d lt. small (suc j) d (omega (arith, lt))))
-  where
-    by_count : (b : Bool) → AreInOrder (counted_keys s r keys) → AreInOrder (map key_of (cond b (kept ∷ filter (λ (k : KeptKey). counts s r k) keys) (filter (λ (k : KeptKey). counts s r k) keys)))
-    by_count true rest = ((small 0 kept (omega arith)).1, (from_counted (rank kept) s r keys (λ j d lt. omega (arith, up 0 (suc j) d (omega arith) (omega (arith, lt)))), rest))
-    by_count false rest = rest
+    let counted : List KeptKey = filter (λ (k : KeptKey). counts s r k) keys in
+    let rest = counted_up s r t keys (λ i j d lt within.
+        up (suc i) (suc j) d (omega (arith, lt)) (omega (arith, within))) (λ j d lt.
+        small (suc j) d (omega (arith, lt))) in
+    cond_both (counts s r kept) (kept ∷ counted) counted (λ (l : List KeptKey). AreInOrder (map key_of l)) (λ _.
+    ((small 0 kept (omega arith)).1, (from_counted (rank kept) s r keys
+        (λ j d lt. omega (arith, up 0 (suc j) d (omega arith) (omega (arith, lt)))), rest))) (λ _. rest)
 
 pub sorted_up : (s : Bool) (keys : SortedKeys) → AreInOrder (keys_of s keys)
 sorted_up s keys = counted_up s keys.round keys.round keys.keys.items keys.ascending keys.up_to

@@ -41,11 +41,9 @@ module _ (header : List ℕ) (long : length header ≡ 32) (octets : List ℕ) w
   pub one_history : (h g : List HistoryEntry) → StandsByBatches header octets h → StandsByBatches header octets g → h ≡ g
   one_history h g one two = one.history ∙ ap entries_in (one_list one.batches two.batches one.stands two.stands) ∙ sym two.history
 
-  pub list_or_starts : get_or header 0 0 ≡ 67 → (batches : List (List ℕ)) → Stands header octets batches → Starts header octets → ⊥
-  list_or_starts begins batches stands starts = same_not_starts header long octets (stands_front batches stands) begins starts
-
   pub stands_or_starts : get_or header 0 0 ≡ 67 → (h : List HistoryEntry) → StandsFor header octets h → Starts header octets → ⊥
-  stands_or_starts begins h stands starts = list_or_starts begins (map spelled stands.parts) stands.stands starts
+  stands_or_starts begins h stands starts =
+      same_not_starts header long octets (stands_front (map spelled stands.parts) stands.stands) begins starts
 
   pub broken_or_starts : get_or header 0 0 ≡ 67 → (at : ℕ) → IsBroken header octets at → Starts header octets → ⊥
   broken_or_starts begins at broken starts =

@@ -1,12 +1,12 @@
 -- Two lists of kept keys as one.
-use Rattle.std.proofs.Common.{◌≡◌, ℕ, zero, suc, zero-add, ◌+◌, ◌<◌, ◌≤◌, ◌^◌, ◌==◌, ◌||◌, Bool, true, false, cond, if◌then◌else◌, nat_lt, List, [], ◌∷◌, ◌++◌, length, drop, take, map, filter, refl, subst, sym, ap, ◌∙◌, arith}
+use Rattle.std.proofs.Common.{◌≡◌, ℕ, zero, suc, zero-add, ◌+◌, ◌<◌, ◌≤◌, ◌^◌, ◌==◌, ◌||◌, Bool, true, false, cond, if◌then◌else◌, nat_lt, List, [], ◌∷◌, ◌++◌, length, drop, take, map, filter, refl, subst, sym, ap, ◌∙◌, arith, inl, inr}
 use Rattle.std.specs.Prelude.{slice_index_or}
-use Rattle.std.proofs.lemmas.Bool.{eq-eqb, lt-ltb, ltb-false, ltb-true, true≢false}
+use Rattle.std.proofs.lemmas.Bool.{cases_Bool, eq-eqb, lt-ltb, ltb-false, ltb-true, true≢false}
 use Rattle.std.proofs.lemmas.List.{drop_all, drop_more, length-map}
 use Rattle.gw_base.specs.declared.held.HeldKey.{HeldKey}
 use Rattle.cgf_journal.specs.Held.{IsOnceEach, passing}
 use Rattle.cgf_journal.specs.Keys.{AreAscending, AreUpTo, counted_keys, counts, is_named, key_of, rank}
-use Rattle.cgf_journal.specs.Merged.{joined_key, merged, merged_from, moved_key, moved_keys}
+use Rattle.cgf_journal.specs.Merged.{joined_key, merged, moved_key, moved_keys}
 use Rattle.cgf_journal.specs.declared.key.KeptKey.{KeptKey}
 use Rattle.cgf_journal.specs.Sorted.{keys_of}
 use Rattle.cgf_journal.specs.declared.sorted.SortedKeys.{SortedKeys}
@@ -78,20 +78,43 @@ get-mapped f [] j d lt = absurd (omega (arith, lt))
 get-mapped f (kept ∷ keys) zero d lt = refl
 get-mapped f (kept ∷ keys) (suc j) d lt = get-mapped f keys j d (omega (arith, lt))
 
-each-merged : (P : KeptKey → Type 0) (r : ℕ) → ((a b : KeptKey) → P a → P b → P (joined_key r a b)) → (ks ls : List KeptKey) → Each P ks → Each P ls → Each P (merged r ks ls)
-each-merged P r both [] ls first second = second
-each-merged P r both (a ∷ ks) ls first second = from (each-merged P r both ks) ls second
+-- what holds where one list is over, and goes on as the next key comes from one, the other or both, holds of all
+merge_all : (r : ℕ) (P : List KeptKey → List KeptKey → List KeptKey → Type 0) → ((ls : List KeptKey) → P [] ls ls)
+    → ((a : KeptKey) (ks : List KeptKey) → P (a ∷ ks) [] (a ∷ ks))
+    → ((a b : KeptKey) (ks ls : List KeptKey) → rank a < rank b → P ks (b ∷ ls) (merged r ks (b ∷ ls))
+    → P (a ∷ ks) (b ∷ ls) (a ∷ merged r ks (b ∷ ls)))
+    → ((a b : KeptKey) (ks ls : List KeptKey) → rank b < rank a → P (a ∷ ks) ls (merged r (a ∷ ks) ls)
+    → P (a ∷ ks) (b ∷ ls) (b ∷ merged r (a ∷ ks) ls))
+    → ((a b : KeptKey) (ks ls : List KeptKey) → rank a ≡ rank b → P ks ls (merged r ks ls)
+    → P (a ∷ ks) (b ∷ ls) (joined_key r a b ∷ merged r ks ls))
+    → (ks ls : List KeptKey) → P ks ls (merged r ks ls)
+merge_all r P none alone one other both [] ls = none ls
+merge_all r P none alone one other both (a ∷ ks) ls = from (merge_all r P none alone one other both ks) ls
   where
-    from : ((l : List KeptKey) → Each P ks → Each P l → Each P (merged r ks l)) → (ls : List KeptKey) → Each P ls → Each P (merged_from r a ks (λ l. merged r ks l) ls)
-    from rest [] second = first
-    from rest (b ∷ ls) second =
-        by_order (nat_lt (rank a) (rank b)) (nat_lt (rank b) (rank a)) (rest (b ∷ ls) (each-tail P a ks first) second) (from rest ls (each-tail P b ls second)) (rest ls (each-tail P a ks first) (each-tail P b ls second))
+    from : ((l : List KeptKey) → P ks l (merged r ks l)) → (ls : List KeptKey) → P (a ∷ ks) ls (merged r (a ∷ ks) ls)
+    from rest [] = alone a ks
+    from rest (b ∷ ls) = by_order (nat_lt (rank a) (rank b)) (nat_lt (rank b) (rank a)) refl refl (from rest ls)
       where
-        by_order : (x y : Bool) → Each P (merged r ks (b ∷ ls)) → Each P (merged_from r a ks (λ l. merged r ks l) ls) → Each P (merged r ks ls)
-            → Each P (if x then a ∷ merged r ks (b ∷ ls) else (if y then b ∷ merged_from r a ks (λ l. merged r ks l) ls else joined_key r a b ∷ merged r ks ls))
-        by_order true y one two three = each-cons P a (merged r ks (b ∷ ls)) (first 0 a (omega arith)) one
-        by_order false true one two three = each-cons P b (merged_from r a ks (λ l. merged r ks l) ls) (second 0 b (omega arith)) two
-        by_order false false one two three = each-cons P (joined_key r a b) (merged r ks ls) (both a b (first 0 a (omega arith)) (second 0 b (omega arith))) three
+        by_order : (x y : Bool) → nat_lt (rank a) (rank b) ≡ x → nat_lt (rank b) (rank a) ≡ y
+            → P (a ∷ ks) ls (merged r (a ∷ ks) ls)
+            → P (a ∷ ks) (b ∷ ls) (if x then a ∷ merged r ks (b ∷ ls)
+            else (if y then b ∷ merged r (a ∷ ks) ls else joined_key r a b ∷ merged r ks ls))
+        by_order true y is so later = one a b ks ls (ltb-true (rank a) (rank b) is) (rest (b ∷ ls))
+        by_order false true is so later = other a b ks ls (ltb-true (rank b) (rank a) so) later
+        by_order false false is so later =
+            both a b ks ls (omega (arith, ltb-false (rank b) (rank a) so, ltb-false (rank a) (rank b) is)) (rest ls)
+
+each-merged : (P : KeptKey → Type 0) (r : ℕ) → ((a b : KeptKey) → P a → P b → P (joined_key r a b))
+    → (ks ls : List KeptKey) → Each P ks → Each P ls → Each P (merged r ks ls)
+each-merged P r joined =
+    merge_all r (λ ks ls m. Each P ks → Each P ls → Each P m) (λ ls first second. second) (λ a ks first second. first)
+    (λ a b ks ls lt rest first second.
+    each-cons P a (merged r ks (b ∷ ls)) (first 0 a (omega arith)) (rest (each-tail P a ks first) second))
+    (λ a b ks ls lt rest first second.
+    each-cons P b (merged r (a ∷ ks) ls) (second 0 b (omega arith)) (rest first (each-tail P b ls second)))
+    (λ a b ks ls same rest first second.
+    each-cons P (joined_key r a b) (merged r ks ls) (joined a b (first 0 a (omega arith)) (second 0 b (omega arith)))
+    (rest (each-tail P a ks first) (each-tail P b ls second)))
 
 -- ---- the order
 
@@ -116,44 +139,36 @@ above-merged : (q r : ℕ) (ks ls : List KeptKey) → Above q ks → Above q ls 
 above-merged q r ks ls first second = each-merged (λ (kept : KeptKey). q < rank kept) r (λ a b one two. one) ks ls first second
 
 pub ascending-merged : (r : ℕ) (ks ls : List KeptKey) → AreAscending ks → AreAscending ls → AreAscending (merged r ks ls)
-ascending-merged r [] ls first second = second
-ascending-merged r (a ∷ ks) ls first second = from (ascending-merged r ks) ls second
+ascending-merged r =
+    merge_all r (λ ks ls m. AreAscending ks → AreAscending ls → AreAscending m)
+    (λ ls first second. second) (λ a ks first second. first)
+    (λ a b ks ls lt rest first second.
+    ascending-cons a (merged r ks (b ∷ ls))
+    (above-merged (rank a) r ks (b ∷ ls) (above_head a ks first) (from a b ls lt second))
+    (rest (ascending-tail a ks first) second))
+    (λ a b ks ls lt rest first second.
+    ascending-cons b (merged r (a ∷ ks) ls)
+    (above-merged (rank b) r (a ∷ ks) ls (from b a ks lt first) (above_head b ls second))
+    (rest first (ascending-tail b ls second)))
+    (λ a b ks ls same rest first second.
+    ascending-cons (joined_key r a b) (merged r ks ls)
+    (above-merged (rank a) r ks ls (above_head a ks first)
+    (above-below (rank b) (rank a) ls (omega (arith, same)) (above_head b ls second)))
+    (rest (ascending-tail a ks first) (ascending-tail b ls second)))
   where
-    from : ((l : List KeptKey) → AreAscending ks → AreAscending l → AreAscending (merged r ks l)) → (ls : List KeptKey) → AreAscending ls → AreAscending (merged_from r a ks (λ l. merged r ks l) ls)
-    from rest [] second = first
-    from rest (b ∷ ls) second =
-        by_order (nat_lt (rank a) (rank b)) (nat_lt (rank b) (rank a)) refl refl (rest (b ∷ ls) (ascending-tail a ks first) second) (from rest ls (ascending-tail b ls second)) (rest ls (ascending-tail a ks first) (ascending-tail b ls second))
-      where
-        by_order : (x y : Bool) → nat_lt (rank a) (rank b) ≡ x → nat_lt (rank b) (rank a) ≡ y → AreAscending (merged r ks (b ∷ ls)) → AreAscending (merged_from r a ks (λ l. merged r ks l) ls) → AreAscending (merged r ks ls)
-            → AreAscending (if x then a ∷ merged r ks (b ∷ ls) else (if y then b ∷ merged_from r a ks (λ l. merged r ks l) ls else joined_key r a b ∷ merged r ks ls))
-        by_order true y is so one two three =
-            let lt = ltb-true (rank a) (rank b) is in
-            ascending-cons a (merged r ks (b ∷ ls))
-            (above-merged (rank a) r ks (b ∷ ls) (above_head a ks first) (each-cons (λ (kept : KeptKey). rank a < rank kept) b ls lt (above-below (rank b) (rank a) ls (omega (arith, lt)) (above_head b ls second)))) one
-        by_order false true is so one two three =
-            let lt = ltb-true (rank b) (rank a) so in
-            ascending-cons b (merged_from r a ks (λ l. merged r ks l) ls)
-            (above-merged (rank b) r (a ∷ ks) ls (each-cons (λ (kept : KeptKey). rank b < rank kept) a ks lt (above-below (rank a) (rank b) ks (omega (arith, lt)) (above_head a ks first))) (above_head b ls second)) two
-        by_order false false is so one two three =
-            ascending-cons (joined_key r a b) (merged r ks ls)
-            (above-merged (rank a) r ks ls (above_head a ks first) (above-below (rank b) (rank a) ls (omega (arith, ltb-false (rank b) (rank a) so, ltb-false (rank a) (rank b) is)) (above_head b ls second))) three
+    from : (a b : KeptKey) (ls : List KeptKey) → rank a < rank b → AreAscending (b ∷ ls) → Above (rank a) (b ∷ ls)
+    from a b ls lt up =
+        each-cons (λ (kept : KeptKey). rank a < rank kept) b ls lt
+        (above-below (rank b) (rank a) ls (omega (arith, lt)) (above_head b ls up))
 
 pub up_to-merged : (r : ℕ) (ks ls : List KeptKey) → AreUpTo r ks → AreUpTo r ls → AreUpTo r (merged r ks ls)
 up_to-merged r ks ls first second = each-merged (λ (kept : KeptKey). (kept.round ≤ r) × (kept.number < 2 ^ 64)) r (λ a b one two. (omega arith, one.1)) ks ls first second
 
 pub length-merged : (r : ℕ) (ks ls : List KeptKey) → length (merged r ks ls) ≤ length ks + length ls
-length-merged r [] ls = omega arith
-length-merged r (a ∷ ks) ls = from (length-merged r ks) ls
-  where
-    from : ((l : List KeptKey) → length (merged r ks l) ≤ length ks + length l) → (ls : List KeptKey) → length (merged_from r a ks (λ l. merged r ks l) ls) ≤ length (a ∷ ks) + length ls
-    from rest [] = omega arith
-    from rest (b ∷ ls) = by_order (nat_lt (rank a) (rank b)) (nat_lt (rank b) (rank a)) (rest (b ∷ ls)) (from rest ls) (rest ls)
-      where
-        by_order : (x y : Bool) → length (merged r ks (b ∷ ls)) ≤ length ks + length (b ∷ ls) → length (merged_from r a ks (λ l. merged r ks l) ls) ≤ length (a ∷ ks) + length ls → length (merged r ks ls) ≤ length ks + length ls
-            → length (if x then a ∷ merged r ks (b ∷ ls) else (if y then b ∷ merged_from r a ks (λ l. merged r ks l) ls else joined_key r a b ∷ merged r ks ls)) ≤ length (a ∷ ks) + length (b ∷ ls)
-        by_order true y one two three = omega (arith, one)
-        by_order false true one two three = omega (arith, two)
-        by_order false false one two three = omega (arith, three)
+length-merged r =
+    merge_all r (λ ks ls m. length m ≤ length ks + length ls) (λ ls. omega arith) (λ a ks. omega arith)
+    (λ a b ks ls lt rest. omega (arith, rest)) (λ a b ks ls lt rest. omega (arith, rest))
+    (λ a b ks ls same rest. omega (arith, rest))
 
 -- ---- which of them count
 
@@ -164,12 +179,8 @@ abbrev weight : (HeldKey → Bool) → Bool → ℕ → KeptKey → ℕ
 weight p s r kept = if counts s r kept then one (p (key_of kept)) else 0
 
 pub amount-cons : (p : HeldKey → Bool) (s : Bool) (r : ℕ) (kept : KeptKey) (keys : List KeptKey) → passing p (counted_keys s r (kept ∷ keys)) ≡ weight p s r kept + passing p (counted_keys s r keys)
-amount-cons p s r kept keys = by_count (counts s r kept)
-  where
-    by_count : (b : Bool) → passing p (map key_of (cond b (kept ∷ filter (λ (k : KeptKey). counts s r k) keys) (filter (λ (k : KeptKey). counts s r k) keys)))
-        ≡ (if b then one (p (key_of kept)) else 0) + passing p (counted_keys s r keys)
-    by_count true = refl
-    by_count false = sym (zero-add (passing p (counted_keys s r keys)))
+amount-cons p s r kept keys =
+    elim (cases_Bool (counts s r kept)) [ inl is ↦ rw is refl | inr isnt ↦ rw isnt (omega arith) ]
 
 -- no key counts in both lists
 abbrev pub AreApart : Bool → ℕ → List KeptKey → List KeptKey → Type 0
@@ -201,38 +212,27 @@ weight-joined p s r a b same apart =
 
 pub passing-merged : (p : HeldKey → Bool) (s : Bool) (r : ℕ) (ks ls : List KeptKey) → AreSmall ks → AreSmall ls → AreApart s r ks ls
     → passing p (counted_keys s r (merged r ks ls)) ≡ passing p (counted_keys s r ks) + passing p (counted_keys s r ls)
-passing-merged p s r [] ls first second apart = sym (zero-add (passing p (counted_keys s r ls)))
-passing-merged p s r (a ∷ ks) ls first second apart = from (passing-merged p s r ks) ls second apart
-  where
-    amount : List KeptKey → ℕ
-    amount keys = passing p (counted_keys s r keys)
-
-    from : ((l : List KeptKey) → AreSmall ks → AreSmall l → AreApart s r ks l → amount (merged r ks l) ≡ amount ks + amount l) → (ls : List KeptKey) → AreSmall ls → AreApart s r (a ∷ ks) ls
-        → amount (merged_from r a ks (λ l. merged r ks l) ls) ≡ amount (a ∷ ks) + amount ls
-    from rest [] second apart = sym (add-zero (amount (a ∷ ks)))
-    from rest (b ∷ ls) second apart =
-        let tail = each-tail (λ (kept : KeptKey). kept.number < 2 ^ 64) a ks first in
-        let other = each-tail (λ (kept : KeptKey). kept.number < 2 ^ 64) b ls second in
-        by_order (nat_lt (rank a) (rank b)) (nat_lt (rank b) (rank a)) refl refl
-        (rest (b ∷ ls) tail second (λ i j d lt within. apart (suc i) j d (omega (arith, lt)) within))
-        (from rest ls other (λ i j d lt within. apart i (suc j) d lt (omega (arith, within))))
-        (rest ls tail other (λ i j d lt within. apart (suc i) (suc j) d (omega (arith, lt)) (omega (arith, within))))
-      where
-        by_order : (x y : Bool) → nat_lt (rank a) (rank b) ≡ x → nat_lt (rank b) (rank a) ≡ y → amount (merged r ks (b ∷ ls)) ≡ amount ks + amount (b ∷ ls)
-            → amount (merged_from r a ks (λ l. merged r ks l) ls) ≡ amount (a ∷ ks) + amount ls → amount (merged r ks ls) ≡ amount ks + amount ls
-            → amount (if x then a ∷ merged r ks (b ∷ ls) else (if y then b ∷ merged_from r a ks (λ l. merged r ks l) ls else joined_key r a b ∷ merged r ks ls)) ≡ amount (a ∷ ks) + amount (b ∷ ls)
-        by_order true y is so one two three = omega (arith, one, amount-cons p s r a (merged r ks (b ∷ ls)), amount-cons p s r a ks)
-        by_order false true is so one two three = omega (arith, two, amount-cons p s r b (merged_from r a ks (λ l. merged r ks l) ls), amount-cons p s r b ls)
-        by_order false false is so one two three =
-            let same : rank a ≡ rank b = omega (arith, ltb-false (rank b) (rank a) so, ltb-false (rank a) (rank b) is) in
-            omega (
-              arith,
-              three,
-              amount-cons p s r (joined_key r a b) (merged r ks ls),
-              amount-cons p s r a ks,
-              amount-cons p s r b ls,
-              weight-joined p s r a b (same_key a b (first 0 a (omega arith)) (second 0 b (omega arith)) same) (apart 0 0 a (omega arith) (omega arith) same),
-            )
+passing-merged p s r =
+    let P : KeptKey → Type 0 = λ kept. kept.number < 2 ^ 64 in
+    merge_all r (λ ks ls m. AreSmall ks → AreSmall ls → AreApart s r ks ls
+    → passing p (counted_keys s r m) ≡ passing p (counted_keys s r ks) + passing p (counted_keys s r ls))
+    (λ ls first second apart. sym (zero-add (passing p (counted_keys s r ls))))
+    (λ a ks first second apart. sym (add-zero (passing p (counted_keys s r (a ∷ ks)))))
+    (λ a b ks ls lt rest first second apart.
+    let before = rest (each-tail P a ks first) second
+        (λ i j d low within. apart (suc i) j d (omega (arith, low)) within) in
+    omega (arith, before, amount-cons p s r a (merged r ks (b ∷ ls)), amount-cons p s r a ks))
+    (λ a b ks ls lt rest first second apart.
+    let before = rest first (each-tail P b ls second)
+        (λ i j d low within. apart i (suc j) d low (omega (arith, within))) in
+    omega (arith, before, amount-cons p s r b (merged r (a ∷ ks) ls), amount-cons p s r b ls))
+    (λ a b ks ls same rest first second apart.
+    let before = rest (each-tail P a ks first) (each-tail P b ls second)
+    (λ i j d low within. apart (suc i) (suc j) d (omega (arith, low)) (omega (arith, within))) in
+    let key = same_key a b (first 0 a (omega arith)) (second 0 b (omega arith)) same in
+    let both = weight-joined p s r a b key (apart 0 0 a (omega arith) (omega arith) same) in
+    omega (arith, before, both, amount-cons p s r (joined_key r a b) (merged r ks ls), amount-cons p s r a ks,
+        amount-cons p s r b ls))
 
 -- ---- keys of another round
 

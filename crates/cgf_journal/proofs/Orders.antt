@@ -1,7 +1,7 @@
 -- Keys stay in order, each once.
 use Rattle.std.proofs.Common.{inl, inr, ◌≡◌, ℕ, zero, suc, ◌+◌, ◌-◌, ◌<◌, ◌≤◌, ◌^◌, Bool, List, [], ◌∷◌, ◌++◌, length, take, drop, map, nat_lt, true, false, refl, sym, ap, ◌∙◌, arith}
 use Rattle.std.specs.Prelude.{slice_index_or, slice_set}
-use Rattle.std.proofs.lemmas.Bool.{cases_eq, cases_lt, cases_order, ltb-false, ltb-true}
+use Rattle.std.proofs.lemmas.Bool.{cases_eq, cases_order, ltb-false, ltb-true}
 use Rattle.std.specs.List.Sorted.{IsNonDecreasingBy, IsPartitionPoint}
 use Rattle.std.proofs.lemmas.List.{get_or_default, get_or-set_other, get_or-set_same, length-map, length-set, take_at}
 use Rattle.std.proofs.lemmas.List.Edits.{get_or-insert_above, get_or-insert_at, get_or-insert_below, length-insert}
@@ -12,16 +12,19 @@ use Rattle.cgf_journal.proofs.Ranks.{named_rank}
 
 -- ---- one key changed
 
-rank-set : (keys : List KeptKey) (at : ℕ) (now : KeptKey) → at < length keys → ((d : KeptKey) → rank now ≡ rank (slice_index_or keys at d))
-    → (j : ℕ) (d : KeptKey) → rank (slice_index_or (slice_set keys at now) j d) ≡ rank (slice_index_or keys j d)
-rank-set keys at now inside same j d = elim (cases_eq j at) [
-  | inl e ↦ ap (λ (k : ℕ). rank (slice_index_or (slice_set keys at now) k d)) e ∙ ap (λ (k : KeptKey). rank k) (get_or-set_same keys at now d inside) ∙ same d ∙ ap (λ (k : ℕ). rank (slice_index_or keys k d)) (sym e)
-  | inr ne ↦ ap (λ (k : KeptKey). rank k) (get_or-set_other keys at j now d ne)
+pub field-set : {A : Type 0} (f : KeptKey → A) (keys : List KeptKey) (at : ℕ) (now : KeptKey) → at < length keys
+    → ((d : KeptKey) → f now ≡ f (slice_index_or keys at d))
+    → (j : ℕ) (d : KeptKey) → f (slice_index_or (slice_set keys at now) j d) ≡ f (slice_index_or keys j d)
+field-set f keys at now inside same j d = elim (cases_eq j at) [
+  | inl e ↦
+      ap (λ (k : ℕ). f (slice_index_or (slice_set keys at now) k d)) e ∙ ap f (get_or-set_same keys at now d inside)
+      ∙ same d ∙ ap (λ (k : ℕ). f (slice_index_or keys k d)) (sym e)
+  | inr ne ↦ ap f (get_or-set_other keys at j now d ne)
 ]
 
 pub ascending-set : (keys : List KeptKey) (at : ℕ) (now : KeptKey) → at < length keys → ((d : KeptKey) → rank now ≡ rank (slice_index_or keys at d)) → AreAscending keys → AreAscending (slice_set keys at now)
 ascending-set keys at now inside same up i j d lt within =
-    omega (arith, rank-set keys at now inside same i d, rank-set keys at now inside same j d, up i j d lt (omega (arith, within, length-set keys at now)))
+    omega (arith, field-set (λ (k : KeptKey). rank k) keys at now inside same i d, field-set (λ (k : KeptKey). rank k) keys at now inside same j d, up i j d lt (omega (arith, within, length-set keys at now)))
 
 kept_so : (r : ℕ) (a b : KeptKey) → b ≡ a → (a.round ≤ r) × (a.number < 2 ^ 64) → (b.round ≤ r) × (b.number < 2 ^ 64)
 kept_so r a b is fits = (omega (arith, fits.0, ap (λ (k : KeptKey). k.round) is), omega (arith, fits.1, ap (λ (k : KeptKey). k.number) is))
@@ -98,13 +101,7 @@ up_to-settled q p firm r keys up j d within =
 pub ordered : (keys : List KeptKey) → AreAscending keys → IsNonDecreasingBy (λ (kept : KeptKey). rank kept) keys
 ordered keys up i j d le within = elim (cases_eq i j) [
   | inl e ↦ omega (arith, ap (λ (k : ℕ). rank (slice_index_or keys k d)) e)
-  | inr ne ↦ omega (
-    arith,
-    up i j d (elim (cases_lt i j) [
-      | inl lt ↦ lt
-      | inr ge ↦ absurd (ne (omega (arith, le, ge)))
-    ]) within,
-  )
+  | inr ne ↦ omega (arith, up i j d (omega (arith, le, ne)) within)
 ]
 
 -- what a search by rank tells of the keys from a place on
@@ -133,11 +130,7 @@ absent_end keys at n x end before = record { inside = omega (arith, end); before
 pub absent_at : (keys : List KeptKey) (at n x : ℕ) (e : KeptKey) → AreAscending keys → at < length keys → Before keys at (rank_of n x) → NotBefore keys at (rank_of n x)
     → (rank (slice_index_or keys at e) ≡ rank_of n x → ⊥) → IsAbsent keys at n x
 absent_at keys at n x e up inside before from apart =
-    let here : rank_of n x < rank (slice_index_or keys at e) = elim (cases_order (rank (slice_index_or keys at e)) (rank_of n x)) [
-      | inl same ↦ absurd (apart same)
-      | inr (inl less) ↦ absurd (omega (arith, less, from at e (omega arith) inside))
-      | inr (inr more) ↦ more
-    ] in
+    let here : rank_of n x < rank (slice_index_or keys at e) = omega (arith, from at e (omega arith) inside, apart) in
     record {
       inside = omega (arith, inside);
       before = before;
@@ -147,10 +140,7 @@ absent_at keys at n x e up inside before from apart =
           arith,
           here,
           ap (λ (k : KeptKey). rank k) (get_or_default keys at d e inside),
-          up at j d (elim (cases_lt at j) [
-            | inl lt ↦ lt
-            | inr ge ↦ absurd (other (omega (arith, le, ge)))
-          ]) within,
+          up at j d (omega (arith, le, other)) within,
         )
       ];
     }

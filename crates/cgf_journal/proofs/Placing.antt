@@ -1,5 +1,5 @@
 -- The places of entries, and what stands at them.
-use Rattle.std.proofs.Common.{◌≡◌, ◌⊎◌, inl, inr, ℕ, zero, suc, ◌+◌, ◌-◌, ◌<◌, ◌≤◌, List, [], ◌∷◌, ◌++◌, length, take, drop, Some, refl, sym, ◌∙◌, ap, subst, arith, length-append, append_assoc}
+use Rattle.std.proofs.Common.{◌≡◌, inl, inr, ℕ, zero, suc, ◌+◌, ◌-◌, ◌<◌, ◌≤◌, List, [], ◌∷◌, ◌++◌, length, take, drop, Some, refl, sym, ◌∙◌, ap, subst, arith, length-append, append_assoc}
 use Rattle.std.specs.Prelude.{All, slice_get}
 use Rattle.std.proofs.Math.Seq.{drop-append-add}
 use Rattle.std.proofs.lemmas.List.{append-nil, take_at}
@@ -82,13 +82,13 @@ at_later at front octets place e is =
       reads = ap (λ n. take place.length (drop n (front ++ octets))) behind ∙ ap (λ (l : List ℕ). take place.length l) (drop-append-add front octets (place.at - (at + length front))) ∙ is.reads;
     }
 
+none_at : (k : ℕ) (place : Place) → slice_get {X = Place} [] k ≡ Some place → ⊥
+none_at zero place found = cc
+none_at (suc k) place found = cc
+
 -- the k-th place is that of the k-th entry
 pub from_is : (at : ℕ) (h : List HistoryEntry) (k : ℕ) (place : Place) → slice_get (places_from at h) k ≡ Some place → (e : HistoryEntry) × (slice_get h k ≡ Some e) × IsAt at (spelled h) place e
-from_is at [] k place found = absurd (none k found)
-  where
-    none : (k : ℕ) → slice_get {X = Place} [] k ≡ Some place → ⊥
-    none zero found = cc
-    none (suc k) found = cc
+from_is at [] k place found = absurd (none_at k place found)
 from_is at (e ∷ h) zero place found =
     let same : place_of at e ≡ place = cc in
     (e, refl, subst (λ (p : Place). IsAt at (spelling e ++ spelled h) p e) same (at_first at e (spelled h)))
@@ -142,28 +142,23 @@ found_later gate batch batches k j place is rest = (
 found_cons : (gate : ℕ) (batch : List ℕ) (batches : List (List ℕ)) → IsContent batch
     → ((j : ℕ) (place : Place) → slice_get (places_behind (gate + 5 + length batch) batches) j ≡ Some place → IsFound (gate + 5 + length batch) batches j place)
     → (k : ℕ) (place : Place) → slice_get (places_behind gate (batch ∷ batches)) k ≡ Some place → IsFound gate (batch ∷ batches) k place
-found_cons gate batch batches content later k place found = by_length (cases_lt k (length here))
-  where
-    here : List Place
-    here = places_from (gate + 5) (entries_of batch)
-
-    rest : List Place
-    rest = places_behind (gate + 5 + length batch) batches
-
-    by_length : (k < length here) ⊎ (length here ≤ k) → IsFound gate (batch ∷ batches) k place
-    by_length (inl lt) = found_first gate batch batches content k place lt (sym (get_left here rest k lt) ∙ found)
-    by_length (inr le) =
-        let past : length here + (k - length here) ≡ k = omega (arith, le) in
-        let is : k ≡ length (entries_of batch) + (k - length here) = omega (arith, le, length-places_from (gate + 5) (entries_of batch)) in
-        found_later gate batch batches k (k - length here) place is (later (k - length here) place (sym (get_right here rest (k - length here)) ∙ ap (slice_get (here ++ rest)) past ∙ found))
+found_cons gate batch batches content later k place found =
+    let here : List Place = places_from (gate + 5) (entries_of batch) in
+    let rest : List Place = places_behind (gate + 5 + length batch) batches in
+    elim (cases_lt k (length (places_from (gate + 5) (entries_of batch)))) [
+      | inl lt ↦ found_first gate batch batches content k place lt (sym (get_left here rest k lt) ∙ found)
+      | inr le ↦
+          let past : length here + (k - length here) ≡ k = omega (arith, le) in
+          let is : k ≡ length (entries_of batch) + (k - length here) =
+          omega (arith, le, length-places_from (gate + 5) (entries_of batch)) in
+          found_later gate batch batches k (k - length here) place is
+          (later (k - length here) place (sym (get_right here rest (k - length here))
+              ∙ ap (slice_get (here ++ rest)) past ∙ found))
+    ]
 
 -- the k-th place is that of the k-th entry
 pub behind_is : (gate : ℕ) (batches : List (List ℕ)) → All IsContent batches → (k : ℕ) (place : Place) → slice_get (places_behind gate batches) k ≡ Some place → IsFound gate batches k place
-behind_is gate [] contents k place found = absurd (none k found)
-  where
-    none : (k : ℕ) → slice_get {X = Place} [] k ≡ Some place → ⊥
-    none zero found = cc
-    none (suc k) found = cc
+behind_is gate [] contents k place found = absurd (none_at k place found)
 behind_is gate (batch ∷ batches) contents k place found =
     found_cons gate batch batches (All-head IsContent batch batches contents) (λ j p at. behind_is (gate + 5 + length batch) batches (All-tail IsContent batch batches contents) j p at) k place found
 

@@ -21,10 +21,7 @@ pub by_node : (a b x y : ℕ) → x < 2 ^ 64 → y < 2 ^ 64 → (a ≡ b → ⊥
 unfolding rank_of
 by_node a b x y p q ne = elim (cases_lt a b) [
   | inl lt ↦ lt-ltb a b lt ∙ sym (lt-ltb (a * 2 ^ 64 + x) (b * 2 ^ 64 + y) (omega (arith, lt, p, q)))
-  | inr ge ↦ le-ltb a b ge ∙ sym (le-ltb (a * 2 ^ 64 + x) (b * 2 ^ 64 + y) (elim (cases_lt b a) [
-    | inl lt ↦ omega (arith, lt, p, q)
-    | inr le ↦ absurd (ne (omega (arith, ge, le)))
-  ]))
+  | inr ge ↦ le-ltb a b ge ∙ sym (le-ltb (a * 2 ^ 64 + x) (b * 2 ^ 64 + y) (omega (arith, ge, ne, p, q)))
 ]
 
 pub by_number : (a b x y : ℕ) → a ≡ b → nat_lt x y ≡ nat_lt (rank_of a x) (rank_of b y)

@@ -4,7 +4,7 @@ use Rattle.area_disk.specs.declared.area.Area.{Ghosts}
 use Rattle.gate_journal.specs.Journal as journal
 use Rattle.gate_journal.specs.declared.journal.Journal.{Journal}
 use Rattle.cgf_journal.specs.Tally.{TallyValue}
-use Rattle.cgf_journal.specs.Trail.{is_closed, tally, torn_stands}
+use Rattle.cgf_journal.specs.Trail.{is_closed, torn_stands}
 use Rattle.cgf_journal.specs.declared.trail.Trail.{Trail}
 
 pub either_way : (b : Bool) (t : TallyValue) → (let v : TallyValue = if b then t else t in v) ≡ t
@@ -31,9 +31,6 @@ module _ {A : Type 0} {tells : Ghosts A} (trail : Trail A tells) (new : Journal 
   list_stays is lost = is ∙ ap (λ b. if b then journal.batches trail.journal ++ journal.torn trail.journal ∷ [] else journal.batches trail.journal) lost
 
   module _ (closed : is_closed trail ≡ true) where
-    pub tally_closed : tally trail ≡ trail.tally.firm
-    tally_closed = ap (λ b. let v : TallyValue = if b then trail.tally.firm else trail.tally.live in v) closed
-
     pub list_goes : journal.batches new ≡ journal.reopened trail.journal → torn_stands trail ≡ true → journal.batches new ≡ journal.batches trail.journal ++ trail.waiting.octets ∷ []
     list_goes is stands =
         is

@@ -3,6 +3,7 @@ use Rattle.std.proofs.Common.{◌≡◌, ◌≢◌, ℕ, ◌+◌, ◌*◌, ◌�
 use Rattle.std.specs.Prelude.{All}
 use Rattle.std.proofs.lemmas.List.{drop-append-le, drop_all, length-drop, length-take-le, take-append-drop, take-append-le, take_all}
 use Rattle.std.proofs.lemmas.List.Elements.{All-append, All-weaker}
+use Rattle.std.proofs.lemmas.Bool.{both_ways}
 use Rattle.area_disk.specs.declared.area.Area.{Ghosts}
 use Rattle.gw_base.specs.Buffer.{Buffered}
 use Rattle.gw_base.specs.declared.history.HistoryEntry.{HistoryEntry}
@@ -112,8 +113,8 @@ module _ {A : Type 0} {tells : Ghosts A} (journal : Journal A tells) (size : ℕ
           are_entries = subst (λ (h : List HistoryEntry). AreEntries [] h) (sym entries_of-nil) no_entries;
           live_tally = ap (λ (h : List HistoryEntry). tally_behind_all tally.firm h) (sym entries_of-nil);
           waiting_placed = drop_all firm (take firm places) (omega (arith, length-firm)) ∙ ap (λ (h : List HistoryEntry). places_from (end new + 5) h) (sym entries_of-nil);
-          torn_waits = λ closed. absurd (not_both opened closed);
-          some_torn = λ closed. absurd (not_both opened closed);
+          torn_waits = λ closed. absurd (both_ways (is_closed new) opened closed);
+          some_torn = λ closed. absurd (both_ways (is_closed new) opened closed);
           firm_places = omega (arith, length-firm);
           firm_ends = subst (All (EndsBy (end new))) (sym again) (subst (λ n. All (EndsBy n) (take firm places)) (sym same_end) sound.firm_ends);
           taken = omega (arith, sound.taken, same_end);
@@ -123,9 +124,6 @@ module _ {A : Type 0} {tells : Ghosts A} (journal : Journal A tells) (size : ℕ
           firm_tally = λ told. sound.firm_tally told ∙ ap (λ (bs : List (List ℕ)). tally_of (entries_in bs)) (sym (same_list told));
           firm_placed = λ told. again ∙ sound.firm_placed told ∙ ap (λ (bs : List (List ℕ)). places_behind header_length bs) (sym (same_list told));
         }
-      where
-        not_both : is_closed new ≡ false → is_closed new ≡ true → ⊥
-        not_both opened closed = cc
 
   -- the journal goes on with what waited as its last batch
   module _ (new : Journal A tells) (founded : is_founded (front_of new) ≡ true) (same_size : tells.size (area_of new) ≡ tells.size (area_of journal))
@@ -133,9 +131,6 @@ module _ {A : Type 0} {tells : Ghosts A} (journal : Journal A tells) (size : ℕ
       (list : Told tells → batches new ≡ batches journal ++ waiting.octets ∷ []) (some : waiting.octets ≢ []) where
     gate_is : Told tells → end journal ≡ end_of (batches journal)
     gate_is told = omega (arith, end_is, place told, ap end_of (list told), taken-push (batches journal) waiting.octets)
-
-    pub firm_grows : Told tells → entries_in (batches new) ≡ entries_in (batches journal) ++ pending
-    firm_grows told = ap entries_in (list told) ∙ entries_in-push (batches journal) waiting.octets
 
     placed : Told tells → places ≡ places_behind header_length (batches new)
     placed told =
@@ -156,20 +151,18 @@ module _ {A : Type 0} {tells : Ghosts A} (journal : Journal A tells) (size : ℕ
           are_entries = subst (λ (h : List HistoryEntry). AreEntries [] h) (sym entries_of-nil) no_entries;
           live_tally = ap (λ (h : List HistoryEntry). tally_behind_all tally.live h) (sym entries_of-nil);
           waiting_placed = drop_all (length places) places (omega arith) ∙ ap (λ (h : List HistoryEntry). places_from (end new + 5) h) (sym entries_of-nil);
-          torn_waits = λ closed. absurd (not_both opened closed);
-          some_torn = λ closed. absurd (not_both opened closed);
+          torn_waits = λ closed. absurd (both_ways (is_closed new) opened closed);
+          some_torn = λ closed. absurd (both_ways (is_closed new) opened closed);
           firm_places = omega arith;
           firm_ends = subst (All (EndsBy (end new))) (sym all) (all_end (end new) (omega (arith, end_is)));
           taken = omega (arith, sound.taken, end_is, live_costs, some_wait some);
           dear = dear_places;
           within = omega (arith, sound.within, same_size);
           are_batches = λ told. subst (λ n. AreBatches n (batches new)) (sym same_size) (subst (λ (bs : List (List ℕ)). AreBatches (tells.size (area_of journal)) bs) (sym (list told)) (one_more_batch told some));
-          firm_tally = λ told. live_is told ∙ ap (λ (h : List HistoryEntry). tally_of h) (sym (firm_grows told));
+          firm_tally = λ told. live_is told ∙ ap (λ (h : List HistoryEntry).
+              tally_of h) (sym (ap entries_in (list told) ∙ entries_in-push (batches journal) waiting.octets));
           firm_placed = λ told. all ∙ placed told;
         }
-      where
-        not_both : is_closed new ≡ false → is_closed new ≡ true → ⊥
-        not_both opened closed = cc
 
   -- one more entry waits
   module _ (back : EntriesAreReadBack) (e : HistoryEntry) (has : HasSpelling e) where
@@ -203,8 +196,8 @@ module _ {A : Type 0} {tells : Ghosts A} (journal : Journal A tells) (size : ℕ
             are_entries = grown_entries;
             live_tally = ap (λ (t : TallyValue). tally_behind t e) sound.live_tally ∙ sym (tally_all-append tally.firm pending (e ∷ [])) ∙ ap (λ (h : List HistoryEntry). tally_behind_all tally.firm h) (sym pending-push);
             waiting_placed = placed_last;
-            torn_waits = λ closed. absurd (not_both closed);
-            some_torn = λ closed. absurd (not_both closed);
+            torn_waits = λ closed. absurd (both_ways (is_closed journal) opened closed);
+            some_torn = λ closed. absurd (both_ways (is_closed journal) opened closed);
             firm_places = omega (arith, sound.firm_places, length-append places (place ∷ []));
             firm_ends = subst (All (EndsBy (end journal))) (sym front) sound.firm_ends;
             taken = sound.taken;
@@ -214,6 +207,3 @@ module _ {A : Type 0} {tells : Ghosts A} (journal : Journal A tells) (size : ℕ
             firm_tally = sound.firm_tally;
             firm_placed = λ told. front ∙ sound.firm_placed told;
           }
-        where
-          not_both : is_closed journal ≡ true → ⊥
-          not_both closed = let open_too : is_closed journal ≡ false = opened in cc

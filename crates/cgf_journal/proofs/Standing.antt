@@ -1,11 +1,12 @@
 -- What octets stand for, by the batches of a journal.
-use Rattle.std.proofs.Common.{◌≡◌, inl, inr, ℕ, true, false, List, [], ◌∷◌, ◌++◌, length, refl, sym, ◌∙◌, ap, subst}
+use Rattle.std.proofs.Common.{◌≡◌, inl, inr, ℕ, true, List, [], ◌∷◌, ◌++◌, length, refl, sym, subst}
+use Rattle.std.proofs.lemmas.Bool.{false≢true}
 use Rattle.gw_base.specs.declared.history.HistoryEntry.{HistoryEntry}
 use Rattle.gate_journal.specs.Format.{Stands}
 use Rattle.gate_journal.specs.Journal.{KeepsOr}
 use Rattle.gate_journal.specs.State.{Keeps}
 use Rattle.gate_journal.specs.declared.journal.Front.{Front}
-use Rattle.gate_journal.specs.declared.journal.Front.TheVariants.{Founded, Draft, Founding}
+use Rattle.gate_journal.specs.declared.journal.Front.TheVariants.{Founded}
 use Rattle.entry_codec.specs.Content.{entries_of}
 use Rattle.cgf_journal.specs.BatchLaws.{by_batches}
 use Rattle.cgf_journal.specs.Format.{AreBatches, StandsFor, entries_in}
@@ -17,20 +18,10 @@ pub founded_is : (front : Front) → is_founded front ≡ true → front ≡ Fou
 founded_is Founded e = refl
 founded_is _ e = cc
 
-pub founded_still : (old new : Front) → new ≡ old → is_founded old ≡ true → is_founded new ≡ true
-founded_still old new same e = ap is_founded same ∙ e
-
 -- a journal with a whole header leaves octets that stand for its batches
 pub keeps_stands : (front : Front) (header octets : List ℕ) (batches : List (List ℕ)) → is_founded front ≡ true → Keeps front header batches octets → Stands header octets batches
 keeps_stands Founded header octets batches e keeps = keeps
-keeps_stands Draft header octets batches e keeps = absurd (false_is_not_true e)
-  where
-    false_is_not_true : false ≡ true → ⊥
-    false_is_not_true e = cc
-keeps_stands Founding header octets batches e keeps = absurd (false_is_not_true e)
-  where
-    false_is_not_true : false ≡ true → ⊥
-    false_is_not_true e = cc
+keeps_stands _ header octets batches e keeps = absurd (false≢true e)
 
 pub stands_for : (size : ℕ) (header octets : List ℕ) (batches : List (List ℕ)) → length octets ≡ size → AreBatches size batches → Stands header octets batches → StandsFor header octets (entries_in batches)
 stands_for size header octets batches sized are stands = by_batches header octets batches stands (subst (λ n. AreBatches n batches) (sym sized) are)

@@ -1,8 +1,9 @@
 -- How many keys an entry lets go.
-use Rattle.std.proofs.Common.{◌≡◌, ℕ, zero, suc, ◌+◌, ◌<◌, ◌≤◌, ◌==◌, ◌&&◌, ◌||◌, not, Bool, true, false, cond, List, [], ◌∷◌, ◌++◌, length, map, filter, refl, sym, ap, ◌∙◌, arith}
+use Rattle.std.proofs.Common.{◌≡◌, ℕ, zero, suc, ◌+◌, ◌<◌, ◌≤◌, ◌==◌, ◌&&◌, not, Bool, true, false, cond, List, [], ◌∷◌, ◌++◌, length, filter, refl, sym, ap, ◌∙◌, arith, inl, inr}
 use Rattle.std.specs.Prelude.{slice_index_or}
 use Rattle.std.specs.List.{list_any}
-use Rattle.std.proofs.lemmas.Bool.{eqb-true, ne_eqb, true≢false}
+use Rattle.std.proofs.lemmas.Bool.{cases_Bool, eqb-true, ne_eqb, true≢false}
+use Rattle.std.proofs.lemmas.List.Folds.{list_any-append}
 use Rattle.gw_base.specs.declared.address.NodeId.{NodeId}
 use Rattle.gw_base.specs.declared.held.HeldKey.{HeldKey}
 use Rattle.gw_base.specs.declared.history.HistoryAct.{HistoryAct}
@@ -28,24 +29,21 @@ removed : (n : NodeId) (x : ℕ) (s : Bool) (r : ℕ) (keys : List KeptKey) (at 
     → one (counts s r (slice_index_or keys at d)) + length (filter (λ (key : HeldKey). stays n x key) (counted_keys s r keys)) ≡ length (counted_keys s r keys)
 removed n x s r [] at inside named before later d = absurd (omega (arith, inside))
 removed n x s r (kept ∷ keys) zero inside named before later d =
-    by_count (counts s r kept) (ap not (named kept)) (others_stay n x s r keys (λ j d lt e. omega (arith, later (suc j) d (omega arith) (omega (arith, lt)), e)))
-  where
-    by_count : (b : Bool) → stays n x (key_of kept) ≡ false → filter (λ (key : HeldKey). stays n x key) (counted_keys s r keys) ≡ counted_keys s r keys
-        → one b + length (filter (λ (key : HeldKey). stays n x key) (map key_of (cond b (kept ∷ filter (λ (k : KeptKey). counts s r k) keys) (filter (λ (k : KeptKey). counts s r k) keys))))
-        ≡ length (map key_of (cond b (kept ∷ filter (λ (k : KeptKey). counts s r k) keys) (filter (λ (k : KeptKey). counts s r k) keys)))
-    by_count true here rest = rw here (omega (arith, ap (λ (l : List HeldKey). length l) rest))
-    by_count false here rest = omega (arith, ap (λ (l : List HeldKey). length l) rest)
+    let rest = others_stay n x s r keys (λ j d lt e.
+        omega (arith, later (suc j) d (omega arith) (omega (arith, lt)), e)) in
+    elim (cases_Bool (counts s r kept)) [
+      | inl is ↦ rw (is, named kept) (omega (arith, ap (λ (l : List HeldKey). length l) rest))
+      | inr isnt ↦ rw isnt (omega (arith, ap (λ (l : List HeldKey). length l) rest))
+    ]
 removed n x s r (kept ∷ keys) (suc at) inside named before later d =
     let low = before 0 kept (omega arith) in
-    by_count (counts s r kept) (other_stays kept n x (λ e. omega (arith, low, e)))
-    (removed n x s r keys at (omega (arith, inside)) (λ e. named e) (λ j e lt. before (suc j) e (omega (arith, lt))) (λ j e le lt. later (suc j) e (omega (arith, le)) (omega (arith, lt))) d)
-  where
-    by_count : (b : Bool) → stays n x (key_of kept) ≡ true
-        → one (counts s r (slice_index_or keys at d)) + length (filter (λ (key : HeldKey). stays n x key) (counted_keys s r keys)) ≡ length (counted_keys s r keys)
-        → one (counts s r (slice_index_or keys at d)) + length (filter (λ (key : HeldKey). stays n x key) (map key_of (cond b (kept ∷ filter (λ (k : KeptKey). counts s r k) keys) (filter (λ (k : KeptKey). counts s r k) keys))))
-        ≡ length (map key_of (cond b (kept ∷ filter (λ (k : KeptKey). counts s r k) keys) (filter (λ (k : KeptKey). counts s r k) keys)))
-    by_count true other rest = rw other (omega (arith, rest))
-    by_count false other rest = rest
+    let rest = removed n x s r keys at (omega (arith, inside)) (λ e. named e) (λ j e lt.
+        before (suc j) e (omega (arith, lt)))
+    (λ j e le lt. later (suc j) e (omega (arith, le)) (omega (arith, lt))) d in
+    elim (cases_Bool (counts s r kept)) [
+      | inl is ↦ rw (is, other_stays kept n x (λ e. omega (arith, low, e))) (omega (arith, rest))
+      | inr isnt ↦ rw isnt rest
+    ]
 
 pub found_gone : (n : NodeId) (x : ℕ) (s : Bool) (r : ℕ) (keys : List KeptKey) (at : ℕ) → IsFound keys at n.0 x → (kept : KeptKey) → kept ≡ slice_index_or keys at kept
     → one (counts s r kept) + length (filter (λ (key : HeldKey). stays_held (Seal n x) key) (counted_keys s r keys)) ≡ length (counted_keys s r keys)
@@ -67,16 +65,9 @@ pub none_below : AreBelow 0 []
 none_below y le = refl
 
 pub one_below : (bound : ℕ) (xs : List ℕ) (x : ℕ) → AreBelow bound xs → bound ≤ x → AreBelow (x + 1) (xs ++ x ∷ [])
-one_below bound xs x below le y past = by_list xs (below y (omega (arith, le, past)))
-  where
-    by_list : (xs : List ℕ) → list_any (λ (x : ℕ). x == y) xs ≡ false → list_any (λ (x : ℕ). x == y) (xs ++ x ∷ []) ≡ false
-    by_list [] none = rw (ne_eqb x y (λ e. omega (arith, past, e))) refl
-    by_list (z ∷ zs) none = by_test (z == y) none (λ rest. by_list zs rest)
-      where
-        by_test : (b : Bool) → (b || list_any (λ (x : ℕ). x == y) zs) ≡ false → (list_any (λ (x : ℕ). x == y) zs ≡ false → list_any (λ (x : ℕ). x == y) (zs ++ x ∷ []) ≡ false)
-            → (b || list_any (λ (x : ℕ). x == y) (zs ++ x ∷ [])) ≡ false
-        by_test true none rest = absurd (true≢false none)
-        by_test false none rest = rest none
+one_below bound xs x below le y past =
+    list_any-append (λ (z : ℕ). z == y) xs (x ∷ []) ∙ rw (below y (omega (arith, le, past)), ne_eqb x y (λ e.
+        omega (arith, past, e))) refl
 
 -- a test that drops only what another keeps drops as many after it
 drops_as_many : (p q : HeldKey → Bool) → ((key : HeldKey) → p key ≡ false → q key ≡ true) → (keys : List HeldKey)

@@ -21,9 +21,6 @@ pub tally_all-append : (t : TallyValue) (h g : List HistoryEntry) → tally_behi
 tally_all-append t [] g = refl
 tally_all-append t (e ∷ h) g = tally_all-append (tally_behind t e) h g
 
-pub tally_goes_on : (h : List HistoryEntry) (e : HistoryEntry) → tally_of (h ++ e ∷ []) ≡ tally_behind (tally_of h) e
-tally_goes_on h e = tally_all-append no_tally h (e ∷ [])
-
 pub tally_all : (h g : List HistoryEntry) → tally_behind_all (tally_of h) g ≡ tally_of (h ++ g)
 tally_all h g = sym (tally_all-append no_tally h g)
 
@@ -86,7 +83,7 @@ promises_are h =
 
 pub room_is : (h : List HistoryEntry) (e : HistoryEntry) (size : ℕ) → has_room_behind (tally_of h) e size ≡ has_room h e size
 room_is h e size =
-    let after = tally_goes_on h e in
+    let after : tally_of (h ++ e ∷ []) ≡ tally_behind (tally_of h) e = tally_all-append no_tally h (e ∷ []) in
     let costs : (tally_behind (tally_of h) e).costs ≡ costs_of h + cost_of e = ap (λ (n : ℕ). n + cost_of e) (tally_of-costs h) in
     let promises : promised_by (tally_behind (tally_of h) e) ≡ promised_octets (h ++ e ∷ []) = ap (λ (t : TallyValue). promised_by t) (sym after) ∙ promises_are (h ++ e ∷ []) in
     λ i. nat_le (costs i + promises i) (capacity_of size)

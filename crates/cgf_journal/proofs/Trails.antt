@@ -1,8 +1,7 @@
 -- What a trail tells of its entries.
 use Rattle.std.proofs.Common.{◌≡◌, ◌≢◌, ◌⊎◌, inl, inr, ℕ, ◌+◌, ◌-◌, ◌*◌, ◌<◌, ◌≤◌, Bool, true, false, List, [], ◌∷◌, ◌++◌, length, take, drop, refl, sym, ◌∙◌, ap, subst, arith, length-append}
-use Rattle.std.specs.Prelude.{Err, IsTrue, Ok, OnErr, Result, Some, if◌then◌else◌, nat_le, slice_get}
-use Rattle.std.proofs.lemmas.Bool.{cases_lt}
-use Rattle.std.proofs.lemmas.Bool.Decides.{nat_tests}
+use Rattle.std.specs.Prelude.{Err, IsTrue, Ok, OnErr, Result, Some, if◌then◌else◌, slice_get}
+use Rattle.std.proofs.lemmas.Bool.{cases_lt, cond_both, leb-true}
 use Rattle.std.proofs.lemmas.List.{append-nil, length-take-le, take-append-drop}
 use Rattle.std.proofs.lemmas.Option.{get_or_from_slice_get, slice_get_within}
 use Rattle.area_disk.specs.declared.area.Area.{Ghosts}
@@ -39,11 +38,7 @@ on_err (Err fault) q = q
 -- what has room has it beside what all entries cost
 pub room_costs : (t : TallyValue) (e : HistoryEntry) (size : ℕ) → has_room_behind t e size ≡ true → t.costs + cost_of e ≤ capacity_of size
 room_costs t e size room =
-    let within = leb-true (t.costs + cost_of e + promised_by (tally_behind t e)) (capacity_of size) room in
-    omega (arith, within)
-  where
-    leb-true : (m n : ℕ) → nat_le m n ≡ true → m ≤ n
-    leb-true m n is = grind (arith, nat_tests)
+    omega (arith, leb-true (t.costs + cost_of e + promised_by (tally_behind t e)) (capacity_of size) room)
 
 -- what has room has it where the tallies are the same
 pub same_room : {A : Type 0} {tells : Ghosts A} (old new : Trail A tells) → tells.size (area_of new) ≡ tells.size (area_of old) → tally new ≡ tally old → (e : HistoryEntry) → has_room_of new e ≡ has_room_of old e
@@ -105,11 +100,11 @@ module _ {A : Type 0} {tells : Ghosts A} (trail : Trail A tells) where
 
   -- where no octet waits, all entries are firm
   pub entries_firm : waiting_octets trail ≡ 0 → entries trail ≡ firm_entries trail
-  entries_firm none = by_closed (is_closed trail)
-    where
-      by_closed : (closed : Bool) → (let h : List HistoryEntry = if closed then firm_entries trail else firm_entries trail ++ waiting trail in h) ≡ firm_entries trail
-      by_closed true = refl
-      by_closed false = ap (λ (h : List HistoryEntry). firm_entries trail ++ h) (waiting-none none) ∙ append-nil (firm_entries trail)
+  entries_firm none =
+      cond_both (is_closed trail) (firm_entries trail) (firm_entries trail ++ waiting trail)
+          (λ (h : List HistoryEntry). h ≡ firm_entries trail) (λ _. refl)
+      (λ _. ap (λ (h : List HistoryEntry). firm_entries trail ++ h) (waiting-none none)
+          ∙ append-nil (firm_entries trail))
 
   -- as the trail counts them
   pub firm_count : Told tells → trail.firm ≡ length (firm_entries trail)
@@ -121,11 +116,9 @@ module _ {A : Type 0} {tells : Ghosts A} (trail : Trail A tells) where
   places_count = waiting_count trail.journal trail.size trail.waiting trail.places.items trail.firm trail.tally trail.sound
 
   pub length_firm : waiting_octets trail ≡ 0 → length_of trail ≡ trail.firm
-  length_firm none = by_closed (is_closed trail)
-    where
-      by_closed : (closed : Bool) → (if closed then trail.firm else length trail.places.items) ≡ trail.firm
-      by_closed true = refl
-      by_closed false = omega (arith, places_count, ap length (waiting-none none))
+  length_firm none =
+      cond_both (is_closed trail) trail.firm (length trail.places.items) (λ n. n ≡ trail.firm) (λ _. refl) (λ _.
+          omega (arith, places_count, ap length (waiting-none none)))
 
   pub count : Told tells → length_of trail ≡ length (entries trail)
   count told = by_closed (is_closed trail)
@@ -172,10 +165,6 @@ module _ {A : Type 0} {tells : Ghosts A} (trail : Trail A tells) where
   spelling_is told k e get =
       let each = each_spelled (journal.batches trail.journal) (trail.sound.are_batches told).contents in
       subst HasSpelling (get_or_from_slice_get (firm_entries trail) k e e get) (each k e (slice_get_within (firm_entries trail) k e get))
-
-  -- each entry costs 30 octets at least
-  pub firm_bound : cheapest_entry * trail.firm ≤ trail.tally.firm.costs
-  firm_bound = trail.sound.dear
 
   firm_costs_below : trail.tally.firm.costs ≤ capacity_of trail.size
   firm_costs_below = omega (arith, live_costs trail.journal trail.size trail.waiting trail.places.items trail.firm trail.tally trail.sound, trail.sound.within, ap capacity_of trail.sound.sized)

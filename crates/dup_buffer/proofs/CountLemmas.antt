@@ -1,8 +1,8 @@
 -- Lists of copies, by how many of them pass each test.
-use Rattle.std.proofs.Common.{◌≡◌, ℕ, ◌+◌, ◌≤◌, ◌==◌, ◌&&◌, not, Bool, true, false, cond, if◌then◌else◌, List, [], ◌∷◌, ◌++◌, Option, None, Some, length, refl, sym, ap, ◌∙◌, arith}
+use Rattle.std.proofs.Common.{◌≡◌, ℕ, ◌+◌, ◌≤◌, ◌==◌, ◌&&◌, not, Bool, true, false, if◌then◌else◌, List, [], ◌∷◌, ◌++◌, Option, None, Some, length, refl, sym, ap, ◌∙◌, arith, inl, inr}
 use Rattle.std.specs.List.{count_by, find}
 use Rattle.std.specs.Option.{option_map}
-use Rattle.std.proofs.lemmas.Bool.{and_parts, eq-eqb, eqb-true}
+use Rattle.std.proofs.lemmas.Bool.{and_parts, cases_Bool, cond_both, eq-eqb, eqb-true}
 use Rattle.std.proofs.lemmas.List.Sums.{sum_by-append, sum_by-cons}
 use Rattle.gw_base.specs.declared.place.Place.{Place}
 use Rattle.dup_buffer.specs.Stored.{AreHeld, HaveSame, IsOnce, copies_of, held_in, is_copy_of, is_of, place_of}
@@ -17,37 +17,37 @@ count-append p xs ys = sum_by-append (λ c. if p c then 1 else 0) xs ys
 
 pub none_of_none : (p : HeldCopy → Bool) (xs : List HeldCopy) → count_by p xs ≡ 0 → find p xs ≡ None
 none_of_none p [] e = refl
-none_of_none p (x ∷ xs) e = by (p x) refl (none_of_none p xs)
-  where
-    by : (b : Bool) → p x ≡ b → (count_by p xs ≡ 0 → find p xs ≡ None) → cond b (Some x) (find p xs) ≡ None
-    by true q rest = absurd (omega (arith, e, count_by-pass p x xs true q))
-    by false q rest = rest (omega (arith, e, count_by-pass p x xs false q))
+none_of_none p (x ∷ xs) e =
+    cond_both (p x) (Some x) (find p xs) (λ (o : Option HeldCopy). o ≡ None) (λ q.
+        absurd (omega (arith, e, count_by-pass p x xs true q)))
+    (λ q. none_of_none p xs (omega (arith, e, count_by-pass p x xs false q)))
 
 pub none_if_none : (p : HeldCopy → Bool) (xs : List HeldCopy) → find p xs ≡ None → count_by p xs ≡ 0
 none_if_none p [] e = refl
-none_if_none p (x ∷ xs) e = by (p x) refl e (none_if_none p xs)
-  where
-    by : (b : Bool) → p x ≡ b → cond b (Some x) (find p xs) ≡ None → (find p xs ≡ None → count_by p xs ≡ 0) → count_by p (x ∷ xs) ≡ 0
-    by true q e rest = absurd (cc)
-    by false q e rest = omega (arith, count_by-pass p x xs false q, rest e)
+none_if_none p (x ∷ xs) e =
+    elim (cases_Bool (p x)) [
+      | inl q ↦ let found : Some x ≡ None = rw q at e in absurd (cc)
+      | inr q ↦ omega (arith, count_by-pass p x xs false q, none_if_none p xs (rw q at e))
+    ]
 
 pub found_passes : (p : HeldCopy → Bool) (xs : List HeldCopy) (c : HeldCopy) → find p xs ≡ Some c → p c ≡ true
 found_passes p [] c e = absurd (cc)
-found_passes p (x ∷ xs) c e = by (p x) refl e (found_passes p xs c)
-  where
-    by : (b : Bool) → p x ≡ b → cond b (Some x) (find p xs) ≡ Some c → (find p xs ≡ Some c → p c ≡ true) → p c ≡ true
-    by true q e rest = let same : x ≡ c = cc in ap p (sym same) ∙ q
-    by false q e rest = rest e
+found_passes p (x ∷ xs) c e =
+    elim (cases_Bool (p x)) [
+      | inl q ↦ let at : Some x ≡ Some c = rw q at e in let same : x ≡ c = cc in ap p (sym same) ∙ q
+      | inr q ↦ found_passes p xs c (rw q at e)
+    ]
 
 pub found_counts : (p q : HeldCopy → Bool) (xs : List HeldCopy) (c : HeldCopy) → find p xs ≡ Some c → q c ≡ true → 1 ≤ count_by q xs
 found_counts p q [] c e t = absurd (cc)
-found_counts p q (x ∷ xs) c e t = by (p x) e (λ f. found_counts p q xs c f t)
-  where
-    by : (b : Bool) → cond b (Some x) (find p xs) ≡ Some c → (find p xs ≡ Some c → 1 ≤ count_by q xs) → 1 ≤ count_by q (x ∷ xs)
-    by true e rest =
-        let same : x ≡ c = cc in
-        omega (arith, count_by-pass q x xs true (ap q same ∙ t))
-    by false e rest = omega (arith, sum_by-cons (λ d. if q d then 1 else 0) x xs, rest e)
+found_counts p q (x ∷ xs) c e t =
+    elim (cases_Bool (p x)) [
+      | inl is ↦
+          let at : Some x ≡ Some c = rw is at e in
+          let same : x ≡ c = cc in
+          omega (arith, count_by-pass q x xs true (ap q same ∙ t))
+      | inr isnt ↦ omega (arith, sum_by-cons (λ d. if q d then 1 else 0) x xs, found_counts p q xs c (rw isnt at e) t)
+    ]
 
 -- ---- the same copies in another order
 
@@ -123,16 +123,15 @@ once_more xs ys one none once n k = by (is_copy_of n k one) refl
 
 pub held_all : (xs : List HeldCopy) → AreHeld xs → held_in xs ≡ xs
 held_all [] e = refl
-held_all (x ∷ xs) e = by x.held refl (held_all xs)
-  where
-    by : (b : Bool) → x.held ≡ b → (AreHeld xs → held_in xs ≡ xs) → cond b (x ∷ held_in xs) (held_in xs) ≡ x ∷ xs
-    by true h rest = ap (λ (l : List HeldCopy). x ∷ l) (rest (omega (arith, e, sum_by-cons (λ c. if not c.held then 1 else 0) x xs)))
-    by false h rest = absurd (omega (arith, e, count_by-pass (λ c. not c.held) x xs true (ap not h)))
+held_all (x ∷ xs) e =
+    cond_both x.held (x ∷ held_in xs) (held_in xs) (λ (l : List HeldCopy). l ≡ x ∷ xs)
+    (λ h. ap (λ (l : List HeldCopy). x ∷ l) (held_all xs
+        (omega (arith, e, sum_by-cons (λ c. if not c.held then 1 else 0) x xs))))
+    (λ h. absurd (omega (arith, e, count_by-pass (λ c. not c.held) x xs true (ap not h))))
 
 pub held_are : (xs : List HeldCopy) → AreHeld (held_in xs)
 held_are [] = refl
-held_are (x ∷ xs) = by x.held refl (held_are xs)
-  where
-    by : (b : Bool) → x.held ≡ b → AreHeld (held_in xs) → AreHeld (cond b (x ∷ held_in xs) (held_in xs))
-    by true h rest = omega (arith, count_by-pass (λ c. not c.held) x (held_in xs) false (ap not h), rest)
-    by false h rest = rest
+held_are (x ∷ xs) =
+    cond_both x.held (x ∷ held_in xs) (held_in xs) AreHeld
+    (λ h. omega (arith, count_by-pass (λ c. not c.held) x (held_in xs) false (ap not h), held_are xs)) (λ h.
+        held_are xs)

@@ -1,9 +1,9 @@
 -- Lists of which some copies were taken out, and what each step makes of those that are held.
-use Rattle.std.proofs.Common.{◌≡◌, ℕ, zero, suc, ◌+◌, ◌-◌, ◌<◌, ◌==◌, ◌&&◌, not, Bool, true, false, cond, if◌then◌else◌, List, [], ◌∷◌, ◌++◌, Option, None, Some, is_some, length, take, drop, filter, slice_index_or, refl, sym, ap, subst, ◌∙◌, arith}
+use Rattle.std.proofs.Common.{◌≡◌, ℕ, zero, suc, ◌+◌, ◌-◌, ◌<◌, ◌==◌, ◌&&◌, not, Bool, true, false, cond, if◌then◌else◌, List, [], ◌∷◌, ◌++◌, Option, None, Some, is_some, length, take, drop, filter, slice_index_or, refl, sym, ap, subst, ◌∙◌, arith, inl, inr}
 use Rattle.std.specs.List.{count_by, find}
 use Rattle.std.specs.Option.{option_map}
 use Rattle.std.specs.Prelude.{slice_set}
-use Rattle.std.proofs.lemmas.Bool.{and_parts, eq-eqb, eqb-true}
+use Rattle.std.proofs.lemmas.Bool.{and_parts, cases_Bool, cond_both, eq-eqb, eqb-true}
 use Rattle.std.proofs.lemmas.List.{append-nil}
 use Rattle.std.proofs.lemmas.List.Elements.{filter-append}
 use Rattle.std.proofs.lemmas.List.Sums.{length-filter, sum_by-cons, sum_by-set, sum_by_more_le}
@@ -19,12 +19,14 @@ use Rattle.dup_buffer.proofs.StoredLemmas.{copies_of-one_more, count_by-pass, fi
 
 pub none_held : (p : HeldCopy → Bool) (xs : List HeldCopy) → find p xs ≡ None → find p (held_in xs) ≡ None
 none_held p [] e = refl
-none_held p (x ∷ xs) e = by (p x) x.held refl e (none_held p xs)
-  where
-    by : (a b : Bool) → p x ≡ a → cond a (Some x) (find p xs) ≡ None → (find p xs ≡ None → find p (held_in xs) ≡ None) → find p (cond b (x ∷ held_in xs) (held_in xs)) ≡ None
-    by true b q e rest = absurd (cc)
-    by false true q e rest = rw q (rest e)
-    by false false q e rest = rest e
+none_held p (x ∷ xs) e =
+    elim (cases_Bool (p x)) [
+      | inl is ↦ let found : Some x ≡ None = rw is at e in absurd (cc)
+      | inr isnt ↦
+          let rest = none_held p xs (rw isnt at e) in
+          cond_both x.held (x ∷ held_in xs) (held_in xs)
+              (λ (l : List HeldCopy). find p l ≡ None) (λ _. rw isnt rest) (λ _. rest)
+    ]
 
 pub held_found : (n k : ℕ) (copies : List HeldCopy) (at : ℕ) (d : HeldCopy) → IsFound copies at n k
     → find (is_copy_of n k) (held_in copies) ≡ (if (slice_index_or copies at d).held then Some (slice_index_or copies at d) else None)
@@ -57,12 +59,12 @@ from-set low (copy ∷ copies) (suc at) y d up same lt = (up.0, from-set (rank c
 
 pub count-filter : (p q : HeldCopy → Bool) (xs : List HeldCopy) → count_by p (filter q xs) ≡ count_by (λ x. q x && p x) xs
 count-filter p q [] = refl
-count-filter p q (x ∷ xs) = by (q x) refl (count-filter p q xs)
-  where
-    by : (b : Bool) → q x ≡ b → count_by p (filter q xs) ≡ count_by (λ y. q y && p y) xs → count_by p (cond b (x ∷ filter q xs) (filter q xs)) ≡ count_by (λ y. q y && p y) (x ∷ xs)
-    by true e rest =
-        omega (arith, rest, sum_by-cons (λ c. if p c then 1 else 0) x (filter q xs), count_by-pass (λ y. q y && p y) x xs (p x) (rw e refl))
-    by false e rest = omega (arith, rest, count_by-pass (λ y. q y && p y) x xs false (rw e refl))
+count-filter p q (x ∷ xs) =
+    cond_both (q x) (x ∷ filter q xs) (filter q xs)
+        (λ (l : List HeldCopy). count_by p l ≡ count_by (λ y. q y && p y) (x ∷ xs))
+    (λ e. omega (arith, count-filter p q xs, sum_by-cons (λ c.
+        if p c then 1 else 0) x (filter q xs), count_by-pass (λ y. q y && p y) x xs (p x) (rw e refl)))
+    (λ e. omega (arith, count-filter p q xs, count_by-pass (λ y. q y && p y) x xs false (rw e refl)))
 
 pub mark_same : (copies : List HeldCopy) (at : ℕ) (y d : HeldCopy) → at < length copies → (slice_index_or copies at d).held ≡ true → y.held ≡ false
     → HaveSame (held_in copies) (slice_index_or copies at d ∷ held_in (slice_set copies at y))
@@ -180,9 +182,6 @@ more_behind one xs ys zs same p =
       sum_by-cons (λ c. if p c then 1 else 0) one ys,
       sum_by-cons (λ c. if p c then 1 else 0) one (xs ++ ys),
     )
-
-pub less_behind : (one : HeldCopy) (xs ys zs : List HeldCopy) → HaveSame ys (one ∷ zs) → HaveSame (xs ++ ys) (one ∷ (xs ++ zs))
-less_behind one xs ys zs same p = sym (more_behind one xs zs ys (λ q. sym (same q)) p)
 
 pub less_before : (one : HeldCopy) (xs ys zs : List HeldCopy) → HaveSame xs (one ∷ zs) → HaveSame (xs ++ ys) (one ∷ (zs ++ ys))
 less_before one xs ys zs same p =

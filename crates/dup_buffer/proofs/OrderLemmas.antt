@@ -1,9 +1,9 @@
 -- Copies in order, each once: where one is found, and what keeps the order.
-use Rattle.std.proofs.Common.{◌≡◌, ℕ, zero, suc, ◌+◌, ◌<◌, ◌≤◌, ◌==◌, Bool, true, false, cond, List, [], ◌∷◌, ◌++◌, None, length, take, drop, filter, nat_lt, ap, sym, ◌∙◌, refl, inl, inr, arith}
+use Rattle.std.proofs.Common.{◌≡◌, ℕ, zero, suc, ◌+◌, ◌<◌, ◌≤◌, ◌==◌, Bool, true, false, List, [], ◌∷◌, ◌++◌, None, length, take, drop, filter, nat_lt, ap, ◌∙◌, refl, inl, inr, arith}
 use Rattle.std.specs.List.{find}
 use Rattle.std.specs.List.Sorted.{IsNonDecreasingBy, IsPartitionPoint}
 use Rattle.std.specs.Prelude.{slice_index_or}
-use Rattle.std.proofs.lemmas.Bool.{and_parts, cases_eq, cases_lt, cases_order, eqb-true, false_from_ne_true, ltb-false, ltb-true}
+use Rattle.std.proofs.lemmas.Bool.{and_parts, cases_eq, cases_lt, cases_order, cond_both, eqb-true, false_from_ne_true, ltb-false, ltb-true}
 use Rattle.std.proofs.lemmas.List.{get_or_default}
 use Rattle.dup_buffer.specs.Stored.{AreFrom, IsAbsent, IsFound, IsFrom, is_copy_of, rank, rank_of}
 use Rattle.dup_buffer.specs.declared.copy.HeldCopy.{HeldCopy}
@@ -47,19 +47,15 @@ ascending low (copy ∷ copies) up (suc i) (suc j) d lt within = ascending (rank
 pub ordered : (copies : List HeldCopy) → AreFrom 0 copies → IsNonDecreasingBy (λ (copy : HeldCopy). rank copy) copies
 ordered copies up i j d le within = elim (cases_eq i j) [
   | inl e ↦ omega (arith, ap (λ (k : ℕ). rank (slice_index_or copies k d)) e)
-  | inr ne ↦ elim (cases_lt i j) [
-    | inl lt ↦ omega (arith, ascending 0 copies up i j d lt within)
-    | inr ge ↦ absurd (ne (omega (arith, le, ge)))
-  ]
+  | inr ne ↦ omega (arith, ascending 0 copies up i j d (omega (arith, le, ne)) within)
 ]
 
 pub from-filter : (p : HeldCopy → Bool) (low : ℕ) (copies : List HeldCopy) → AreFrom low copies → AreFrom low (filter p copies)
 from-filter p low [] up = tt
-from-filter p low (copy ∷ copies) up = by (p copy) (from-filter p (rank copy + 1) copies up.1)
-  where
-    by : (b : Bool) → AreFrom (rank copy + 1) (filter p copies) → AreFrom low (cond b (copy ∷ filter p copies) (filter p copies))
-    by true rest = (up.0, rest)
-    by false rest = weaker low (rank copy + 1) (filter p copies) (omega (arith, up.0)) rest
+from-filter p low (copy ∷ copies) up =
+    let rest = from-filter p (rank copy + 1) copies up.1 in
+    cond_both (p copy) (copy ∷ filter p copies) (filter p copies) (AreFrom low) (λ _. (up.0, rest))
+    (λ _. weaker low (rank copy + 1) (filter p copies) (omega (arith, up.0)) rest)
 
 pub from-remove : (low : ℕ) (copies : List HeldCopy) (at : ℕ) → AreFrom low copies → AreFrom low (take at copies ++ drop (suc at) copies)
 from-remove low [] zero up = tt
@@ -134,20 +130,12 @@ absent_at copies at n k e up inside from apart =
   where
     here : (d : HeldCopy) → rank_of n k < rank (slice_index_or copies at d)
     here d =
-        let same : rank (slice_index_or copies at d) ≡ rank (slice_index_or copies at e) = ap (λ (c : HeldCopy). rank c) (get_or_default copies at d e inside) in
-        elim (cases_order (rank_of n k) (rank (slice_index_or copies at d))) [
-          | inl q ↦ absurd (apart (sym same ∙ sym q))
-          | inr (inl less) ↦ less
-          | inr (inr more) ↦ absurd (omega (arith, more, from.later at d (omega arith) inside))
-        ]
+        omega (arith, apart, ap (λ (c : HeldCopy). rank c) (get_or_default copies at d e inside), from.later at d (omega arith) inside)
 
     past : (j : ℕ) (d : HeldCopy) → at ≤ j → j < length copies → rank_of n k < rank (slice_index_or copies j d)
     past j d le within = elim (cases_eq at j) [
       | inl same ↦ omega (arith, here d, ap (λ (m : ℕ). rank (slice_index_or copies m d)) same)
-      | inr ne ↦ elim (cases_lt at j) [
-        | inl lt ↦ omega (arith, here d, ascending 0 copies up at j d lt within)
-        | inr ge ↦ absurd (ne (omega (arith, le, ge)))
-      ]
+      | inr ne ↦ omega (arith, here d, ascending 0 copies up at j d (omega (arith, le, ne)) within)
     ]
 
     other : (j : ℕ) (d : HeldCopy) → j < length copies → rank (slice_index_or copies j d) ≡ rank_of n k → ⊥

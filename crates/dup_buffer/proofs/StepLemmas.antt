@@ -1,48 +1,43 @@
 -- What each step on the two lists makes of the copies that are held.
 use Rattle.std.proofs.Common.{◌≡◌, ℕ, ◌+◌, ◌<◌, ◌≤◌, ◌==◌, ◌&&◌, not, Bool, true, false, cond, if◌then◌else◌, List, [], ◌∷◌, ◌++◌, Option, None, Some, length, filter, refl, sym, ap, subst, ◌∙◌, arith, length-append}
 use Rattle.std.specs.List.{count_by, find}
-use Rattle.std.specs.Option.{option_map}
+use Rattle.std.specs.Option.{option_map, option_or}
 use Rattle.std.proofs.lemmas.List.Elements.{filter-append}
-use Rattle.std.proofs.lemmas.List.Sums.{sum_by-cons}
+use Rattle.std.proofs.lemmas.List.Sums.{count_by-le-length, length-filter, sum_by-cons}
+use Rattle.std.proofs.lemmas.List.Folds.{find-append}
+use Rattle.std.proofs.lemmas.Bool.{cond_both}
 use Rattle.dup_buffer.specs.Copies.{with_copy, without_node}
 use Rattle.dup_buffer.specs.Stored.{AreFrom, AreHeld, AreStored, HaveSame, IsOnce, all_held, copies_of, held_in, is_copy_of, is_of, most_late, place_of}
 use Rattle.dup_buffer.specs.declared.copy.HeldCopy.{HeldCopy}
-use Rattle.dup_buffer.proofs.CountLemmas.{count-append, count_all, found_counts, found_passes, held_all, held_are, none_if_none, none_of_none}
-use Rattle.dup_buffer.proofs.HeldLemmas.{IsLess, IsMore, less_before, less_behind, more_behind, none_parts, one_less, one_more, same_length}
+use Rattle.dup_buffer.proofs.CountLemmas.{count-append, found_counts, found_passes, held_all, held_are, none_if_none, none_of_none}
+use Rattle.dup_buffer.proofs.HeldLemmas.{IsLess, IsMore, less_before, more_behind, none_parts, one_less, one_more, same_length}
 use Rattle.dup_buffer.proofs.OrderLemmas.{from-filter}
-use Rattle.dup_buffer.proofs.StoredLemmas.{copies_of-node_out, count_by-is_of, count_by-pass, find-append, first_of, others, stored}
+use Rattle.dup_buffer.proofs.StoredLemmas.{copies_of-node_out, count_by-is_of, count_by-pass, others, stored}
 
 -- ---- finding
 
 pub found_late : (n k : ℕ) (kept late : List HeldCopy) (c : HeldCopy) → IsOnce (kept ++ late) → find (is_copy_of n k) late ≡ Some c → find (is_copy_of n k) (kept ++ late) ≡ Some c
-unfolding first_of
 found_late n k kept late c once e =
-    find-append p kept late ∙ ap (λ (o : Option HeldCopy). first_of o (find p late)) (none_of_none p kept
+    find-append p kept late ∙ ap (λ (o : Option HeldCopy). option_or o (find p late)) (none_of_none p kept
     (omega (arith, once n k, count-append p kept late, found_counts p p late c e (found_passes p late c e)))) ∙ e
   where
     p : HeldCopy → Bool
     p = is_copy_of n k
 
 pub found_kept : (p : HeldCopy → Bool) (kept late : List HeldCopy) → find p late ≡ None → find p (kept ++ late) ≡ find p kept
-unfolding first_of
-found_kept p kept late e = find-append p kept late ∙ ap (λ (o : Option HeldCopy). first_of (find p kept) o) e ∙ by (find p kept)
+found_kept p kept late e =
+    find-append p kept late ∙ ap (λ (o : Option HeldCopy). option_or (find p kept) o) e ∙ by (find p kept)
   where
-    by : (o : Option HeldCopy) → first_of o None ≡ o
+    by : (o : Option HeldCopy) → option_or o None ≡ o
     by None = refl
     by (Some c) = refl
 
 -- ---- holding
 
 pub few_held : (kept late : List HeldCopy) → length (all_held kept late) ≤ length kept + length late
-few_held kept late = omega (arith, length-append (held_in kept) late, length-held kept)
-  where
-    length-held : (xs : List HeldCopy) → length (held_in xs) ≤ length xs
-    length-held [] = omega arith
-    length-held (x ∷ xs) = by x.held (length-held xs)
-      where
-        by : (b : Bool) → length (held_in xs) ≤ length xs → length (cond b (x ∷ held_in xs) (held_in xs)) ≤ length (x ∷ xs)
-        by true le = omega (arith, le)
-        by false le = omega (arith, le)
+few_held kept late =
+    omega (arith, length-append (held_in kept) late,
+        length-filter (λ (c : HeldCopy). c.held) kept, count_by-le-length (λ (c : HeldCopy). c.held) kept)
 
 pub none_same : (p : HeldCopy → Bool) (xs ys : List HeldCopy) → HaveSame xs ys → find p xs ≡ None → find p ys ≡ None
 none_same p xs ys same none = none_of_none p ys (omega (arith, same p, none_if_none p xs none))
@@ -101,7 +96,9 @@ pub record IsTaken (one : HeldCopy) (node number : ℕ) (old : List HeldCopy) (k
 pub took_late : (one : HeldCopy) (node number : ℕ) (kept late new : List HeldCopy) → AreStored kept late → is_copy_of node number one ≡ true → AreFrom 0 new
     → HaveSame late (one ∷ new) → IsTaken one node number (all_held kept late) kept new
 took_late one node number kept late new is named order same =
-    let less : IsLess one node number (all_held kept late) (all_held kept new) = one_less one node number (all_held kept late) (all_held kept new) named is.once (less_behind one (held_in kept) late new same) in
+    let less : IsLess one node number (all_held kept late) (all_held kept new) =
+    one_less one node number (all_held kept late) (all_held kept new) named
+    is.once (λ p. sym (more_behind one (held_in kept) new late (λ q. sym (same q)) p)) in
     record {
       lists = record {
         kept_order = is.kept_order;
@@ -136,14 +133,13 @@ left_is node (c ∷ cs) = by c.held (left_is node cs)
 
 fewer : (p q : HeldCopy → Bool) (xs : List HeldCopy) → count_by p (filter q xs) ≤ count_by p xs
 fewer p q [] = omega arith
-fewer p q (x ∷ xs) = by (q x) (fewer p q xs)
-  where
-    by : (b : Bool) → count_by p (filter q xs) ≤ count_by p xs → count_by p (cond b (x ∷ filter q xs) (filter q xs)) ≤ count_by p (x ∷ xs)
-    by true le = omega (arith, le, sum_by-cons (λ c. if p c then 1 else 0) x xs, sum_by-cons (λ c. if p c then 1 else 0) x (filter q xs))
-    by false le = omega (arith, le, sum_by-cons (λ c. if p c then 1 else 0) x xs)
+fewer p q (x ∷ xs) =
+    let more = sum_by-cons (λ c. if p c then 1 else 0) x in
+    cond_both (q x) (x ∷ filter q xs) (filter q xs) (λ (l : List HeldCopy). count_by p l ≤ count_by p (x ∷ xs))
+    (λ _. omega (arith, fewer p q xs, more xs, more (filter q xs))) (λ _. omega (arith, fewer p q xs, more xs))
 
 fewer_all : (q : HeldCopy → Bool) (xs : List HeldCopy) → length (filter q xs) ≤ length xs
-fewer_all q xs = omega (arith, fewer (λ x. true) q xs, count_all xs, count_all (filter q xs))
+fewer_all q xs = omega (arith, length-filter q xs, count_by-le-length q xs)
 
 left_held : (node : ℕ) (copies : List HeldCopy) → AreHeld (left_in node copies)
 left_held node copies =

@@ -1,13 +1,14 @@
 -- What the stored copies say of those that are held.
-use Rattle.std.proofs.Common.{◌≡◌, ℕ, zero, suc, ◌+◌, ◌-◌, ◌<◌, ◌≤◌, ◌==◌, ◌&&◌, not, Bool, true, false, cond, if◌then◌else◌, List, [], ◌∷◌, ◌++◌, Option, None, Some, is_some, length, take, drop, drop-cons, filter, refl, sym, ap, subst, ◌∙◌, true≢false, arith}
+use Rattle.std.proofs.Common.{◌≡◌, ℕ, zero, suc, ◌+◌, ◌-◌, ◌<◌, ◌≤◌, ◌==◌, ◌&&◌, not, Bool, true, false, cond, if◌then◌else◌, List, [], ◌∷◌, ◌++◌, Option, None, Some, is_some, length, take, drop, drop-cons, filter, refl, sym, ap, subst, ◌∙◌, true≢false, arith, inl, inr}
 use Rattle.std.specs.List.{count_by, find}
-use Rattle.std.specs.Option.{option_map}
+use Rattle.std.specs.Option.{option_map, option_or}
 use Rattle.std.specs.Prelude.{slice_index_or}
-use Rattle.std.proofs.lemmas.Bool.{and_parts, eqb-true}
+use Rattle.std.proofs.lemmas.Bool.{and_parts, cases_Bool, cond_both, eqb-true}
 use Rattle.std.proofs.lemmas.List.{take-append-drop}
 use Rattle.std.proofs.lemmas.List.Edits.{length-insert}
 use Rattle.std.proofs.lemmas.List.Filters.{length-filter_both}
 use Rattle.std.proofs.lemmas.List.Sums.{length-filter, sum_by-cons, sum_by-insert}
+use Rattle.std.proofs.lemmas.List.Folds.{find-append}
 use Rattle.dup_buffer.specs.Copies.{Copies, with_copy, without_copy, without_node}
 use Rattle.dup_buffer.specs.Stored.{IsFound, Stored, copies_of, is_copy_of, is_of, place_of}
 use Rattle.dup_buffer.specs.declared.copy.HeldCopy.{HeldCopy}
@@ -28,33 +29,20 @@ without_one copies at = take at copies ++ drop (suc at) copies
 
 -- ---- the first that passes
 
-unfoldable pub first_of : Option HeldCopy → Option HeldCopy → Option HeldCopy
-first_of None other = other
-first_of (Some copy) other = Some copy
-
-pub find-append : (p : HeldCopy → Bool) (xs ys : List HeldCopy) → find p (xs ++ ys) ≡ first_of (find p xs) (find p ys)
-unfolding first_of
-find-append p [] ys = refl
-find-append p (x ∷ xs) ys = by (p x) (find-append p xs ys)
-  where
-    by : (b : Bool) → find p (xs ++ ys) ≡ first_of (find p xs) (find p ys) → cond b (Some x) (find p (xs ++ ys)) ≡ first_of (cond b (Some x) (find p xs)) (find p ys)
-    by true rest = refl
-    by false rest = rest
-
-none_in_front : (a b : Option HeldCopy) → first_of a b ≡ None → a ≡ None
-unfolding first_of
+none_in_front : (a b : Option HeldCopy) → option_or a b ≡ None → a ≡ None
 none_in_front None b e = refl
 none_in_front (Some x) b e = absurd (cc)
 
 find-other : (p : HeldCopy → Bool) (xs ys : List HeldCopy) (one : HeldCopy) → p one ≡ false → find p (xs ++ one ∷ ys) ≡ find p (xs ++ ys)
 find-other p xs ys one fails =
-    find-append p xs (one ∷ ys) ∙ ap (λ (b : Bool). first_of (find p xs) (cond b (Some one) (find p ys))) fails ∙ sym (find-append p xs ys)
+    find-append p xs (one ∷ ys) ∙ ap (λ (b : Bool).
+        option_or (find p xs) (cond b (Some one) (find p ys))) fails ∙ sym (find-append p xs ys)
 
 pub find-one : (p : HeldCopy → Bool) (xs ys : List HeldCopy) (one : HeldCopy) → p one ≡ true → find p (xs ++ ys) ≡ None → find p (xs ++ one ∷ ys) ≡ Some one
-unfolding first_of
 find-one p xs ys one passes none =
     find-append p xs (one ∷ ys)
-    ∙ ap (λ (o : Option HeldCopy). first_of o (cond (p one) (Some one) (find p ys))) (none_in_front (find p xs) (find p ys) (sym (find-append p xs ys) ∙ none))
+    ∙ ap (λ (o : Option HeldCopy). option_or o (cond (p one) (Some one) (find p ys)))
+        (none_in_front (find p xs) (find p ys) (sym (find-append p xs ys) ∙ none))
     ∙ ap (λ (b : Bool). cond b (Some one) (find p ys)) passes
 
 -- ---- one copy more
@@ -134,36 +122,25 @@ abbrev pub others : ℕ → List HeldCopy → List HeldCopy
 others node copies = filter (λ c. not (c.node == node)) copies
 
 find-filter : (node n k : ℕ) (copies : List HeldCopy) → find (is_copy_of n k) (others node copies) ≡ (if n == node then None else find (is_copy_of n k) copies)
-find-filter node n k [] = by (n == node)
-  where
-    by : (r : Bool) → ◌≡◌ {A = Option HeldCopy} None (if r then None else None)
-    by true = refl
-    by false = refl
+find-filter node n k [] = cond_both (n == node) None None (λ (o : Option HeldCopy). None ≡ o) (λ _. refl) (λ _. refl)
 find-filter node n k (e ∷ es) = by (e.node == node) (is_copy_of n k e) refl refl (find-filter node n k es)
   where
+    same : is_copy_of n k e ≡ true → (n == node) ≡ (e.node == node)
+    same q = ap (λ (m : ℕ). m == node) (sym (key_of n k e q).0)
+
     by : (r t : Bool) → (e.node == node) ≡ r → is_copy_of n k e ≡ t
         → find (is_copy_of n k) (others node es) ≡ (if n == node then None else find (is_copy_of n k) es)
         → find (is_copy_of n k) (others node (e ∷ es)) ≡ (if n == node then None else find (is_copy_of n k) (e ∷ es))
-    by true true p q rest =
-        let key = key_of n k e q in
-        let of_node : (n == node) ≡ true = ap (λ (m : ℕ). m == node) (sym key.0) ∙ p in
-        rw (p, q, of_node) (rest ∙ rw of_node refl)
+    by true true p q rest = rw (p, q, same q ∙ p) (rest ∙ rw (same q ∙ p) refl)
     by true false p q rest = rw (p, q) rest
-    by false true p q rest =
-        let key = key_of n k e q in
-        let of_other : (n == node) ≡ false = ap (λ (m : ℕ). m == node) (sym key.0) ∙ p in
-        rw (p, q, of_other) refl
+    by false true p q rest = rw (p, q, same q ∙ p) refl
     by false false p q rest = rw (p, q) rest
 
 pub count_by-pass : (f : HeldCopy → Bool) (e : HeldCopy) (es : List HeldCopy) (r : Bool) → f e ≡ r → count_by f (e ∷ es) ≡ (if r then 1 else 0) + count_by f es
 count_by-pass f e es r p = sum_by-cons (λ x. if f x then 1 else 0) e es ∙ ap (λ (t : Bool). (if t then 1 else 0) + count_by f es) p
 
 count_by-filter : (node n : ℕ) (copies : List HeldCopy) → count_by (is_of n) (others node copies) ≡ (if n == node then 0 else count_by (is_of n) copies)
-count_by-filter node n [] = by (n == node)
-  where
-    by : (r : Bool) → ◌≡◌ {A = ℕ} 0 (if r then 0 else 0)
-    by true = refl
-    by false = refl
+count_by-filter node n [] = cond_both (n == node) 0 0 (λ (k : ℕ). 0 ≡ k) (λ _. refl) (λ _. refl)
 count_by-filter node n (e ∷ es) = at (e.node == node) (e.node == n) (n == node) refl refl refl (count_by-filter node n es)
   where
     at : (r t u : Bool) → (e.node == node) ≡ r → (e.node == n) ≡ t → (n == node) ≡ u
@@ -190,9 +167,7 @@ copies_of-node_out node copies = same_copies _ _
     (omega (arith, count_by-is_of node copies))
     (λ i n. count_by-filter node n copies i)
   where
-    by : (r : Bool) (o : Option HeldCopy) → option_map place_of (if r then None else o) ≡ (if r then None else option_map place_of o)
-    by true o = refl
-    by false o = refl
-
     place : (n k : ℕ) → option_map place_of (find (is_copy_of n k) (others node copies)) ≡ (if n == node then None else option_map place_of (find (is_copy_of n k) copies))
-    place n k = ap (λ (o : Option HeldCopy). option_map place_of o) (find-filter node n k copies) ∙ by (n == node) (find (is_copy_of n k) copies)
+    place n k =
+        ap (λ (o : Option HeldCopy). option_map place_of o) (find-filter node n k copies)
+        ∙ elim (cases_Bool (n == node)) [ inl is ↦ rw is refl | inr isnt ↦ rw isnt refl ]

@@ -1,7 +1,7 @@
 -- The kind of an entry and what it records, each as a part.
 use Rattle.std.proofs.Common.{◌≡◌, ℕ, ◌+◌, ◌-◌, ◌*◌, ◌%◌, ◌^◌, ◌<◌, ◌≤◌, ◌==◌, ◌&&◌, nat_le, Bool, true, false, cond, List, [], ◌∷◌, ◌++◌, length, Option, Some, None, Result, Ok, Err, refl, sym, ap, subst, ◌∙◌, arith}
 use Rattle.std.specs.List.{flat_map}
-use Rattle.std.proofs.lemmas.Bool.{eqb-true, eq-eqb, leb-true, le-leb}
+use Rattle.std.proofs.lemmas.Bool.{and_parts, eq-eqb, eqb-true, le-leb, leb-true}
 use Rattle.std.proofs.lemmas.List.{append-nil}
 use Rattle.byteorder.specs.Endian.{big_bytes}
 use Rattle.gw_base.specs.declared.history.HistoryAct.{HistoryAct}
@@ -267,11 +267,9 @@ length_list : (node : ℕ) (xs : List ℕ) → length (big_bytes 4 node ++ (big_
 length_list node xs = omega (arith, length_numbers xs)
 
 pub list_test : (n : ℕ) → (nat_le 33 n && ((n - 33) % 8 == 0)) ≡ true → (33 ≤ n) × ((n - 33) % 8 ≡ 0)
-list_test n e = by_test (nat_le 33 n) refl e
-  where
-    by_test : (b : Bool) → nat_le 33 n ≡ b → (b && ((n - 33) % 8 == 0)) ≡ true → (33 ≤ n) × ((n - 33) % 8 ≡ 0)
-    by_test true le e = (leb-true 33 n le, eqb-true ((n - 33) % 8) 0 e)
-    by_test false le e = absurd cc
+list_test n e =
+    let parts = and_parts (nat_le 33 n) ((n - 33) % 8 == 0) e in
+    (leb-true 33 n parts.0, eqb-true ((n - 33) % 8) 0 parts.1)
 
 bare_part : (n : ℕ) (act : HistoryAct) → IsActOf n (kind_of act) act → body act ≡ [] → ((other : HistoryAct) → IsActOf n (kind_of act) other → other ≡ act) → IsPart (IsActOf n (kind_of act)) body (λ octets. Ok (act, octets))
 bare_part n act fits none only = record {

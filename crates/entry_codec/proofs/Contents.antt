@@ -32,13 +32,10 @@ pub entries_of_entries : (octets : List ℕ) (h : List HistoryEntry) → AreEntr
 entries_of_entries octets h are =
     ap (λ (o : List ℕ). entries_of o) are.spelling ∙ read_back (length (spelled h)) h are.each (omega arith)
 
-pub unique_entries : (octets : List ℕ) (h g : List HistoryEntry) → AreEntries octets h → AreEntries octets g → h ≡ g
-unique_entries octets h g p q = sym (entries_of_entries octets h p) ∙ entries_of_entries octets g q
-
 -- ---- in parts
 
 -- what is spelled in front of a whole is its first entries
-first_entries : (h g : List HistoryEntry) (b : List ℕ) → All HasSpelling h → All HasSpelling g → spelled h ++ b ≡ spelled g → (f : List HistoryEntry) × (g ≡ h ++ f) × AreEntries b f
+pub first_entries : (h g : List HistoryEntry) (b : List ℕ) → All HasSpelling h → All HasSpelling g → spelled h ++ b ≡ spelled g → (f : List HistoryEntry) × (g ≡ h ++ f) × AreEntries b f
 first_entries [] g b p q e = (g, refl, record { spelling = e; each = q })
 first_entries (x ∷ h) [] b p q e = absurd (omega (arith, ap (λ (o : List ℕ). length o) e, length-append (spelled (x ∷ h)) b, length-append (spelling x) (spelled h), length_of_spelling x))
 first_entries (x ∷ h) (y ∷ g) b p q e =
@@ -46,6 +43,3 @@ first_entries (x ∷ h) (y ∷ g) b p q e =
     let same = same_entry x y (spelled h ++ b) (spelled g) (All-head HasSpelling x h p) (All-head HasSpelling y g q) regrouped in
     let others = first_entries h g b (All-tail HasSpelling x h p) (All-tail HasSpelling y g q) same.1 in
     (others.0, (λ i. sym same.0 i ∷ others.1 i), others.2)
-
-pub divided_entries : (a b : List ℕ) (h g : List HistoryEntry) → AreEntries a h → AreEntries (a ++ b) g → (f : List HistoryEntry) × (g ≡ h ++ f) × AreEntries b f
-divided_entries a b h g p q = first_entries h g b p.each q.each (ap (λ (o : List ℕ). o ++ b) (sym p.spelling) ∙ q.spelling)

@@ -18,9 +18,6 @@ pub use Rattle.entry_codec.specs.Laws.{length_of_spelling}
 
 -- ---- lengths and kinds
 
-abbrev fits_as_release : ℕ → Bool
-fits_as_release n = fits_length n kinds.Release
-
 -- a list's entry has a length
 list_is_length : (n : ℕ) → IsKind n kinds.Release → is_length n ≡ true
 list_is_length n fits =
@@ -36,7 +33,8 @@ kind_for n e = by_tests (n == 25) refl (n == 32) refl (n == 33) refl (nat_le 37 
     by_tests : (a : Bool) → (n == 25) ≡ a → (b : Bool) → (n == 32) ≡ b → (c : Bool) → (n == 33) ≡ c → (d : Bool) → nat_le 37 n ≡ d → (a || (b || (c || d))) ≡ true → (kind : Kind) × IsKind n kind
     by_tests true a b is-b c is-c d is-d e = (kinds.Start, a)
     by_tests false a true is-b c is-c d is-d e = (kinds.Path, is-b)
-    by_tests false a false is-b true is-c d is-d e = (kinds.Release, (let same : n ≡ 33 = eqb-true n 33 is-c in ap (λ (k : ℕ). fits_as_release k) same))
+    by_tests false a false is-b true is-c d is-d e =
+        (kinds.Release, (let same : n ≡ 33 = eqb-true n 33 is-c in ap (λ (k : ℕ). fits_length k kinds.Release) same))
     by_tests false a false is-b false is-c true is-d e = (kinds.File, is-d)
     by_tests false a false is-b false is-c false is-d e = absurd cc
 

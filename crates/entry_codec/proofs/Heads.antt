@@ -1,6 +1,6 @@
 -- The fields whose octets are bound by others or by a limit, each as a part.
 use Rattle.std.proofs.Common.{◌≡◌, ℕ, suc, ◌+◌, ◌-◌, ◌*◌, ◌^◌, ◌<◌, ◌≤◌, ◌==◌, Bool, true, false, cond, ltb, List, [], ◌∷◌, ◌++◌, length, take, drop, Result, Ok, Err, refl, sym, ap, subst, ◌∙◌, ◌⊎◌, inl, inr, arith}
-use Rattle.std.proofs.lemmas.Bool.{eq-eqb, eqb-true, eqb-false, ltb-false, ltb-true, le-ltb, ne_eqb, cases_lt, le-leb}
+use Rattle.std.proofs.lemmas.Bool.{cases_Bool, cases_lt, eq-eqb, eqb-false, eqb-true, le-leb, le-ltb, ltb-false, ltb-true, ne_eqb}
 use Rattle.std.proofs.lemmas.List.{append-nil, nil_from_length, take_at, drop_at, take-append-drop, length-append, length-take}
 use Rattle.byteorder.specs.Endian.{big_bytes, big_number}
 use Rattle.entry_codec.specs.Reading.{◌>>=◌, Read, at_most, exactly, is_length, last_moment_octets, length_at, moment_at, number_at}
@@ -26,11 +26,11 @@ pub record Differs (wanted octets rest : List ℕ) : Type 0 where
 exactly_take : (wanted octets rest : List ℕ) → exactly wanted octets ≡ ok rest → octets ≡ wanted ++ rest
 exactly_take [] octets rest e = ok_is octets rest e
 exactly_take (b ∷ wanted) [] rest e = absurd (not_both rest [] (sym e))
-exactly_take (b ∷ wanted) (x ∷ octets) rest e = by_test (λ tail. exactly_take wanted octets rest tail) (x == b) refl e
-  where
-    by_test : (exactly wanted octets ≡ ok rest → octets ≡ wanted ++ rest) → (t : Bool) → (x == b) ≡ t → (let r : Result (List ℕ) (List ℕ) = cond t (exactly wanted octets) (Err (x ∷ octets)) in r) ≡ ok rest → x ∷ octets ≡ b ∷ (wanted ++ rest)
-    by_test again true is e = let same : x ≡ b = eqb-true x b is in let tails = again e in cc
-    by_test again false is e = absurd (not_both rest (x ∷ octets) (sym e))
+exactly_take (b ∷ wanted) (x ∷ octets) rest e =
+    elim (cases_Bool (x == b)) [
+      | inl is ↦ let same : x ≡ b = eqb-true x b is in let tails = exactly_take wanted octets rest (rw is at e) in cc
+      | inr isnt ↦ absurd (not_both rest (x ∷ octets) (sym (rw isnt at e)))
+    ]
 
 exactly_again : (wanted rest : List ℕ) → exactly wanted (wanted ++ rest) ≡ ok rest
 exactly_again [] rest = refl
@@ -289,36 +289,18 @@ at_most_number a b c d e f g h fits =
       | inr pa ↦ absurd (omega (arith, pa.0))
     ]
 
+-- an octet below that of the bound, or the same one and the rest at most that of the bound
+lower_or_same : (b x : ℕ) (bound raw : List ℕ) → x ≤ b → length raw ≡ length bound → (x ≡ b → IsAtMost bound raw) →
+    IsAtMost (b ∷ bound) (x ∷ raw)
+lower_or_same b x bound raw le long same =
+    elim (cases_lt x b) [ inl lt ↦ inr (lt, long) | inr ge ↦ let is : x ≡ b = omega arith in inl (is, same is) ]
+
 low_at_most : (e f g h : ℕ) → f < 256 → g < 256 → h < 256 → e * 16777216 + f * 65536 + g * 256 + h ≤ 4102444799 → IsAtMost (0xF4 ∷ 0x86 ∷ 0x56 ∷ 0xFF ∷ []) (e ∷ f ∷ g ∷ h ∷ [])
 low_at_most e f g h fs gs hs le =
-    elim (cases_lt e 0xF4) [
-      | inl lt ↦ inr (lt, refl)
-      | inr ge ↦
-          let e-is : e ≡ 0xF4 = omega arith in
-          inl (
-            e-is,
-            elim (cases_lt f 0x86) [
-              | inl lt ↦ inr (lt, refl)
-              | inr gf ↦
-                  let f-is : f ≡ 0x86 = omega arith in
-                  inl (
-                    f-is,
-                    elim (cases_lt g 0x56) [
-                      | inl lt ↦ inr (lt, refl)
-                      | inr gg ↦
-                          let g-is : g ≡ 0x56 = omega arith in
-                          inl (
-                            g-is,
-                            elim (cases_lt h 0xFF) [
-                              | inl lt ↦ inr (lt, refl)
-                              | inr gh ↦ let h-is : h ≡ 0xFF = omega arith in inl (h-is, tt)
-                            ],
-                          )
-                    ],
-                  )
-            ],
-          )
-    ]
+    lower_or_same 0xF4 e (0x86 ∷ 0x56 ∷ 0xFF ∷ []) (f ∷ g ∷ h ∷ []) (omega arith) refl (λ e-is.
+    lower_or_same 0x86 f (0x56 ∷ 0xFF ∷ []) (g ∷ h ∷ []) (omega arith) refl (λ f-is.
+    lower_or_same 0x56 g (0xFF ∷ []) (h ∷ []) (omega arith) refl (λ g-is.
+    lower_or_same 0xFF h [] [] (omega arith) refl (λ h-is. tt))))
 
 number_at_most : (a b c d e f g h : ℕ) → AreBelow 256 (a ∷ b ∷ c ∷ d ∷ e ∷ f ∷ g ∷ h ∷ []) → IsMoment (big_number 8 (a ∷ b ∷ c ∷ d ∷ e ∷ f ∷ g ∷ h ∷ [])) → IsAtMost last_moment_octets (a ∷ b ∷ c ∷ d ∷ e ∷ f ∷ g ∷ h ∷ [])
 number_at_most a b c d e f g h small le =

@@ -39,11 +39,13 @@ pub fn no_spelling_begins_another()
 {}
 
 /// What is spelled, entry by entry, is read back so, and nothing else spells it.
+#[tactic(auto, using(crate::proofs::Contents::entries_of_entries))]
 pub fn entries_are_read_back()
     ensures { EntriesAreReadBack }
 {}
 
 /// The octets of one entry are that entry alone.
+#[tactic(auto, using(crate::specs::Laws::one_entry))]
 pub fn one_entry_is_entries()
     ensures { (e : HistoryEntry) → HasSpelling e → AreEntries (spelling e) (e ∷ []) }
 {}
@@ -75,17 +77,20 @@ pub fn costs_add_up()
 {}
 
 /// Room for an entry depends on its act alone: neither the moment nor the caller matters.
+#[tactic(auto, using(crate::proofs::Rooms::same_room))]
 pub fn room_is_of_the_act()
     ensures { RoomIsOfTheAct }
 {}
 
 /// An entry with room keeps costs and promises within the capacity.
+#[tactic(auto, using(crate::proofs::Rooms::stays_within))]
 pub fn room_keeps_within()
     ensures { (h : List HistoryEntry) (e : HistoryEntry) (size : ℕ) → has_room h e size ≡ true →
         IsWithin (h ++ e ∷ []) size }
 {}
 
 /// A Close that is due always has room.
+#[tactic(auto, using(crate::proofs::Rooms::due_close))]
 pub fn a_due_close_has_room()
     ensures { (h : List HistoryEntry) (moment : ℕ) (caller : Caller) (size : ℕ) → IsWithin h size →
         is_close_due h ≡ true →
@@ -93,6 +98,7 @@ pub fn a_due_close_has_room()
 {}
 
 /// A Release of held numbers, each named once, always has room.
+#[tactic(auto, using(crate::proofs::Rooms::released_held))]
 pub fn a_release_of_held_numbers_has_room()
     ensures { (h : List HistoryEntry) (moment : ℕ) (caller : Caller) (node : NodeId) (numbers : List ℕ) (size : ℕ) →
         IsWithin h size →
@@ -101,6 +107,7 @@ pub fn a_release_of_held_numbers_has_room()
 {}
 
 /// A Cancel of held numbers, each named once, always has room.
+#[tactic(auto, using(crate::proofs::Rooms::cancelled_held))]
 pub fn a_cancel_of_held_numbers_has_room()
     ensures { (h : List HistoryEntry) (moment : ℕ) (caller : Caller) (node : NodeId) (numbers : List ℕ) (size : ℕ) →
         IsWithin h size →

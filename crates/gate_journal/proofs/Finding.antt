@@ -15,7 +15,7 @@ use Rattle.gate_journal.specs.Verdicts.{Fits, IsBehind, content_at}
 use Rattle.gate_journal.specs.declared.journal.Journal.{Journal}
 use Rattle.gate_journal.specs.declared.reading.Behind.{Behind}
 use Rattle.gate_journal.specs.declared.reading.Behind.TheVariants.{Shut, Whole, Cut}
-use Rattle.gate_journal.proofs.States.{settled}
+use Rattle.gate_journal.proofs.States.{settled, now, inside}
 
 ltb_tells : (a b : ℕ) → ((nat_lt a b ≡ true) × (a < b)) ⊎ ((nat_lt a b ≡ false) × (b ≤ a))
 ltb_tells a b = ⊎_elim (λ yes. inl (yes.0, omega (arith, yes.1))) (λ no. inr (no.0, omega (arith, no.1))) (leb_tells (suc a) b)
@@ -41,8 +41,9 @@ module _ {A : Type 0} (tells : Ghosts A) (laws : AreaLaws tells) (j : Journal A 
   found_at some batch more is at =
       let h = header (tells.size j.area) j.address j.generation in
       subst (λ n. content_at behind n j.gate ≡ Some (n + 5, length batch)) (sym at)
-      (content_found h (length-header (tells.size j.area) j.address j.generation) j.gate (tells.octets j.area) some batch more (omega (arith, laws.whole j.area told.0, j.sound.high))
-      ((j.sound.content told (tells.octets j.area) (laws.holds j.area)).listed ∙ ap (λ (bs : List (List ℕ)). drop 1 h ++ spelled bs) is)
+      (content_found h (length-header (tells.size j.area) j.address j.generation) j.gate (tells.octets j.area) some
+          batch more (inside tells laws j told)
+      ((now tells laws j told).listed ∙ ap (λ (bs : List (List ℕ)). drop 1 h ++ spelled bs) is)
       (small_among (batches_below j.gate (tells.octets j.area)) some batch more is (j.sound.small told)) behind (subst (λ n. IsBehind (tells.octets j.area) n behind) at reads))
 
   -- before the first closed gate there is one

@@ -4,7 +4,7 @@ use Rattle.std.specs.Prelude.{IsTrue, ◌&&◌, ◌==◌, take, drop}
 use Rattle.area_disk.specs.declared.area.Area.{Ghosts}
 use Rattle.area_disk.specs.declared.plan.Outcome3.{Outcome3}
 use Rattle.gate_journal.specs.Format.{open_gate, gate_at, header}
-use Rattle.gate_journal.specs.Journal.{header_of, closed_by, batches, torn, torn_stands, stop_stands}
+use Rattle.gate_journal.specs.Journal.{closed_by, batches, torn, torn_stands, stop_stands}
 use Rattle.gate_journal.specs.Kept.{IsAsBefore, IsKept}
 use Rattle.gate_journal.specs.Moments.{Kept}
 use Rattle.gate_journal.specs.State.{batches_below}
@@ -22,13 +22,10 @@ pub record IsOver {A : Type 0} {g : Ghosts A} (old new : Journal A g) : Type 0 w
 
 module _ {A : Type 0} {g : Ghosts A} (old new : Journal A g) (over : IsOver old new) where
   module _ (size : g.size new.area ≡ g.size old.area) where
-    pub header_stays : header_of new ≡ header_of old
-    header_stays = λ i. header (size i) (over.address i) (over.generation i)
-
     pub as_before : g.octets new.area ≡ g.octets old.area → (IsTrue g.tells_fate → (outcome : Outcome3) → (g.fate new.area).leaves outcome ≡ (g.fate old.area).leaves outcome) → IsAsBefore old new
     unfolding batches torn torn_stands stop_stands
     as_before octets leaves = record {
-      header = header_stays;
+      header = λ i. header (size i) (over.address i) (over.generation i);
       front = over.front;
       batches = λ i. batches_below (over.gate i) (octets i);
       end = over.gate;

@@ -1,6 +1,5 @@
 mod Adding
 mod Apart
-mod Appends
 mod Below
 mod Calm
 mod Contents

@@ -57,48 +57,64 @@ put_synced old at from wrote result mid new write ran sync =
     let all : P (write_fate old) (next_fate (after_call Runs old.schedule)) = subst (λ f. P f (next_fate (after_call Runs old.schedule))) (sym wr.0) there in
     record { fails = all.0; course = all.1; leaves = all.2 }
 
+closed_test : (octets : List ℕ) (gate : ℕ) → gate_at octets gate ≢ open_gate →
+    (gate_at octets gate == open_gate) ≡ false
+closed_test octets gate shut =
+    ⊎_elim (λ yes. absurd (shut yes.1)) (λ no. no.0) (eqb_tells (gate_at octets gate) open_gate)
+
 -- the gate after a write behind it, as each outcome leaves it
-module _ (gate : ℕ) (framed octets : List ℕ) (inside : gate + 1 ≤ length octets) where
+module _ (gate : ℕ) (octets : List ℕ) (inside : gate + 1 ≤ length octets) where
   before_written : (from : List ℕ) → gate_at (overwritten octets (gate + 1) from) gate ≡ gate_at octets gate
   before_written from =
       at_front gate (gate + 1) open_gate (overwritten octets (gate + 1) from) octets (omega arith)
-      (ap (λ (l : List ℕ). take (gate + 1) l) (append_assoc (take (gate + 1) octets) from (drop (gate + 1 + length from) octets)) ∙ take_at (take (gate + 1) octets) _ (gate + 1) (length-take-le (gate + 1) octets inside))
+      (ap (λ (l : List ℕ). take (gate + 1) l) (append_assoc (take (gate + 1) octets) from
+          (drop (gate + 1 + length from) octets))
+      ∙ take_at (take (gate + 1) octets) _ (gate + 1) (length-take-le (gate + 1) octets inside))
 
-  behind_written : (outcome : Outcome3) → gate_at (written_as outcome octets (gate + 1) framed) gate ≡ gate_at octets gate
-  behind_written Old = refl
-  behind_written New = before_written framed
-  behind_written Rot = before_written (replicate (length framed) 0x5A)
+  behind_written : (framed : List ℕ) (outcome : Outcome3)
+      → gate_at (written_as outcome octets (gate + 1) framed) gate ≡ gate_at octets gate
+  behind_written framed Old = refl
+  behind_written framed New = before_written framed
+  behind_written framed Rot = before_written (replicate (length framed) 0x5A)
 
   at_written : (octet : ℕ) → gate_at (overwritten octets gate (octet ∷ [])) gate ≡ octet
   at_written octet =
       ap (λ (l : List ℕ). get_or l gate open_gate) (append_assoc (take gate octets) (octet ∷ []) (drop (gate + 1) octets))
       ∙ get_or_at (take gate octets) octet (drop (gate + 1) octets) open_gate gate (length-take-le gate octets (omega arith))
 
-  gate_written : gate_at octets gate ≢ open_gate → (outcome : Outcome3) → (gate_at (written_as outcome octets gate (open_gate ∷ [])) gate == open_gate) ≡ is_new outcome
-  gate_written shut Old = ⊎_elim (λ yes. absurd (shut yes.1)) (λ no. no.0) (eqb_tells (gate_at octets gate) open_gate)
-  gate_written shut New = ap (λ x. x == open_gate) (at_written open_gate)
-  gate_written shut Rot = ap (λ x. x == open_gate) (at_written 0x5A)
+  module _ (old : Outcome3 → List ℕ) (shut : gate_at octets gate ≢ open_gate)
+      (same : (o : Outcome3) → old o ≡ octets) where
+    gate_written : (o : Outcome3) → (gate_at (written_as o (old o) gate (open_gate ∷ [])) gate == open_gate) ≡ is_new o
+    gate_written o =
+        ap (λ (l : List ℕ). gate_at (written_as o l gate (open_gate ∷ [])) gate == open_gate) (same o) ∙ here o
+      where
+        here : (o : Outcome3) → (gate_at (written_as o octets gate (open_gate ∷ [])) gate == open_gate) ≡ is_new o
+        here Old = closed_test octets gate shut
+        here New = ap (λ x. x == open_gate) (at_written open_gate)
+        here Rot = ap (λ x. x == open_gate) (at_written 0x5A)
 
-closed_test : (octets : List ℕ) (gate : ℕ) → gate_at octets gate ≢ open_gate → (gate_at octets gate == open_gate) ≡ false
-closed_test octets gate shut = ⊎_elim (λ yes. absurd (shut yes.1)) (λ no. no.0) (eqb_tells (gate_at octets gate) open_gate)
+    -- whether it is open where the opening of the gate ended
+    gate_ended : (ending : Ending) (o : Outcome3)
+        → (gate_at (left_by ending old gate (open_gate ∷ []) o) gate == open_gate) ≡ batch_stands BothRan ending o
+    gate_ended BothRan o = gate_written New
+    gate_ended (AtWrite (Stops p)) o = gate_written p
+    gate_ended (AtSync Fails) o = gate_written o
+    gate_ended (AtSync (Stops p)) o = gate_written p
+    gate_ended _ o = ap (λ (l : List ℕ). gate_at l gate == open_gate) (same o) ∙ closed_test octets gate shut
 
--- the gate stays closed where the writing of the frame ended
-frame_ended : (ending : Ending) (old : Outcome3 → List ℕ) (octets : List ℕ) (gate : ℕ) (framed : List ℕ) → gate + 1 ≤ length octets → gate_at octets gate ≢ open_gate → ((o : Outcome3) → old o ≡ octets) → is_ended ending ≡ true
-    → (o : Outcome3) → gate_at (left_by ending old (gate + 1) framed o) gate ≢ open_gate
-frame_ended BothRan old octets gate framed inside shut same ended o e = other_bool (sym ended)
-frame_ended (AtWrite (Stops p)) old octets gate framed inside shut same ended o e = shut (sym (behind_written gate framed octets inside p) ∙ ap (λ (l : List ℕ). gate_at (written_as p l (gate + 1) framed) gate) (sym (same p)) ∙ e)
-frame_ended (AtSync Fails) old octets gate framed inside shut same ended o e = shut (sym (behind_written gate framed octets inside o) ∙ ap (λ (l : List ℕ). gate_at (written_as o l (gate + 1) framed) gate) (sym (same o)) ∙ e)
-frame_ended (AtSync (Stops p)) old octets gate framed inside shut same ended o e = shut (sym (behind_written gate framed octets inside p) ∙ ap (λ (l : List ℕ). gate_at (written_as p l (gate + 1) framed) gate) (sym (same p)) ∙ e)
-frame_ended _ old octets gate framed inside shut same ended o e = shut (ap (λ (l : List ℕ). gate_at l gate) (sym (same o)) ∙ e)
+    shut_behind : (framed : List ℕ) (o : Outcome3) → gate_at (written_as o (old o) (gate + 1) framed) gate ≢ open_gate
+    shut_behind framed o e =
+        shut (sym (behind_written framed o) ∙ ap (λ (l : List ℕ).
+            gate_at (written_as o l (gate + 1) framed) gate) (sym (same o)) ∙ e)
 
--- whether it is open where the opening of the gate ended
-gate_ended : (ending : Ending) (old : Outcome3 → List ℕ) (octets : List ℕ) (gate : ℕ) → gate + 1 ≤ length octets → gate_at octets gate ≢ open_gate → ((o : Outcome3) → old o ≡ octets)
-    → (o : Outcome3) → (gate_at (left_by ending old gate (open_gate ∷ []) o) gate == open_gate) ≡ batch_stands BothRan ending o
-gate_ended BothRan old octets gate inside shut same o = ap (λ (l : List ℕ). gate_at (overwritten l gate (open_gate ∷ [])) gate == open_gate) (same New) ∙ ap (λ x. x == open_gate) (at_written gate [] octets inside open_gate)
-gate_ended (AtWrite (Stops p)) old octets gate inside shut same o = ap (λ (l : List ℕ). gate_at (written_as p l gate (open_gate ∷ [])) gate == open_gate) (same p) ∙ gate_written gate [] octets inside shut p
-gate_ended (AtSync Fails) old octets gate inside shut same o = ap (λ (l : List ℕ). gate_at (written_as o l gate (open_gate ∷ [])) gate == open_gate) (same o) ∙ gate_written gate [] octets inside shut o
-gate_ended (AtSync (Stops p)) old octets gate inside shut same o = ap (λ (l : List ℕ). gate_at (written_as p l gate (open_gate ∷ [])) gate == open_gate) (same p) ∙ gate_written gate [] octets inside shut p
-gate_ended _ old octets gate inside shut same o = ap (λ (l : List ℕ). gate_at l gate == open_gate) (same o) ∙ closed_test octets gate shut
+    -- the gate stays closed where the writing of the frame ended
+    frame_ended : (framed : List ℕ) (ending : Ending) → is_ended ending ≡ true
+        → (o : Outcome3) → gate_at (left_by ending old (gate + 1) framed o) gate ≢ open_gate
+    frame_ended framed BothRan ended o e = other_bool (sym ended)
+    frame_ended framed (AtWrite (Stops p)) ended o e = shut_behind framed p e
+    frame_ended framed (AtSync Fails) ended o e = shut_behind framed o e
+    frame_ended framed (AtSync (Stops p)) ended o e = shut_behind framed p e
+    frame_ended framed _ ended o e = shut (ap (λ (l : List ℕ). gate_at l gate) (sym (same o)) ∙ e)
 
 ended_parts : (first second : Ending) (one two : Course) → is_ended first ≡ true → (append_fails first second ≡ true) × (course_after first one two ≡ one) × ((o : Outcome3) → batch_stands first second o ≡ false)
 ended_parts BothRan second one two ended = absurd (other_bool (sym ended))
@@ -117,7 +133,9 @@ module _ (old : Prospect) (gate : ℕ) (framed octets : List ℕ) (inside : gate
       record {
         fails = err ∙ sym parts.0;
         course = planned.course ∙ sym parts.1;
-        opened = λ o. closed_test (new.leaves o) gate (λ e. frame_ended (ending_of (course_of old)) old.leaves octets gate framed inside shut same ended o (ap (λ (l : List ℕ). gate_at l gate) (sym (planned.leaves o)) ∙ e)) ∙ sym (parts.2 o);
+        opened = λ o. closed_test (new.leaves o) gate (λ e.
+            frame_ended gate octets inside old.leaves shut same framed (ending_of (course_of old)) ended o
+            (ap (λ (l : List ℕ). gate_at l gate) (sym (planned.leaves o)) ∙ e)) ∙ sym (parts.2 o);
       }
 
   -- it was, and the gate was written
@@ -133,7 +151,9 @@ module _ (old : Prospect) (gate : ℕ) (framed octets : List ℕ) (inside : gate
         course = two.course ∙ ap after_put one.course ∙ ap (λ e. course_after e (after_put (course_of old)) (after_put (after_put (course_of old)))) (sym both);
         opened = λ o.
             ap (λ (l : List ℕ). gate_at l gate == open_gate) (two.leaves o)
-            ∙ gate_ended (ending_of (course_of mid)) mid.leaves (overwritten octets (gate + 1) framed) gate fits (λ e. shut (sym (before_written gate framed octets inside framed) ∙ e)) staged o
+            ∙ gate_ended gate (overwritten octets (gate + 1) framed) fits
+                mid.leaves (λ e. shut (sym (before_written gate octets inside framed) ∙ e)) staged
+                (ending_of (course_of mid)) o
             ∙ ap (λ e. batch_stands BothRan e o) second
             ∙ ap (λ e. batch_stands e (ending_of (after_put (course_of old))) o) (sym both);
       }

@@ -1,5 +1,5 @@
 -- What reads of an area say of its octets.
-use Rattle.std.proofs.Common.{◌≡◌, ◌≢◌, inl, inr, ℕ, ◌+◌, ◌-◌, ◌<◌, ⊎_elim, true, false, List, [], ◌∷◌, length, get_or, take, drop, sym, ◌∙◌, ap, subst, arith}
+use Rattle.std.proofs.Common.{◌≡◌, ◌≢◌, inl, inr, ℕ, ◌+◌, ◌<◌, ⊎_elim, true, false, List, length, get_or, take, drop, sym, ◌∙◌, ap, subst, arith}
 use Rattle.std.proofs.lemmas.Bool.{cases_eq}
 use Rattle.std.proofs.lemmas.List.{drop-take, get_or-take, get_or-drop, get_or_default, take_all, take-take}
 use Rattle.std.proofs.lemmas.Nat.{be_bytes_4}
@@ -10,6 +10,7 @@ use Rattle.gate_journal.specs.Verdicts.{IsVerdict}
 use Rattle.gate_journal.specs.declared.reading.Verdict.{Verdict}
 use Rattle.gate_journal.specs.declared.reading.Verdict.TheVariants.{Starts as Begins, Same, Other}
 use Rattle.gate_journal.specs.Fronts.{at_front}
+use Rattle.gate_journal.proofs.Contents.{length-tail}
 
 pub gate_read : (octets into : List ℕ) (at : ℕ) → at < length octets → into ≡ take 1 (drop at octets) → gate_at octets at ≡ get_or into 0 0
 gate_read octets into at inside is =
@@ -31,25 +32,19 @@ field_read into number four octets is = be_bytes_4 into number four octets (omeg
 module _ (header read : List ℕ) (at : ℕ) (inside : at < 32) (same : take at read ≡ take at header) (other : get_or read at 0 ≢ get_or header at 0) where
   pub unfinished_first : at ≡ 0 → length read ≡ 32 → drop 1 read ≡ drop 1 header → IsUnfinished header read
   unfinished_first is long rest = record {
-    rest = take_all 31 (drop 1 read) (omega (arith, tail_length read)) ∙ rest;
+    rest = take_all 31 (drop 1 read) (omega (arith, length-tail read)) ∙ rest;
     first = λ e. other (subst (λ i. get_or read i 0 ≡ get_or header i 0) (sym is) e);
   }
-    where
-      tail_length : (l : List ℕ) → length (drop 1 l) ≡ length l - 1
-      tail_length [] = omega arith
-      tail_length (x ∷ l) = omega arith
 
   pub differs : get_or read 0 0 ≢ 0 → (at ≡ 0 → drop 1 read ≢ drop 1 header) → length read ≡ 32 → Differs header read at
   differs started rest long = record {
     inside = inside;
     same = same;
     other = other;
-    begun = ⊎_elim started (λ unfinished. ⊎_elim (λ first. rest first (sym (take_all 31 (drop 1 read) (omega (arith, tail_length read))) ∙ unfinished.rest)) (λ later. unfinished.first (at_front 0 at 0 read header (omega arith) same)) (cases_eq at 0));
+    begun = ⊎_elim started (λ unfinished. ⊎_elim (λ first.
+        rest first (sym (take_all 31 (drop 1 read) (omega (arith, length-tail read))) ∙ unfinished.rest)) (λ later.
+        unfinished.first (at_front 0 at 0 read header (omega arith) same)) (cases_eq at 0));
   }
-    where
-      tail_length : (l : List ℕ) → length (drop 1 l) ≡ length l - 1
-      tail_length [] = omega arith
-      tail_length (x ∷ l) = omega arith
 
 -- what the first octets say they say of the whole area
 module _ (header octets : List ℕ) where

@@ -1,7 +1,7 @@
 -- How a sync and the reads after it come out as planned.
 use Rattle.std.proofs.Common.{◌≡◌, ℕ, Bool, true, false, List, [], Result, refl, sym, ◌∙◌, ap}
 use Rattle.std.specs.Prelude.{is_err, ◌||◌}
-use Rattle.area_disk.specs.Plan.{Prospect, Schedule, next_fate, after_call, is_failure, is_stop, sync_fate, spare_after_sync, LeavesAfterSync, SyncAsPlanned}
+use Rattle.area_disk.specs.Plan.{Prospect, Schedule, next_fate, is_failure, is_stop, sync_fate, LeavesAfterSync, SyncAsPlanned}
 use Rattle.area_disk.specs.ArmedLaws.{stopped_fails}
 use Rattle.area_disk.specs.declared.plan.Fate.{Fate}
 use Rattle.area_disk.specs.declared.plan.Fate.TheVariants.{Runs, Fails, Stops}
@@ -21,35 +21,6 @@ running s ran = either s.stopped refl
 left_after : (fate : Fate) (old new : Outcome3 → List ℕ) → LeavesAfterSync fate old new → (outcome : Outcome3) → new outcome ≡ old (outcome_left fate outcome)
 left_after Runs old new leaves outcome = leaves outcome
 left_after _ old new leaves outcome = leaves outcome
-
-course_synced : (old new : Prospect) (fate : Fate) → new.schedule ≡ after_call fate old.schedule → new.spare ≡ spare_after_sync fate old.spare → course_of new ≡ after_sync fate (course_of old)
-course_synced old new fate schedule spare = λ i. record { schedule = schedule i; spare = spare i }
-
--- it ran, and reads followed
-pub sync_ran : {T E : Type 0} (old : Prospect) (result : Result T E) (mid new : Prospect) (failed : Bool) → SyncAsPlanned old result mid → is_err result ≡ false → ReadOn mid new → (ReadsRun mid.schedule → failed ≡ false) → SyncPlanned old failed new
-sync_ran old result mid new failed sync ran read runs =
-    let not_failed : is_failure (sync_fate old) ≡ false = sym sync.fails ∙ ran in
-    let came = course_synced old mid (sync_fate old) sync.schedule sync.spare in
-    let went : course_of new ≡ with_reads new.schedule.reads (course_of mid) = λ i. record { schedule = read.schedule i; spare = read.spare i } in
-    record {
-      fails = λ e. absurd (other_bool (sym e ∙ not_failed));
-      runs = λ none. runs (running_after none) ∙ sym not_failed;
-      course = went ∙ ap (λ (c : Course). with_reads new.schedule.reads c) came;
-      leaves = λ outcome. read.leaves outcome ∙ left_after (sync_fate old) old.leaves mid.leaves sync.leaves outcome;
-    }
-  where
-    stop_is : (fate : Fate) → is_failure fate ≡ false → is_stop fate ≡ false
-    stop_is Runs e = refl
-    stop_is Fails e = refl
-    stop_is (Stops o) e = absurd (other_bool e)
-
-    running_after : old.schedule.read_fail ≡ [] → ReadsRun mid.schedule
-    running_after none =
-        let not_failed : is_failure (sync_fate old) ≡ false = sym sync.fails ∙ ran in
-        record {
-          running = ap (λ (s : Schedule). s.stopped) sync.schedule ∙ ap (λ b. b || is_stop (sync_fate old)) (running old.schedule not_failed) ∙ stop_is (sync_fate old) not_failed;
-          reads = ap (λ (s : Schedule). s.read_fail) sync.schedule ∙ none;
-        }
 
 -- reads behind a sync and reads that came out as planned
 pub sync_on : (old mid new : Prospect) (failed : Bool) → SyncPlanned old false mid → ReadOn mid new → (ReadsRun mid.schedule → failed ≡ false) → SyncPlanned old failed new
@@ -72,3 +43,18 @@ sync_on old mid new failed one read runs = record {
           running = ap (λ (c : Course). c.schedule.stopped) one.course ∙ ap (λ b. b || is_stop (sync_fate old)) (running old.schedule ran) ∙ stop_is (sync_fate old) ran;
           reads = ap (λ (c : Course). c.schedule.read_fail) one.course ∙ none;
         }
+
+-- it ran, and reads followed
+pub sync_ran : {T E : Type 0} (old : Prospect) (result : Result T E) (mid new : Prospect) (failed : Bool)
+    → SyncAsPlanned old result mid → is_err result ≡ false → ReadOn mid new → (ReadsRun mid.schedule → failed ≡ false)
+    → SyncPlanned old failed new
+sync_ran old result mid new failed sync ran read runs =
+    let not_failed : is_failure (sync_fate old) ≡ false = sym sync.fails ∙ ran in
+    let came : course_of mid ≡ after_sync (sync_fate old) (course_of old) =
+    λ i. record { schedule = sync.schedule i; spare = sync.spare i } in
+    sync_on old mid new failed (record {
+      fails = λ e. absurd (other_bool (sym e ∙ not_failed));
+      runs = λ none. sym not_failed;
+      course = ap (λ (c : Course). with_reads mid.schedule.reads c) came;
+      leaves = left_after (sync_fate old) old.leaves mid.leaves sync.leaves;
+    }) read runs

@@ -52,8 +52,9 @@ module _ (header : List ℕ) (front : Front) (batches : List (List ℕ)) (place 
       }
 
   -- a closed gate leaves it out
-  pub left_out : (batch before c : List ℕ) → Content header front true batches batch place c → gate_at c place ≢ open_gate → Content header front false batches before place c
-  left_out batch before c content shut = record {
+  pub left_out : (is_torn : Bool) (batch before c : List ℕ) → Content header front is_torn batches batch place c
+      → gate_at c place ≢ open_gate → Content header front false batches before place c
+  left_out is_torn batch before c content shut = record {
     listed = content.listed;
     founded = content.founded;
     drafted = content.drafted;
@@ -84,44 +85,53 @@ module _ (header : List ℕ) (front : Front) (batches : List (List ℕ)) (place 
     framed = λ e. absurd (other_bool (sym e));
   }
 
-module _ (header : List ℕ) (long : length header ≡ 32) (front : Front) (batches : List (List ℕ)) (place : ℕ) (low : 32 ≤ place) (small : All IsSmall batches) where
-  pub content_keeps : (before c : List ℕ) → place < length c → Content header front false batches before place c → Keeps front header batches c
-  content_keeps before c inside content = keeps header long place c batches low inside small front content.listed content.founded content.drafted (content.shut refl)
+module _ (header : List ℕ) (long : length header ≡ 32) (front : Front) (batches : List (List ℕ)) (place : ℕ)
+    (low : 32 ≤ place) (small : All IsSmall batches) where
+  pub content_keeps : (before c : List ℕ) → place < length c → Content header front false batches before place c
+      → Keeps front header batches c
+  content_keeps before c inside content =
+      keeps header long place c batches low inside small front
+          content.listed content.founded content.drafted (content.shut refl)
 
-pub content_keeps_or : (header : List ℕ) (long : length header ≡ 32) (front : Front) (batches : List (List ℕ)) (place : ℕ) (low : 32 ≤ place) (small : All IsSmall batches) (batch c : List ℕ) → IsSmall batch → place + 5 + length batch < length c
-    → Content header front true batches batch place c → Keeps front header batches c ⊎ Keeps front header (batches ++ batch ∷ []) c
-content_keeps_or header long front batches place low small batch c short inside content =
-    ⊎_elim (λ opened.
-    inr (content_keeps header long front (batches ++ batch ∷ []) (place + 5 + length batch) (omega arith) (All-push IsSmall batches batch small short) [] c inside (taken_in header front batches place low long batch [] c inside content opened)))
-    (λ shut. inl (content_keeps header long front batches place low small [] c (omega arith) (left_out header front batches place low batch [] c content shut)))
-    (cases_eq (gate_at c place) open_gate)
+-- what a crash leaves of a journal, whether a batch may stand or not
+module _ (header : List ℕ) (long : length header ≡ 32) (front : Front) (batches : List (List ℕ)) (place : ℕ)
+    (low : 32 ≤ place) (small : All IsSmall batches) (batch c : List ℕ) (short : IsSmall batch) where
+  pub content_keeps_or : place + 5 + length batch < length c → Content header front true batches batch place c
+      → Keeps front header batches c ⊎ Keeps front header (batches ++ batch ∷ []) c
+  content_keeps_or inside content =
+      ⊎_elim (λ opened.
+      inr (content_keeps header long front (batches ++ batch ∷ []) (place + 5 + length batch) (omega arith)
+      (All-push IsSmall batches batch small short) [] c inside
+      (taken_in header front batches place low long batch [] c inside content opened)))
+      (λ shut.
+      inl (content_keeps header long front batches place low small [] c (omega arith)
+      (left_out header front batches place low true batch [] c content shut)))
+      (cases_eq (gate_at c place) open_gate)
 
--- the same content under other names
-pub moved : (header other : List ℕ) (front : Front) (is_torn : Bool) (batches some : List (List ℕ)) (batch next : List ℕ) (place : ℕ) (c : List ℕ) → other ≡ header → some ≡ batches → next ≡ batch
-    → Content header front is_torn batches batch place c → Content other front is_torn some next place c
-moved header other front is_torn batches some batch next place c h b n content =
-    subst (λ (x : List ℕ). Content x front is_torn some next place c) (sym h)
-    (subst (λ (bs : List (List ℕ)). Content header front is_torn bs next place c) (sym b) (subst (λ (x : List ℕ). Content header front is_torn batches x place c) (sym n) content))
-
--- behind a closed gate no batch matters
-pub any_batch : (header : List ℕ) (front : Front) (batches : List (List ℕ)) (batch next : List ℕ) (place : ℕ) (c : List ℕ) → Content header front false batches batch place c → Content header front false batches next place c
-any_batch header front batches batch next place c content = record {
-  listed = content.listed;
-  founded = content.founded;
-  drafted = content.drafted;
-  shut = content.shut;
-  framed = λ e. absurd (other_bool (sym e));
-}
+  pub content_keeps_any : (is_torn : Bool) → place < length c → (is_torn ≡ true → place + 5 + length batch < length c)
+      → Content header front is_torn batches batch place c
+      → Keeps front header batches c ⊎ Keeps front header (batches ++ batch ∷ []) c
+  content_keeps_any false inside fits content =
+      inl (content_keeps header long front batches place low small batch c inside content)
+  content_keeps_any true inside fits content = content_keeps_or (fits refl) content
 
 -- the journal is opened again, and its gate read: the batch behind it is taken in or left out
-pub after_gate : (header : List ℕ) (long : length header ≡ 32) (front : Front) (batches : List (List ℕ)) (batch : List ℕ) (place : ℕ) (low : 32 ≤ place) (octets : List ℕ) (is_torn : Bool) (octet : ℕ)
-    → (is_torn ≡ true → place + 5 + length batch < length octets) → octet ≡ gate_at octets place → Content header front is_torn batches batch place octets
-    → Content header front false (if is_torn && (octet == open_gate) then batches ++ batch ∷ [] else batches) [] (gate_after is_torn place (length batch) octet) octets
-after_gate header long front batches batch place low octets false octet inside is content = any_batch header front batches batch [] place octets content
-after_gate header long front batches batch place low octets true octet inside is content =
-    let P : Bool → Type 0 = λ b. Content header front false (if b then batches ++ batch ∷ [] else batches) [] (if b then place + 5 + length batch else place) octets in
-    ⊎_elim (λ yes. subst P (sym yes.0) (taken_in header front batches place low long batch [] octets (inside refl) content (sym is ∙ yes.1)))
-    (λ no. subst P (sym no.0) (left_out header front batches place low batch [] octets content (λ opened. no.1 (is ∙ opened))))
+pub after_gate : (header : List ℕ) (long : length header ≡ 32) (front : Front) (batches : List (List ℕ))
+    → (batch before : List ℕ) (place : ℕ) (low : 32 ≤ place) (octets : List ℕ) (is_torn : Bool) (octet : ℕ)
+    → (is_torn ≡ true → place + 5 + length batch < length octets) → octet ≡ gate_at octets place
+    → Content header front is_torn batches batch place octets
+    → Content header front false (if is_torn && (octet == open_gate) then batches ++ batch ∷ [] else batches) before
+    (gate_after is_torn place (length batch) octet) octets
+after_gate header long front batches batch before place low octets false octet inside is content =
+    left_out header front batches place low false batch before octets content (content.shut refl)
+after_gate header long front batches batch before place low octets true octet inside is content =
+    let P : Bool → Type 0 = λ b.
+    Content header front false (if b then batches ++ batch ∷ [] else batches) before
+        (if b then place + 5 + length batch else place) octets in
+    ⊎_elim (λ yes. subst P (sym yes.0)
+    (taken_in header front batches place low long batch before octets (inside refl) content (sym is ∙ yes.1)))
+    (λ no. subst P (sym no.0)
+    (left_out header front batches place low true batch before octets content (λ opened. no.1 (is ∙ opened))))
     (eqb_tells octet open_gate)
 
 -- and octet 0 read
@@ -147,9 +157,3 @@ after_first header begins Founding batches batch place octets first is content =
     }))
     (eqb_tells first 67)
 after_first header begins _ batches batch place octets first is content = content
-
--- what a crash leaves of a journal, whether a batch may stand or not
-pub content_keeps_any : (header : List ℕ) (long : length header ≡ 32) (front : Front) (is_torn : Bool) (batches : List (List ℕ)) (place : ℕ) (low : 32 ≤ place) (small : All IsSmall batches) (batch c : List ℕ) → IsSmall batch → place < length c
-    → (is_torn ≡ true → place + 5 + length batch < length c) → Content header front is_torn batches batch place c → Keeps front header batches c ⊎ Keeps front header (batches ++ batch ∷ []) c
-content_keeps_any header long front false batches place low small batch c short inside fits content = inl (content_keeps header long front batches place low small batch c inside content)
-content_keeps_any header long front true batches place low small batch c short inside fits content = content_keeps_or header long front batches place low small batch c short (fits refl) content

@@ -13,6 +13,7 @@ use Rattle.node_core.specs.declared.port.Port.TheVariants as port
 use Rattle.node_core.specs.Copies.{command_hearing, copy_hearing, copy_hearing_own, first_told, names, told, told_if}
 use Rattle.node_core.specs.Packets.{commanded}
 use Rattle.node_core.specs.Submitting.{least, numbers_at}
+use Rattle.node_core.proofs.CaseLemmas.{either_hears}
 
 pub hearing_more : (port : Port) (gateway cause : ℕ) (numbers : List ℕ) (xs ys : List PacketCopy) (i : ℕ) (x : PacketCopy) → i < length xs →
     ys ≡ map (copy_hearing port gateway cause numbers) (take i xs) ++ drop i xs → x ≡ get_or ys i x →
@@ -77,8 +78,6 @@ failure_keeps_own port numbers copy =
 -- it leaves a copy as it was
 pub failure_keeps : (port : Port) (gateway : ℕ) (numbers : List ℕ) (copy : PacketCopy) →
     copy_hearing port gateway SYSTEM_FAILURE numbers copy ≡ copy
-failure_keeps port gateway numbers copy = by (copy.gateway == gateway)
-  where
-    by : (is : Bool) → (if is then copy_hearing_own port SYSTEM_FAILURE numbers copy else copy) ≡ copy
-    by true = failure_keeps_own port numbers copy
-    by false = refl
+failure_keeps port gateway numbers copy =
+    either_hears (λ (c : PacketCopy). c ≡ copy) port gateway SYSTEM_FAILURE numbers copy
+        (failure_keeps_own port numbers copy) refl

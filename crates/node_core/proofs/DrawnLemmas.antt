@@ -1,36 +1,30 @@
 -- Each number that a tick draws is at least the one that was next at its gateway, so it is that of no copy, release or cancel before.
-use Rattle.std.proofs.Common.{◌≡◌, ℕ, suc, ◌+◌, ◌*◌, ◌<◌, ◌≤◌, ◌==◌, ◌&&◌, Bool, true, false, if◌then◌else◌, List, [], ◌∷◌, ◌++◌, length, Option, Some, None, refl, sym, ap, subst, ◌∙◌, arith, inl, inr}
-use Rattle.std.specs.List.{AllByRecursion, find, flat_map, list_any}
+use Rattle.std.proofs.Common.{◌≡◌, ℕ, ◌+◌, ◌*◌, ◌<◌, ◌≤◌, ◌==◌, ◌&&◌, Bool, true, false, List, [], ◌∷◌, ◌++◌, length, Option, Some, None, refl, sym, ap, subst, ◌∙◌, arith, inl, inr}
+use Rattle.std.specs.List.{AllByRecursion, list_any}
 use Rattle.std.proofs.lemmas.Bool.Decides.{eqb_tells}
-use Rattle.path_mgmt.specs.NodePath.{PathsOfNode, is_alive}
+use Rattle.path_mgmt.specs.NodePath.{PathsOfNode}
 use Rattle.node_core.specs.declared.copy.Command.{Command}
-use Rattle.node_core.specs.declared.copy.Order.{Order}
-use Rattle.node_core.specs.declared.copy.Order.TheVariants.{Release, Cancel}
-use Rattle.node_core.specs.declared.copy.PacketCopy.{PacketCopy}
-use Rattle.node_core.specs.declared.copy.Verdict.{Verdict}
-use Rattle.node_core.specs.declared.copy.Verdict.TheVariants.{Unknown, Sealed, Held}
 use Rattle.node_core.specs.declared.peer.Peer.{Peer}
 use Rattle.node_core.specs.declared.sending.Sending.{Sending}
 use Rattle.node_core.specs.declared.sending.Sending.TheVariants as send
-use Rattle.node_core.specs.Copies.{is_answered, is_held}
 use Rattle.node_core.specs.Knowing.{draws}
 use Rattle.node_core.specs.Log.{LogEntry, NodeSetup, Ticked, favourite, packets_of, peers_of}
 use Rattle.node_core.specs.Moving.{appointing}
-use Rattle.node_core.specs.Packets.{PacketState, chosen, is_done, packet_after_all}
+use Rattle.node_core.specs.Packets.{PacketState, packet_after_all}
 use Rattle.node_core.specs.Peers.{all_drawn, next_number}
-use Rattle.node_core.specs.Sendings.{asking, command_by, command_of, command_unless, copy_to, due_by_copies, due_by_verdict, due_for, due_for_all, probe_of, probes, probes_from, releasing, repeating, settling, settling_beside, settling_by, test_of}
+use Rattle.node_core.specs.Sendings.{due_for, due_for_all, probes}
 use Rattle.node_core.specs.Reached.{NodeCall, log_of, reached}
 use Rattle.node_core.specs.Ticks.{due_now}
 use Rattle.node_core.specs.Value.{befallen, logged, node_of}
-use Rattle.node_core.proofs.ChoosingLemmas.{each_append}
 use Rattle.node_core.proofs.KeptLemmas.{AllKept, GoOn, all_kept_on, peers_go_on}
 use Rattle.node_core.proofs.Moves.{Moves, onward, still}
 use Rattle.node_core.proofs.PlanLemmas.{all_drawn_append}
 use Rattle.node_core.proofs.ReachedLemmas.{Alike, Within, go_on, probes_alike, stands}
-use Rattle.node_core.proofs.RestingLemmas.{each_weaker}
+use Rattle.node_core.proofs.RestingLemmas.{each_append, each_weaker}
 use Rattle.node_core.proofs.SingleLemmas.{nothing_more}
 use Rattle.node_core.proofs.TickMoves.{all_kept_after, one_packet, size_after, tick_moves}
 use Rattle.node_core.proofs.WeightLemmas.{Bounded, bounded_after, one_within}
+use Rattle.node_core.proofs.DueLemmas.{due_each, probes_each}
 
 -- a number that the sending draws is at least the next one of the gateway
 abbrev pub DrawsNext : List Peer → Sending → Type 0
@@ -43,74 +37,13 @@ AllDraw peers sendings = AllByRecursion (DrawsNext peers) sendings
 
 -- ---- what is due for a packet
 
-module _ (number : ℕ) (peers : List Peer) where
-  command_draws : (order : Order) (copy : PacketCopy) → AllDraw peers (command_of peers number order copy)
-  command_draws order copy = unless (is_answered copy)
-    where
-      by : (command : Option Command) → DrawsNext peers (command_by command peers number order copy)
-      by None = λ is. omega arith
-      by (Some command) = λ is. absurd (cc)
-
-      unless : (answered : Bool) → AllDraw peers (command_unless answered peers number order copy)
-      unless true = tt
-      unless false = (by copy.command, tt)
-
-  settling_draws : (verdict : Verdict) (copy : PacketCopy) → AllDraw peers (settling_by verdict peers number copy)
-  settling_draws Unknown copy = (tt, tt)
-  settling_draws Held copy = command_draws Cancel copy
-  settling_draws _ copy = tt
-
-  all_settle : (duplicates : List PacketCopy) → AllDraw peers (flat_map (settling peers number) duplicates)
-  all_settle [] = tt
-  all_settle (copy ∷ duplicates) = each_append (DrawsNext peers) _ _ (settling_draws copy.verdict copy) (all_settle duplicates)
-
-  others_settle : (choice : PacketCopy) (duplicates : List PacketCopy) → AllDraw peers (flat_map (settling_beside choice peers number) duplicates)
-  others_settle choice [] = tt
-  others_settle choice (copy ∷ duplicates) =
-      each_append (DrawsNext peers) _ _ (by (copy.gateway == choice.gateway)) (others_settle choice duplicates)
-    where
-      by : (is : Bool) → AllDraw peers (if is then [] else settling peers number copy)
-      by true = tt
-      by false = settling_draws copy.verdict copy
-
-  copy_draws : (favourite : ℕ) (up is_plain : Bool) → AllDraw peers (copy_to favourite up peers number is_plain)
-  copy_draws favourite false is_plain = tt
-  copy_draws favourite true is_plain = ((λ is. omega arith), tt)
-
-  asking_draws : (favourite : ℕ) (up : Bool) (plain : PacketCopy) (duplicates : List PacketCopy) →
-      AllDraw peers (asking favourite up peers number plain duplicates)
-  asking_draws favourite up plain duplicates = by (list_any (λ copy. is_held copy.verdict) duplicates)
-    where
-      repeats : (there : Option PacketCopy) → AllDraw peers (repeating there favourite up peers number)
-      repeats (Some copy) = ((λ is. absurd (cc)), tt)
-      repeats None = copy_draws favourite up false
-
-      by : (is : Bool) → AllDraw peers (if is then test_of number plain ∷ []
-          else repeating (find (λ copy. copy.gateway == favourite) (plain ∷ duplicates)) favourite up peers number)
-      by true = (tt, tt)
-      by false = repeats (find (λ copy. copy.gateway == favourite) (plain ∷ duplicates))
-
-  releasing_draws : (choice : Option PacketCopy) (duplicates : List PacketCopy) → AllDraw peers (releasing choice peers number duplicates)
-  releasing_draws None duplicates = all_settle duplicates
-  releasing_draws (Some choice) duplicates =
-      each_append (DrawsNext peers) _ _ (command_draws Release choice) (others_settle choice duplicates)
-
-  verdict_draws : (verdict : Verdict) (favourite : ℕ) (up : Bool) (plain : PacketCopy) (duplicates : List PacketCopy) →
-      AllDraw peers (due_by_verdict verdict favourite up peers number plain duplicates)
-  verdict_draws Unknown favourite up plain duplicates = asking_draws favourite up plain duplicates
-  verdict_draws Sealed favourite up plain duplicates = releasing_draws (chosen duplicates) duplicates
-  verdict_draws _ favourite up plain duplicates = all_settle duplicates
-
-  copies_draw : (favourite : ℕ) (up : Bool) (copies : List PacketCopy) → AllDraw peers (due_by_copies favourite up peers number copies)
-  copies_draw favourite up [] = copy_draws favourite up true
-  copies_draw favourite up (plain ∷ duplicates) = verdict_draws plain.verdict favourite up plain duplicates
-
 due_draws : (favourite : ℕ) (up : Bool) (peers : List Peer) (packet : PacketState) → AllDraw peers (due_for favourite up peers packet)
-due_draws favourite up peers packet = by (is_done packet.copies)
-  where
-    by : (is : Bool) → AllDraw peers (if is then [] else due_by_copies favourite up peers packet.number packet.copies)
-    by true = tt
-    by false = copies_draw packet.number peers favourite up packet.copies
+due_draws favourite up peers packet = due_each (DrawsNext peers) favourite up peers packet (record {
+  copied = λ gateway is_plain is. omega arith;
+  repeated = λ copy is. absurd (cc);
+  tested = λ copy. tt;
+  commanded = λ order copy drawn is_new next choice is. omega (arith, next is);
+})
 
 -- ---- all that a tick sends
 
@@ -145,15 +78,6 @@ module _ (favourite : ℕ) (up : Bool) where
       each_append (DrawsNext peers) due (due_for_all favourite up between packets) (due_draws favourite up peers packet)
       (each_weaker (DrawsNext between) (DrawsNext peers) (draws_before peers between (moves_go_on first)) (due_for_all favourite up between packets) rest)
 
-probes_draw : (all : List Peer) (gateway : ℕ) (paths : PathsOfNode) (peers : List Peer) → AllDraw all (probes_from gateway paths peers)
-probes_draw all gateway paths [] = tt
-probes_draw all gateway paths (peer ∷ peers) =
-    each_append (DrawsNext all) _ _ (by (is_alive paths gateway)) (probes_draw all (suc gateway) paths peers)
-  where
-    by : (is : Bool) → AllDraw all (probe_of is gateway peer)
-    by true = tt
-    by false = (tt, tt)
-
 tick_draws : (favourite most : ℕ) (up : Bool) (paths : PathsOfNode) (peers : List Peer) (packets : List PacketState) → most ≤ 9223372036854775808 →
     favourite < length peers → AllKept peers packets → Bounded most peers packets →
     AllDraw peers (probes paths peers ++ due_for_all favourite up (all_drawn (probes paths peers) peers) packets)
@@ -163,7 +87,8 @@ tick_draws favourite most up paths peers packets few within kept bounded =
     let on : GoOn peers probed = go_on peers probed alike in
     let bounded_there : Bounded most probed packets =
     λ gateway below. omega (arith, bounded gateway (omega (arith, below, alike.size)), alike.numbers gateway) in
-    each_append (DrawsNext peers) (probes paths peers) (due_for_all favourite up probed packets) (probes_draw peers 0 paths peers)
+    each_append (DrawsNext peers) (probes paths peers) (due_for_all favourite up probed packets)
+        (probes_each (DrawsNext peers) (λ gateway path. tt) 0 paths peers)
     (each_weaker (DrawsNext probed) (DrawsNext peers) (draws_before peers probed on) (due_for_all favourite up probed packets)
     (all_due_draws favourite up most probed packets few (omega (arith, within, alike.size)) (all_kept_on peers probed packets on kept) bounded_there))
 

@@ -1,5 +1,5 @@
 -- What is due for a packet makes moves, one for each number that it draws.
-use Rattle.std.proofs.Common.{◌≡◌, ◌≢◌, ℕ, ◌<◌, ◌≤◌, ◌==◌, Bool, true, false, if◌then◌else◌, List, [], ◌∷◌, ◌++◌, length, map, Option, Some, None, refl, sym, ap, subst, ◌∙◌, arith, inl, inr}
+use Rattle.std.proofs.Common.{◌≡◌, ◌≢◌, ℕ, ◌<◌, ◌≤◌, ◌==◌, Bool, true, false, if◌then◌else◌, List, [], ◌∷◌, ◌++◌, length, map, Option, Some, None, refl, sym, ap, ◌∙◌, arith, inl, inr}
 use Rattle.std.specs.List.{AllByRecursion, find, flat_map, list_any}
 use Rattle.std.specs.Option.{option_or}
 use Rattle.std.proofs.lemmas.Bool.Decides.{eqb_tells}
@@ -15,9 +15,10 @@ use Rattle.node_core.specs.Copies.{is_answered, is_chosen, is_held}
 use Rattle.node_core.specs.Packets.{chosen, commanded, copies_after, is_of}
 use Rattle.node_core.specs.Peers.{drawn, next_number, number_drawn}
 use Rattle.node_core.specs.Sendings.{asking, command_by, command_of, command_unless, copy_to, due_by_copies, due_by_verdict, releasing, repeating, settling, settling_beside, settling_by, test_of}
-use Rattle.node_core.proofs.RestingLemmas.{each_weaker}
-use Rattle.node_core.proofs.WeightLemmas.{weight, weight_absent, weight_fresh}
+use Rattle.node_core.proofs.RestingLemmas.{each_contains, each_weaker, in_found}
+use Rattle.node_core.proofs.WeightLemmas.{weight, weight_by, weight_fresh}
 use Rattle.node_core.proofs.Moves.{Copying, Commanding, IsMove, IsRight, Move, are_none, command_with, copies_moved, find_at, find_commanded, length_drawn, next_drawn_other, peers_moved, raised}
+use Rattle.node_core.proofs.DueLemmas.{choice_of}
 
 -- the sendings are of this packet, and each that draws a number makes a move
 pub data Does (number : ℕ) : List Peer → List PacketCopy → List Sending → Type 0 where
@@ -171,7 +172,8 @@ all_ready peers copies placed room =
       found = is.found;
       place = is.place;
       same = refl;
-      room = λ fresh. room copy.gateway is.place (omega (arith, weight_fresh copy.gateway copies copy is.found fresh));
+      room = λ fresh. room copy.gateway is.place (omega (arith, weight_fresh 2 copy.gateway copies copy
+          is.found fresh));
     })
     copies (all_there peers copies placed.apart placed.places)
 
@@ -181,24 +183,13 @@ ready_beside gateway peers later_peers copies later [] stays ready = tt
 ready_beside gateway peers later_peers copies later (other ∷ others) stays ready =
     (λ apart. stays other apart ready.0, ready_beside gateway peers later_peers copies later others stays ready.1)
 
--- the chosen one is one of them
-found_is : (P : PacketCopy → Type 0) (test : PacketCopy → Bool) (copies : List PacketCopy) (copy : PacketCopy) → find test copies ≡ Some copy →
-    AllByRecursion P copies → P copy
-found_is P test [] copy is all = absurd (cc)
-found_is P test (first ∷ copies) copy is all = by (test first) is (found_is P test copies copy)
-  where
-    by : (passes : Bool) → (if passes then Some first else find test copies) ≡ Some copy →
-        (find test copies ≡ Some copy → AllByRecursion P copies → P copy) → P copy
-    by true is rest = let same : first ≡ copy = cc in subst P same all.0
-    by false is rest = rest is all.1
-
 pub chosen_is : (P : PacketCopy → Type 0) (copies : List PacketCopy) (copy : PacketCopy) → chosen copies ≡ Some copy → AllByRecursion P copies → P copy
 chosen_is P copies copy is all = by (find is_chosen copies) refl is
   where
     by : (there : Option PacketCopy) → find is_chosen copies ≡ there →
         option_or there (find (λ (c : PacketCopy). is_held c.verdict) copies) ≡ Some copy → P copy
-    by None e is = found_is P (λ (c : PacketCopy). is_held c.verdict) copies copy is all
-    by (Some there) e is = found_is P is_chosen copies copy (e ∙ is) all
+    by None e is = each_contains P copies copy all (in_found (λ (c : PacketCopy). is_held c.verdict) copies copy is)
+    by (Some there) e is = each_contains P copies copy all (in_found is_chosen copies copy (e ∙ is))
 
 module _ (number favourite : ℕ) (up : Bool) (peers : List Peer) (within : favourite < length peers) where
   copy_does : (alive : Bool) (copies : List PacketCopy) (is_plain : Bool) → HasRoom peers copies → are_none copies ≡ is_plain → find_at favourite copies ≡ None →
@@ -206,7 +197,7 @@ module _ (number favourite : ℕ) (up : Bool) (peers : List Peer) (within : favo
   copy_does false copies is_plain room first absent = ends
   copy_does true copies is_plain room first absent =
       moves (Copying favourite) (within, absent) (own_number number)
-      (raised favourite _ peers (room favourite within (omega (arith, weight_absent favourite copies absent))))
+      (raised favourite _ peers (room favourite within (omega (arith, ap (weight_by 2) absent))))
       (ap (λ (plain : Bool). copies ++ record {
         gateway = favourite;
         number = next_number peers favourite;
@@ -237,16 +228,7 @@ module _ (number favourite : ℕ) (up : Bool) (peers : List Peer) (within : favo
       let ready : AllByRecursion (IsReady peers peers (plain ∷ duplicates)) duplicates = (all_ready peers (plain ∷ duplicates) placed room).1 in
       command_goes number peers peers (plain ∷ duplicates) Release choice (flat_map (settling_beside choice peers number) duplicates)
       (chosen_is (IsReady peers peers (plain ∷ duplicates)) duplicates choice is ready)
-      (record {
-        plain = plain;
-        duplicates = duplicates;
-        copy = choice;
-        whole = refl;
-        sealed = sealed;
-        choice = is;
-        gateway_is = refl;
-        number_is = refl;
-      })
+      (choice_of plain duplicates choice refl sealed is)
       (λ later_peers later stays. others_settle number choice peers later_peers later duplicates placed.apart.1
       (ready_beside choice.gateway peers later_peers (plain ∷ duplicates) later duplicates stays ready))
 

@@ -1,5 +1,6 @@
 -- What a node knows within a start only grows.
-use Rattle.std.proofs.Common.{◌≡◌, ℕ, ◌==◌, ◌&&◌, ◌||◌, Bool, true, false, if◌then◌else◌, List, [], ◌∷◌, ◌++◌, map, Option, Some, None, option_map, refl, ap, ◌∙◌}
+use Rattle.std.proofs.Common.{◌≡◌, ℕ, ◌&&◌, true, false, List, [], ◌∷◌, ◌++◌, map, Option, Some, None, option_map, refl, ap, ◌∙◌, inl, inr}
+use Rattle.std.proofs.lemmas.Bool.{and_from, and_parts, or_cases, or_left, or_right}
 use Rattle.std.specs.List.{list_any}
 use Rattle.std.specs.Option.{option_map_or, option_or}
 use Rattle.node_core.specs.declared.copy.Command.{Command}
@@ -9,11 +10,12 @@ use Rattle.node_core.specs.declared.copy.Verdict.TheVariants.{Unknown}
 use Rattle.node_core.specs.declared.port.Port.{Port}
 use Rattle.node_core.specs.declared.sending.Sending.{Sending}
 use Rattle.node_core.specs.declared.sending.Sending.TheVariants as send
-use Rattle.node_core.specs.Copies.{command_hearing, copy_hearing, copy_hearing_own, first_told, is_filed, is_release, is_released, is_unknown}
+use Rattle.node_core.specs.Copies.{command_hearing, copy_hearing, first_told, is_filed, is_release, is_released, is_unknown}
 use Rattle.node_core.specs.Growing.{CommandGrows, CopyGrows, Extends, PacketGrows, is_within_start}
 use Rattle.node_core.specs.Log.{LogEntry, Submitted, Appointed, Ticked, Heard, Saying, Responds, packets_of}
 use Rattle.node_core.proofs.NumberedLemmas.{after_all-number}
-use Rattle.node_core.specs.Packets.{PacketState, commanded, copies_after, is_done, is_of, is_resolved, packet_after, packet_after_all, packet_hearing, while_open, with_command}
+use Rattle.node_core.proofs.CaseLemmas.{either_commanded, either_hears, either_open, either_sent}
+use Rattle.node_core.specs.Packets.{PacketState, commanded, copies_after, is_resolved, packet_after, packet_after_all, packet_hearing, while_open}
 
 -- ---- longer lists
 
@@ -63,40 +65,30 @@ copy_on one two three first second = record {
 }
 
 commanded_grows : (gateway : ℕ) (command : Command) (copy : PacketCopy) → CopyGrows copy (commanded gateway command copy)
-commanded_grows gateway command copy = by (copy.gateway == gateway)
+commanded_grows gateway command copy = either_commanded (CopyGrows copy) gateway command copy
+    (record { gateway = refl; number = refl; is_plain = refl; verdict = λ known.
+        refl; command = one_more copy.command }) (same_copy copy)
   where
     one_more : (before : Option Command) → CommandGrows before (option_or before (Some command))
     one_more None = tt
     one_more (Some before) = (refl, refl, λ is. is)
-
-    by : (is : Bool) → CopyGrows copy (if is then with_command command copy else copy)
-    by true = record { gateway = refl; number = refl; is_plain = refl; verdict = λ known. refl; command = one_more copy.command }
-    by false = same_copy copy
 
 first_stays : (verdict later : Verdict) → is_unknown verdict ≡ false → first_told verdict later ≡ verdict
 first_stays Unknown later known = absurd (cc)
 first_stays _ later known = refl
 
 hearing_grows : (port : Port) (gateway cause : ℕ) (numbers : List ℕ) (copy : PacketCopy) → CopyGrows copy (copy_hearing port gateway cause numbers copy)
-hearing_grows port gateway cause numbers copy = by (copy.gateway == gateway)
+hearing_grows port gateway cause numbers copy = either_hears (CopyGrows copy) port gateway cause numbers copy (record {
+  gateway = refl;
+  number = refl;
+  is_plain = refl;
+  verdict = first_stays copy.verdict _;
+  command = answered copy.command;
+}) (same_copy copy)
   where
-    or_stays : (was now : Bool) → was ≡ true → (was || now) ≡ true
-    or_stays true now is = refl
-    or_stays false now is = absurd (cc)
-
     answered : (before : Option Command) → CommandGrows before (option_map (command_hearing cause numbers) before)
     answered None = tt
-    answered (Some before) = (refl, refl, or_stays before.is_answered _)
-
-    by : (is : Bool) → CopyGrows copy (if is then copy_hearing_own port cause numbers copy else copy)
-    by true = record {
-      gateway = refl;
-      number = refl;
-      is_plain = refl;
-      verdict = first_stays copy.verdict _;
-      command = answered copy.command;
-    }
-    by false = same_copy copy
+    answered (Some before) = (refl, refl, or_left before.is_answered _)
 
 -- ---- packets
 
@@ -109,11 +101,8 @@ copies_grow (send.Command packet gateway named number order true) copies = exten
 copies_grow _ copies = same_copies copies
 
 after_grows : (sending : Sending) (packet : PacketState) → Extends CopyGrows packet.copies (packet_after sending packet).copies
-after_grows sending packet = by (is_of packet.number sending)
-  where
-    by : (is : Bool) → Extends CopyGrows packet.copies (if is then record packet { copies = copies_after sending packet.copies } else packet).copies
-    by true = copies_grow sending packet.copies
-    by false = same_copies packet.copies
+after_grows sending packet = either_sent (λ (p : PacketState). Extends CopyGrows packet.copies p.copies) sending packet
+    (copies_grow sending packet.copies) (same_copies packet.copies)
 
 pub after_all_grows : (sendings : List Sending) (packet : PacketState) → Extends CopyGrows packet.copies (packet_after_all sendings packet).copies
 after_all_grows [] packet = same_copies packet.copies
@@ -130,64 +119,32 @@ filed_known _ is = refl
 released_stays : (copy after : PacketCopy) → CopyGrows copy after → is_released copy ≡ true → is_released after ≡ true
 released_stays copy after grows = by copy.command after.command grows.command
   where
-    both : (one two : Bool) → one ≡ true → two ≡ true → (one && two) ≡ true
-    both true two is_one is_two = is_two
-    both false two is_one is_two = is_one
-
-    left : (one two : Bool) → (one && two) ≡ true → one ≡ true
-    left true two is = refl
-    left false two is = is
-
-    right : (one two : Bool) → (one && two) ≡ true → two ≡ true
-    right true two is = is
-    right false two is = absurd (cc)
-
     by : (one two : Option Command) → CommandGrows one two →
         (option_map_or (λ (c : Command). is_release c.order) one false && option_map_or (λ (c : Command). c.is_answered) one false) ≡ true →
         (option_map_or (λ (c : Command). is_release c.order) two false && option_map_or (λ (c : Command). c.is_answered) two false) ≡ true
     by None two grows is = absurd (cc)
     by (Some one) None grows is = absurd grows
     by (Some one) (Some two) grows is =
-        both (is_release two.order) two.is_answered
-        (ap is_release grows.0 ∙ left (is_release one.order) one.is_answered is)
-        (grows.2 (right (is_release one.order) one.is_answered is))
+        let was = and_parts (is_release one.order) one.is_answered is in
+        and_from (is_release two.order) two.is_answered (ap is_release grows.0 ∙ was.0) (grows.2 was.1)
 
 any_stays : (copies after : List PacketCopy) → Extends CopyGrows copies after → list_any is_released copies ≡ true → list_any is_released after ≡ true
 any_stays [] after grows is = absurd (cc)
 any_stays (copy ∷ copies) [] grows is = absurd grows
-any_stays (copy ∷ copies) (first ∷ after) grows is = by (is_released copy) refl (any_stays copies after grows.1) is
-  where
-    or_left : (one two : Bool) → one ≡ true → (one || two) ≡ true
-    or_left true two is = refl
-    or_left false two is = absurd (cc)
-
-    or_right : (one two : Bool) → two ≡ true → (one || two) ≡ true
-    or_right true two is = refl
-    or_right false two is = is
-
-    by : (released : Bool) → is_released copy ≡ released →
-        (list_any is_released copies ≡ true → list_any is_released after ≡ true) → (released || list_any is_released copies) ≡ true →
-        (is_released first || list_any is_released after) ≡ true
-    by true e rest is = or_left _ _ (released_stays copy first grows.0 e)
-    by false e rest is = or_right (is_released first) _ (rest is)
+any_stays (copy ∷ copies) (first ∷ after) grows is =
+    elim (or_cases (is_released copy) (list_any is_released copies) is) [
+      | inl released ↦ or_left _ _ (released_stays copy first grows.0 released)
+      | inr later ↦ or_right (is_released first) _ (any_stays copies after grows.1 later)
+    ]
 
 pub resolved_stays : (copies after : List PacketCopy) → Extends CopyGrows copies after → is_resolved copies ≡ true → is_resolved after ≡ true
 resolved_stays [] after grows is = absurd (cc)
 resolved_stays (plain ∷ duplicates) [] grows is = absurd grows
-resolved_stays (plain ∷ duplicates) (first ∷ after) grows is = by (is_filed plain.verdict) refl is
-  where
-    or_left : (one two : Bool) → one ≡ true → (one || two) ≡ true
-    or_left true two is = refl
-    or_left false two is = absurd (cc)
-
-    or_right : (one two : Bool) → two ≡ true → (one || two) ≡ true
-    or_right true two is = refl
-    or_right false two is = is
-
-    by : (filed : Bool) → is_filed plain.verdict ≡ filed → (filed || list_any is_released duplicates) ≡ true →
-        (is_filed first.verdict || list_any is_released after) ≡ true
-    by true e is = or_left _ _ (ap is_filed (grows.0.verdict (filed_known plain.verdict e)) ∙ e)
-    by false e is = or_right (is_filed first.verdict) _ (any_stays duplicates after grows.1 is)
+resolved_stays (plain ∷ duplicates) (first ∷ after) grows is =
+    elim (or_cases (is_filed plain.verdict) (list_any is_released duplicates) is) [
+      | inl filed ↦ or_left _ _ (ap is_filed (grows.0.verdict (filed_known plain.verdict filed)) ∙ filed)
+      | inr released ↦ or_right (is_filed first.verdict) _ (any_stays duplicates after grows.1 released)
+    ]
 
 pub same_packet : (packet : PacketState) → PacketGrows packet packet
 same_packet packet = record { number = refl; copies = same_copies packet.copies; resolved = λ is. is; done = λ is. is }
@@ -195,16 +152,12 @@ same_packet packet = record { number = refl; copies = same_copies packet.copies;
 -- a packet that is changed while it is open
 open_grows : (f : PacketState → PacketState) → ((packet : PacketState) → (f packet).number ≡ packet.number) →
     ((packet : PacketState) → Extends CopyGrows packet.copies (f packet).copies) → (packet : PacketState) → PacketGrows packet (while_open f packet)
-open_grows f keeps grows packet = by (is_done packet.copies) refl
-  where
-    by : (is : Bool) → is_done packet.copies ≡ is → PacketGrows packet (if is then packet else f packet)
-    by true e = same_packet packet
-    by false e = record {
-      number = keeps packet;
-      copies = grows packet;
-      resolved = resolved_stays packet.copies (f packet).copies (grows packet);
-      done = λ is. absurd (cc);
-    }
+open_grows f keeps grows packet = either_open (PacketGrows packet) f packet (same_packet packet) (λ open_yet. record {
+  number = keeps packet;
+  copies = grows packet;
+  resolved = resolved_stays packet.copies (f packet).copies (grows packet);
+  done = λ is. absurd (cc);
+})
 
 -- ---- one more entry
 

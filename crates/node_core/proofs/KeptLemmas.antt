@@ -1,6 +1,6 @@
 -- What each move and each response leaves of a packet's copies: they are at as many gateways, the first alone is plain, and
 -- their numbers are below the next ones.
-use Rattle.std.proofs.Common.{◌≡◌, ◌≢◌, ℕ, suc, ◌<◌, ◌≤◌, ◌==◌, Bool, true, false, if◌then◌else◌, List, [], ◌∷◌, ◌++◌, length, map, Option, Some, None, option_map, refl, sym, ap, subst, ◌∙◌, arith, inl, inr}
+use Rattle.std.proofs.Common.{◌≡◌, ◌≢◌, ℕ, suc, ◌<◌, ◌≤◌, true, false, List, [], ◌∷◌, ◌++◌, length, map, Option, Some, None, option_map, refl, sym, ap, ◌∙◌, arith, inl, inr}
 use Rattle.std.specs.List.{AllByRecursion}
 use Rattle.std.specs.Option.{IfSome, option_or}
 use Rattle.std.proofs.lemmas.Bool.Decides.{eqb_tells}
@@ -9,13 +9,14 @@ use Rattle.node_core.specs.declared.copy.Order.{Order}
 use Rattle.node_core.specs.declared.copy.PacketCopy.{PacketCopy}
 use Rattle.node_core.specs.declared.peer.Peer.{Peer}
 use Rattle.node_core.specs.declared.port.Port.{Port}
-use Rattle.node_core.specs.Copies.{command_hearing, copy_hearing, copy_hearing_own, new_copy}
-use Rattle.node_core.specs.Packets.{PacketState, commanded, with_command}
+use Rattle.node_core.specs.Copies.{command_hearing, copy_hearing, new_copy}
+use Rattle.node_core.specs.Packets.{PacketState, commanded}
 use Rattle.node_core.specs.Peers.{next_number}
 use Rattle.node_core.proofs.DueMoves.{AreApart, IsPlaced}
-use Rattle.node_core.proofs.Moves.{Copying, Commanding, IsMove, Move, One, are_none, command_with, commanded_gateway, copies_moved, find_at, here, beyond, length_drawn, next_drawn, next_drawn_other, peers_moved, place}
+use Rattle.node_core.proofs.Moves.{Copying, Commanding, IsMove, Move, One, are_none, command_with, copies_moved, find_at, here, beyond, length_drawn, next_drawn, next_drawn_other, peers_moved, place}
 use Rattle.node_core.proofs.RestingLemmas.{each_map, each_push, each_weaker}
-use Rattle.node_core.proofs.WeightLemmas.{one_within}
+use Rattle.node_core.proofs.WeightLemmas.{move_place, one_within}
+use Rattle.node_core.proofs.CaseLemmas.{StaysPut, at_or_apart, commanded_puts, either_hears, hearing_puts}
 
 -- ---- the gateways go on
 
@@ -26,14 +27,10 @@ pub record GoOn (peers later : List Peer) : Type 0 where
 pub peers_go_on : (move : Move) (peers : List Peer) → place move < length peers → GoOn peers (peers_moved move peers)
 peers_go_on move peers below = record {
   size = length_drawn (place move) (next_number peers (place move)) peers;
-  numbers = λ gateway. elim (eqb_tells (place move) gateway) [
-    | inl is ↦
-        let next : next_number (peers_moved move peers) (place move) ≡ suc (next_number peers (place move)) = next_drawn (place move) _ peers below in
-        subst (λ (g : ℕ). next_number peers g ≤ next_number (peers_moved move peers) g) is.1 (omega (arith, next))
-    | inr isnt ↦
-        let next : next_number (peers_moved move peers) gateway ≡ next_number peers gateway = next_drawn_other (place move) _ gateway peers isnt.1 in
-        omega (arith, next)
-  ];
+  numbers = λ gateway. at_or_apart (λ (g : ℕ). next_number peers g ≤ next_number (peers_moved move peers) g)
+      (place move) gateway
+      (omega (arith, next_drawn (place move) (next_number peers (place move)) peers below))
+      (λ apart. omega (arith, next_drawn_other (place move) (next_number peers (place move)) gateway peers apart));
 }
 
 -- ---- what holds of a packet's copies
@@ -56,9 +53,6 @@ pub record IsKept (peers : List Peer) (copies : List PacketCopy) : Type 0 where
 
 abbrev pub AllKept : List Peer → List PacketState → Type 0
 AllKept peers packets = AllByRecursion (λ (packet : PacketState). IsKept peers packet.copies) packets
-
-pub kept_anew : (peers : List Peer) → IsKept peers []
-kept_anew peers = record { placed = record { apart = tt; places = tt }; plain = tt; below = tt }
 
 below_on : (number next after : ℕ) (command : Option Command) → next ≤ after → CommandBelow number next command → CommandBelow number after command
 below_on number next after None on is = tt
@@ -84,13 +78,6 @@ all_kept_on peers later packets on kept =
     each_weaker (λ (p : PacketState). IsKept peers p.copies) (λ (p : PacketState). IsKept later p.copies)
     (λ packet is. kept_on peers later packet.copies on is) packets kept
 
--- ---- what leaves each copy where it is
-
-pub record StaysPut (copy after : PacketCopy) : Type 0 where
-  pub gateway : after.gateway ≡ copy.gateway
-  pub number : after.number ≡ copy.number
-  pub is_plain : after.is_plain ≡ copy.is_plain
-
 apart_map : (f : PacketCopy → PacketCopy) → ((copy : PacketCopy) → StaysPut copy (f copy)) → (copies : List PacketCopy) →
     AreApart copies → AreApart (map f copies)
 apart_map f puts [] apart = tt
@@ -108,16 +95,19 @@ plain_map f puts (copy ∷ copies) plain = (
   each_map (λ (c : PacketCopy). c.is_plain ≡ false) (λ (c : PacketCopy). c.is_plain ≡ false) f (λ c is. (puts c).is_plain ∙ is) copies plain.1,
 )
 
-pub kept_map : (peers : List Peer) (f : PacketCopy → PacketCopy) → ((copy : PacketCopy) → StaysPut copy (f copy)) →
-    ((copy : PacketCopy) → IsBelow peers copy → IsBelow peers (f copy)) → (copies : List PacketCopy) → IsKept peers copies → IsKept peers (map f copies)
-kept_map peers f puts below copies kept = record {
+pub kept_map : (peers later : List Peer) → GoOn peers later → (f : PacketCopy → PacketCopy) →
+    ((copy : PacketCopy) → StaysPut copy (f copy)) →
+    ((copy : PacketCopy) → IsBelow peers copy → IsBelow later (f copy)) → (copies : List PacketCopy) →
+        IsKept peers copies → IsKept later (map f copies)
+kept_map peers later on f puts below copies kept = record {
   placed = record {
     apart = apart_map f puts copies kept.placed.apart;
-    places = each_map (λ (copy : PacketCopy). copy.gateway < length peers) (λ (copy : PacketCopy). copy.gateway < length peers) f
-        (λ copy is. omega (arith, (puts copy).gateway, is)) copies kept.placed.places;
+    places = each_map (λ (copy : PacketCopy). copy.gateway < length peers) (λ (copy : PacketCopy).
+        copy.gateway < length later) f
+        (λ copy is. omega (arith, (puts copy).gateway, is, on.size)) copies kept.placed.places;
   };
   plain = plain_map f puts copies kept.plain;
-  below = each_map (IsBelow peers) (IsBelow peers) f below copies kept.below;
+  below = each_map (IsBelow peers) (IsBelow later) f below copies kept.below;
 }
 
 -- ---- one more copy
@@ -158,13 +148,6 @@ kept_copied gateway peers copies within none kept =
 
 -- ---- a release or a cancel
 
-commanded_puts : (gateway : ℕ) (command : Command) (copy : PacketCopy) → StaysPut copy (commanded gateway command copy)
-commanded_puts gateway command copy = by (copy.gateway == gateway)
-  where
-    by : (is : Bool) → StaysPut copy (if is then with_command command copy else copy)
-    by true = record { gateway = refl; number = refl; is_plain = refl }
-    by false = record { gateway = refl; number = refl; is_plain = refl }
-
 -- the number of the command is the next one at the gateway
 commanded_below : (gateway : ℕ) (command : Command) (peers later : List Peer) → GoOn peers later →
     next_number later gateway ≡ suc (next_number peers gateway) → command.number ≡ next_number peers gateway → (copy : PacketCopy) → IsBelow peers copy →
@@ -196,49 +179,30 @@ kept_commanded gateway order peers copies within kept =
     let on : GoOn peers later = peers_go_on (Commanding gateway order) peers within in
     let next : next_number later gateway ≡ suc (next_number peers gateway) = next_drawn gateway (next_number peers gateway) peers within in
     let command : Command = command_with order (next_number peers gateway) in
-    let carried : IsKept later copies = kept_on peers later copies on kept in
-    record {
-      placed = record {
-        apart = apart_map (commanded gateway command) (commanded_puts gateway command) copies kept.placed.apart;
-        places = each_map (λ (copy : PacketCopy). copy.gateway < length later) (λ (copy : PacketCopy). copy.gateway < length later) _
-            (λ copy is. omega (arith, commanded_gateway gateway command copy, is)) copies carried.placed.places;
-      };
-      plain = plain_map (commanded gateway command) (commanded_puts gateway command) copies kept.plain;
-      below = each_map (IsBelow peers) (IsBelow later) _ (commanded_below gateway command peers later on next refl) copies kept.below;
-    }
+    kept_map peers later on (commanded gateway command) (commanded_puts gateway command)
+        (commanded_below gateway command peers later on next refl) copies kept
 
 -- ---- a response
 
-hearing_puts : (port : Port) (gateway cause : ℕ) (numbers : List ℕ) (copy : PacketCopy) → StaysPut copy (copy_hearing port gateway cause numbers copy)
-hearing_puts port gateway cause numbers copy = by (copy.gateway == gateway)
-  where
-    by : (is : Bool) → StaysPut copy (if is then copy_hearing_own port cause numbers copy else copy)
-    by true = record { gateway = refl; number = refl; is_plain = refl }
-    by false = record { gateway = refl; number = refl; is_plain = refl }
-
 hearing_below : (peers : List Peer) (port : Port) (gateway cause : ℕ) (numbers : List ℕ) (copy : PacketCopy) → IsBelow peers copy →
     IsBelow peers (copy_hearing port gateway cause numbers copy)
-hearing_below peers port gateway cause numbers copy below = by (copy.gateway == gateway)
+hearing_below peers port gateway cause numbers copy below =
+    either_hears (IsBelow peers) port gateway cause numbers copy
+        (record { number = below.number; command = command_at copy.command below.command }) below
   where
     command_at : (command : Option Command) → CommandBelow copy.number (next_number peers copy.gateway) command →
         CommandBelow copy.number (next_number peers copy.gateway) (option_map (command_hearing cause numbers) command)
     command_at None is = tt
     command_at (Some command) is = is
 
-    by : (is : Bool) → IsBelow peers (if is then copy_hearing_own port cause numbers copy else copy)
-    by true = record { number = below.number; command = command_at copy.command below.command }
-    by false = below
-
 pub kept_hearing : (peers : List Peer) (port : Port) (gateway cause : ℕ) (numbers : List ℕ) (copies : List PacketCopy) → IsKept peers copies →
     IsKept peers (map (copy_hearing port gateway cause numbers) copies)
 kept_hearing peers port gateway cause numbers copies kept =
-    kept_map peers (copy_hearing port gateway cause numbers) (hearing_puts port gateway cause numbers) (hearing_below peers port gateway cause numbers) copies kept
+    kept_map peers peers (record { size = refl; numbers = λ place. omega arith })
+        (copy_hearing port gateway cause numbers) (hearing_puts port gateway cause numbers)
+    (hearing_below peers port gateway cause numbers) copies kept
 
 -- ---- a move
-
-pub move_place : (move : Move) (peers : List Peer) (copies : List PacketCopy) → IsMove peers copies move → place move < length peers
-move_place (Copying gateway) peers copies is = is.0
-move_place (Commanding gateway order) peers copies is = is.0
 
 pub kept_moved : (move : Move) (peers : List Peer) (copies : List PacketCopy) → IsMove peers copies move → IsKept peers copies →
     IsKept (peers_moved move peers) (copies_moved peers move copies)

@@ -1,5 +1,5 @@
 -- What a node knows of a copy of an open packet is what the first response tells that says something of its number.
-use Rattle.std.proofs.Common.{◌≡◌, ℕ, ◌<◌, ◌≤◌, ◌==◌, ◌&&◌, ◌||◌, nat_lt, Bool, true, false, if◌then◌else◌, List, [], ◌∷◌, ◌++◌, length, map, Option, Some, None, option_map, refl, sym, ap, ◌∙◌, inl, inr}
+use Rattle.std.proofs.Common.{◌≡◌, ℕ, ◌<◌, ◌≤◌, ◌==◌, ◌&&◌, ◌||◌, Bool, true, false, if◌then◌else◌, List, [], ◌∷◌, ◌++◌, length, map, Option, Some, None, option_map, refl, sym, ap, ◌∙◌, inl, inr}
 use Rattle.std.proofs.Math.Bool.{or-false}
 use Rattle.std.specs.List.{All, AllByRecursion, list_any}
 use Rattle.std.specs.Option.{IfSome, option_or}
@@ -7,33 +7,31 @@ use Rattle.std.proofs.lemmas.Bool.Decides.{eqb_tells}
 use Rattle.std.proofs.lemmas.List.{append-nil}
 use Rattle.std.proofs.lemmas.List.Elements.{All-from_recursion}
 use Rattle.std.proofs.lemmas.List.Folds.{list_any-append}
-use Rattle.gtpp_message.specs.Packet.{PacketForm}
+use Rattle.std.proofs.lemmas.Bool.{cases_Bool, cond_both, eq-eqb, false≢true, or_right}
 use Rattle.node_core.specs.declared.copy.Command.{Command}
 use Rattle.node_core.specs.declared.copy.Order.{Order}
 use Rattle.node_core.specs.declared.copy.PacketCopy.{PacketCopy}
 use Rattle.node_core.specs.declared.copy.Verdict.{Verdict}
 use Rattle.node_core.specs.declared.copy.Verdict.TheVariants.{Unknown, Filed, Sealed, Held}
-use Rattle.node_core.specs.declared.fault.SubmitFault.{SubmitFault}
 use Rattle.node_core.specs.declared.peer.Peer.{Peer}
 use Rattle.node_core.specs.declared.port.Port.{Port}
 use Rattle.node_core.specs.declared.sending.Sending.{Sending}
 use Rattle.node_core.specs.declared.sending.Sending.TheVariants as send
 use Rattle.node_core.specs.Copies.{command_hearing, copy_hearing, copy_hearing_own, first_told, is_fulfilled, names, new_copy, told, told_if}
-use Rattle.node_core.specs.Hearing.{Taken, Dropped, Says, entries_from, taken, taken_entries}
 use Rattle.node_core.specs.Knowing.{AreKnown, IsKnown, Response, draws, first_of, is_fulfilled_at, responses_to, tellings}
-use Rattle.node_core.specs.Log.{LogEntry, Submitted, Appointed, Ticked, Heard, NodeSetup, Saying, Path, Redirects, Responds, Other, packets_of, peers_of, submitted}
-use Rattle.node_core.specs.Moving.{appointing, moved_at_tick, moved_by}
-use Rattle.node_core.specs.Packets.{PacketState, commanded, copies_after, is_done, is_of, packet_after, packet_after_all, packet_hearing, while_open}
-use Rattle.node_core.specs.Peers.{next_number, place_of}
-use Rattle.node_core.specs.Reached.{NodeCall, Submit, Tick, Hear, Halt, Start, call_entries, entries_halted, entries_running, log_of, most_submissions, reached, submit_entries}
-use Rattle.node_core.specs.Submitting.{refusal}
+use Rattle.node_core.specs.Log.{LogEntry, Submitted, Appointed, Ticked, Heard, NodeSetup, Saying, Responds, packets_of, peers_of}
+use Rattle.node_core.specs.Moving.{appointing}
+use Rattle.node_core.specs.Packets.{PacketState, commanded, copies_after, is_done, packet_after, packet_after_all, packet_hearing, while_open}
+use Rattle.node_core.specs.Peers.{next_number}
+use Rattle.node_core.specs.Reached.{NodeCall, call_entries, log_of, reached}
 use Rattle.node_core.specs.Ticks.{due_now}
 use Rattle.node_core.specs.Value.{NodeValue, befallen, logged, node_of}
 use Rattle.node_core.proofs.DrawnLemmas.{AllDraw, draws_new, undrawn}
 use Rattle.node_core.proofs.KeptLemmas.{AllKept, CommandBelow, IsBelow}
-use Rattle.node_core.proofs.ReachedLemmas.{Within, stands, tick_within}
+use Rattle.node_core.proofs.ReachedLemmas.{Within, after_call, stands}
 use Rattle.node_core.proofs.RestingLemmas.{each_map, each_push, each_weaker}
 use Rattle.node_core.proofs.SingleLemmas.{nothing_more}
+use Rattle.node_core.proofs.CaseLemmas.{either_sent}
 
 -- ---- one more response
 
@@ -105,12 +103,11 @@ all_same log later same packets known =
 -- what happens to open packets
 when_open : (log later : List LogEntry) (f : PacketState → PacketState) (packet : PacketState) → (Known log packet → Known later (f packet)) →
     OpenKnown log packet → OpenKnown later (while_open f packet)
-when_open log later f packet step known = by (is_done packet.copies) refl
-  where
-    by : (done : Bool) → is_done packet.copies ≡ done → is_done (if done then packet else f packet).copies ≡ false →
-        Known later (if done then packet else f packet)
-    by true e open_yet = absurd (cc)
-    by false e open_yet = step (known e)
+when_open log later f packet step known =
+    elim (cases_Bool (is_done packet.copies)) [
+      | inl done ↦ λ open_yet. absurd (false≢true (sym (rw done at open_yet) ∙ done))
+      | inr open_yet ↦ rw open_yet (λ still. step (known open_yet))
+    ]
 
 -- ---- a tick
 
@@ -124,21 +121,18 @@ module _ (sendings : List Sending) (log : List LogEntry) where
   Drawn all (send.Command packet gateway named number order is_new) = is_new ≡ true → list_any (draws gateway number) all ≡ true
   Drawn all _ = Unit {0}
 
-  own : (number : ℕ) → (number == number) ≡ true
-  own number = elim (eqb_tells number number) [ inl is ↦ is.0 | inr isnt ↦ absurd (isnt.1 refl) ]
-
-  or_true : (is : Bool) → (is || true) ≡ true
-  or_true true = refl
-  or_true false = refl
-
   drawn_first : (sending : Sending) (rest : List Sending) → Drawn (sending ∷ rest) sending
-  drawn_first (send.Data packet gateway number is_plain is_new) rest = λ is. rw (is, own gateway, own number) refl
-  drawn_first (send.Command packet gateway named number order is_new) rest = λ is. rw (is, own gateway, own number) refl
+  drawn_first (send.Data packet gateway number is_plain is_new) rest =
+      λ is. rw (is, eq-eqb gateway gateway refl, eq-eqb number number refl) refl
+  drawn_first (send.Command packet gateway named number order is_new) rest =
+      λ is. rw (is, eq-eqb gateway gateway refl, eq-eqb number number refl) refl
   drawn_first _ rest = tt
 
   drawn_later : (first : Sending) (rest : List Sending) (sending : Sending) → Drawn rest sending → Drawn (first ∷ rest) sending
-  drawn_later first rest (send.Data packet gateway number is_plain is_new) is = λ new. rw (is new) (or_true (draws gateway number first))
-  drawn_later first rest (send.Command packet gateway named number order is_new) is = λ new. rw (is new) (or_true (draws gateway number first))
+  drawn_later first rest (send.Data packet gateway number is_plain is_new) is =
+      λ new. or_right (draws gateway number first) _ (is new)
+  drawn_later first rest (send.Command packet gateway named number order is_new) is =
+      λ new. or_right (draws gateway number first) _ (is new)
   drawn_later first rest _ is = tt
 
   all_drawn_in : (all : List Sending) → AllByRecursion (Drawn all) all
@@ -181,11 +175,8 @@ module _ (sendings : List Sending) (log : List LogEntry) where
   copies_known _ is copies known = known
 
   after_known : (sending : Sending) → Drawn sendings sending → (packet : PacketState) → Known after_tick packet → Known after_tick (packet_after sending packet)
-  after_known sending is packet known = by (is_of packet.number sending)
-    where
-      by : (mine : Bool) → Known after_tick (if mine then record packet { copies = copies_after sending packet.copies } else packet)
-      by true = copies_known sending is packet.copies known
-      by false = known
+  after_known sending is packet known =
+      either_sent (Known after_tick) sending packet (copies_known sending is packet.copies known) known
 
   after_all_known : (some : List Sending) → AllByRecursion (Drawn sendings) some → (packet : PacketState) → Known after_tick packet →
       Known after_tick (packet_after_all some packet)
@@ -285,11 +276,11 @@ module _ (port : Port) (place cause : ℕ) (numbers : List ℕ) (log : List LogE
       same number = rw other (append-nil (responses_to copy.gateway number log))
 
   hears : (copy : PacketCopy) → IsKnown log copy → IsKnown after_response (copy_hearing port place cause numbers copy)
-  hears copy known = by (copy.gateway == place) refl
-    where
-      by : (mine : Bool) → (copy.gateway == place) ≡ mine → IsKnown after_response (if mine then copy_hearing_own port cause numbers copy else copy)
-      by true e = hears_own copy e known
-      by false e = hears_nothing copy e known
+  hears copy known =
+      elim (cases_Bool (copy.gateway == place)) [
+        | inl mine ↦ rw mine (hears_own copy mine known)
+        | inr other ↦ rw other (hears_nothing copy other known)
+      ]
 
   response_known : (packets : List PacketState) → AllKnown log packets → AllKnown after_response (map (while_open (packet_hearing port place cause numbers)) packets)
   response_known packets known =
@@ -300,24 +291,12 @@ module _ (port : Port) (place cause : ℕ) (numbers : List ℕ) (log : List LogE
 heard_known : (port : Port) (place : ℕ) (saying : Saying) (log : List LogEntry) → AllKnown log (packets_of log) →
     AllKnown (Heard port place saying ∷ log) (packets_of (Heard port place saying ∷ log))
 heard_known port place (Responds cause numbers) log known = response_known port place cause numbers log (packets_of log) known
-heard_known port place (Path event) log known =
-    all_same log (Heard port place (Path event) ∷ log) (λ gateway number. by (gateway == place) gateway number) (packets_of log) known
-  where
-    by : (is : Bool) (gateway number : ℕ) → responses_to gateway number log ++ (if is then [] else []) ≡ responses_to gateway number log
-    by true gateway number = append-nil (responses_to gateway number log)
-    by false gateway number = append-nil (responses_to gateway number log)
-heard_known port place (Redirects to) log known =
-    all_same log (Heard port place (Redirects to) ∷ log) (λ gateway number. by (gateway == place) gateway number) (packets_of log) known
-  where
-    by : (is : Bool) (gateway number : ℕ) → responses_to gateway number log ++ (if is then [] else []) ≡ responses_to gateway number log
-    by true gateway number = append-nil (responses_to gateway number log)
-    by false gateway number = append-nil (responses_to gateway number log)
-heard_known port place Other log known =
-    all_same log (Heard port place Other ∷ log) (λ gateway number. by (gateway == place) gateway number) (packets_of log) known
-  where
-    by : (is : Bool) (gateway number : ℕ) → responses_to gateway number log ++ (if is then [] else []) ≡ responses_to gateway number log
-    by true gateway number = append-nil (responses_to gateway number log)
-    by false gateway number = append-nil (responses_to gateway number log)
+heard_known port place saying log known =
+    all_same log (Heard port place saying ∷ log) (λ gateway number.
+        cond_both (gateway == place) [] [] (λ (new : List Response).
+        responses_to gateway number log ++ new ≡ responses_to gateway number log)
+    (λ _. append-nil (responses_to gateway number log)) (λ _. append-nil (responses_to gateway number log)))
+        (packets_of log) known
 
 -- ---- a call
 
@@ -331,62 +310,31 @@ module _ (setup : NodeSetup) (log : List LogEntry) (known : AllKnown log (packet
       (to : Option ℕ) → Within (length (peers_of setup.gateways log)) to →
       AllDraw (peers_of setup.gateways log) (due_now (befallen (appointing to) node))
 
-  appointed_known : (gateway : ℕ) → AllKnown (Appointed gateway ∷ log) (packets_of log)
-  appointed_known gateway = all_same log (Appointed gateway ∷ log) (λ place number. refl) (packets_of log) known
-
   known_call : DrawsNew → AllKept (peers_of setup.gateways log) (packets_of log) → (call : NodeCall) →
       AllKnown (logged (call_entries node call) log) (packets_of (logged (call_entries node call) log))
-  known_call draw kept call = by node.is_running call
+  known_call draw kept =
+      after_call setup log (λ (entries : List LogEntry). AllKnown entries (packets_of entries)) (record {
+    is = known;
+    submits = λ form none fewer. each_push (OpenKnown (Submitted form ∷ log)) (packets_of log) _
+        (all_same log (Submitted form ∷ log) (λ place number. refl) (packets_of log) known) (λ open_yet. tt);
+    ticks = ticks;
+    hears = λ port gateway saying. heard_known port gateway saying log known;
+    appoints = λ to port gateway saying below.
+        let heard : List LogEntry = Heard port gateway saying ∷ log in
+        all_same heard (Appointed to ∷ heard) (λ place number.
+            refl) (packets_of heard) (heard_known port gateway saying log known);
+    halts = tt;
+    begins = tt;
+  })
     where
-      limits : (form : PacketForm) (fewer : Bool) →
-          AllKnown (logged (if fewer then Submitted form ∷ [] else []) log) (packets_of (logged (if fewer then Submitted form ∷ [] else []) log))
-      limits form true =
-          each_push (OpenKnown (Submitted form ∷ log)) (packets_of log) _
-          (all_same log (Submitted form ∷ log) (λ place number. refl) (packets_of log) known) (λ open_yet. tt)
-      limits form false = known
-
-      submits : (form : PacketForm) (fault : Option SubmitFault) →
-          AllKnown (logged (submit_entries node fault form) log) (packets_of (logged (submit_entries node fault form) log))
-      submits form None = limits form (nat_lt (submitted log) most_submissions)
-      submits form (Some fault) = known
-
       ticks : (to : Option ℕ) → Within (length (peers_of setup.gateways log)) to →
           AllKnown (logged (appointing to ++ Ticked (due_now (befallen (appointing to) node)) ∷ []) log)
           (packets_of (logged (appointing to ++ Ticked (due_now (befallen (appointing to) node)) ∷ []) log))
       ticks None within = ticked_known _ log (peers_of setup.gateways log) (packets_of log) (draw None within) kept known
       ticks (Some gateway) within =
-          ticked_known _ (Appointed gateway ∷ log) (peers_of setup.gateways log) (packets_of log) (draw (Some gateway) within) kept (appointed_known gateway)
-
-      appoints : (to : Option ℕ) (port : Port) (gateway : ℕ) (saying : Saying) →
-          AllKnown (logged (Heard port gateway saying ∷ appointing to) log) (packets_of (logged (Heard port gateway saying ∷ appointing to) log))
-      appoints None port gateway saying = heard_known port gateway saying log known
-      appoints (Some to) port gateway saying =
-          let heard : List LogEntry = Heard port gateway saying ∷ log in
-          all_same heard (Appointed to ∷ heard) (λ place number. refl) (packets_of heard) (heard_known port gateway saying log known)
-
-      takes : (port : Port) (gateway : ℕ) (what : Taken) →
-          AllKnown (logged (taken_entries node port gateway what) log) (packets_of (logged (taken_entries node port gateway what) log))
-      takes port gateway (Dropped why) = known
-      takes port gateway (Says saying reply) = appoints (moved_by node port gateway saying) port gateway saying
-
-      hears_at : (port : Port) (place : Option ℕ) (octets : List ℕ) →
-          AllKnown (logged (entries_from node port place octets) log) (packets_of (logged (entries_from node port place octets) log))
-      hears_at port None octets = known
-      hears_at port (Some gateway) octets = takes port gateway (taken node gateway octets)
-
-      by : (running : Bool) (call : NodeCall) →
-          AllKnown (logged (if running then entries_running node call else entries_halted call) log)
-          (packets_of (logged (if running then entries_running node call else entries_halted call) log))
-      by true (Submit form) = submits form (refusal node form)
-      by true Tick = ticks (moved_at_tick node) (tick_within node)
-      by true (Hear port from octets) = hears_at port (place_of (peers_of setup.gateways log) from.ip) octets
-      by true Halt = tt
-      by true Start = known
-      by false (Submit form) = known
-      by false Tick = known
-      by false (Hear port from octets) = known
-      by false Halt = tt
-      by false Start = tt
+          ticked_known _ (Appointed gateway ∷ log) (peers_of setup.gateways log) (packets_of log)
+              (draw (Some gateway) within) kept
+          (all_same log (Appointed gateway ∷ log) (λ place number. refl) (packets_of log) known)
 
 -- ---- all calls
 

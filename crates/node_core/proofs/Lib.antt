@@ -11,7 +11,9 @@ pub mod SettledLemmas
 pub mod TickLemmas
 pub mod WorkedLemmas
 pub mod WrittenLemmas
+pub mod CaseLemmas
 pub mod RestingLemmas
+pub mod DueLemmas
 pub mod GrowingLemmas
 pub mod ChoosingLemmas
 pub mod Moves

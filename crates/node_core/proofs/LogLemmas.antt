@@ -1,8 +1,8 @@
 -- One more entry of the log makes of a node what befalls it.
 use Rattle.std.proofs.Common.{◌≡◌, ℕ, zero, suc, min, ◌+◌, ◌%◌, ◌==◌, nat_lt, Bool, true, false, IsTrue, if◌then◌else◌, List, [], ◌∷◌, ◌++◌, length, map, Option, Some, None, refl, sym, ap, ◌∙◌, arith}
 use Rattle.std.proofs.lemmas.List.{length-map}
+use Rattle.std.proofs.lemmas.Bool.{cond_both}
 use Rattle.std.specs.Prelude.{slice_get, slice_set}
-use Rattle.std.specs.Option.{option_map_or}
 use Rattle.gw_base.specs.declared.address.Addr.{Addr}
 use Rattle.path_mgmt.specs.NodePath.{PathsOfNode, node_after, node_anew}
 use Rattle.path_mgmt.specs.declared.event.PathEvent.{PathEvent}
@@ -37,22 +37,22 @@ place_keeps : (peers : List Peer) (i : ℕ) (f : Peer → Peer) → ((peer : Pee
 place_keeps peers i f keeps = by (slice_get peers i) refl
   where
     by : (there : Option Peer) → slice_get peers i ≡ there → peers_anew (at_place i f peers) ≡ peers_anew peers
-    by None e = ap (λ (o : Option Peer). peers_anew (option_map_or (λ (peer : Peer). slice_set peers i (f peer)) o peers)) e
-    by (Some peer) e =
-        ap (λ (o : Option Peer). peers_anew (option_map_or (λ (peer : Peer). slice_set peers i (f peer)) o peers)) e
-        ∙ set_keeps peers i peer (f peer) e (keeps peer)
+    by None e = rw e refl
+    by (Some peer) e = rw e (set_keeps peers i peer (f peer) e (keeps peer))
 
-if_keeps : (is : Bool) (peers after : List Peer) → peers_anew after ≡ peers_anew peers → peers_anew (if is then after else peers) ≡ peers_anew peers
-if_keeps true peers after same = same
-if_keeps false peers after same = refl
+number_keeps : (gateway number : ℕ) (is_new : Bool) (peers : List Peer) →
+    peers_anew (if is_new then number_drawn gateway number peers else peers) ≡ peers_anew peers
+number_keeps gateway number is_new peers =
+    cond_both is_new (number_drawn gateway number peers) peers
+        (λ (after : List Peer). peers_anew after ≡ peers_anew peers)
+    (λ _. place_keeps peers gateway (λ peer. record peer { next = min (suc number) end_of_numbers }) (λ peer.
+        refl)) (λ _. refl)
 
 drawn_keeps : (sending : Sending) (peers : List Peer) → peers_anew (drawn sending peers) ≡ peers_anew peers
 drawn_keeps (send.Probe gateway number) peers = place_keeps peers gateway (λ peer. record peer { path = (number + 1) % 65536 }) (λ peer. refl)
-drawn_keeps (send.Data packet gateway number is_plain is_new) peers =
-    if_keeps is_new peers (number_drawn gateway number peers) (place_keeps peers gateway (λ peer. record peer { next = min (suc number) end_of_numbers }) (λ peer. refl))
+drawn_keeps (send.Data packet gateway number is_plain is_new) peers = number_keeps gateway number is_new peers
 drawn_keeps (send.Test packet gateway number) peers = refl
-drawn_keeps (send.Command packet gateway named number order is_new) peers =
-    if_keeps is_new peers (number_drawn gateway number peers) (place_keeps peers gateway (λ peer. record peer { next = min (suc number) end_of_numbers }) (λ peer. refl))
+drawn_keeps (send.Command packet gateway named number order is_new) peers = number_keeps gateway number is_new peers
 
 pub all_drawn_keeps : (sendings : List Sending) (peers : List Peer) → peers_anew (all_drawn sendings peers) ≡ peers_anew peers
 all_drawn_keeps [] peers = refl
@@ -170,11 +170,9 @@ log_begun setup (call ∷ calls) =
 
 submit_follow : (node : NodeValue) (fault : Option SubmitFault) (form : PacketForm) (log : List LogEntry) →
     CanFollowAll (submit_entries node fault form) log
-submit_follow node None form log = by (nat_lt node.submissions most_submissions)
-  where
-    by : (is : Bool) → CanFollowAll (if is then Submitted form ∷ [] else []) log
-    by true = (tt, tt)
-    by false = tt
+submit_follow node None form log =
+    cond_both (nat_lt node.submissions most_submissions) (Submitted form ∷ []) []
+        (λ (entries : List LogEntry). CanFollowAll entries log) (λ _. (tt, tt)) (λ _. tt)
 submit_follow node (Some fault) form log = tt
 
 running_follow : (node : NodeValue) (call : NodeCall) (log : List LogEntry) → CanFollowAll (entries_running node call) log
@@ -190,11 +188,10 @@ halted_follow Start log has = (has, tt)
 halted_follow _ log has = tt
 
 call_follow : (node : NodeValue) (call : NodeCall) (log : List LogEntry) → has_entries log ≡ true → CanFollowAll (call_entries node call) log
-call_follow node call log has = by node.is_running
-  where
-    by : (is : Bool) → CanFollowAll (if is then entries_running node call else entries_halted call) log
-    by true = running_follow node call log
-    by false = halted_follow call log has
+call_follow node call log has =
+    cond_both node.is_running (entries_running node call) (entries_halted call)
+        (λ (entries : List LogEntry). CanFollowAll entries log)
+    (λ _. running_follow node call log) (λ _. halted_follow call log has)
 
 pub call_goes_on : (setup : NodeSetup) (call : NodeCall) (calls : List NodeCall) →
     reached setup (call ∷ calls) ≡ befallen (call_entries (reached setup calls) call) (reached setup calls)

@@ -1,9 +1,10 @@
 -- The moves of a tick, one number each: a packet gets one more copy, or a release or a cancel for one of its copies.
-use Rattle.std.proofs.Common.{◌≡◌, ℕ, zero, suc, min, ◌<◌, ◌==◌, Bool, true, false, if◌then◌else◌, List, [], ◌∷◌, ◌++◌, length, map, Option, Some, None, refl, sym, ap, ◌∙◌, arith, inl, inr, ◌≢◌}
+use Rattle.std.proofs.Common.{◌≡◌, ℕ, zero, suc, min, ◌<◌, ◌==◌, Bool, true, false, if◌then◌else◌, List, [], ◌∷◌, ◌++◌, length, map, Option, Some, None, refl, sym, ap, ◌∙◌, arith, inl, inr, ◌≢◌, option_map}
 use Rattle.std.specs.List.{find}
 use Rattle.std.specs.Prelude.{slice_get, slice_set}
 use Rattle.std.specs.Option.{option_map_or}
 use Rattle.std.proofs.lemmas.Bool.Decides.{eqb_tells}
+use Rattle.std.proofs.lemmas.Bool.{cases_Bool, ne_eqb}
 use Rattle.node_core.specs.declared.copy.Command.{Command}
 use Rattle.node_core.specs.declared.copy.Order.{Order}
 use Rattle.node_core.specs.declared.copy.Order.TheVariants.{Release, Cancel}
@@ -11,7 +12,7 @@ use Rattle.node_core.specs.declared.copy.PacketCopy.{PacketCopy}
 use Rattle.node_core.specs.declared.peer.Peer.{Peer}
 use Rattle.node_core.specs.Choosing.{IsChoice}
 use Rattle.node_core.specs.Copies.{new_copy}
-use Rattle.node_core.specs.Packets.{PacketState, commanded, is_done, with_command}
+use Rattle.node_core.specs.Packets.{PacketState, commanded, is_done}
 use Rattle.node_core.specs.Peers.{at_place, next_number, number_drawn}
 
 pub data Move : Type 0 where
@@ -113,11 +114,13 @@ drawn_there gateway number peers there e =
     ap (λ (o : Option Peer). option_map_or (λ (peer : Peer). slice_set peers gateway (with_next number peer)) o peers) e
 
 pub length_drawn : (gateway number : ℕ) (peers : List Peer) → length (number_raised gateway number peers) ≡ length peers
-length_drawn gateway number peers = by (slice_get peers gateway) refl
+length_drawn gateway number peers = by (slice_get peers gateway)
   where
-    by : (there : Option Peer) → slice_get peers gateway ≡ there → length (number_raised gateway number peers) ≡ length peers
-    by None e = ap length (drawn_there gateway number peers None e)
-    by (Some peer) e = ap length (drawn_there gateway number peers (Some peer) e) ∙ set-length peers gateway (with_next number peer)
+    by : (there : Option Peer) →
+        length (option_map_or (λ (peer : Peer). slice_set peers gateway (with_next number peer)) there peers)
+        ≡ length peers
+    by None = refl
+    by (Some peer) = set-length peers gateway (with_next number peer)
 
 pub next_drawn : (gateway number : ℕ) (peers : List Peer) → gateway < length peers → next_number (number_raised gateway number peers) gateway ≡ suc number
 next_drawn gateway number peers below =
@@ -138,27 +141,33 @@ next_drawn_other gateway number other peers apart = by (slice_get peers gateway)
 
 -- ---- the copy at a gateway
 
-pub commanded_gateway : (gateway : ℕ) (command : Command) (copy : PacketCopy) → (commanded gateway command copy).gateway ≡ copy.gateway
-commanded_gateway gateway command copy = by (copy.gateway == gateway)
-  where
-    by : (is : Bool) → (if is then with_command command copy else copy).gateway ≡ copy.gateway
-    by true = refl
-    by false = refl
-
 pub find_commanded : (gateway other : ℕ) (command : Command) (copies : List PacketCopy) → gateway ≢ other →
     find_at other (map (commanded gateway command) copies) ≡ find_at other copies
 find_commanded gateway other command [] apart = refl
 find_commanded gateway other command (copy ∷ copies) apart =
     let rest : find_at other (map (commanded gateway command) copies) ≡ find_at other copies = find_commanded gateway other command copies apart in
     elim (eqb_tells copy.gateway gateway) [
-      | inl is ↦
-          elim (eqb_tells copy.gateway other) [
-            | inl same ↦ absurd (apart (sym is.1 ∙ same.1))
-            | inr differs ↦ rw (is.0, differs.0) rest
-          ]
-      | inr isnt ↦
-          elim (eqb_tells copy.gateway other) [
-            | inl same ↦ rw (isnt.0, same.0) refl
-            | inr differs ↦ rw (isnt.0, differs.0) rest
-          ]
+      | inl is ↦ rw (is.0, ne_eqb copy.gateway other (λ same. apart (sym is.1 ∙ same))) rest
+      | inr isnt ↦ rw isnt.0 (ap (λ (found : Option PacketCopy).
+            if copy.gateway == other then Some copy else found) rest)
+    ]
+
+pub find_map : (test : PacketCopy → Bool) (f : PacketCopy → PacketCopy) →
+    ((copy : PacketCopy) → test (f copy) ≡ test copy) → (copies : List PacketCopy) →
+    find test (map f copies) ≡ option_map f (find test copies)
+find_map test f same [] = refl
+find_map test f same (copy ∷ copies) =
+    elim (cases_Bool (test copy)) [
+      | inl is ↦ rw (same copy, is) refl
+      | inr isnt ↦ rw (same copy, isnt) (find_map test f same copies)
+    ]
+
+pub find_passes : (test : PacketCopy → Bool) (copies : List PacketCopy) (copy : PacketCopy) →
+    find test copies ≡ Some copy → test copy ≡ true
+find_passes test [] copy found = absurd (cc)
+find_passes test (first ∷ copies) copy found =
+    elim (cases_Bool (test first)) [
+      | inl passes ↦ let at : Some first ≡ Some copy = rw passes at found in let same : first
+            ≡ copy = cc in ap test (sym same) ∙ passes
+      | inr fails ↦ find_passes test copies copy (rw fails at found)
     ]

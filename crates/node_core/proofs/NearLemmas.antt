@@ -1,28 +1,27 @@
 -- The numbers of open packets stay near the next one.
-use Rattle.std.proofs.Common.{◌≡◌, ℕ, zero, suc, min, ◌+◌, ◌-◌, ◌*◌, ◌<◌, ◌≤◌, ◌==◌, not, nat_le, Bool, true, false, if◌then◌else◌, List, [], ◌∷◌, ◌++◌, length, map, Option, Some, None, refl, sym, ap, subst, ◌∙◌, arith, inl, inr}
-use Rattle.std.specs.List.{AllByRecursion, Contains, flat_map}
+use Rattle.std.proofs.Common.{◌≡◌, ℕ, zero, suc, min, ◌+◌, ◌-◌, ◌*◌, ◌<◌, ◌≤◌, not, nat_le, Bool, true, false, if◌then◌else◌, List, [], ◌∷◌, ◌++◌, length, map, Option, Some, None, refl, sym, ap, subst, ◌∙◌, arith, inl, inr}
+use Rattle.std.specs.List.{AllByRecursion, flat_map}
 use Rattle.std.specs.Option.{option_or}
-use Rattle.std.proofs.lemmas.Bool.{leb-false}
+use Rattle.std.proofs.lemmas.Bool.{cases_Bool, leb-false}
 use Rattle.std.proofs.lemmas.Bool.Decides.{eqb_tells}
-use Rattle.std.proofs.lemmas.List.Elements.{All-contains, All-from_recursion}
 use Rattle.std.proofs.lemmas.List.Sums.{sum_by-cons}
-use Rattle.node_core.specs.declared.copy.Command.{Command}
 use Rattle.node_core.specs.declared.copy.PacketCopy.{PacketCopy}
 use Rattle.node_core.specs.declared.fault.SubmitFault.TheVariants.{NumbersOut}
 use Rattle.node_core.specs.declared.peer.Peer.{Peer}
 use Rattle.node_core.specs.declared.port.Port.{Port}
-use Rattle.node_core.specs.Copies.{copy_hearing, copy_hearing_own, new_copy}
+use Rattle.node_core.specs.Copies.{copy_hearing, new_copy}
 use Rattle.node_core.specs.Log.{NodeSetup}
 use Rattle.node_core.specs.Nearness.{HasOpenCopy}
-use Rattle.node_core.specs.Packets.{PacketState, commanded, is_done, packet_hearing, while_open, with_command}
+use Rattle.node_core.specs.Packets.{PacketState, commanded, is_done, packet_hearing, while_open}
 use Rattle.node_core.specs.Peers.{next_number}
 use Rattle.node_core.specs.Reached.{NodeCall, reached}
 use Rattle.node_core.specs.Submitting.{least, numbers_at, numbers_out, oldest_number, open_among, out_at, unsettled_at}
 use Rattle.node_core.proofs.KeptLemmas.{AllKept}
-use Rattle.node_core.proofs.Moves.{Copying, Commanding, Move, One, are_none, beyond, command_with, commanded_gateway, copies_moved, here, length_drawn, next_drawn, next_drawn_other, peers_moved, place}
-use Rattle.node_core.proofs.ReachedLemmas.{Closed, Unrefused, new_packet, stands, weights-push, weights_heard}
-use Rattle.node_core.proofs.RestingLemmas.{each_map, each_push, each_weaker}
-use Rattle.node_core.proofs.WeightLemmas.{one_within, weight, weight_most, weight_unless, weights, weights_moved, weights_moved_other}
+use Rattle.node_core.proofs.Moves.{Commanding, Copying, Move, One, are_none, beyond, command_with, copies_moved, find_at, here, length_drawn, next_drawn, next_drawn_other, peers_moved, place}
+use Rattle.node_core.proofs.ReachedLemmas.{Closed, Unrefused, new_packet, stands, weights-push}
+use Rattle.node_core.proofs.RestingLemmas.{each_contains, each_map, each_push, each_weaker}
+use Rattle.node_core.proofs.WeightLemmas.{one_within, unless_least, weight, weight_most, weight_unless, weights, weights_heard, weights_moved, weights_moved_other}
+use Rattle.node_core.proofs.CaseLemmas.{at_or_apart, commanded_puts, either_hears, either_open}
 
 -- ---- open packets
 
@@ -52,16 +51,13 @@ weights_few gateway (packet ∷ packets) = omega (arith, weights_few gateway pac
   where
     one : (is : Bool) → weight_unless is (weight gateway packet.copies) ≤ 2 * weight_unless is 1
     one true = omega arith
-    one false = omega (arith, weight_most gateway packet.copies)
-
-least_unless : (is : Bool) → weight_unless is 1 ≤ 1
-least_unless true = omega arith
-least_unless false = omega arith
+    one false = weight_most 2 2 (find_at gateway packet.copies) (omega arith) (omega arith)
 
 pub opens_moved : {peers : List Peer} {move : Move} {packets after : List PacketState} → One peers move packets after → opens after ≤ opens packets
 unfolding opens
 opens_moved {peers} {move} (here {packet} {packets} open_yet is) =
-    omega (arith, ap (λ (b : Bool). weight_unless b 1) open_yet, least_unless (is_done (copies_moved peers move packet.copies)))
+    omega (arith, ap (λ (b : Bool). weight_unless b 1) open_yet,
+        unless_least (is_done (copies_moved peers move packet.copies)) 1)
 opens_moved (beyond one) = omega (arith, opens_moved one)
 
 pub opens_pushed : (packets : List PacketState) (number : ℕ) → opens (packets ++ new_packet number ∷ []) ≡ opens packets + 1
@@ -74,12 +70,11 @@ pub opens_heard : (port : Port) (gateway cause : ℕ) (numbers : List ℕ) (pack
 unfolding opens
 opens_heard port gateway cause numbers [] = omega arith
 opens_heard port gateway cause numbers (packet ∷ packets) =
-    omega (arith, opens_heard port gateway cause numbers packets, by (is_done packet.copies) refl)
-  where
-    by : (done : Bool) → is_done packet.copies ≡ done →
-        weight_unless (is_done (if done then packet else packet_hearing port gateway cause numbers packet).copies) 1 ≤ weight_unless (is_done packet.copies) 1
-    by true e = omega arith
-    by false e = omega (arith, ap (λ (b : Bool). weight_unless b 1) e, least_unless (is_done (packet_hearing port gateway cause numbers packet).copies))
+    omega (arith, opens_heard port gateway cause numbers packets,
+    either_open (λ (p : PacketState). weight_unless (is_done p.copies) 1 ≤ weight_unless (is_done packet.copies) 1)
+    (packet_hearing port gateway cause numbers) packet (omega arith)
+    (λ open_yet. omega (arith, ap (λ (b : Bool). weight_unless b 1) open_yet,
+        unless_least (is_done (packet_hearing port gateway cause numbers packet).copies) 1)))
 
 -- ---- open numbers
 
@@ -99,13 +94,6 @@ near_less most less gateway packets below near =
     (λ packet is open_yet. each_weaker (IsNear most gateway) (IsNear less gateway) (λ copy holds same. omega (arith, holds same, below)) packet.copies (is open_yet))
     packets near
 
-commanded_number : (gateway : ℕ) (command : Command) (copy : PacketCopy) → (commanded gateway command copy).number ≡ copy.number
-commanded_number gateway command copy = by (copy.gateway == gateway)
-  where
-    by : (is : Bool) → (if is then with_command command copy else copy).number ≡ copy.number
-    by true = refl
-    by false = refl
-
 near_moved : {peers : List Peer} {move : Move} {packets after : List PacketState} (most gateway : ℕ) → One peers move packets after →
     (place move ≡ gateway → most ≤ next_number peers (place move) + 16511) → NearAll most gateway packets → NearAll most gateway after
 near_moved {peers} {move} most gateway (here {packet} {packets} open_yet is) new near = ((λ still. by move new), near.1)
@@ -117,8 +105,8 @@ near_moved {peers} {move} most gateway (here {packet} {packets} open_yet is) new
         each_map (IsNear most gateway) (IsNear most gateway) (commanded there (command_with order (next_number peers there)))
         (λ copy holds same. omega (
           arith,
-          commanded_number there (command_with order (next_number peers there)) copy,
-          holds (sym (commanded_gateway there (command_with order (next_number peers there)) copy) ∙ same),
+          (commanded_puts there (command_with order (next_number peers there)) copy).number,
+          holds (sym (commanded_puts there (command_with order (next_number peers there)) copy).gateway ∙ same),
         ))
         packet.copies (near.0 open_yet)
 near_moved most gateway (beyond one) new near = (near.0, near_moved most gateway one new near.1)
@@ -129,18 +117,12 @@ near_heard port heard_gateway cause numbers most gateway packets near =
     each_map (NearIn most gateway) (NearIn most gateway) (while_open (packet_hearing port heard_gateway cause numbers)) one packets near
   where
     hears : (copy : PacketCopy) → IsNear most gateway copy → IsNear most gateway (copy_hearing port heard_gateway cause numbers copy)
-    hears copy holds = by (copy.gateway == heard_gateway)
-      where
-        by : (is : Bool) → IsNear most gateway (if is then copy_hearing_own port cause numbers copy else copy)
-        by true = holds
-        by false = holds
+    hears copy holds = either_hears (IsNear most gateway) port heard_gateway cause numbers copy holds holds
 
     one : (packet : PacketState) → NearIn most gateway packet → NearIn most gateway (while_open (packet_hearing port heard_gateway cause numbers) packet)
-    one packet is = by (is_done packet.copies) refl
-      where
-        by : (done : Bool) → is_done packet.copies ≡ done → NearIn most gateway (if done then packet else packet_hearing port heard_gateway cause numbers packet)
-        by true e = is
-        by false e = λ open_yet. each_map (IsNear most gateway) (IsNear most gateway) (copy_hearing port heard_gateway cause numbers) hears packet.copies (is e)
+    one packet is = either_open (NearIn most gateway) (packet_hearing port heard_gateway cause numbers) packet is
+        (λ e open_yet. each_map (IsNear most gateway) (IsNear most gateway)
+            (copy_hearing port heard_gateway cause numbers) hears packet.copies (is e))
 
 -- ---- a packet that is submitted
 
@@ -160,12 +142,12 @@ out_none first (peer ∷ peers) packets none (suc i) below =
     ∙ out_none (suc first) peers packets (or_none (out_at first peer.next packets) _ none).1 i (omega (arith, below))
 
 window : (gateway next : ℕ) (packets : List PacketState) → out_at gateway next packets ≡ None → next - oldest_number gateway next packets < 16384
-window gateway next packets none = by (nat_le 16384 (next - oldest_number gateway next packets)) refl none
-  where
-    by : (out : Bool) → nat_le 16384 (next - oldest_number gateway next packets) ≡ out →
-        (if out then Some (NumbersOut gateway (oldest_number gateway next packets) next) else None) ≡ None → next - oldest_number gateway next packets < 16384
-    by true e none = absurd (cc)
-    by false e none = leb-false _ _ e
+window gateway next packets none =
+    elim (cases_Bool (nat_le 16384 (next - oldest_number gateway next packets))) [
+      | inl out ↦ let some : Some (NumbersOut gateway (oldest_number gateway next packets) next)
+            ≡ None = rw out at none in absurd (cc)
+      | inr fits ↦ leb-false _ _ fits
+    ]
 
 least_most : (number : ℕ) (numbers : List ℕ) → least number numbers ≤ number
 least_most number [] = omega arith
@@ -217,13 +199,16 @@ near_after peers move packets after kept one is = record {
       let within : gateway < length peers = omega (arith, below, length_drawn (place move) (next_number peers (place move)) peers) in
       let most : ℕ = next_number (peers_moved move peers) gateway + weights gateway after in
       let before : ℕ = next_number peers gateway + weights gateway packets in
-      let less : most ≤ before = elim (eqb_tells (place move) gateway) [
-        | inl same ↦
-            subst (λ (g : ℕ). next_number (peers_moved move peers) g + weights g after ≤ next_number peers g + weights g packets) same.1
-            (omega (arith, next_drawn (place move) (next_number peers (place move)) peers (one_within one), weights_moved one))
-        | inr differs ↦
-            omega (arith, next_drawn_other (place move) (next_number peers (place move)) gateway peers differs.1, weights_moved_other gateway differs.1 one)
-      ] in
+      let less : most ≤ before =
+      at_or_apart (λ (g : ℕ). next_number (peers_moved move peers) g + weights g after
+          ≤ next_number peers g + weights g packets) (place move) gateway
+      (omega (arith, next_drawn (place move) (next_number peers (place move)) peers (one_within one),
+          weights_moved one))
+      (λ apart. omega (
+        arith,
+        next_drawn_other (place move) (next_number peers (place move)) gateway peers apart,
+        weights_moved_other 2 gateway apart one,
+      )) in
       near_moved most gateway one
       (λ same. subst (λ (g : ℕ). most ≤ next_number peers g + 16511) (sym same) (omega (arith, less, weights_few gateway packets, is.few)))
       (near_less before most gateway packets less (is.near gateway within));
@@ -242,7 +227,8 @@ near_pushed peers packets number kept unrefused is = record {
       let inside : next - oldest < 16384 = window gateway next packets none_out in
       let most : ℕ = next + weights gateway (packets ++ new_packet number ∷ []) in
       let few : weights gateway (packets ++ new_packet number ∷ []) ≤ 128 =
-      omega (arith, weights-push gateway packets number, weights_few gateway packets, opens_are packets, unrefused.few) in
+      omega (arith, weights-push 2 gateway packets number, weights_few gateway packets, opens_are packets,
+          unrefused.few) in
       let above = each_open (λ (n : ℕ). oldest ≤ n) gateway packets (each_least next (flat_map (unsettled_at gateway) packets)) in
       each_push (NearIn most gateway) packets (new_packet number)
       (each_weaker (λ (packet : PacketState). is_done packet.copies ≡ false →
@@ -253,7 +239,7 @@ near_pushed peers packets number kept unrefused is = record {
       (λ open_yet. tt);
 }
 
-none_open : opens [] ≤ 64
+pub none_open : opens [] ≤ 64
 unfolding opens
 none_open = omega arith
 
@@ -273,15 +259,12 @@ all_near = record {
     near = λ gateway below.
         let f : PacketState → PacketState = while_open (packet_hearing port heard_gateway cause numbers) in
         near_less (next_number peers gateway + weights gateway packets) (next_number peers gateway + weights gateway (map f packets)) gateway (map f packets)
-        (omega (arith, weights_heard port heard_gateway cause numbers gateway packets))
+        (omega (arith, weights_heard 2 port heard_gateway cause numbers gateway packets))
         (near_heard port heard_gateway cause numbers _ gateway packets (is.near gateway below));
   };
 }
 
 -- ---- of a copy that is there
-
-each_contains : {A : Type 0} (P : A → Type 0) (xs : List A) (x : A) → AllByRecursion P xs → Contains xs x → P x
-each_contains P xs x all at = All-contains P xs x (All-from_recursion P xs all) at
 
 pub open_near : (setup : NodeSetup) (calls : List NodeCall) (gateway number : ℕ) → 1 ≤ length setup.gateways → gateway < length setup.gateways →
     HasOpenCopy (reached setup calls).packets gateway number → next_number (reached setup calls).gateways gateway ≤ number + 16511

@@ -3,7 +3,7 @@
 use Rattle.std.proofs.Common.{◌≡◌, ℕ, zero, suc, ◌+◌, ◌*◌, ◌%◌, ◌<◌, ◌≤◌, ◌==◌, ◌&&◌, Bool, true, false, if◌then◌else◌, nat_le, nat_lt, List, [], ◌∷◌, ◌++◌, length, map, Option, Some, None, refl, sym, ap, subst, ◌∙◌, arith, length-append}
 use Rattle.std.specs.Prelude.{slice_get, slice_set}
 use Rattle.std.specs.Option.{IfSome, option_and_then, option_map_or, option_or}
-use Rattle.std.proofs.lemmas.Bool.{leb-false, ltb-true}
+use Rattle.std.proofs.lemmas.Bool.{cond_both, leb-false, ltb-true}
 use Rattle.std.proofs.lemmas.List.{length-map}
 use Rattle.std.proofs.lemmas.List.Quantifiers.{position-Some}
 use Rattle.byteorder.specs.Endian.{big_number}
@@ -18,22 +18,23 @@ use Rattle.node_core.specs.Drafts.{is_without_records}
 use Rattle.node_core.specs.Hearing.{Taken, Dropped, Says, entries_from, taken, taken_entries}
 use Rattle.node_core.specs.Log.{LogEntry, Began, Halted, Submitted, Appointed, Ticked, Heard, NodeSetup, Saying, Redirects, Responds, favourite, packets_of, peers_of, submitted}
 use Rattle.node_core.specs.Moving.{another, appointing, is_refusal, is_silent, moved_at_tick, moved_by, next_place, place_at, redirected}
-use Rattle.node_core.specs.Packets.{PacketState, is_done, packet_after_all, packet_hearing, while_open}
+use Rattle.node_core.specs.Packets.{PacketState, packet_after_all, packet_hearing, while_open}
 use Rattle.node_core.specs.Peers.{all_drawn, has_ip, next_number, path_drawn, peer_anew, place_of}
-use Rattle.node_core.specs.Reached.{NodeCall, Submit, Tick, Hear, Halt, Start, call_entries, entries_halted, entries_running, log_of, submit_entries}
+use Rattle.node_core.specs.Reached.{Halt, Hear, NodeCall, Start, Submit, Tick, call_entries, entries_halted, entries_running, log_of, most_submissions, submit_entries}
 use Rattle.node_core.specs.Sendings.{due_for_all, probe_of, probes, probes_from}
 use Rattle.node_core.specs.Sound.{AreNumbered, planned}
 use Rattle.node_core.specs.Submitting.{numbers_out, open_among, refusal}
 use Rattle.node_core.specs.Ticks.{due_now}
 use Rattle.node_core.specs.Value.{NodeValue, befallen, logged, node_of}
-use Rattle.node_core.proofs.KeptLemmas.{AllKept, GoOn, IsKept, all_kept_moved, all_kept_on, kept_anew, kept_hearing}
+use Rattle.node_core.proofs.KeptLemmas.{AllKept, GoOn, IsKept, all_kept_moved, all_kept_on, kept_hearing}
 use Rattle.node_core.proofs.Moves.{Move, Moves, One, onward, peers_moved, still}
 use Rattle.node_core.proofs.NumberedLemmas.{after_all-number, numbered_map, numbered_push, while_open-number}
 use Rattle.node_core.proofs.OwnLemmas.{planned_after_probes}
 use Rattle.node_core.proofs.PlanLemmas.{all_drawn_append}
 use Rattle.node_core.proofs.RestingLemmas.{each_map, each_push}
-use Rattle.node_core.proofs.WeightLemmas.{Bounded, bounded_after, weight_heard, weights}
+use Rattle.node_core.proofs.WeightLemmas.{Bounded, bounded_after, weights, weights_by, weights_heard}
 use Rattle.node_core.proofs.TickMoves.{all_kept_after, size_after, tick_moves}
+use Rattle.node_core.proofs.CaseLemmas.{either_open}
 
 -- ---- what a law needs
 
@@ -110,11 +111,9 @@ abbrev pub Within : ℕ → Option ℕ → Type 0
 Within size to = IfSome to (λ gateway. gateway < size)
 
 next_within : (size gateway : ℕ) → Within size (next_place size gateway)
-next_within size gateway = by (nat_lt 1 size) refl
-  where
-    by : (is : Bool) → nat_lt 1 size ≡ is → Within size (if is then Some ((gateway + 1) % size) else None)
-    by true e = let more : 1 < size = ltb-true _ _ e in omega arith
-    by false e = tt
+next_within size gateway =
+    cond_both (nat_lt 1 size) (Some ((gateway + 1) % size)) None (Within size)
+        (λ e. let more : 1 < size = ltb-true _ _ e in omega arith) (λ _. tt)
 
 place_within : (peers : List Peer) (ip : ℕ) → Within (length peers) (place_of peers ip)
 place_within peers ip = by (place_of peers ip) refl
@@ -124,11 +123,9 @@ place_within peers ip = by (place_of peers ip) refl
     by (Some place) e = (position-Some (has_ip ip) peers place (peer_anew (record { ip = 0; port = 0 })) e).0
 
 at_within : (peers : List Peer) (octets : List ℕ) → Within (length peers) (place_at peers octets)
-at_within peers octets = by (length octets == 4)
-  where
-    by : (is : Bool) → Within (length peers) (if is then place_of peers (big_number 4 octets) else None)
-    by true = place_within peers (big_number 4 octets)
-    by false = tt
+at_within peers octets =
+    cond_both (length octets == 4) (place_of peers (big_number 4 octets)) None (Within (length peers))
+        (λ _. place_within peers (big_number 4 octets)) (λ _. tt)
 
 redirected_within : (peers : List Peer) (gateway : ℕ) (to : Option (List ℕ)) → Within (length peers) (redirected peers gateway to)
 redirected_within peers gateway to = either (another gateway (option_and_then (place_at peers) to)) (other _ (there to))
@@ -137,51 +134,102 @@ redirected_within peers gateway to = either (another gateway (option_and_then (p
     there None = tt
     there (Some octets) = at_within peers octets
 
-    unless : (is : Bool) (place : ℕ) → place < length peers → Within (length peers) (if is then None else Some place)
-    unless true place below = tt
-    unless false place below = below
-
     other : (place : Option ℕ) → Within (length peers) place → Within (length peers) (another gateway place)
     other None is = tt
-    other (Some place) is = unless (place == gateway) place is
+    other (Some place) is = cond_both (place == gateway) None (Some place) (Within (length peers)) (λ _. tt) (λ _. is)
 
     either : (place : Option ℕ) → Within (length peers) place → Within (length peers) (option_or place (next_place (length peers) gateway))
     either None is = next_within (length peers) gateway
     either (Some place) is = is
 
 pub tick_within : (node : NodeValue) → Within (length node.gateways) (moved_at_tick node)
-tick_within node = by (is_silent node)
-  where
-    by : (is : Bool) → Within (length node.gateways) (if is then next_place (length node.gateways) node.favourite_place else None)
-    by true = next_within (length node.gateways) node.favourite_place
-    by false = tt
+tick_within node =
+    cond_both (is_silent node) (next_place (length node.gateways) node.favourite_place) None
+        (Within (length node.gateways))
+    (λ _. next_within (length node.gateways) node.favourite_place) (λ _. tt)
 
 moved_within : (node : NodeValue) (port : Port) (gateway : ℕ) (saying : Saying) → Within (length node.gateways) (moved_by node port gateway saying)
-moved_within node port gateway (Redirects to) = by (gateway == node.favourite_place)
-  where
-    by : (is : Bool) → Within (length node.gateways) (if is then redirected node.gateways gateway to else None)
-    by true = redirected_within node.gateways gateway to
-    by false = tt
-moved_within node port gateway (Responds cause numbers) = by ((gateway == node.favourite_place) && is_refusal port cause)
-  where
-    by : (is : Bool) → Within (length node.gateways) (if is then next_place (length node.gateways) gateway else None)
-    by true = next_within (length node.gateways) gateway
-    by false = tt
+moved_within node port gateway (Redirects to) =
+    cond_both (gateway == node.favourite_place) (redirected node.gateways gateway to) None
+        (Within (length node.gateways))
+    (λ _. redirected_within node.gateways gateway to) (λ _. tt)
+moved_within node port gateway (Responds cause numbers) =
+    cond_both ((gateway == node.favourite_place) && is_refusal port cause) (next_place (length node.gateways) gateway)
+        None (Within (length node.gateways))
+    (λ _. next_within (length node.gateways) gateway) (λ _. tt)
 moved_within node port gateway _ = tt
 
 -- ---- the numbers that are left
 
-pub weights-push : (gateway : ℕ) (packets : List PacketState) (number : ℕ) → weights gateway (packets ++ new_packet number ∷ []) ≡ weights gateway packets + 2
-weights-push gateway [] number = omega arith
-weights-push gateway (packet ∷ packets) number = omega (arith, weights-push gateway packets number)
+pub weights-push : (none gateway : ℕ) (packets : List PacketState) (number : ℕ) →
+    weights_by none gateway (packets ++ new_packet number ∷ []) ≡ weights_by none gateway packets + none
+weights-push none gateway [] number = omega arith
+weights-push none gateway (packet ∷ packets) number = omega (arith, weights-push none gateway packets number)
 
-pub weights_heard : (port : Port) (heard_gateway cause : ℕ) (numbers : List ℕ) (gateway : ℕ) (packets : List PacketState) →
-    weights gateway (map (while_open (packet_hearing port heard_gateway cause numbers)) packets) ≤ weights gateway packets
-weights_heard port heard_gateway cause numbers gateway [] = omega arith
-weights_heard port heard_gateway cause numbers gateway (packet ∷ packets) =
-    omega (arith, weights_heard port heard_gateway cause numbers gateway packets, weight_heard port heard_gateway cause numbers gateway packet)
+-- ---- one more call
+
+module _ (setup : NodeSetup) (log : List LogEntry) where
+  abbrev now : NodeValue
+  now = node_of setup log
+
+  -- what a fact about the log needs, to hold after each call
+  pub record Steps (Q : List LogEntry → Type 0) : Type 0 where
+    pub is : Q log
+    pub submits : (form : PacketForm) → refusal now form ≡ None → submitted log < most_submissions →
+        Q (Submitted form ∷ log)
+    pub ticks : (to : Option ℕ) → Within (length (peers_of setup.gateways log)) to →
+        Q (logged (appointing to ++ Ticked (due_now (befallen (appointing to) now)) ∷ []) log)
+    pub hears : (port : Port) (gateway : ℕ) (saying : Saying) → Q (Heard port gateway saying ∷ log)
+    pub appoints : (to : ℕ) (port : Port) (gateway : ℕ) (saying : Saying) → to < length (peers_of setup.gateways log) →
+        Q (Appointed to ∷ Heard port gateway saying ∷ log)
+    pub halts : Q (Halted ∷ log)
+    pub begins : Q (Began ∷ log)
+
+  module _ (Q : List LogEntry → Type 0) (steps : Steps Q) where
+    after_taken : (port : Port) (gateway : ℕ) (what : Taken) → Q (logged (taken_entries now port gateway what) log)
+    after_taken port gateway (Dropped why) = steps.is
+    after_taken port gateway (Says saying reply) =
+        by (moved_by now port gateway saying) (moved_within now port gateway saying)
+      where
+        by : (to : Option ℕ) → Within (length now.gateways) to →
+            Q (logged (Heard port gateway saying ∷ appointing to) log)
+        by None within = steps.hears port gateway saying
+        by (Some to) within = steps.appoints to port gateway saying within
+
+    after_running : (call : NodeCall) → Q (logged (entries_running now call) log)
+    after_running (Submit form) = by (refusal now form) refl
+      where
+        by : (fault : Option SubmitFault) → refusal now form ≡ fault → Q (logged (submit_entries now fault form) log)
+        by (Some fault) e = steps.is
+        by None e =
+            cond_both (nat_lt (submitted log) most_submissions) (Submitted form ∷ []) []
+            (λ (entries : List LogEntry). Q (logged entries log))
+            (λ fewer. steps.submits form e (ltb-true _ _ fewer)) (λ _. steps.is)
+    after_running Tick = steps.ticks (moved_at_tick now) (tick_within now)
+    after_running (Hear port from octets) = by (place_of now.gateways from.ip)
+      where
+        by : (place : Option ℕ) → Q (logged (entries_from now port place octets) log)
+        by None = steps.is
+        by (Some gateway) = after_taken port gateway (taken now gateway octets)
+    after_running Halt = steps.halts
+    after_running Start = steps.is
+
+    after_halted : (call : NodeCall) → Q (logged (entries_halted call) log)
+    after_halted Halt = steps.halts
+    after_halted Start = steps.begins
+    after_halted _ = steps.is
+
+    pub after_call : (call : NodeCall) → Q (logged (call_entries now call) log)
+    after_call call =
+        cond_both now.is_running (entries_running now call) (entries_halted call)
+            (λ (entries : List LogEntry). Q (logged entries log))
+        (λ _. after_running call) (λ _. after_halted call)
 
 -- ---- one more entry
+
+pub anew_next : (addresses : List Addr) (gateway : ℕ) → next_number (map peer_anew addresses) gateway ≡ 65536
+anew_next (address ∷ addresses) (suc gateway) = anew_next addresses gateway
+anew_next _ _ = refl
 
 module _ (setup : NodeSetup) (some : 1 ≤ length setup.gateways) (Q : List Peer → List PacketState → Type 0) (law : Closed Q) where
   pub record Stands (log : List LogEntry) : Type 0 where
@@ -194,10 +242,6 @@ module _ (setup : NodeSetup) (some : 1 ≤ length setup.gateways) (Q : List Peer
     pub few : submitted log ≤ 4611686018427355136
     pub bounded : Bounded (65536 + 2 * length (packets_of log)) (peers_of setup.gateways log) (packets_of log)
     pub law_holds : Q (peers_of setup.gateways log) (packets_of log)
-
-  anew_next : (addresses : List Addr) (gateway : ℕ) → next_number (map peer_anew addresses) gateway ≡ 65536
-  anew_next (address ∷ addresses) (suc gateway) = anew_next addresses gateway
-  anew_next _ _ = refl
 
   began : (log : List LogEntry) → submitted log ≤ 4611686018427355136 → Stands (Began ∷ log)
   began log few = record {
@@ -213,17 +257,8 @@ module _ (setup : NodeSetup) (some : 1 ≤ length setup.gateways) (Q : List Peer
   }
 
   halted : (log : List LogEntry) → submitted log ≤ 4611686018427355136 → Stands (Halted ∷ log)
-  halted log few = record {
-    size = length-map setup.gateways peer_anew;
-    place = omega (arith, some);
-    before = submitted log;
-    numbered = tt;
-    counted = omega arith;
-    kept = tt;
-    few = few;
-    bounded = λ gateway below. omega (arith, anew_next setup.gateways gateway);
-    law_holds = law.anew setup.gateways;
-  }
+  halted log few = let is : Stands (Began ∷ log) = began log few in
+      search (is.size, is.place, is.numbered, is.counted, is.few, is.bounded, is.law_holds)
 
   is_submitted : (form : PacketForm) (log : List LogEntry) → Unrefused (peers_of setup.gateways log) (packets_of log) → submitted log < 4611686018427355136 → Stands log → Stands (Submitted form ∷ log)
   is_submitted form log unrefused fewer is = record {
@@ -232,37 +267,26 @@ module _ (setup : NodeSetup) (some : 1 ≤ length setup.gateways) (Q : List Peer
     before = is.before;
     numbered = numbered_push is.before (suc (submitted log)) (packets_of log) is.numbered (ap suc is.counted);
     counted = omega (arith, is.counted, length-append (packets_of log) (new_packet (suc (submitted log)) ∷ []));
-    kept = each_push (λ (p : PacketState). IsKept (peers_of setup.gateways log) p.copies) (packets_of log) _ is.kept (kept_anew _);
+    kept = each_push (λ (p : PacketState). IsKept (peers_of setup.gateways log) p.copies) (packets_of log) _ is.kept
+        (record { placed = record { apart = tt; places = tt }; plain = tt; below = tt });
     few = fewer;
     bounded = λ gateway below. omega (
       arith,
       is.bounded gateway below,
-      weights-push gateway (packets_of log) (suc (submitted log)),
+      weights-push 2 gateway (packets_of log) (suc (submitted log)),
       length-append (packets_of log) (new_packet (suc (submitted log)) ∷ []),
     );
     law_holds = law.pushed _ (packets_of log) (suc (submitted log)) is.kept unrefused is.law_holds;
   }
 
   is_appointed : (gateway : ℕ) (log : List LogEntry) → gateway < length setup.gateways → Stands log → Stands (Appointed gateway ∷ log)
-  is_appointed gateway log within is = record {
-    size = is.size;
-    place = within;
-    before = is.before;
-    numbered = is.numbered;
-    counted = is.counted;
-    kept = is.kept;
-    few = is.few;
-    bounded = is.bounded;
-    law_holds = is.law_holds;
-  }
+  is_appointed gateway log within is = search within
 
   hearing_kept : (port : Port) (gateway cause : ℕ) (numbers : List ℕ) (peers : List Peer) (packet : PacketState) → IsKept peers packet.copies →
       IsKept peers (while_open (packet_hearing port gateway cause numbers) packet).copies
-  hearing_kept port gateway cause numbers peers packet kept = by (is_done packet.copies)
-    where
-      by : (is : Bool) → IsKept peers (if is then packet else packet_hearing port gateway cause numbers packet).copies
-      by true = kept
-      by false = kept_hearing peers port gateway cause numbers packet.copies kept
+  hearing_kept port gateway cause numbers peers packet kept =
+      either_open (λ (p : PacketState). IsKept peers p.copies) (packet_hearing port gateway cause numbers) packet kept
+      (λ _. kept_hearing peers port gateway cause numbers packet.copies kept)
 
   is_heard : (port : Port) (gateway : ℕ) (saying : Saying) (log : List LogEntry) → Stands log → Stands (Heard port gateway saying ∷ log)
   is_heard port heard_gateway (Responds cause numbers) log is =
@@ -280,21 +304,11 @@ module _ (setup : NodeSetup) (some : 1 ≤ length setup.gateways) (Q : List Peer
           arith,
           is.bounded gateway below,
           length-map (packets_of log) f,
-          weights_heard port heard_gateway cause numbers gateway (packets_of log),
+          weights_heard 2 port heard_gateway cause numbers gateway (packets_of log),
         );
         law_holds = law.heard _ (packets_of log) port heard_gateway cause numbers is.kept is.law_holds;
       }
-  is_heard port gateway _ log is = record {
-    size = is.size;
-    place = is.place;
-    before = is.before;
-    numbered = is.numbered;
-    counted = is.counted;
-    kept = is.kept;
-    few = is.few;
-    bounded = is.bounded;
-    law_holds = is.law_holds;
-  }
+  is_heard port gateway _ log is = search (is.place)
 
   law_after : {peers after_peers : List Peer} {packets after : List PacketState} → Moves peers packets after_peers after → AllKept peers packets →
       Q peers packets → Q after_peers after
@@ -352,50 +366,25 @@ module _ (setup : NodeSetup) (some : 1 ≤ length setup.gateways) (Q : List Peer
       by false true many_is none = absurd (cc)
       by false false many_is none = record { few = leb-false 64 (open_among node.packets) many_is; near = none }
 
-  after_call : (call : NodeCall) (log : List LogEntry) → Stands log → Stands (logged (call_entries (node_of setup log) call) log)
-  after_call call log is = by (node_of setup log).is_running call
+  after_one : (call : NodeCall) (log : List LogEntry) → Stands log →
+      Stands (logged (call_entries (node_of setup log) call) log)
+  after_one call log is = after_call setup log Stands (record {
+    is = is;
+    submits = λ form none fewer. is_submitted form log (unrefused (node_of setup log) form none) fewer is;
+    ticks = ticks;
+    hears = λ port gateway saying. is_heard port gateway saying log is;
+    appoints = λ to port gateway saying below.
+        is_appointed to (Heard port gateway saying ∷ log) (omega (arith, is.size, below)) (is_heard port gateway saying
+            log is);
+    halts = halted log is.few;
+    begins = began log is.few;
+  }) call
     where
-      limits : (form : PacketForm) (fewer : Bool) → nat_lt (submitted log) 4611686018427355136 ≡ fewer →
-          Unrefused (peers_of setup.gateways log) (packets_of log) → Stands (logged (if fewer then Submitted form ∷ [] else []) log)
-      limits form true e unrefused = is_submitted form log unrefused (ltb-true _ _ e) is
-      limits form false e unrefused = is
-
-      submits : (form : PacketForm) (fault : Option SubmitFault) → refusal (node_of setup log) form ≡ fault → Stands (logged (submit_entries (node_of setup log) fault form) log)
-      submits form None e = limits form (nat_lt (submitted log) 4611686018427355136) refl (unrefused (node_of setup log) form e)
-      submits form (Some fault) e = is
-
       ticks : (to : Option ℕ) → Within (length (peers_of setup.gateways log)) to →
           Stands (logged (appointing to ++ Ticked (due_now (befallen (appointing to) (node_of setup log))) ∷ []) log)
       ticks None within = is_ticked (node_of setup log).paths _ log is
       ticks (Some gateway) within = is_ticked (node_of setup log).paths _ (Appointed gateway ∷ log) (is_appointed gateway log (omega (arith, is.size, within)) is)
 
-      appoints : (to : Option ℕ) (port : Port) (gateway : ℕ) (saying : Saying) → Within (length (peers_of setup.gateways log)) to →
-          Stands (logged (Heard port gateway saying ∷ appointing to) log)
-      appoints None port gateway saying within = is_heard port gateway saying log is
-      appoints (Some to) port gateway saying within =
-          is_appointed to (Heard port gateway saying ∷ log) (omega (arith, is.size, within)) (is_heard port gateway saying log is)
-
-      takes : (port : Port) (gateway : ℕ) (what : Taken) → Stands (logged (taken_entries (node_of setup log) port gateway what) log)
-      takes port gateway (Dropped why) = is
-      takes port gateway (Says saying reply) =
-          appoints (moved_by (node_of setup log) port gateway saying) port gateway saying (moved_within (node_of setup log) port gateway saying)
-
-      hears : (port : Port) (place : Option ℕ) (octets : List ℕ) → Stands (logged (entries_from (node_of setup log) port place octets) log)
-      hears port None octets = is
-      hears port (Some gateway) octets = takes port gateway (taken (node_of setup log) gateway octets)
-
-      by : (running : Bool) (call : NodeCall) → Stands (logged (if running then entries_running (node_of setup log) call else entries_halted call) log)
-      by true (Submit form) = submits form (refusal (node_of setup log) form) refl
-      by true Tick = ticks (moved_at_tick (node_of setup log)) (tick_within (node_of setup log))
-      by true (Hear port from octets) = hears port (place_of (peers_of setup.gateways log) from.ip) octets
-      by true Halt = halted log is.few
-      by true Start = is
-      by false (Submit form) = is
-      by false Tick = is
-      by false (Hear port from octets) = is
-      by false Halt = halted log is.few
-      by false Start = began log is.few
-
   pub stands : (calls : List NodeCall) → Stands (log_of setup calls)
   stands [] = began [] (omega arith)
-  stands (call ∷ calls) = after_call call (log_of setup calls) (stands calls)
+  stands (call ∷ calls) = after_one call (log_of setup calls) (stands calls)

@@ -4,24 +4,28 @@ use Rattle.std.specs.List.{All, AllByRecursion, find}
 use Rattle.std.specs.Option.{option_map_or, option_or}
 use Rattle.std.proofs.lemmas.Bool.Decides.{eqb_tells}
 use Rattle.std.proofs.lemmas.List.Elements.{All-from_recursion}
+use Rattle.std.proofs.lemmas.Bool.{cases_Bool, eqb-true, false≢true}
+use Rattle.std.proofs.lemmas.List.Folds.{find-append}
 use Rattle.node_core.specs.declared.copy.Command.{Command}
 use Rattle.node_core.specs.declared.copy.Order.TheVariants.{Release, Cancel}
 use Rattle.node_core.specs.declared.copy.PacketCopy.{PacketCopy}
 use Rattle.node_core.specs.declared.copy.Verdict.{Verdict}
-use Rattle.node_core.specs.declared.copy.Verdict.TheVariants.{Unknown, Filed, Sealed, Held}
+use Rattle.node_core.specs.declared.copy.Verdict.TheVariants.{Sealed}
 use Rattle.node_core.specs.declared.peer.Peer.{Peer}
 use Rattle.node_core.specs.declared.port.Port.{Port}
 use Rattle.node_core.specs.Choosing.{IsChoice, ReleasesChoice}
-use Rattle.node_core.specs.Copies.{command_hearing, copy_hearing, copy_hearing_own, first_told, is_chosen, is_held, is_release, new_copy}
+use Rattle.node_core.specs.Copies.{command_hearing, copy_hearing, first_told, is_chosen, is_held, is_release, names, new_copy, told_if}
 use Rattle.node_core.specs.Log.{NodeSetup}
-use Rattle.node_core.specs.Packets.{PacketState, chosen, commanded, is_done, packet_hearing, while_open, with_command}
+use Rattle.node_core.specs.Packets.{PacketState, chosen, commanded, packet_hearing, while_open, with_command}
 use Rattle.node_core.specs.Peers.{next_number}
 use Rattle.node_core.specs.Reached.{NodeCall, reached}
 use Rattle.node_core.proofs.DueMoves.{IsPlaced, IsThere, all_there, chosen_is}
 use Rattle.node_core.proofs.KeptLemmas.{AllKept}
-use Rattle.node_core.proofs.Moves.{CommandsOne, Copying, Commanding, IsMove, Move, One, are_none, beyond, command_with, copies_moved, find_at, here}
+use Rattle.node_core.proofs.Moves.{Commanding, CommandsOne, Copying, IsMove, Move, One, are_none, beyond, command_with, copies_moved, find_at, find_map, find_passes, here}
 use Rattle.node_core.proofs.ReachedLemmas.{Closed, new_packet, stands}
 use Rattle.node_core.proofs.RestingLemmas.{each_map, each_push, each_weaker}
+use Rattle.node_core.proofs.CaseLemmas.{either_commanded, either_hears, either_open}
+use Rattle.node_core.proofs.DueLemmas.{choice_of}
 
 -- none is released, or the first copy is sealed and one is
 abbrev pub IsFirstChosen : List PacketCopy → PacketCopy → Type 0
@@ -40,46 +44,13 @@ Chosen (plain ∷ duplicates) = (is_chosen plain ≡ false) × (NoneChosen dupli
 
 -- ---- finding
 
-find_push : (test : PacketCopy → Bool) (copies : List PacketCopy) (last copy : PacketCopy) → find test copies ≡ Some copy →
-    find test (copies ++ last ∷ []) ≡ Some copy
-find_push test [] last copy found = absurd (cc)
-find_push test (first ∷ copies) last copy found = by (test first) found (find_push test copies last copy)
-  where
-    by : (passes : Bool) → (if passes then Some first else find test copies) ≡ Some copy →
-        (find test copies ≡ Some copy → find test (copies ++ last ∷ []) ≡ Some copy) →
-        (if passes then Some first else find test (copies ++ last ∷ [])) ≡ Some copy
-    by true found rest = found
-    by false found rest = rest found
-
-find_map : (test : PacketCopy → Bool) (f : PacketCopy → PacketCopy) → ((copy : PacketCopy) → test (f copy) ≡ test copy) → (copies : List PacketCopy) →
-    find test (map f copies) ≡ option_map f (find test copies)
-find_map test f same [] = refl
-find_map test f same (copy ∷ copies) =
-    ap (λ (b : Bool). if b then Some (f copy) else find test (map f copies)) (same copy) ∙ by (test copy) (find_map test f same copies)
-  where
-    by : (passes : Bool) → find test (map f copies) ≡ option_map f (find test copies) →
-        (if passes then Some (f copy) else find test (map f copies)) ≡ option_map f (if passes then Some copy else find test copies)
-    by true rest = refl
-    by false rest = rest
-
 pub find_none : (test : PacketCopy → Bool) (copies : List PacketCopy) → find test copies ≡ None → AllByRecursion (λ (copy : PacketCopy). test copy ≡ false) copies
 find_none test [] none = tt
-find_none test (copy ∷ copies) none = by (test copy) refl none (find_none test copies)
-  where
-    by : (passes : Bool) → test copy ≡ passes → (if passes then Some copy else find test copies) ≡ None →
-        (find test copies ≡ None → AllByRecursion (λ (c : PacketCopy). test c ≡ false) copies) →
-        (test copy ≡ false) × AllByRecursion (λ (c : PacketCopy). test c ≡ false) copies
-    by true e none rest = absurd (cc)
-    by false e none rest = (e, rest none)
-
-pub find_passes : (test : PacketCopy → Bool) (copies : List PacketCopy) (copy : PacketCopy) → find test copies ≡ Some copy → test copy ≡ true
-find_passes test [] copy found = absurd (cc)
-find_passes test (first ∷ copies) copy found = by (test first) refl found (find_passes test copies copy)
-  where
-    by : (passes : Bool) → test first ≡ passes → (if passes then Some first else find test copies) ≡ Some copy →
-        (find test copies ≡ Some copy → test copy ≡ true) → test copy ≡ true
-    by true e found rest = let same : first ≡ copy = cc in ap test (sym same) ∙ e
-    by false e found rest = rest found
+find_none test (copy ∷ copies) none =
+    elim (cases_Bool (test copy)) [
+      | inl passes ↦ let found : Some copy ≡ None = rw passes at none in absurd (cc)
+      | inr fails ↦ (fails, find_none test copies (rw fails at none))
+    ]
 
 -- the only one that passes once it is changed is found
 find_only : (test : PacketCopy → Bool) (f : PacketCopy → PacketCopy) (choice : PacketCopy) → test (f choice) ≡ true → (copies : List PacketCopy) →
@@ -126,14 +97,18 @@ chosen_push gateway number (plain ∷ duplicates) is = (is.0, by is.1)
       sealed = one.sealed;
       firsts = each_push (IsFirstChosen (duplicates ++ new_copy gateway number false ∷ [])) duplicates (new_copy gateway number false)
           (each_weaker (IsFirstChosen duplicates) (IsFirstChosen (duplicates ++ new_copy gateway number false ∷ []))
-          (λ c first is_so. find_push is_chosen duplicates (new_copy gateway number false) c (first is_so)) duplicates one.firsts)
+          (λ c first is_so.
+          find-append is_chosen duplicates (new_copy gateway number false ∷ [])
+          ∙ ap (λ (o : Option PacketCopy). option_or o None) (first is_so)) duplicates one.firsts)
           (λ is_so. absurd (cc));
     })
 
 cancel_keeps : (gateway number : ℕ) → KeepsChoice (commanded gateway (command_with Cancel number))
 cancel_keeps gateway number = record {
-  same = λ copy. same copy (copy.gateway == gateway);
-  sealed = λ copy is. verdict copy (copy.gateway == gateway) ∙ is;
+  same = λ copy. either_commanded (λ (c : PacketCopy).
+      is_chosen c ≡ is_chosen copy) gateway (command_with Cancel number) copy (at copy.command) refl;
+  sealed = λ copy is. either_commanded (λ (c : PacketCopy).
+      c.verdict ≡ Sealed) gateway (command_with Cancel number) copy is is;
 }
   where
     at : (command : Option Command) → option_map_or (λ (c : Command). is_release c.order) (option_or command (Some (command_with Cancel number))) false
@@ -141,38 +116,19 @@ cancel_keeps gateway number = record {
     at None = refl
     at (Some command) = refl
 
-    same : (copy : PacketCopy) (is : Bool) → is_chosen (if is then with_command (command_with Cancel number) copy else copy) ≡ is_chosen copy
-    same copy true = at copy.command
-    same copy false = refl
-
-    verdict : (copy : PacketCopy) (is : Bool) → (if is then with_command (command_with Cancel number) copy else copy).verdict ≡ copy.verdict
-    verdict copy true = refl
-    verdict copy false = refl
-
 pub hearing_keeps : (port : Port) (gateway cause : ℕ) (numbers : List ℕ) → KeepsChoice (copy_hearing port gateway cause numbers)
 hearing_keeps port gateway cause numbers = record {
-  same = λ copy. same copy (copy.gateway == gateway);
-  sealed = λ copy is. sealed copy (copy.gateway == gateway) is;
+  same = λ copy. either_hears (λ (c : PacketCopy). is_chosen c ≡ is_chosen copy) port gateway cause numbers copy
+      (at copy.command) refl;
+  sealed = λ copy is. either_hears (λ (c : PacketCopy).
+      c.verdict ≡ Sealed) port gateway cause numbers copy
+      (ap (λ (v : Verdict). first_told v (told_if (names numbers copy.number) port copy.is_plain cause)) is) is;
 }
   where
     at : (command : Option Command) → option_map_or (λ (c : Command). is_release c.order) (option_map (command_hearing cause numbers) command) false
         ≡ option_map_or (λ (c : Command). is_release c.order) command false
     at None = refl
     at (Some command) = refl
-
-    same : (copy : PacketCopy) (is : Bool) → is_chosen (if is then copy_hearing_own port cause numbers copy else copy) ≡ is_chosen copy
-    same copy true = at copy.command
-    same copy false = refl
-
-    stays : (verdict later : Verdict) → verdict ≡ Sealed → first_told verdict later ≡ Sealed
-    stays Unknown later is = absurd (cc)
-    stays Filed later is = is
-    stays Sealed later is = refl
-    stays Held later is = is
-
-    sealed : (copy : PacketCopy) (is : Bool) → copy.verdict ≡ Sealed → (if is then copy_hearing_own port cause numbers copy else copy).verdict ≡ Sealed
-    sealed copy true e = stays copy.verdict _ e
-    sealed copy false e = e
 
 -- ---- a release
 
@@ -191,12 +147,8 @@ module _ (peers : List Peer) (plain : PacketCopy) (duplicates : List PacketCopy)
   there = let all = all_there peers (plain ∷ duplicates) placed.apart placed.places in (all.0, all.1)
 
   place_is : one.copy.gateway ≡ gateway
-  place_is = by (eqb_tells one.copy.gateway gateway) (find_passes (λ (c : PacketCopy). c.gateway == gateway) (plain ∷ duplicates) one.copy one.found)
-    where
-      by : (((one.copy.gateway == gateway) ≡ true) × (one.copy.gateway ≡ gateway)) ⊎ (((one.copy.gateway == gateway) ≡ false) × (one.copy.gateway ≢ gateway)) →
-          (one.copy.gateway == gateway) ≡ true → one.copy.gateway ≡ gateway
-      by (inl is) is_so = is.1
-      by (inr isnt) is_so = let is_not : (one.copy.gateway == gateway) ≡ false = isnt.0 in absurd (cc)
+  place_is = eqb-true one.copy.gateway gateway (find_passes (λ (c : PacketCopy).
+      c.gateway == gateway) (plain ∷ duplicates) one.copy one.found)
 
   sealed_is : plain.verdict ≡ Sealed
   sealed_is =
@@ -213,9 +165,6 @@ module _ (peers : List Peer) (plain : PacketCopy) (duplicates : List PacketCopy)
       chosen_is (IsThere peers (plain ∷ duplicates)) duplicates one.right.copy chosen_one there.1 in
       chosen_one ∙ ap (λ (c : PacketCopy). Some c) (at_gateway one.right.copy is_there (one.right.gateway_is ∙ place_is))
 
-  unchosen : is_chosen one.copy ≡ false
-  unchosen = ap (λ (c : Option Command). option_map_or (λ (command : Command). is_release command.order) c false) one.fresh
-
   none_yet : (find is_chosen duplicates ≡ None) × (find (λ (c : PacketCopy). is_held c.verdict) duplicates ≡ Some one.copy)
   none_yet = by (find is_chosen duplicates) refl choice_is
     where
@@ -226,22 +175,22 @@ module _ (peers : List Peer) (plain : PacketCopy) (duplicates : List PacketCopy)
       by (Some copy) e is =
           let same : copy ≡ one.copy = cc in
           let is_so : is_chosen one.copy ≡ true = ap is_chosen (sym same) ∙ find_passes is_chosen duplicates copy e in
-          let is_not : is_chosen one.copy ≡ false = unchosen in
+          let is_not : is_chosen one.copy ≡ false =
+          ap (λ (c : Option Command). option_map_or (λ (command : Command). is_release command.order) c false)
+              one.fresh in
           absurd (cc)
 
   only : (copies : List PacketCopy) → AllByRecursion (IsThere peers (plain ∷ duplicates)) copies → NoneChosen copies →
       AllByRecursion (λ (copy : PacketCopy). is_chosen (after_release copy) ≡ true → copy ≡ one.copy) copies
   only [] are none = tt
-  only (copy ∷ copies) are none = (here_only (eqb_tells copy.gateway gateway), only copies are.1 none.1)
-    where
-      here_only : (((copy.gateway == gateway) ≡ true) × (copy.gateway ≡ gateway)) ⊎ (((copy.gateway == gateway) ≡ false) × (copy.gateway ≢ gateway)) →
-          is_chosen (after_release copy) ≡ true → copy ≡ one.copy
-      here_only (inl is) is_so = at_gateway copy are.0 is.1
-      here_only (inr isnt) is_so =
-          let same : is_chosen (after_release copy) ≡ is_chosen copy =
-          ap (λ (b : Bool). is_chosen (if b then with_command (command_with Release number) copy else copy)) isnt.0 in
-          let is_not : is_chosen copy ≡ false = none.0 in
-          absurd (cc)
+  only (copy ∷ copies) are none = (
+    λ is_so. elim (eqb_tells copy.gateway gateway) [
+      | inl is ↦ at_gateway copy are.0 is.1
+      | inr isnt ↦ let chosen_so : is_chosen copy ≡ true = rw isnt.0 at is_so in
+            absurd (false≢true (sym none.0 ∙ chosen_so))
+    ],
+    only copies are.1 none.1,
+  )
 
   released_now : is_chosen (after_release one.copy) ≡ true
   released_now =
@@ -250,13 +199,11 @@ module _ (peers : List Peer) (plain : PacketCopy) (duplicates : List PacketCopy)
       ∙ ap (λ (c : Option Command). option_map_or (λ (command : Command). is_release command.order) (option_or c (Some (command_with Release number))) false) one.fresh
 
   plain_stays : after_release plain ≡ plain
-  plain_stays = by (eqb_tells plain.gateway gateway)
-    where
-      by : (((plain.gateway == gateway) ≡ true) × (plain.gateway ≡ gateway)) ⊎ (((plain.gateway == gateway) ≡ false) × (plain.gateway ≢ gateway)) →
-          after_release plain ≡ plain
-      by (inl is) =
-          absurd (chosen_is (λ (other : PacketCopy). plain.gateway ≢ other.gateway) duplicates one.copy choice_is placed.apart.0 (is.1 ∙ sym place_is))
-      by (inr isnt) = ap (λ (b : Bool). if b then with_command (command_with Release number) plain else plain) isnt.0
+  plain_stays = elim (eqb_tells plain.gateway gateway) [
+    | inl is ↦ absurd (chosen_is (λ (other : PacketCopy).
+          plain.gateway ≢ other.gateway) duplicates one.copy choice_is placed.apart.0 (is.1 ∙ sym place_is))
+    | inr isnt ↦ rw isnt.0 refl
+  ]
 
   chosen_released : is_chosen plain ≡ false → Chosen (map after_release (plain ∷ duplicates))
   chosen_released plain_not =
@@ -299,16 +246,12 @@ all_chosen = record {
   moved = λ peers move packets after kept one is. all_moved kept one is;
   heard = λ peers packets port gateway cause numbers kept is.
       each_map (λ (packet : PacketState). Chosen packet.copies) (λ (packet : PacketState). Chosen packet.copies)
-      (while_open (packet_hearing port gateway cause numbers)) (hears port gateway cause numbers) packets is;
+      (while_open (packet_hearing port gateway cause numbers))
+      (λ packet was. either_open (λ (p : PacketState).
+          Chosen p.copies) (packet_hearing port gateway cause numbers) packet was
+      (λ _. chosen_map (copy_hearing port gateway cause numbers) (hearing_keeps port gateway cause numbers)
+          packet.copies was)) packets is;
 }
-  where
-    hears : (port : Port) (gateway cause : ℕ) (numbers : List ℕ) (packet : PacketState) → Chosen packet.copies →
-        Chosen (while_open (packet_hearing port gateway cause numbers) packet).copies
-    hears port gateway cause numbers packet is = by (is_done packet.copies)
-      where
-        by : (done : Bool) → Chosen (if done then packet else packet_hearing port gateway cause numbers packet).copies
-        by true = is
-        by false = chosen_map (copy_hearing port gateway cause numbers) (hearing_keeps port gateway cause numbers) packet.copies is
 
 -- ---- the choice
 
@@ -318,16 +261,10 @@ released_is_choice packet is = All-from_recursion (λ copy. is_chosen copy ≡ t
   where
     one_choice : (plain : PacketCopy) (duplicates : List PacketCopy) → packet.copies ≡ plain ∷ duplicates → OneChosen plain duplicates →
         (copy : PacketCopy) → IsFirstChosen duplicates copy → is_chosen copy ≡ true → IsChoice packet.copies copy.gateway copy.number
-    one_choice plain duplicates whole one copy first is_so = record {
-      plain = plain;
-      duplicates = duplicates;
-      copy = copy;
-      whole = whole;
-      sealed = one.sealed;
-      choice = ap (λ (found : Option PacketCopy). option_or found (find (λ (c : PacketCopy). is_held c.verdict) duplicates)) (first is_so);
-      gateway_is = refl;
-      number_is = refl;
-    }
+    one_choice plain duplicates whole one copy first is_so =
+        choice_of plain duplicates copy whole one.sealed
+        (ap (λ (found : Option PacketCopy). option_or found (find (λ (c : PacketCopy). is_held c.verdict) duplicates))
+            (first is_so))
 
     others : (plain : PacketCopy) (duplicates : List PacketCopy) → packet.copies ≡ plain ∷ duplicates → NoneChosen duplicates ⊎ OneChosen plain duplicates →
         AllByRecursion (λ copy. is_chosen copy ≡ true → IsChoice packet.copies copy.gateway copy.number) duplicates

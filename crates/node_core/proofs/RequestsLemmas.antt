@@ -1,37 +1,34 @@
 -- Each request of a tick is of a copy that the packets have after it.
-use Rattle.std.proofs.Common.{◌≡◌, ℕ, ◌≤◌, suc, Bool, true, false, if◌then◌else◌, nat_lt, List, [], ◌∷◌, ◌++◌, length, map, Option, Some, None, sym, subst, ◌∙◌}
+use Rattle.std.proofs.Common.{◌≡◌, ℕ, ◌≤◌, Bool, true, if◌then◌else◌, List, [], ◌∷◌, ◌++◌, length, map, Option, Some, None, sym, subst, ◌∙◌}
 use Rattle.std.specs.List.{All, AllByRecursion}
 use Rattle.std.proofs.lemmas.List.Elements.{All-from_recursion}
-use Rattle.path_mgmt.specs.NodePath.{PathsOfNode, is_alive}
-use Rattle.gtpp_message.specs.Packet.{PacketForm}
-use Rattle.node_core.specs.declared.fault.SubmitFault.{SubmitFault}
+use Rattle.path_mgmt.specs.NodePath.{PathsOfNode}
 use Rattle.node_core.specs.declared.peer.Peer.{Peer}
 use Rattle.node_core.specs.declared.port.Port.{Port}
 use Rattle.node_core.specs.declared.sending.Sending.{Sending}
 use Rattle.node_core.specs.declared.sending.Sending.TheVariants as send
-use Rattle.node_core.specs.Hearing.{Taken, Dropped, Says, entries_from, taken, taken_entries}
-use Rattle.node_core.specs.Log.{LogEntry, Submitted, Ticked, Heard, NodeSetup, Saying, Path, Redirects, Responds, Other, favourite, packets_of, peers_of, submitted}
-use Rattle.node_core.specs.Moving.{appointing, moved_at_tick, moved_by}
-use Rattle.node_core.specs.Packets.{PacketState, is_done, packet_after_all, packet_hearing, while_open}
-use Rattle.node_core.specs.Peers.{all_drawn, place_of}
-use Rattle.node_core.specs.Reached.{NodeCall, Submit, Tick, Hear, Halt, Start, call_entries, entries_halted, entries_running, log_of, most_submissions, reached, submit_entries}
-use Rattle.node_core.specs.Sendings.{due_for, due_for_all, probe_of, probes, probes_from}
+use Rattle.node_core.specs.Log.{LogEntry, Ticked, Heard, NodeSetup, Saying, Responds, favourite, packets_of, peers_of}
+use Rattle.node_core.specs.Moving.{appointing, moved_at_tick}
+use Rattle.node_core.specs.Packets.{PacketState, packet_after_all, packet_hearing, while_open}
+use Rattle.node_core.specs.Peers.{all_drawn}
+use Rattle.node_core.specs.Reached.{NodeCall, Tick, call_entries, log_of, reached}
+use Rattle.node_core.specs.Sendings.{due_for, due_for_all, probes}
 use Rattle.node_core.specs.Sent.{IsSent}
 use Rattle.node_core.specs.Sound.{AreNumbered, planned}
-use Rattle.node_core.specs.Submitting.{refusal}
 use Rattle.node_core.specs.Ticks.{due, due_by, due_now, tick_entries}
 use Rattle.node_core.specs.Value.{NodeValue, befallen, logged, node_of}
-use Rattle.node_core.proofs.ChoosingLemmas.{each_append}
 use Rattle.node_core.proofs.DueMoves.{AreApart}
 use Rattle.node_core.proofs.KeptLemmas.{AllKept}
 use Rattle.node_core.proofs.NumberedLemmas.{after_all-number}
 use Rattle.node_core.proofs.OwnLemmas.{planned_after_probes}
-use Rattle.node_core.proofs.ReachedLemmas.{stands}
+use Rattle.node_core.proofs.ReachedLemmas.{after_call, stands}
 use Rattle.node_core.proofs.ReleasedLemmas.{AllChosen, Chosen, all_chosen}
-use Rattle.node_core.proofs.RestingLemmas.{contains_more, each_map, each_push, each_weaker}
+use Rattle.node_core.proofs.RestingLemmas.{contains_more, each_append, each_map, each_push, each_weaker}
 use Rattle.node_core.proofs.SentLemmas.{Own, in_head}
 use Rattle.node_core.proofs.StillWaitsLemmas.{own_due, waits_after, waits_hearing}
 use Rattle.node_core.proofs.WaitsLemmas.{Waits}
+use Rattle.node_core.proofs.CaseLemmas.{either_open}
+use Rattle.node_core.proofs.DueLemmas.{probes_each}
 
 abbrev AllWaits : List PacketState → Type 0
 AllWaits packets = AllByRecursion (λ (packet : PacketState). Waits packet.copies) packets
@@ -62,7 +59,7 @@ sent_here number state packets same _ own =
 sent_later : (state : PacketState) (packets : List PacketState) (sending : Sending) → IsSent packets sending → IsSent (state ∷ packets) sending
 sent_later state packets (send.Probe gateway path) is = tt
 sent_later state packets (send.Test packet gateway drawn) is =
-    record { state = is.state; kept = contains_more packets state is.state is.kept; packet_is = is.packet_is; at = is.at }
+    search (contains_more packets state is.state is.kept, is.packet_is, is.at)
 sent_later state packets _ is =
     (record { state = is.0.state; kept = contains_more packets state is.0.state is.0.kept; packet_is = is.0.packet_is; at = is.0.at }, is.1)
 
@@ -88,16 +85,6 @@ module _ (favourite : ℕ) (up : Bool) where
       (each_weaker (IsSent later) (IsSent (after ∷ later)) (sent_later after later) (due_for_all favourite up drawn_there packets)
       (planned_sent drawn_there packets ready.1))
 
-probes_sent : (packets : List PacketState) (gateway : ℕ) (paths : PathsOfNode) (peers : List Peer) → AllByRecursion (IsSent packets) (probes_from gateway paths peers)
-probes_sent packets gateway paths [] = tt
-probes_sent packets gateway paths (peer ∷ peers) =
-    each_append (IsSent packets) (probe_of (is_alive paths gateway) gateway peer) (probes_from (suc gateway) paths peers)
-    (by (is_alive paths gateway)) (probes_sent packets (suc gateway) paths peers)
-  where
-    by : (is : Bool) → AllByRecursion (IsSent packets) (probe_of is gateway peer)
-    by true = tt
-    by false = (tt, tt)
-
 -- ---- a tick
 
 module _ (before favourite : ℕ) (up : Bool) (paths : PathsOfNode) (peers : List Peer) (packets : List PacketState) (numbered : AreNumbered before packets)
@@ -118,7 +105,8 @@ module _ (before favourite : ℕ) (up : Bool) (paths : PathsOfNode) (peers : Lis
   tick_sent =
       subst (λ (ps : List PacketState). AllByRecursion (IsSent ps) (due_by favourite up paths peers packets)) (sym is_planned)
       (each_append (IsSent (planned favourite up probed packets)) (probes paths peers) (due_for_all favourite up probed packets)
-      (probes_sent (planned favourite up probed packets) 0 paths peers) (planned_sent favourite up probed packets ready))
+      (probes_each (IsSent (planned favourite up probed packets))
+          (λ gateway path. tt) 0 paths peers) (planned_sent favourite up probed packets ready))
 
 -- ---- a call
 
@@ -141,55 +129,25 @@ module _ (setup : NodeSetup) (log : List LogEntry) (before : ℕ) (numbered : Ar
   waits_were = each_weaker Ready (λ (packet : PacketState). Waits packet.copies) (λ packet is. is.waits) (packets_of log) ready
 
   waits_call : (call : NodeCall) → AllWaits (packets_of (logged (call_entries node call) log))
-  waits_call call = by node.is_running call
+  waits_call = after_call setup log (λ (entries : List LogEntry). AllWaits (packets_of entries)) (record {
+    is = waits_were;
+    submits = λ form none fewer. each_push (λ (packet : PacketState).
+        Waits packet.copies) (packets_of log) _ waits_were tt;
+    ticks = λ to within. waits_ticked to;
+    hears = heard;
+    appoints = λ to port gateway saying below. heard port gateway saying;
+    halts = tt;
+    begins = tt;
+  })
     where
-      limits : (form : PacketForm) (fewer : Bool) → AllWaits (packets_of (logged (if fewer then Submitted form ∷ [] else []) log))
-      limits form true = each_push (λ (packet : PacketState). Waits packet.copies) (packets_of log) _ waits_were tt
-      limits form false = waits_were
-
-      submits : (form : PacketForm) (fault : Option SubmitFault) → AllWaits (packets_of (logged (submit_entries node fault form) log))
-      submits form None = limits form (nat_lt (submitted log) most_submissions)
-      submits form (Some fault) = waits_were
-
-      hearing : (port : Port) (gateway cause : ℕ) (numbers : List ℕ) (packet : PacketState) → Waits packet.copies →
-          Waits (while_open (packet_hearing port gateway cause numbers) packet).copies
-      hearing port gateway cause numbers packet waits = open_yet (is_done packet.copies)
-        where
-          open_yet : (done : Bool) → Waits (if done then packet else packet_hearing port gateway cause numbers packet).copies
-          open_yet true = waits
-          open_yet false = waits_hearing port gateway cause numbers packet.copies waits
-
       heard : (port : Port) (gateway : ℕ) (saying : Saying) → AllWaits (packets_of (Heard port gateway saying ∷ log))
-      heard port gateway (Path event) = waits_were
-      heard port gateway (Redirects to) = waits_were
       heard port gateway (Responds cause numbers) =
           each_map (λ (packet : PacketState). Waits packet.copies) (λ (packet : PacketState). Waits packet.copies)
-          (while_open (packet_hearing port gateway cause numbers)) (hearing port gateway cause numbers) (packets_of log) waits_were
-      heard port gateway Other = waits_were
-
-      appoints : (to : Option ℕ) (port : Port) (gateway : ℕ) (saying : Saying) → AllWaits (packets_of (logged (Heard port gateway saying ∷ appointing to) log))
-      appoints None port gateway saying = heard port gateway saying
-      appoints (Some to) port gateway saying = heard port gateway saying
-
-      takes : (port : Port) (gateway : ℕ) (what : Taken) → AllWaits (packets_of (logged (taken_entries node port gateway what) log))
-      takes port gateway (Dropped why) = waits_were
-      takes port gateway (Says saying reply) = appoints (moved_by node port gateway saying) port gateway saying
-
-      hears : (port : Port) (place : Option ℕ) (octets : List ℕ) → AllWaits (packets_of (logged (entries_from node port place octets) log))
-      hears port None octets = waits_were
-      hears port (Some gateway) octets = takes port gateway (taken node gateway octets)
-
-      by : (running : Bool) (call : NodeCall) → AllWaits (packets_of (logged (if running then entries_running node call else entries_halted call) log))
-      by true (Submit form) = submits form (refusal node form)
-      by true Tick = waits_ticked (moved_at_tick node)
-      by true (Hear port from octets) = hears port (place_of (peers_of setup.gateways log) from.ip) octets
-      by true Halt = tt
-      by true Start = waits_were
-      by false (Submit form) = waits_were
-      by false Tick = waits_were
-      by false (Hear port from octets) = waits_were
-      by false Halt = tt
-      by false Start = tt
+          (while_open (packet_hearing port gateway cause numbers))
+          (λ packet waits. either_open (λ (p : PacketState).
+              Waits p.copies) (packet_hearing port gateway cause numbers) packet waits
+          (λ _. waits_hearing port gateway cause numbers packet.copies waits)) (packets_of log) waits_were
+      heard port gateway _ = waits_were
 
 -- ---- all calls
 

@@ -1,27 +1,33 @@
 -- What a node knows rests on what it heard since its start.
-use Rattle.std.proofs.Common.{◌≡◌, ℕ, suc, ◌==◌, ◌&&◌, ◌||◌, Bool, true, false, if◌then◌else◌, List, [], ◌∷◌, ◌++◌, map, Option, Some, None, option_map, refl, sym, ap, ◌∙◌, arith, inl, inr}
-use Rattle.std.specs.List.{All, AllByRecursion, Contains}
+use Rattle.std.proofs.Common.{◌≡◌, ℕ, suc, ◌&&◌, ◌||◌, Bool, true, false, List, [], ◌∷◌, ◌++◌, map, Option, Some, None, option_map, refl, sym, ap, arith, inl, inr}
+use Rattle.std.specs.List.{All, AllByRecursion, Contains, find}
 use Rattle.std.specs.Option.{IfSome, option_or}
-use Rattle.std.proofs.lemmas.List.Elements.{All-from_recursion}
+use Rattle.std.proofs.lemmas.List.Elements.{All-contains, All-from_recursion}
 use Rattle.std.proofs.lemmas.Bool.Decides.{eqb_tells}
+use Rattle.std.proofs.lemmas.Bool.{cases_Bool}
 use Rattle.node_core.specs.declared.copy.Command.{Command}
 use Rattle.node_core.specs.declared.copy.PacketCopy.{PacketCopy}
 use Rattle.node_core.specs.declared.copy.Verdict.{Verdict}
-use Rattle.node_core.specs.declared.copy.Verdict.TheVariants.{Unknown, Filed, Sealed, Held}
+use Rattle.node_core.specs.declared.copy.Verdict.TheVariants.{Unknown}
 use Rattle.node_core.specs.declared.port.Port.{Port}
 use Rattle.node_core.specs.declared.sending.Sending.{Sending}
 use Rattle.node_core.specs.declared.sending.Sending.TheVariants as send
-use Rattle.node_core.specs.Copies.{command_hearing, copy_hearing, copy_hearing_own, first_told, is_fulfilled, is_unknown, names, new_copy, told_if}
+use Rattle.node_core.specs.Copies.{command_hearing, copy_hearing, copy_hearing_own, first_told, is_fulfilled, is_unknown, names, told_if}
 use Rattle.node_core.specs.Log.{LogEntry, Submitted, Appointed, Ticked, Heard, Saying, Responds, packets_of}
-use Rattle.node_core.specs.Packets.{PacketState, commanded, copies_after, is_done, is_of, packet_after, packet_after_all, packet_hearing, while_open, with_command}
+use Rattle.node_core.specs.Packets.{PacketState, commanded, copies_after, packet_after, packet_after_all, packet_hearing, while_open}
 use Rattle.node_core.specs.Resting.{AllRestOn, IsFulfilled, IsTold, RestsOn, since_start}
+use Rattle.node_core.proofs.CaseLemmas.{either_commanded, either_open, either_sent}
 
 -- ---- each of a list
 
 module _ {A : Type 0} where
+  pub each_append : (P : A → Type 0) (xs ys : List A) → AllByRecursion P xs → AllByRecursion P ys →
+      AllByRecursion P (xs ++ ys)
+  each_append P [] ys all more = more
+  each_append P (x ∷ xs) ys all more = (all.0, each_append P xs ys all.1 more)
+
   pub each_push : (P : A → Type 0) (xs : List A) (x : A) → AllByRecursion P xs → P x → AllByRecursion P (xs ++ x ∷ [])
-  each_push P [] x all p = (p, tt)
-  each_push P (y ∷ xs) x all p = (all.0, each_push P xs x all.1 p)
+  each_push P xs x all p = each_append P xs (x ∷ []) all (p, tt)
 
   pub each_weaker : (P Q : A → Type 0) → ((x : A) → P x → Q x) → (xs : List A) → AllByRecursion P xs → AllByRecursion Q xs
   each_weaker P Q f [] all = tt
@@ -34,28 +40,27 @@ module _ {A : Type 0} where
   pub contains_more : (xs : List A) (y x : A) → Contains xs x → Contains (y ∷ xs) x
   contains_more xs y x at = (suc at.0, omega (arith, at.1), at.2)
 
+  pub each_contains : (P : A → Type 0) (xs : List A) (x : A) → AllByRecursion P xs → Contains xs x → P x
+  each_contains P xs x all at = All-contains P xs x (All-from_recursion P xs all) at
+
+  pub in_found : (test : A → Bool) (xs : List A) (x : A) → find test xs ≡ Some x → Contains xs x
+  in_found test [] x found = absurd (cc)
+  in_found test (y ∷ xs) x found =
+      elim (cases_Bool (test y)) [
+        | inl passes ↦ let at : Some y ≡ Some x = rw passes at found in let same : y ≡ x = cc in (0, omega arith, same)
+        | inr fails ↦ contains_more xs y x (in_found test xs x (rw fails at found))
+      ]
+
 -- ---- one more entry
 
 more_told : (entry : LogEntry) (entries : List LogEntry) (copy : PacketCopy) → IsTold entries copy → IsTold (entry ∷ entries) copy
-more_told entry entries copy is = record {
-  port = is.port;
-  cause = is.cause;
-  numbers = is.numbers;
-  heard = contains_more entries entry _ is.heard;
-  named = is.named;
-  tells = is.tells;
-}
+more_told entry entries copy is =
+    search (contains_more entries entry _ is.heard, is.named, is.tells)
 
 more_fulfilled : (entry : LogEntry) (entries : List LogEntry) (gateway number : ℕ) → IsFulfilled entries gateway number →
     IsFulfilled (entry ∷ entries) gateway number
-more_fulfilled entry entries gateway number is = record {
-  port = is.port;
-  cause = is.cause;
-  numbers = is.numbers;
-  heard = contains_more entries entry _ is.heard;
-  named = is.named;
-  tells = is.tells;
-}
+more_fulfilled entry entries gateway number is =
+    search (contains_more entries entry _ is.heard, is.named, is.tells)
 
 -- what is said of the command of a copy at a gateway
 abbrev CommandRests : List LogEntry → ℕ → Option Command → Type 0
@@ -86,45 +91,37 @@ more_each entry entries packets all =
 -- ---- a tick
 
 module _ (entries : List LogEntry) where
-  new_rests : (gateway number : ℕ) (is_plain : Bool) → RestsOn entries (new_copy gateway number is_plain)
-  new_rests gateway number is_plain = record { verdict = λ known. absurd (cc); command = tt }
-
   commanded_rests : (order : _) (number gateway : ℕ) (copy : PacketCopy) → RestsOn entries copy →
       RestsOn entries (commanded gateway (record { order = order; number = number; is_answered = false }) copy)
-  commanded_rests order number gateway copy rests = at (copy.gateway == gateway)
+  commanded_rests order number gateway copy rests = either_commanded (RestsOn entries) gateway _ copy (record {
+    verdict = λ known. let is : IsTold entries copy = rests.verdict known in
+        record {
+      port = is.port;
+      cause = is.cause;
+      numbers = is.numbers;
+      heard = is.heard;
+      named = is.named;
+      tells = is.tells;
+    };
+    command = command_at copy.command rests.command;
+  }) rests
     where
       command_at : (command : Option Command) → CommandRests entries copy.gateway command →
           CommandRests entries copy.gateway (option_or command (Some (record { order = order; number = number; is_answered = false })))
       command_at None is = λ answered. absurd (cc)
       command_at (Some command) is = is
 
-      at : (is : Bool) → RestsOn entries (if is then with_command (record { order = order; number = number; is_answered = false }) copy else copy)
-      at true = record {
-        verdict = λ known. let is : IsTold entries copy = rests.verdict known in record {
-          port = is.port;
-          cause = is.cause;
-          numbers = is.numbers;
-          heard = is.heard;
-          named = is.named;
-          tells = is.tells;
-        };
-        command = command_at copy.command rests.command;
-      }
-      at false = rests
-
   copies_rest : (sending : Sending) (copies : List PacketCopy) → AllByRecursion (RestsOn entries) copies →
       AllByRecursion (RestsOn entries) (copies_after sending copies)
-  copies_rest (send.Data packet gateway number is_plain true) copies all = each_push (RestsOn entries) copies _ all (new_rests gateway number is_plain)
+  copies_rest (send.Data packet gateway number is_plain true) copies all = each_push (RestsOn entries) copies _ all
+      (record { verdict = λ known. absurd (cc); command = tt })
   copies_rest (send.Command packet gateway named number order true) copies all =
       each_map (RestsOn entries) (RestsOn entries) _ (commanded_rests order number gateway) copies all
   copies_rest _ copies all = all
 
   after_rests : (sending : Sending) (packet : PacketState) → Each entries packet → Each entries (packet_after sending packet)
-  after_rests sending packet each = by (is_of packet.number sending)
-    where
-      by : (is : Bool) → Each entries (if is then record packet { copies = copies_after sending packet.copies } else packet)
-      by true = copies_rest sending packet.copies each
-      by false = each
+  after_rests sending packet each =
+      either_sent (Each entries) sending packet (copies_rest sending packet.copies each) each
 
   after_all_rests : (sendings : List Sending) (packet : PacketState) → Each entries packet → Each entries (packet_after_all sendings packet)
   after_all_rests [] packet each = each
@@ -132,11 +129,7 @@ module _ (entries : List LogEntry) where
 
   open_rests : (f : PacketState → PacketState) → ((packet : PacketState) → Each entries packet → Each entries (f packet)) →
       (packet : PacketState) → Each entries packet → Each entries (while_open f packet)
-  open_rests f step packet each = by (is_done packet.copies)
-    where
-      by : (is : Bool) → Each entries (if is then packet else f packet)
-      by true = each
-      by false = step packet each
+  open_rests f step packet each = either_open (Each entries) f packet each (λ _. step packet each)
 
 -- ---- a response
 
@@ -157,14 +150,7 @@ module _ (port : Port) (gateway cause : ℕ) (numbers : List ℕ) (since : List 
           is_fulfilled cause ≡ fulfilled → names numbers command.number ≡ named →
           (answered || (fulfilled && named)) ≡ true → IsFulfilled with_response place command.number
       by true fulfilled named was is_f is_n is = was refl
-      by false true true was is_f is_n is = record {
-        port = port;
-        cause = cause;
-        numbers = numbers;
-        heard = first place e;
-        named = is_n;
-        tells = is_f;
-      }
+      by false true true was is_f is_n is = search (first place e, is_n, is_f)
       by false true false was is_f is_n is = absurd (cc)
       by false false named was is_f is_n is = absurd (cc)
 
@@ -174,26 +160,9 @@ module _ (port : Port) (gateway cause : ℕ) (numbers : List ℕ) (since : List 
     command = fulfilled_by copy.gateway e copy.command rests.command;
   }
     where
-      retold : (verdict : Verdict) → IsTold with_response copy → verdict ≡ copy.verdict → IsTold with_response (record copy { verdict = verdict; command = option_map (command_hearing cause numbers) copy.command })
-      retold verdict is same = record {
-        port = is.port;
-        cause = is.cause;
-        numbers = is.numbers;
-        heard = is.heard;
-        named = is.named;
-        tells = is.tells ∙ sym same;
-      }
-
       now_told : (named : Bool) → names numbers copy.number ≡ named → is_unknown (told_if named port copy.is_plain cause) ≡ false →
           IsTold with_response (record copy { verdict = told_if named port copy.is_plain cause; command = option_map (command_hearing cause numbers) copy.command })
-      now_told true is_n known = record {
-        port = port;
-        cause = cause;
-        numbers = numbers;
-        heard = first copy.gateway e;
-        named = is_n;
-        tells = refl;
-      }
+      now_told true is_n known = search (first copy.gateway e, is_n)
       now_told false is_n known = absurd (cc)
 
       by : (verdict : Verdict) → (is_unknown verdict ≡ false → IsTold with_response (record copy { verdict = verdict })) →
@@ -203,30 +172,7 @@ module _ (port : Port) (gateway cause : ℕ) (numbers : List ℕ) (since : List 
             command = option_map (command_hearing cause numbers) copy.command;
           })
       by Unknown was known = now_told (names numbers copy.number) refl known
-      by Filed was known = let is : IsTold with_response (record copy { verdict = Filed }) = was refl in record {
-        port = is.port;
-        cause = is.cause;
-        numbers = is.numbers;
-        heard = is.heard;
-        named = is.named;
-        tells = is.tells;
-      }
-      by Sealed was known = let is : IsTold with_response (record copy { verdict = Sealed }) = was refl in record {
-        port = is.port;
-        cause = is.cause;
-        numbers = is.numbers;
-        heard = is.heard;
-        named = is.named;
-        tells = is.tells;
-      }
-      by Held was known = let is : IsTold with_response (record copy { verdict = Held }) = was refl in record {
-        port = is.port;
-        cause = is.cause;
-        numbers = is.numbers;
-        heard = is.heard;
-        named = is.named;
-        tells = is.tells;
-      }
+      by _ was known = let is = was refl in search (is.heard, is.named, is.tells)
 
   hears : (copy : PacketCopy) → RestsOn with_response copy → RestsOn with_response (copy_hearing port gateway cause numbers copy)
   hears copy rests = elim (eqb_tells copy.gateway gateway) [

@@ -1,12 +1,13 @@
 -- Numbers rise: what a tick draws lies between the next numbers before it and after it.
-use Rattle.std.proofs.Common.{◌≡◌, ℕ, ◌≤◌, Bool, true, false, if◌then◌else◌, List, [], ◌∷◌, length, Some, ap, subst, arith}
+use Rattle.std.proofs.Common.{◌≡◌, ℕ, ◌≤◌, true, List, [], ◌∷◌, length, Some, ap, subst, arith}
 use Rattle.std.specs.List.{All, AllByRecursion}
-use Rattle.std.proofs.lemmas.List.Elements.{All-contains, All-from_recursion}
+use Rattle.std.proofs.lemmas.List.Elements.{All-from_recursion}
+use Rattle.std.proofs.lemmas.Bool.{cond_both}
 use Rattle.node_core.specs.declared.copy.PacketCopy.{PacketCopy}
 use Rattle.node_core.specs.declared.peer.Peer.{Peer}
 use Rattle.node_core.specs.declared.sending.Sending.{Sending}
 use Rattle.node_core.specs.declared.sending.Sending.TheVariants as send
-use Rattle.node_core.specs.Log.{NodeSetup, peers_of}
+use Rattle.node_core.specs.Log.{LogEntry, NodeSetup, peers_of}
 use Rattle.node_core.specs.Moving.{moved_at_tick}
 use Rattle.node_core.specs.Packets.{PacketState}
 use Rattle.node_core.specs.Peers.{next_number}
@@ -20,14 +21,14 @@ use Rattle.node_core.proofs.KeptLemmas.{AllKept, CommandBelow, IsBelow, IsKept}
 use Rattle.node_core.proofs.ReachedLemmas.{stands, tick_within}
 use Rattle.node_core.proofs.RequestsLemmas.{all_requests_sent}
 use Rattle.node_core.proofs.SingleLemmas.{nothing_more}
+use Rattle.node_core.proofs.RestingLemmas.{each_contains}
 
 -- the copy that is sent has a number below the next one, and so has its release or cancel
 module _ (peers : List Peer) (packets : List PacketState) (kept : AllKept peers packets) where
   of_below : {packet gateway number : ℕ} → (of : HasCopyOf packets packet gateway number) → IsBelow peers of.at.copy
   of_below of =
-      let its : IsKept peers of.state.copies =
-      All-contains (λ (p : PacketState). IsKept peers p.copies) packets of.state (All-from_recursion (λ (p : PacketState). IsKept peers p.copies) packets kept) of.kept in
-      All-contains (IsBelow peers) of.state.copies of.at.copy (All-from_recursion (IsBelow peers) of.state.copies its.below) of.at.among
+      let its = each_contains (λ (p : PacketState). IsKept peers p.copies) packets of.state kept of.kept in
+      each_contains (IsBelow peers) of.state.copies of.at.copy its.below of.at.among
 
   between : (before : List Peer) (sending : Sending) → DrawsNext before sending → IsSent packets sending → DrawsBetween before peers sending
   between before (send.Data packet gateway number is_plain is_new) draws sent =
@@ -56,10 +57,9 @@ all_draw_between setup calls some running =
 
 pub next_goes_on : (setup : NodeSetup) (calls : List NodeCall) (gateway : ℕ) → 1 ≤ length setup.gateways →
     next_number (reached setup calls).gateways gateway ≤ next_number (reached setup (Tick ∷ calls)).gateways gateway
-next_goes_on setup calls gateway some = by (reached setup calls).is_running
-  where
-    by : (running : Bool) →
-        next_number (reached setup calls).gateways gateway
-        ≤ next_number (peers_of setup.gateways (logged (if running then tick_entries (reached setup calls) else []) (log_of setup calls))) gateway
-    by true = (goes_on_new setup some calls (moved_at_tick (reached setup calls)) (tick_within (reached setup calls))).numbers gateway
-    by false = omega arith
+next_goes_on setup calls gateway some =
+    cond_both (reached setup calls).is_running (tick_entries (reached setup calls)) []
+    (λ (entries : List LogEntry). next_number (reached setup calls).gateways gateway
+        ≤ next_number (peers_of setup.gateways (logged entries (log_of setup calls))) gateway)
+    (λ _. (goes_on_new setup some calls (moved_at_tick (reached setup calls))
+        (tick_within (reached setup calls))).numbers gateway) (λ _. omega arith)

@@ -1,24 +1,25 @@
 -- Each number that is drawn is that of one copy, or of one release or cancel.
-use Rattle.std.proofs.Common.{◌≡◌, ◌≢◌, ℕ, suc, ◌+◌, ◌<◌, ◌≤◌, ◌==◌, Bool, true, false, if◌then◌else◌, List, [], ◌∷◌, ◌++◌, length, map, Option, Some, None, option_map, refl, sym, ap, subst, ◌∙◌, arith, inl, inr}
+use Rattle.std.proofs.Common.{◌≡◌, ◌≢◌, ℕ, suc, ◌+◌, ◌<◌, ◌≤◌, ◌==◌, Bool, if◌then◌else◌, List, [], ◌∷◌, ◌++◌, length, map, Option, Some, None, option_map, refl, sym, ap, subst, ◌∙◌, arith, inl, inr}
 use Rattle.std.specs.List.{AllByRecursion}
 use Rattle.std.specs.Option.{option_or}
 use Rattle.std.proofs.lemmas.Bool.Decides.{eqb_tells}
-use Rattle.gw_base.specs.declared.address.Addr.{Addr}
+use Rattle.std.proofs.lemmas.Bool.{eq-eqb, ne_eqb}
 use Rattle.node_core.specs.declared.copy.Command.{Command}
 use Rattle.node_core.specs.declared.copy.PacketCopy.{PacketCopy}
 use Rattle.node_core.specs.declared.peer.Peer.{Peer}
 use Rattle.node_core.specs.declared.port.Port.{Port}
-use Rattle.node_core.specs.Copies.{command_hearing, copy_hearing, copy_hearing_own, new_copy}
+use Rattle.node_core.specs.Copies.{command_hearing, copy_hearing, new_copy}
 use Rattle.node_core.specs.Log.{NodeSetup}
-use Rattle.node_core.specs.Packets.{PacketState, commanded, is_done, packet_hearing, while_open, with_command}
+use Rattle.node_core.specs.Packets.{PacketState, commanded, packet_hearing, while_open, with_command}
 use Rattle.node_core.specs.Peers.{next_number, peer_anew}
 use Rattle.node_core.specs.Reached.{NodeCall, reached}
 use Rattle.node_core.specs.Roles.{HasOneRole, use_of, uses, uses_by_command, uses_by_copies, uses_by_copy}
 use Rattle.node_core.proofs.DueMoves.{AreApart}
 use Rattle.node_core.proofs.KeptLemmas.{AllKept}
 use Rattle.node_core.proofs.Moves.{Copying, Commanding, IsMove, Move, One, are_none, beyond, command_with, copies_moved, find_at, here, length_drawn, next_drawn, next_drawn_other, peers_moved, place}
-use Rattle.node_core.proofs.ReachedLemmas.{Closed, new_packet, stands}
+use Rattle.node_core.proofs.ReachedLemmas.{Closed, anew_next, new_packet, stands}
 use Rattle.node_core.proofs.WeightLemmas.{one_within}
+use Rattle.node_core.proofs.CaseLemmas.{at_or_apart, either_hears, either_open}
 
 -- ---- a packet
 
@@ -29,20 +30,18 @@ uses_push gateway number (first ∷ copies) copy = omega (arith, uses_push gatew
 
 here_uses : (gateway number : ℕ) (copy : PacketCopy) → copy.gateway ≡ gateway →
     uses_by_copy gateway number copy ≡ use_of number copy.number + uses_by_command number copy.command
-here_uses gateway number copy same = elim (eqb_tells copy.gateway gateway) [ inl is ↦ rw is.0 refl | inr isnt ↦ absurd (isnt.1 same) ]
+here_uses gateway number copy same = rw (eq-eqb copy.gateway gateway same) refl
 
 there_uses : (gateway number : ℕ) (copy : PacketCopy) → copy.gateway ≢ gateway → uses_by_copy gateway number copy ≡ 0
-there_uses gateway number copy apart = elim (eqb_tells copy.gateway gateway) [ inl is ↦ absurd (apart is.1) | inr isnt ↦ rw isnt.0 refl ]
+there_uses gateway number copy apart = rw (ne_eqb copy.gateway gateway apart) refl
 
 -- copies elsewhere stay as they are
 map_same : (gateway : ℕ) (command : Command) (copies : List PacketCopy) → AllByRecursion (λ (copy : PacketCopy). gateway ≢ copy.gateway) copies →
     map (commanded gateway command) copies ≡ copies
 map_same gateway command [] apart = refl
 map_same gateway command (copy ∷ copies) apart =
-    elim (eqb_tells copy.gateway gateway) [
-      | inl is ↦ absurd (apart.0 (sym is.1))
-      | inr isnt ↦ rw isnt.0 (ap (λ (cs : List PacketCopy). copy ∷ cs) (map_same gateway command copies apart.1))
-    ]
+    rw (ne_eqb copy.gateway gateway (λ e. apart.0 (sym e))) (ap (λ (cs : List PacketCopy).
+        copy ∷ cs) (map_same gateway command copies apart.1))
 
 command_uses : (gateway number : ℕ) (command : Command) (copies : List PacketCopy) (copy : PacketCopy) → AreApart copies → find_at gateway copies ≡ Some copy →
     copy.command ≡ None →
@@ -85,10 +84,9 @@ command_uses_other gateway other number command (copy ∷ copies) apart =
     one = elim (eqb_tells copy.gateway gateway) [
       | inl is ↦
           let elsewhere : copy.gateway ≢ other = λ e. apart (sym is.1 ∙ e) in
-          let head : commanded gateway command copy ≡ with_command command copy =
-          ap (λ (b : Bool). if b then with_command command copy else copy) is.0 in
-          ap (uses_by_copy other number) head ∙ there_uses other number (with_command command copy) elsewhere ∙ sym (there_uses other number copy elsewhere)
-      | inr isnt ↦ ap (uses_by_copy other number) (ap (λ (b : Bool). if b then with_command command copy else copy) isnt.0)
+          rw is.0 (there_uses other number (with_command command copy) elsewhere
+              ∙ sym (there_uses other number copy elsewhere))
+      | inr isnt ↦ rw isnt.0 refl
     ]
 
 copies_uses : (move : Move) (peers : List Peer) (copies : List PacketCopy) (number : ℕ) → AreApart copies → IsMove peers copies move →
@@ -128,15 +126,15 @@ uses_pushed gateway number (packet ∷ packets) new = omega (arith, uses_pushed 
 
 module _ (port : Port) (heard_gateway cause : ℕ) (numbers : List ℕ) (gateway number : ℕ) where
   copy_heard : (copy : PacketCopy) → uses_by_copy gateway number (copy_hearing port heard_gateway cause numbers copy) ≡ uses_by_copy gateway number copy
-  copy_heard copy = by (copy.gateway == heard_gateway)
+  copy_heard copy =
+      either_hears (λ (c : PacketCopy). uses_by_copy gateway number c ≡ uses_by_copy gateway number copy) port
+          heard_gateway cause numbers copy
+      (ap (λ (n : ℕ). if copy.gateway == gateway then use_of number copy.number + n else 0)
+          (command_heard copy.command)) refl
     where
       command_heard : (command : Option Command) → uses_by_command number (option_map (command_hearing cause numbers) command) ≡ uses_by_command number command
       command_heard None = refl
       command_heard (Some command) = refl
-
-      by : (is : Bool) → uses_by_copy gateway number (if is then copy_hearing_own port cause numbers copy else copy) ≡ uses_by_copy gateway number copy
-      by true = ap (λ (n : ℕ). if copy.gateway == gateway then use_of number copy.number + n else 0) (command_heard copy.command)
-      by false = refl
 
   copies_heard : (copies : List PacketCopy) → uses_by_copies gateway number (map (copy_hearing port heard_gateway cause numbers) copies) ≡ uses_by_copies gateway number copies
   copies_heard [] = refl
@@ -145,12 +143,10 @@ module _ (port : Port) (heard_gateway cause : ℕ) (numbers : List ℕ) (gateway
   uses_heard : (packets : List PacketState) →
       uses gateway number (map (while_open (packet_hearing port heard_gateway cause numbers)) packets) ≡ uses gateway number packets
   uses_heard [] = refl
-  uses_heard (packet ∷ packets) = omega (arith, one (is_done packet.copies), uses_heard packets)
-    where
-      one : (is : Bool) → uses_by_copies gateway number (if is then packet else packet_hearing port heard_gateway cause numbers packet).copies
-          ≡ uses_by_copies gateway number packet.copies
-      one true = refl
-      one false = copies_heard packet.copies
+  uses_heard (packet ∷ packets) = omega (arith, uses_heard packets,
+      either_open (λ (p : PacketState). uses_by_copies gateway number p.copies ≡ uses_by_copies gateway number
+          packet.copies)
+      (packet_hearing port heard_gateway cause numbers) packet refl (λ _. copies_heard packet.copies))
 
 -- ---- one use each
 
@@ -163,35 +159,26 @@ pub record OneUse (peers : List Peer) (packets : List PacketState) (gateway numb
 abbrev pub OneUses : List Peer → List PacketState → Type 0
 OneUses peers packets = (gateway number : ℕ) → gateway < length peers → OneUse peers packets gateway number
 
-pub anew_next : (addresses : List Addr) (gateway : ℕ) → next_number (map peer_anew addresses) gateway ≡ 65536
-anew_next (address ∷ addresses) (suc gateway) = anew_next addresses gateway
-anew_next _ _ = refl
-
-use_same : (number : ℕ) → use_of number number ≡ 1
-use_same number = elim (eqb_tells number number) [ inl is ↦ rw is.0 refl | inr isnt ↦ absurd (isnt.1 refl) ]
-
-use_other : (number other : ℕ) → other ≢ number → use_of number other ≡ 0
-use_other number other apart = elim (eqb_tells other number) [ inl is ↦ absurd (apart is.1) | inr isnt ↦ rw isnt.0 refl ]
+-- what follows where the next number stays, and as many uses
+same_uses : {peers other : List Peer} {packets after : List PacketState} {gateway number : ℕ} →
+    OneUse peers packets gateway number →
+    next_number other gateway ≡ next_number peers gateway → uses gateway number after ≡ uses gateway number packets
+        → OneUse other after gateway number
+same_uses was next many = record {
+  first = omega (arith, was.first, next);
+  before = λ low. many ∙ was.before low;
+  drawn = λ from to. many ∙ was.drawn from (omega (arith, to, next));
+  behind = λ high. many ∙ was.behind (omega (arith, high, next));
+}
 
 one_moved : (peers : List Peer) (move : Move) (packets after : List PacketState) → AllKept peers packets → One peers move packets after →
     OneUses peers packets → OneUses (peers_moved move peers) after
 one_moved peers move packets after kept one is gateway number below =
-    let within : gateway < length peers = omega (arith, below, length_drawn (place move) (next_number peers (place move)) peers) in
-    elim (eqb_tells (place move) gateway) [
-      | inl same ↦ subst (λ (g : ℕ). OneUse (peers_moved move peers) after g number) same.1
-          (there (subst (λ (g : ℕ). OneUse peers packets g number) (sym same.1) (is gateway number within)))
-      | inr differs ↦
-          let next : next_number (peers_moved move peers) gateway ≡ next_number peers gateway =
-          next_drawn_other (place move) (next_number peers (place move)) gateway peers differs.1 in
-          let many : uses gateway number after ≡ uses gateway number packets = uses_moved_other gateway number differs.1 one in
-          let was : OneUse peers packets gateway number = is gateway number within in
-          record {
-            first = omega (arith, was.first, next);
-            before = λ low. many ∙ was.before low;
-            drawn = λ from to. many ∙ was.drawn from (omega (arith, to, next));
-            behind = λ high. many ∙ was.behind (omega (arith, high, next));
-          }
-    ]
+    at_or_apart (λ (g : ℕ). OneUse peers packets g number → OneUse (peers_moved move peers) after g number) (place move)
+        gateway there
+    (λ apart was. same_uses was (next_drawn_other (place move) (next_number peers (place move)) gateway peers apart)
+        (uses_moved_other gateway number apart one))
+    (is gateway number (omega (arith, below, length_drawn (place move) (next_number peers (place move)) peers)))
   where
     there : OneUse peers packets (place move) number → OneUse (peers_moved move peers) after (place move) number
     there was =
@@ -199,7 +186,7 @@ one_moved peers move packets after kept one is gateway number below =
         let many : uses (place move) number after ≡ uses (place move) number packets + use_of number (next_number peers (place move)) = uses_moved number kept one in
         elim (eqb_tells (next_number peers (place move)) number) [
           | inl same ↦
-              let used : use_of number (next_number peers (place move)) ≡ 1 = ap (use_of number) same.1 ∙ use_same number in
+              let used : use_of number (next_number peers (place move)) ≡ 1 = rw same.0 refl in
               record {
                 first = omega (arith, was.first, next);
                 before = λ low. absurd (omega (arith, low, same.1, was.first));
@@ -207,7 +194,7 @@ one_moved peers move packets after kept one is gateway number below =
                 behind = λ high. absurd (omega (arith, high, next, same.1));
               }
           | inr differs ↦
-              let unused : use_of number (next_number peers (place move)) ≡ 0 = use_other number (next_number peers (place move)) differs.1 in
+              let unused : use_of number (next_number peers (place move)) ≡ 0 = rw differs.0 refl in
               let apart : next_number peers (place move) ≢ number = differs.1 in
               record {
                 first = omega (arith, was.first, next);
@@ -228,34 +215,12 @@ one_use = record {
         behind = λ high. refl;
       };
   alike = λ peers other packets alike is gateway number below.
-      let was : OneUse peers packets gateway number = is gateway number (omega (arith, below, alike.size)) in
-      let next : next_number other gateway ≡ next_number peers gateway = alike.numbers gateway in
-      record {
-        first = omega (arith, was.first, next);
-        before = was.before;
-        drawn = λ from to. was.drawn from (omega (arith, to, next));
-        behind = λ high. was.behind (omega (arith, high, next));
-      };
+      same_uses (is gateway number (omega (arith, below, alike.size))) (alike.numbers gateway) refl;
   pushed = λ peers packets new kept unrefused is gateway number below.
-      let was : OneUse peers packets gateway number = is gateway number below in
-      let many : uses gateway number (packets ++ new_packet new ∷ []) ≡ uses gateway number packets = uses_pushed gateway number packets new in
-      record {
-        first = was.first;
-        before = λ low. many ∙ was.before low;
-        drawn = λ from to. many ∙ was.drawn from to;
-        behind = λ high. many ∙ was.behind high;
-      };
+      same_uses (is gateway number below) refl (uses_pushed gateway number packets new);
   moved = one_moved;
   heard = λ peers packets port heard_gateway cause numbers kept is gateway number below.
-      let was : OneUse peers packets gateway number = is gateway number below in
-      let many : uses gateway number (map (while_open (packet_hearing port heard_gateway cause numbers)) packets) ≡ uses gateway number packets =
-      uses_heard port heard_gateway cause numbers gateway number packets in
-      record {
-        first = was.first;
-        before = λ low. many ∙ was.before low;
-        drawn = λ from to. many ∙ was.drawn from to;
-        behind = λ high. many ∙ was.behind high;
-      };
+      same_uses (is gateway number below) refl (uses_heard port heard_gateway cause numbers gateway number packets);
 }
 
 pub one_role : (setup : NodeSetup) (calls : List NodeCall) (gateway number : ℕ) → 1 ≤ length setup.gateways → gateway < length setup.gateways →

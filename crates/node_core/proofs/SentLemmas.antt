@@ -1,8 +1,10 @@
 -- What is due for a packet is of its copies, once it is sent: each release or cancel is the one that was sent for its copy.
 use Rattle.std.proofs.Common.{◌≡◌, ◌≢◌, ◌⊎◌, inl, inr, ⊎_elim, ℕ, zero, suc, ◌<◌, ◌==◌, Bool, true, false, if◌then◌else◌, List, [], ◌∷◌, ◌++◌, length, map, slice_index_or, Option, Some, None, refl, sym, ap, subst, ◌∙◌, arith}
-use Rattle.std.specs.List.{AllByRecursion, Contains, find, flat_map}
+use Rattle.std.specs.List.{AllByRecursion, Contains, flat_map}
 use Rattle.std.specs.Option.{IfSome, option_or}
 use Rattle.std.proofs.lemmas.Bool.Decides.{eqb_tells}
+use Rattle.std.proofs.lemmas.Bool.{ne_eqb}
+use Rattle.std.proofs.lemmas.List.Elements.{All-contains_itself, recursion_from_All}
 use Rattle.node_core.specs.declared.copy.Command.{Command}
 use Rattle.node_core.specs.declared.copy.Order.{Order}
 use Rattle.node_core.specs.declared.copy.Order.TheVariants.{Cancel}
@@ -21,7 +23,7 @@ use Rattle.node_core.specs.Sent.{HasCopyAt, IsCommandOf}
 use Rattle.node_core.proofs.DueMoves.{AreApart, own_number}
 use Rattle.node_core.proofs.GrowingLemmas.{after_all_grows}
 use Rattle.node_core.proofs.Moves.{command_with}
-use Rattle.node_core.proofs.RestingLemmas.{contains_more, each_weaker}
+use Rattle.node_core.proofs.RestingLemmas.{contains_more}
 
 -- ---- elements
 
@@ -46,21 +48,8 @@ module _ {A : Type 0} where
       (λ later. contains_more (map f xs) (f y) (f x) (in_map f xs x later))
       (in_cons y x xs is)
 
-  pub in_last : (xs : List A) (x : A) → Contains (xs ++ x ∷ []) x
-  in_last [] x = in_head x []
-  in_last (y ∷ xs) x = contains_more (xs ++ x ∷ []) y x (in_last xs x)
-
   pub each_in : (xs : List A) → AllByRecursion (Contains xs) xs
-  each_in [] = tt
-  each_in (x ∷ xs) = (in_head x xs, each_weaker (Contains xs) (Contains (x ∷ xs)) (λ y is. contains_more xs x y is) xs (each_in xs))
-
-  pub in_found : (test : A → Bool) (xs : List A) (x : A) → find test xs ≡ Some x → Contains xs x
-  in_found test [] x found = absurd (cc)
-  in_found test (y ∷ xs) x found = by (test y) found (in_found test xs x)
-    where
-      by : (passes : Bool) → (if passes then Some y else find test xs) ≡ Some x → (find test xs ≡ Some x → Contains xs x) → Contains (y ∷ xs) x
-      by true found rest = let same : y ≡ x = cc in subst (Contains (y ∷ xs)) same (in_head y xs)
-      by false found rest = contains_more xs y x (rest found)
+  each_in xs = recursion_from_All (Contains xs) xs (All-contains_itself xs)
 
 -- ---- a sending of the packet with a number is of one of its copies
 
@@ -160,8 +149,7 @@ module _ (number : ℕ) (peers : List Peer) where
 
       stays : Stays copy.gateway copies after
       stays other apart is =
-          let isnt : (other.gateway == copy.gateway) ≡ false =
-          elim (eqb_tells other.gateway copy.gateway) [ inl is ↦ absurd (apart (sym is.1)) | inr isnt ↦ isnt.0 ] in
+          let isnt : (other.gateway == copy.gateway) ≡ false = ne_eqb other.gateway copy.gateway (λ e. apart (sym e)) in
           subst (Contains after) (ap (λ (b : Bool). if b then with_command drawn other else other) isnt) (in_map (commanded copy.gateway drawn) copies other is)
 
       by : (command : Option Command) → copy.command ≡ command → IfSome command (λ (c : Command). c.order ≡ order) →

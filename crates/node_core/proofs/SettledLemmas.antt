@@ -1,10 +1,11 @@
 -- Packets of which those in front are done: what is asked of all can be asked of the rest.
-use Rattle.std.proofs.Common.{◌≡◌, ℕ, zero, suc, ◌+◌, ◌≤◌, ◌<◌, ◌&&◌, ◌||◌, not, Bool, true, false, if◌then◌else◌, List, [], ◌∷◌, ◌++◌, length, map, take, drop, set, get_or, Option, None, refl, sym, ap, subst, ◌∙◌, add-one, min, arith}
+use Rattle.std.proofs.Common.{◌≡◌, ℕ, zero, suc, ◌+◌, ◌≤◌, ◌<◌, ◌&&◌, not, Bool, true, false, if◌then◌else◌, List, [], ◌∷◌, ◌++◌, length, map, take, drop, set, get_or, Option, None, refl, sym, ap, ◌∙◌, add-one, min, arith, inl, inr}
 use Rattle.std.specs.List.{count_by, flat_map, list_any}
 use Rattle.std.specs.Option.{option_or}
 use Rattle.std.proofs.lemmas.List.{at_drop_all, at_drop_more, take_more}
 use Rattle.std.proofs.lemmas.List.Edits.{map_over_more}
 use Rattle.std.proofs.lemmas.List.Sums.{sum_by-cons}
+use Rattle.std.proofs.lemmas.Bool.{and_parts, cases_Bool}
 use Rattle.node_core.specs.declared.copy.PacketCopy.{PacketCopy}
 use Rattle.node_core.specs.declared.peer.Peer.{Peer}
 use Rattle.node_core.specs.declared.port.Port.{Port}
@@ -29,11 +30,7 @@ count_by-pass f packet packets is e = count_by-cons f packet packets ∙ ap (λ 
 -- a done packet is resolved
 resolved_first : (copies : List PacketCopy) → is_done copies ≡ true → is_resolved copies ≡ true
 resolved_first [] done = done
-resolved_first (plain ∷ duplicates) done = and_left (is_resolved (plain ∷ duplicates)) _ done
-  where
-    and_left : (a b : Bool) → (a && b) ≡ true → a ≡ true
-    and_left true b e = refl
-    and_left false b e = e
+resolved_first (plain ∷ duplicates) done = (and_parts (is_resolved (plain ∷ duplicates)) _ done).0
 
 -- ---- the packets from the first open one on
 
@@ -76,13 +73,10 @@ pub done_settled : (kept : KeptPackets) → IsSettled kept →
     kept.settled + done_among (drop kept.settled kept.packets) ≡ done_among kept.packets
 done_settled kept settled = done_of kept.settled kept.packets settled.within settled.done
 
-waits_not : (gateway : ℕ) (packet : PacketState) → is_done packet.copies ≡ true → waits_at gateway packet ≡ false
-waits_not gateway packet done = rw done refl
-
 waits_of : (gateway n : ℕ) (packets : List PacketState) → AllDone (take n packets) →
     list_any (waits_at gateway) (drop n packets) ≡ list_any (waits_at gateway) packets
 waits_of gateway (suc n) (packet ∷ packets) done =
-    waits_of gateway n packets done.1 ∙ sym (ap (λ (b : Bool). b || list_any (waits_at gateway) packets) (waits_not gateway packet done.0))
+    rw done.0 (waits_of gateway n packets done.1)
 waits_of gateway _ _ done = refl
 
 pub waits_settled : (gateway : ℕ) (kept : KeptPackets) → IsSettled kept →
@@ -95,14 +89,10 @@ least-append : (number : ℕ) (xs ys : List ℕ) → least number (xs ++ ys) ≡
 least-append number [] ys = refl
 least-append number (x ∷ xs) ys = least-append (min number x) xs ys
 
-unsettled_none : (gateway : ℕ) (packet : PacketState) → is_done packet.copies ≡ true → unsettled_at gateway packet ≡ []
-unsettled_none gateway packet done = rw done refl
-
 oldest_of : (gateway next n : ℕ) (packets : List PacketState) → AllDone (take n packets) →
     oldest_number gateway next (drop n packets) ≡ oldest_number gateway next packets
 oldest_of gateway next (suc n) (packet ∷ packets) done =
-    oldest_of gateway next n packets done.1
-    ∙ sym (ap (λ (xs : List ℕ). least next (xs ++ flat_map (unsettled_at gateway) packets)) (unsettled_none gateway packet done.0))
+    rw done.0 (oldest_of gateway next n packets done.1)
 oldest_of gateway next _ _ done = refl
 
 pub oldest_settled : (gateway next : ℕ) (kept : KeptPackets) → IsSettled kept →
@@ -140,13 +130,11 @@ heard_more port gateway cause numbers = map_over_more (while_open (packet_hearin
 module _ (test : List PacketCopy → Bool) (change : PacketState → PacketState) where
   made-append : (one two : List PacketState) → first_made test change (one ++ two) ≡ option_or (first_made test change one) (first_made test change two)
   made-append [] two = refl
-  made-append (packet ∷ one) two = by (not (test packet.copies) && test (change packet).copies) refl (made-append one two)
-    where
-      by : (is : Bool) → (not (test packet.copies) && test (change packet).copies) ≡ is →
-          first_made test change (one ++ two) ≡ option_or (first_made test change one) (first_made test change two) →
-          first_made test change ((packet ∷ one) ++ two) ≡ option_or (first_made test change (packet ∷ one)) (first_made test change two)
-      by true e later = rw e refl
-      by false e later = rw e later
+  made-append (packet ∷ one) two =
+      elim (cases_Bool (not (test packet.copies) && test (change packet).copies)) [
+        | inl is ↦ rw is refl
+        | inr isnt ↦ rw isnt (made-append one two)
+      ]
 
   pub made_more : (packets : List PacketState) (i : ℕ) (d : PacketState) → i < length packets →
       first_made test change (take (i + 1) packets)
@@ -170,8 +158,7 @@ due_settled favourite up peers kept settled = due_of favourite up peers kept.set
 open_map : (f : PacketState → PacketState) (n : ℕ) (packets : List PacketState) → AllDone (take n packets) →
     take n packets ++ map (while_open f) (drop n packets) ≡ map (while_open f) packets
 open_map f (suc n) (packet ∷ packets) done =
-    ap (λ (p : PacketState). p ∷ (take n packets ++ map (while_open f) (drop n packets))) (sym (rw done.0 refl))
-    ∙ ap (λ (ps : List PacketState). while_open f packet ∷ ps) (open_map f n packets done.1)
+    rw done.0 (ap (λ (ps : List PacketState). packet ∷ ps) (open_map f n packets done.1))
 open_map f _ _ done = refl
 
 pub changed_settled : (f : PacketState → PacketState) (kept : KeptPackets) → IsSettled kept →
@@ -180,20 +167,16 @@ changed_settled f kept settled = open_map f kept.settled kept.packets settled.do
 
 -- ---- a response heard by all, from the first open packet on
 
-still_done : (f : PacketState → PacketState) (packet : PacketState) → is_done packet.copies ≡ true → while_open f packet ≡ packet
-still_done f packet done = rw done refl
-
 pub changed_front : (f : PacketState → PacketState) (n : ℕ) (packets : List PacketState) → AllDone (take n packets) →
     packets ≡ map (while_open f) (take n packets) ++ drop n packets
 changed_front f (suc n) (packet ∷ packets) done =
-    ap (λ (ps : List PacketState). packet ∷ ps) (changed_front f n packets done.1)
-    ∙ ap (λ (p : PacketState). p ∷ (map (while_open f) (take n packets) ++ drop n packets)) (sym (still_done f packet done.0))
+    rw done.0 (ap (λ (ps : List PacketState). packet ∷ ps) (changed_front f n packets done.1))
 changed_front f _ _ done = refl
 
 pub done_front : (f : PacketState → PacketState) (n : ℕ) (packets : List PacketState) → AllDone (take n packets) →
     AllDone (take n (map (while_open f) packets))
 done_front f (suc n) (packet ∷ packets) done =
-    (subst (λ (p : PacketState). is_done p.copies ≡ true) (sym (still_done f packet done.0)) done.0, done_front f n packets done.1)
+    (rw (done.0, done.0) refl, done_front f n packets done.1)
 done_front f _ _ done = tt
 
 never_both : (b : Bool) → (not b && b) ≡ false
@@ -203,9 +186,7 @@ never_both false = refl
 pub made_front : (test : List PacketCopy → Bool) (f : PacketState → PacketState) (n : ℕ) (packets : List PacketState) → AllDone (take n packets) →
     ◌≡◌ {A = Option ℕ} None (first_made test (while_open f) (take n packets))
 made_front test f (suc n) (packet ∷ packets) done =
-    let not_now : (not (test packet.copies) && test (while_open f packet).copies) ≡ false =
-    ap (λ (p : PacketState). not (test packet.copies) && test p.copies) (still_done f packet done.0) ∙ never_both (test packet.copies) in
-    rw not_now (made_front test f n packets done.1)
+    rw (done.0, never_both (test packet.copies)) (made_front test f n packets done.1)
 made_front test f _ _ done = refl
 
 middle : (f : PacketState → PacketState) (xs : List PacketState) (i : ℕ) (d : PacketState) → i < length xs →

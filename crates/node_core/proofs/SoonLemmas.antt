@@ -1,91 +1,102 @@
 -- Behind each copy's number another copy's number, or the next number, comes within 65.
-use Rattle.std.proofs.Common.{◌≡◌, ◌≢◌, ℕ, zero, suc, ◌+◌, ◌<◌, ◌≤◌, ◌==◌, ◌⊎◌, Bool, true, false, if◌then◌else◌, List, [], ◌∷◌, ◌++◌, length, map, get_or, Option, Some, None, option_map, refl, sym, ap, subst, ◌∙◌, arith, inl, inr}
+use Rattle.std.proofs.Common.{◌≡◌, ℕ, zero, suc, ◌+◌, ◌<◌, ◌≤◌, ◌⊎◌, Bool, true, false, List, [], ◌∷◌, ◌++◌, length, map, get_or, refl, sym, ap, subst, ◌∙◌, arith, inl, inr}
 use Rattle.std.specs.List.{AllByRecursion, Contains}
-use Rattle.std.specs.Option.{option_or}
-use Rattle.std.proofs.lemmas.Bool.Decides.{eqb_tells}
-use Rattle.node_core.specs.declared.copy.Command.{Command}
 use Rattle.node_core.specs.declared.copy.Order.{Order}
 use Rattle.node_core.specs.declared.copy.PacketCopy.{PacketCopy}
 use Rattle.node_core.specs.declared.peer.Peer.{Peer}
 use Rattle.node_core.specs.declared.port.Port.{Port}
-use Rattle.node_core.specs.Copies.{command_hearing, copy_hearing, copy_hearing_own, new_copy}
 use Rattle.node_core.specs.Log.{NodeSetup}
 use Rattle.node_core.specs.Nearness.{ComesSoon, HasCopy, HasOpenCopy, IsCopyOrBase}
-use Rattle.node_core.specs.Packets.{PacketState, commanded, is_done, packet_hearing, while_open, with_command}
+use Rattle.node_core.specs.Packets.{PacketState, is_done, packet_hearing, while_open}
 use Rattle.node_core.specs.Peers.{next_number}
 use Rattle.node_core.specs.Reached.{NodeCall, reached}
-use Rattle.node_core.proofs.KeptLemmas.{AllKept, IsBelow}
-use Rattle.node_core.proofs.Moves.{CommandsOne, Copying, Commanding, Move, One, are_none, beyond, command_with, commanded_gateway, copies_moved, find_at, here, length_drawn, next_drawn, next_drawn_other, peers_moved, place}
-use Rattle.node_core.proofs.NearLemmas.{open_near, opens, opens_are, opens_heard, opens_moved, opens_pushed}
-use Rattle.node_core.proofs.ReachedLemmas.{Closed, new_packet, stands}
+use Rattle.node_core.proofs.KeptLemmas.{AllKept, IsBelow, peers_go_on}
+use Rattle.node_core.proofs.Moves.{Copying, Commanding, Move, One, beyond, command_with, copies_moved, find_at, here, length_drawn, next_drawn, next_drawn_other, peers_moved, place}
+use Rattle.node_core.proofs.NearLemmas.{none_open, open_near, opens, opens_are, opens_heard, opens_moved, opens_pushed}
+use Rattle.node_core.proofs.ReachedLemmas.{Closed, anew_next, new_packet, stands, weights-push}
 use Rattle.node_core.proofs.RestingLemmas.{contains_more}
-use Rattle.node_core.proofs.WeightLemmas.{find_commanded_there, find_pushed_other, one_within, unless_least, weight_unless, weight_with}
-use Rattle.node_core.proofs.Moves.{find_commanded}
-use Rattle.node_core.proofs.RolesLemmas.{anew_next}
+use Rattle.node_core.proofs.WeightLemmas.{one_within, weight_by, weight_commanded, weight_most, weight_unless, weights_by, weights_heard, weights_less, weights_moved_other}
+use Rattle.node_core.proofs.CaseLemmas.{StaysPut, at_or_apart, commanded_puts, either_open, hearing_puts}
+
+-- ---- one of a list
+
+abbrev AnyIn : {A : Type 0} → (A → Type 0) → List A → Type 0
+AnyIn P [] = ⊥
+AnyIn P (x ∷ xs) = P x ⊎ AnyIn P xs
+
+module _ {A : Type 0} (P : A → Type 0) where
+  any_push : (xs : List A) (x : A) → AnyIn P xs → AnyIn P (xs ++ x ∷ [])
+  any_push [] x any = absurd any
+  any_push (y ∷ xs) x (inl is) = inl is
+  any_push (y ∷ xs) x (inr any) = inr (any_push xs x any)
+
+  any_last : (xs : List A) (x : A) → P x → AnyIn P (xs ++ x ∷ [])
+  any_last [] x is = inl is
+  any_last (y ∷ xs) x is = inr (any_last xs x is)
+
+  any_pushed : (xs : List A) (x : A) → AnyIn P (xs ++ x ∷ []) → AnyIn P xs ⊎ P x
+  any_pushed [] x (inl is) = inr is
+  any_pushed [] x (inr any) = absurd any
+  any_pushed (y ∷ xs) x (inl is) = inl (inl is)
+  any_pushed (y ∷ xs) x (inr any) = elim (any_pushed xs x any) [ inl was ↦ inl (inr was) | inr is ↦ inr is ]
+
+  any_at : (xs : List A) (x : A) → P x → (k : ℕ) → k < length xs → get_or xs k x ≡ x → AnyIn P xs
+  any_at [] x is k below at = absurd (omega (arith, below))
+  any_at (y ∷ xs) x is zero below at = inl (subst P (sym at) is)
+  any_at (y ∷ xs) x is (suc k) below at = inr (any_at xs x is k (omega (arith, below)) at)
+
+  any_found : (xs : List A) → AnyIn P xs → (x : A) × Contains xs x × P x
+  any_found [] any = absurd any
+  any_found (x ∷ xs) (inl is) = (x, (0, omega arith, refl), is)
+  any_found (x ∷ xs) (inr any) = let there = any_found xs any in (there.0, contains_more xs x there.0 there.1, there.2)
+
+module _ {A : Type 0} (P Q : A → Type 0) (f : A → A) where
+  any_map : ((x : A) → P x → Q (f x)) → (xs : List A) → AnyIn P xs → AnyIn Q (map f xs)
+  any_map step [] any = absurd any
+  any_map step (x ∷ xs) (inl is) = inl (step x is)
+  any_map step (x ∷ xs) (inr any) = inr (any_map step xs any)
+
+  any_mapped : ((x : A) → Q (f x) → P x) → (xs : List A) → AnyIn Q (map f xs) → AnyIn P xs
+  any_mapped step [] any = absurd any
+  any_mapped step (x ∷ xs) (inl is) = inl (step x is)
+  any_mapped step (x ∷ xs) (inr any) = inr (any_mapped step xs any)
 
 -- ---- numbers of copies
 
-abbrev CopyIn : ℕ → ℕ → List PacketCopy → Type 0
-CopyIn gateway number [] = ⊥
-CopyIn gateway number (copy ∷ copies) = ((copy.gateway ≡ gateway) × (copy.number ≡ number)) ⊎ CopyIn gateway number copies
+abbrev IsAt : ℕ → ℕ → PacketCopy → Type 0
+IsAt gateway number copy = (copy.gateway ≡ gateway) × (copy.number ≡ number)
+
+abbrev SentIn : ℕ → ℕ → PacketState → Type 0
+SentIn gateway number packet = AnyIn (IsAt gateway number) packet.copies
 
 abbrev HasIn : ℕ → ℕ → List PacketState → Type 0
-HasIn gateway number [] = ⊥
-HasIn gateway number (packet ∷ packets) = CopyIn gateway number packet.copies ⊎ HasIn gateway number packets
+HasIn gateway number packets = AnyIn (SentIn gateway number) packets
 
 module _ (gateway number : ℕ) where
-  in_push : (copies : List PacketCopy) (copy : PacketCopy) → CopyIn gateway number copies → CopyIn gateway number (copies ++ copy ∷ [])
-  in_push [] copy has = absurd has
-  in_push (first ∷ copies) copy (inl is) = inl is
-  in_push (first ∷ copies) copy (inr has) = inr (in_push copies copy has)
+  in_map : (f : PacketCopy → PacketCopy) → ((copy : PacketCopy) → StaysPut copy (f copy)) → (copies : List PacketCopy) →
+      AnyIn (IsAt gateway number) copies → AnyIn (IsAt gateway number) (map f copies)
+  in_map f puts =
+      any_map (IsAt gateway number) (IsAt gateway number) f
+      (λ copy is. ((puts copy).gateway ∙ is.0, (puts copy).number ∙ is.1))
 
-  in_last : (copies : List PacketCopy) (copy : PacketCopy) → copy.gateway ≡ gateway → copy.number ≡ number → CopyIn gateway number (copies ++ copy ∷ [])
-  in_last [] copy place_is number_is = inl (place_is, number_is)
-  in_last (first ∷ copies) copy place_is number_is = inr (in_last copies copy place_is number_is)
+  in_mapped : (f : PacketCopy → PacketCopy) → ((copy : PacketCopy) → StaysPut copy (f copy)) →
+      (copies : List PacketCopy) →
+      AnyIn (IsAt gateway number) (map f copies) → AnyIn (IsAt gateway number) copies
+  in_mapped f puts =
+      any_mapped (IsAt gateway number) (IsAt gateway number) f
+          (λ copy is. (sym (puts copy).gateway ∙ is.0, sym (puts copy).number ∙ is.1))
 
-  in_pushed : (copies : List PacketCopy) (copy : PacketCopy) → CopyIn gateway number (copies ++ copy ∷ []) →
-      CopyIn gateway number copies ⊎ ((copy.gateway ≡ gateway) × (copy.number ≡ number))
-  in_pushed [] copy (inl is) = inr is
-  in_pushed [] copy (inr has) = absurd has
-  in_pushed (first ∷ copies) copy (inl is) = inl (inl is)
-  in_pushed (first ∷ copies) copy (inr has) = by (in_pushed copies copy has)
-    where
-      by : CopyIn gateway number copies ⊎ ((copy.gateway ≡ gateway) × (copy.number ≡ number)) →
-          (((first.gateway ≡ gateway) × (first.number ≡ number)) ⊎ CopyIn gateway number copies) ⊎ ((copy.gateway ≡ gateway) × (copy.number ≡ number))
-      by (inl has) = inl (inr has)
-      by (inr is) = inr is
+  in_moved : (move : Move) (peers : List Peer) (copies : List PacketCopy) → AnyIn (IsAt gateway number) copies →
+      AnyIn (IsAt gateway number) (copies_moved peers move copies)
+  in_moved (Copying there) peers copies has = any_push (IsAt gateway number) copies _ has
+  in_moved (Commanding there order) peers copies has = in_map _ (commanded_puts there _) copies has
 
-  in_map : (f : PacketCopy → PacketCopy) → ((copy : PacketCopy) → (f copy).gateway ≡ copy.gateway) → ((copy : PacketCopy) → (f copy).number ≡ copy.number) →
-      (copies : List PacketCopy) → CopyIn gateway number copies → CopyIn gateway number (map f copies)
-  in_map f places numbers [] has = absurd has
-  in_map f places numbers (copy ∷ copies) (inl is) = inl (places copy ∙ is.0, numbers copy ∙ is.1)
-  in_map f places numbers (copy ∷ copies) (inr has) = inr (in_map f places numbers copies has)
-
-  in_mapped : (f : PacketCopy → PacketCopy) → ((copy : PacketCopy) → (f copy).gateway ≡ copy.gateway) → ((copy : PacketCopy) → (f copy).number ≡ copy.number) →
-      (copies : List PacketCopy) → CopyIn gateway number (map f copies) → CopyIn gateway number copies
-  in_mapped f places numbers [] has = absurd has
-  in_mapped f places numbers (copy ∷ copies) (inl is) = inl (sym (places copy) ∙ is.0, sym (numbers copy) ∙ is.1)
-  in_mapped f places numbers (copy ∷ copies) (inr has) = inr (in_mapped f places numbers copies has)
-
-  commanded_number : (there : ℕ) (command : Command) (copy : PacketCopy) → (commanded there command copy).number ≡ copy.number
-  commanded_number there command copy = by (copy.gateway == there)
-    where
-      by : (is : Bool) → (if is then with_command command copy else copy).number ≡ copy.number
-      by true = refl
-      by false = refl
-
-  in_moved : (move : Move) (peers : List Peer) (copies : List PacketCopy) → CopyIn gateway number copies → CopyIn gateway number (copies_moved peers move copies)
-  in_moved (Copying there) peers copies has = in_push copies (new_copy there (next_number peers there) (are_none copies)) has
-  in_moved (Commanding there order) peers copies has =
-      in_map (commanded there (command_with order (next_number peers there))) (commanded_gateway there (command_with order (next_number peers there)))
-      (commanded_number there (command_with order (next_number peers there))) copies has
-
-  in_before : (move : Move) (peers : List Peer) (copies : List PacketCopy) → CopyIn gateway number (copies_moved peers move copies) →
-      CopyIn gateway number copies ⊎ ((place move ≡ gateway) × (next_number peers (place move) ≡ number))
-  in_before (Copying there) peers copies has = in_pushed copies (new_copy there (next_number peers there) (are_none copies)) has
+  in_before : (move : Move) (peers : List Peer) (copies : List PacketCopy) →
+      AnyIn (IsAt gateway number) (copies_moved peers move copies) →
+      AnyIn (IsAt gateway number) copies ⊎ ((place move ≡ gateway) × (next_number peers (place move) ≡ number))
+  in_before (Copying there) peers copies has = any_pushed (IsAt gateway number) copies _ has
   in_before (Commanding there order) peers copies has =
-      inl (in_mapped (commanded there (command_with order (next_number peers there))) (commanded_gateway there (command_with order (next_number peers there)))
-      (commanded_number there (command_with order (next_number peers there))) copies has)
+      inl (in_mapped _ (commanded_puts there (command_with order (next_number peers there))) copies has)
 
   has_moved : {peers : List Peer} {move : Move} {packets after : List PacketState} → One peers move packets after → HasIn gateway number packets → HasIn gateway number after
   has_moved {peers} {move} (here {packet} open_yet is) (inl has) = inl (in_moved move peers packet.copies has)
@@ -95,33 +106,15 @@ module _ (gateway number : ℕ) where
 
   has_before : {peers : List Peer} {move : Move} {packets after : List PacketState} → One peers move packets after → HasIn gateway number after →
       HasIn gateway number packets ⊎ ((place move ≡ gateway) × (next_number peers (place move) ≡ number))
-  has_before {peers} {move} (here {packet} {packets} open_yet is) (inl has) = by (in_before move peers packet.copies has)
-    where
-      by : CopyIn gateway number packet.copies ⊎ ((place move ≡ gateway) × (next_number peers (place move) ≡ number)) →
-          (CopyIn gateway number packet.copies ⊎ HasIn gateway number packets) ⊎ ((place move ≡ gateway) × (next_number peers (place move) ≡ number))
-      by (inl has) = inl (inl has)
-      by (inr is) = inr is
+  has_before {peers} {move} (here {packet} open_yet is) (inl has) =
+      elim (in_before move peers packet.copies has) [ inl was ↦ inl (inl was) | inr new ↦ inr new ]
   has_before (here open_yet is) (inr has) = inl (inr has)
   has_before (beyond one) (inl has) = inl (inl has)
-  has_before {peers} {move} (beyond {packet} {packets} one) (inr has) = by (has_before one has)
-    where
-      by : HasIn gateway number packets ⊎ ((place move ≡ gateway) × (next_number peers (place move) ≡ number)) →
-          (CopyIn gateway number packet.copies ⊎ HasIn gateway number packets) ⊎ ((place move ≡ gateway) × (next_number peers (place move) ≡ number))
-      by (inl has) = inl (inr has)
-      by (inr is) = inr is
+  has_before (beyond one) (inr has) = elim (has_before one has) [ inl was ↦ inl (inr was) | inr new ↦ inr new ]
 
-  has_pushed : (packets : List PacketState) (new : ℕ) → HasIn gateway number (packets ++ new_packet new ∷ []) → HasIn gateway number packets
-  has_pushed [] new (inl has) = absurd has
-  has_pushed [] new (inr has) = absurd has
-  has_pushed (packet ∷ packets) new (inl has) = inl has
-  has_pushed (packet ∷ packets) new (inr has) = inr (has_pushed packets new has)
-
-  has_push : (packets : List PacketState) (new : ℕ) → HasIn gateway number packets → HasIn gateway number (packets ++ new_packet new ∷ [])
-  has_push [] new has = absurd has
-  has_push (packet ∷ packets) new (inl has) = inl has
-  has_push (packet ∷ packets) new (inr has) = inr (has_push packets new has)
-
-  below_in : (peers : List Peer) (copies : List PacketCopy) → AllByRecursion (IsBelow peers) copies → CopyIn gateway number copies → number < next_number peers gateway
+  below_in : (peers : List Peer) (copies : List PacketCopy) → AllByRecursion (IsBelow peers) copies →
+      AnyIn (IsAt gateway number) copies →
+      number < next_number peers gateway
   below_in peers [] below has = absurd has
   below_in peers (copy ∷ copies) below (inl is) = omega (arith, below.0.number, is.1, ap (next_number peers) is.0)
   below_in peers (copy ∷ copies) below (inr has) = below_in peers copies below.1 has
@@ -135,150 +128,44 @@ module _ (gateway number : ℕ) where
 new_has : {peers : List Peer} {gateway : ℕ} {packets after : List PacketState} → One peers (Copying gateway) packets after →
     HasIn gateway (next_number peers gateway) after
 new_has {peers} {gateway} (here {packet} open_yet is) =
-    inl (in_last gateway (next_number peers gateway) packet.copies (new_copy gateway (next_number peers gateway) (are_none packet.copies)) refl refl)
+    inl (any_last (IsAt gateway (next_number peers gateway)) packet.copies _ (refl, refl))
 new_has (beyond one) = inr (new_has one)
 
 -- ---- responses
 
-hearing_place : (port : Port) (heard cause : ℕ) (numbers : List ℕ) (copy : PacketCopy) → (copy_hearing port heard cause numbers copy).gateway ≡ copy.gateway
-hearing_place port heard cause numbers copy = by (copy.gateway == heard)
-  where
-    by : (is : Bool) → (if is then copy_hearing_own port cause numbers copy else copy).gateway ≡ copy.gateway
-    by true = refl
-    by false = refl
-
-hearing_number : (port : Port) (heard cause : ℕ) (numbers : List ℕ) (copy : PacketCopy) → (copy_hearing port heard cause numbers copy).number ≡ copy.number
-hearing_number port heard cause numbers copy = by (copy.gateway == heard)
-  where
-    by : (is : Bool) → (if is then copy_hearing_own port cause numbers copy else copy).number ≡ copy.number
-    by true = refl
-    by false = refl
-
 module _ (port : Port) (heard cause : ℕ) (numbers : List ℕ) (gateway number : ℕ) where
   has_heard : (packets : List PacketState) → HasIn gateway number packets → HasIn gateway number (map (while_open (packet_hearing port heard cause numbers)) packets)
-  has_heard [] has = absurd has
-  has_heard (packet ∷ packets) (inr has) = inr (has_heard packets has)
-  has_heard (packet ∷ packets) (inl has) = inl (by (is_done packet.copies))
-    where
-      by : (is : Bool) → CopyIn gateway number (if is then packet else packet_hearing port heard cause numbers packet).copies
-      by true = has
-      by false = in_map gateway number _ (hearing_place port heard cause numbers) (hearing_number port heard cause numbers) packet.copies has
+  has_heard = any_map (SentIn gateway number) (SentIn gateway number)
+      (while_open (packet_hearing port heard cause numbers)) (λ packet was.
+      either_open (SentIn gateway number) (packet_hearing port heard cause numbers) packet was
+      (λ _. in_map gateway number _ (hearing_puts port heard cause numbers) packet.copies was))
 
   has_unheard : (packets : List PacketState) → HasIn gateway number (map (while_open (packet_hearing port heard cause numbers)) packets) → HasIn gateway number packets
-  has_unheard [] has = absurd has
-  has_unheard (packet ∷ packets) (inr has) = inr (has_unheard packets has)
-  has_unheard (packet ∷ packets) (inl has) = inl (by (is_done packet.copies) has)
-    where
-      by : (is : Bool) → CopyIn gateway number (if is then packet else packet_hearing port heard cause numbers packet).copies → CopyIn gateway number packet.copies
-      by true has = has
-      by false has = in_mapped gateway number _ (hearing_place port heard cause numbers) (hearing_number port heard cause numbers) packet.copies has
+  has_unheard = any_mapped (SentIn gateway number) (SentIn gateway number)
+      (while_open (packet_hearing port heard cause numbers)) (λ packet.
+      either_open (λ (p : PacketState). SentIn gateway number p → SentIn gateway number packet)
+          (packet_hearing port heard cause numbers) packet (λ was. was)
+      (λ _. in_mapped gateway number _ (hearing_puts port heard cause numbers) packet.copies))
 
 -- ---- open packets with a copy for which nothing was sent yet
 
-abbrev lone_by : Option PacketCopy → ℕ
-lone_by None = 0
-lone_by (Some copy) = weight_with copy.command
-
-abbrev lone : ℕ → PacketState → ℕ
-lone gateway packet = weight_unless (is_done packet.copies) (lone_by (find_at gateway packet.copies))
-
 abbrev lones : ℕ → List PacketState → ℕ
-lones gateway [] = 0
-lones gateway (packet ∷ packets) = lone gateway packet + lones gateway packets
-
-lone_most : (there : Option PacketCopy) → lone_by there ≤ 1
-lone_most None = omega arith
-lone_most (Some copy) = by copy.command
-  where
-    by : (command : Option Command) → weight_with command ≤ 1
-    by None = omega arith
-    by (Some command) = omega arith
+lones gateway packets = weights_by 0 gateway packets
 
 lones_few : (gateway : ℕ) (packets : List PacketState) → lones gateway packets ≤ opens packets
 unfolding opens
 lones_few gateway [] = omega arith
 lones_few gateway (packet ∷ packets) = omega (arith, lones_few gateway packets, one (is_done packet.copies))
   where
-    one : (done : Bool) → weight_unless done (lone_by (find_at gateway packet.copies)) ≤ weight_unless done 1
+    one : (done : Bool) → weight_unless done (weight_by 0 (find_at gateway packet.copies)) ≤ weight_unless done 1
     one true = omega arith
-    one false = lone_most (find_at gateway packet.copies)
-
-lone_commanded : (gateway : ℕ) (order : Order) (peers : List Peer) (packet : PacketState) → is_done packet.copies ≡ false → CommandsOne packet.copies gateway order →
-    suc (lone gateway (record packet { copies = copies_moved peers (Commanding gateway order) packet.copies })) ≤ lone gateway packet
-lone_commanded gateway order peers packet open_yet one =
-    let command : Command = command_with order (next_number peers gateway) in
-    let before : lone gateway packet ≡ 1 =
-    ap (λ (b : Bool). weight_unless b (lone_by (find_at gateway packet.copies))) open_yet ∙ ap lone_by one.found ∙ ap weight_with one.fresh in
-    let after : lone_by (find_at gateway (map (commanded gateway command) packet.copies)) ≡ weight_with (option_or one.copy.command (Some command)) =
-    ap lone_by (find_commanded_there gateway command packet.copies one.copy one.found) in
-    let fresh : weight_with (option_or one.copy.command (Some command)) ≡ 0 = ap (λ (c : Option Command). weight_with (option_or c (Some command))) one.fresh in
-    omega (
-      arith,
-      before,
-      after,
-      fresh,
-      unless_least (is_done (map (commanded gateway command) packet.copies)) (lone_by (find_at gateway (map (commanded gateway command) packet.copies))),
-    )
+    one false = weight_most 0 1 (find_at gateway packet.copies) (omega arith) (omega arith)
 
 lones_commanded : {peers : List Peer} {gateway : ℕ} {order : Order} {packets after : List PacketState} → One peers (Commanding gateway order) packets after →
     suc (lones gateway after) ≤ lones gateway packets
-lones_commanded {peers} {gateway} {order} (here {packet} {packets} open_yet is) = omega (arith, lone_commanded gateway order peers packet open_yet is.1)
-lones_commanded (beyond one) = omega (arith, lones_commanded one)
-
-find_moved_other : (move : Move) (peers : List Peer) (copies : List PacketCopy) (gateway : ℕ) → place move ≢ gateway →
-    find_at gateway (copies_moved peers move copies) ≡ find_at gateway copies
-find_moved_other (Copying there) peers copies gateway apart = find_pushed_other gateway copies (new_copy there (next_number peers there) (are_none copies)) apart
-find_moved_other (Commanding there order) peers copies gateway apart = find_commanded there gateway (command_with order (next_number peers there)) copies apart
-
-lones_other : {peers : List Peer} {move : Move} {packets after : List PacketState} (gateway : ℕ) → place move ≢ gateway → One peers move packets after →
-    lones gateway after ≤ lones gateway packets
-lones_other {peers} {move} gateway apart (here {packet} {packets} open_yet is) =
-    let before : lone gateway packet ≡ lone_by (find_at gateway packet.copies) = ap (λ (b : Bool). weight_unless b (lone_by (find_at gateway packet.copies))) open_yet in
-    omega (
-      arith,
-      before,
-      ap lone_by (find_moved_other move peers packet.copies gateway apart),
-      unless_least (is_done (copies_moved peers move packet.copies)) (lone_by (find_at gateway (copies_moved peers move packet.copies))),
-    )
-lones_other gateway apart (beyond one) = omega (arith, lones_other gateway apart one)
-
-lones_pushed : (gateway : ℕ) (packets : List PacketState) (new : ℕ) → lones gateway (packets ++ new_packet new ∷ []) ≡ lones gateway packets
-lones_pushed gateway [] new = omega arith
-lones_pushed gateway (packet ∷ packets) new = omega (arith, lones_pushed gateway packets new)
-
-lones_heard : (port : Port) (heard cause : ℕ) (numbers : List ℕ) (gateway : ℕ) (packets : List PacketState) →
-    lones gateway (map (while_open (packet_hearing port heard cause numbers)) packets) ≤ lones gateway packets
-lones_heard port heard cause numbers gateway [] = omega arith
-lones_heard port heard cause numbers gateway (packet ∷ packets) =
-    omega (arith, lones_heard port heard cause numbers gateway packets, by (is_done packet.copies) refl)
-  where
-    own : (command : Option Command) → weight_with (option_map (command_hearing cause numbers) command) ≡ weight_with command
-    own None = refl
-    own (Some command) = refl
-
-    one : (copy : PacketCopy) (is : Bool) → weight_with (if is then copy_hearing_own port cause numbers copy else copy).command ≡ weight_with copy.command
-    one copy true = own copy.command
-    one copy false = refl
-
-    at : (copies : List PacketCopy) → lone_by (find_at gateway (map (copy_hearing port heard cause numbers) copies)) ≡ lone_by (find_at gateway copies)
-    at [] = refl
-    at (copy ∷ copies) =
-        elim (eqb_tells copy.gateway gateway) [
-          | inl is ↦ rw (hearing_place port heard cause numbers copy, is.0) (one copy (copy.gateway == heard))
-          | inr isnt ↦ rw (hearing_place port heard cause numbers copy, isnt.0) (at copies)
-        ]
-
-    by : (done : Bool) → is_done packet.copies ≡ done →
-        lone gateway (if done then packet else packet_hearing port heard cause numbers packet) ≤ lone gateway packet
-    by true e = omega arith
-    by false e =
-        let before : lone gateway packet ≡ lone_by (find_at gateway packet.copies) = ap (λ (b : Bool). weight_unless b (lone_by (find_at gateway packet.copies))) e in
-        omega (
-          arith,
-          before,
-          at packet.copies,
-          unless_least (is_done (map (copy_hearing port heard cause numbers) packet.copies)) (lone_by (find_at gateway (map (copy_hearing port heard cause numbers) packet.copies))),
-        )
+lones_commanded {peers} {gateway} {order} one =
+    omega (arith, weights_less 0 gateway 1 (λ copies is.
+        omega (arith, weight_commanded 0 gateway order peers copies is.1)) one)
 
 -- ---- the law
 
@@ -310,30 +197,21 @@ soon_there peers (Commanding gateway order) packets after number one below (inl 
 
 soon_moved : (peers : List Peer) (move : Move) (packets after : List PacketState) (gateway number : ℕ) → One peers move packets after →
     number < next_number peers gateway → SoonAt peers packets gateway number → SoonAt (peers_moved move peers) after gateway number
-soon_moved peers move packets after gateway number one below soon =
-    elim (eqb_tells (place move) gateway) [
-      | inl same ↦
-          subst (λ (g : ℕ). SoonAt (peers_moved move peers) after g number) same.1
-          (soon_there peers move packets after number one (subst (λ (g : ℕ). number < next_number peers g) (sym same.1) below)
-          (subst (λ (g : ℕ). SoonAt peers packets g number) (sym same.1) soon))
-      | inr differs ↦
-          soon_on peers (peers_moved move peers) packets after gateway number
-          (next_drawn_other (place move) (next_number peers (place move)) gateway peers differs.1) (lones_other gateway differs.1 one)
-          (λ later has. has_moved gateway later one has) soon
-    ]
+soon_moved peers move packets after gateway number one =
+    at_or_apart (λ (g : ℕ). number < next_number peers g → SoonAt peers packets g number
+        → SoonAt (peers_moved move peers) after g number) (place move) gateway
+    (soon_there peers move packets after number one)
+    (λ apart below. soon_on peers (peers_moved move peers) packets after gateway number
+    (next_drawn_other (place move) (next_number peers (place move)) gateway peers apart)
+        (weights_moved_other 0 gateway apart one)
+    (λ later has. has_moved gateway later one has))
 
 all_soon_moved : (peers : List Peer) (move : Move) (packets after : List PacketState) → AllKept peers packets → One peers move packets after →
     AllSoon peers packets → AllSoon (peers_moved move peers) after
 all_soon_moved peers move packets after kept one is = record {
   few = omega (arith, opens_moved one, is.few);
-  first = λ gateway below. elim (eqb_tells (place move) gateway) [
-    | inl same ↦
-        let was : 65536 ≤ next_number peers (place move) = is.first (place move) (one_within one) in
-        let next : next_number (peers_moved move peers) (place move) ≡ suc (next_number peers (place move)) = next_drawn (place move) _ peers (one_within one) in
-        subst (λ (g : ℕ). 65536 ≤ next_number (peers_moved move peers) g) same.1 (omega (arith, was, next))
-    | inr differs ↦
-        omega (arith, is.first gateway (within gateway below), next_drawn_other (place move) (next_number peers (place move)) gateway peers differs.1)
-  ];
+  first = λ gateway below.
+      omega (arith, is.first gateway (within gateway below), (peers_go_on move peers (one_within one)).numbers gateway);
   base = λ gateway below.
       soon_moved peers move packets after gateway 65535 one (omega (arith, is.first gateway (within gateway below))) (is.base gateway (within gateway below));
   copies = λ gateway number below has. by gateway number below (has_before gateway number one has);
@@ -350,10 +228,6 @@ all_soon_moved peers move packets after kept one is = record {
         let next : next_number (peers_moved move peers) (place move) ≡ suc (next_number peers (place move)) = next_drawn (place move) _ peers (one_within one) in
         inl (subst (λ (g : ℕ). next_number (peers_moved move peers) g + lones g after ≤ number + 65) new.0
         (omega (arith, next, new.1, lones_few (place move) after, opens_moved one, is.few)))
-
-none_open : opens [] ≤ 64
-unfolding opens
-none_open = omega arith
 
 all_soon : Closed AllSoon
 all_soon = record {
@@ -374,78 +248,36 @@ all_soon = record {
   pushed = λ peers packets new kept unrefused is. record {
     few = omega (arith, opens_pushed packets new, opens_are packets, unrefused.few);
     first = is.first;
-    base = λ gateway below. soon_on peers peers packets (packets ++ new_packet new ∷ []) gateway 65535 refl (omega (arith, lones_pushed gateway packets new))
-        (λ later has. has_push gateway later packets new has) (is.base gateway below);
-    copies = λ gateway number below has. soon_on peers peers packets (packets ++ new_packet new ∷ []) gateway number refl (omega (arith, lones_pushed gateway packets new))
-        (λ later has. has_push gateway later packets new has) (is.copies gateway number below (has_pushed gateway number packets new has));
+    base = λ gateway below. soon_on peers peers packets (packets ++ new_packet new ∷ []) gateway 65535 refl
+        (omega (arith, weights-push 0 gateway packets new))
+        (λ later has. any_push (SentIn gateway later) packets _ has) (is.base gateway below);
+    copies = λ gateway number below has. soon_on peers peers packets (packets ++ new_packet new ∷ []) gateway number
+        refl (omega (arith, weights-push 0 gateway packets new))
+        (λ later has. any_push (SentIn gateway later) packets _ has)
+            (is.copies gateway number below (elim (any_pushed (SentIn gateway number) packets _ has)
+            [ inl was ↦ was | inr none ↦ absurd none ]));
   };
   moved = all_soon_moved;
   heard = λ peers packets port heard cause numbers kept is. record {
     few = omega (arith, opens_heard port heard cause numbers packets, is.few);
     first = is.first;
     base = λ gateway below. soon_on peers peers packets (map (while_open (packet_hearing port heard cause numbers)) packets) gateway 65535 refl
-        (lones_heard port heard cause numbers gateway packets) (λ later has. has_heard port heard cause numbers gateway later packets has) (is.base gateway below);
+        (weights_heard 0 port heard cause numbers gateway packets)
+            (λ later has. has_heard port heard cause numbers gateway later packets has) (is.base gateway below);
     copies = λ gateway number below has. soon_on peers peers packets (map (while_open (packet_hearing port heard cause numbers)) packets) gateway number refl
-        (lones_heard port heard cause numbers gateway packets) (λ later has. has_heard port heard cause numbers gateway later packets has)
+        (weights_heard 0 port heard cause numbers gateway packets)
+            (λ later has. has_heard port heard cause numbers gateway later packets has)
         (is.copies gateway number below (has_unheard port heard cause numbers gateway number packets has));
   };
 }
 
 -- ---- of a copy that is there
 
-in_contains : (gateway number : ℕ) (copies : List PacketCopy) (copy : PacketCopy) → copy.gateway ≡ gateway → copy.number ≡ number → Contains copies copy →
-    CopyIn gateway number copies
-in_contains gateway number copies copy place_is number_is at = by copies at.0 at.1 at.2
-  where
-    by : (copies : List PacketCopy) (k : ℕ) → k < length copies → get_or copies k copy ≡ copy → CopyIn gateway number copies
-    by [] k below same = absurd (omega (arith, below))
-    by (first ∷ copies) zero below same = inl (ap (λ (c : PacketCopy). c.gateway) same ∙ place_is, ap (λ (c : PacketCopy). c.number) same ∙ number_is)
-    by (first ∷ copies) (suc k) below same = inr (by copies k (omega (arith, below)) same)
-
-has_contains : (gateway number : ℕ) (packets : List PacketState) (packet : PacketState) → CopyIn gateway number packet.copies → Contains packets packet →
-    HasIn gateway number packets
-has_contains gateway number packets packet has at = by packets at.0 at.1 at.2
-  where
-    by : (packets : List PacketState) (k : ℕ) → k < length packets → get_or packets k packet ≡ packet → HasIn gateway number packets
-    by [] k below same = absurd (omega (arith, below))
-    by (first ∷ packets) zero below same = inl (subst (λ (p : PacketState). CopyIn gateway number p.copies) (sym same) has)
-    by (first ∷ packets) (suc k) below same = inr (by packets k (omega (arith, below)) same)
-
-record FoundIn (copies : List PacketCopy) (gateway number : ℕ) : Type 0 where
-  copy : PacketCopy
-  sent : Contains copies copy
-  gateway_is : copy.gateway ≡ gateway
-  number_is : copy.number ≡ number
-
-found_in : (gateway number : ℕ) (copies : List PacketCopy) → CopyIn gateway number copies → FoundIn copies gateway number
-found_in gateway number [] has = absurd has
-found_in gateway number (copy ∷ copies) (inl is) = record { copy = copy; sent = (0, omega arith, refl); gateway_is = is.0; number_is = is.1 }
-found_in gateway number (first ∷ copies) (inr has) =
-    let there : FoundIn copies gateway number = found_in gateway number copies has in
-    record { copy = there.copy; sent = contains_more copies first there.copy there.sent; gateway_is = there.gateway_is; number_is = there.number_is }
-
 has_copy : (gateway number : ℕ) (packets : List PacketState) → HasIn gateway number packets → HasCopy packets gateway number
-has_copy gateway number [] has = absurd has
-has_copy gateway number (packet ∷ packets) (inl has) =
-    let there : FoundIn packet.copies gateway number = found_in gateway number packet.copies has in
-    record {
-      packet = packet;
-      copy = there.copy;
-      kept = (0, omega arith, refl);
-      sent = there.sent;
-      gateway_is = there.gateway_is;
-      number_is = there.number_is;
-    }
-has_copy gateway number (packet ∷ packets) (inr has) =
-    let there : HasCopy packets gateway number = has_copy gateway number packets has in
-    record {
-      packet = there.packet;
-      copy = there.copy;
-      kept = contains_more packets packet there.packet there.kept;
-      sent = there.sent;
-      gateway_is = there.gateway_is;
-      number_is = there.number_is;
-    }
+has_copy gateway number packets has =
+    let there = any_found (SentIn gateway number) packets has in
+    let at = any_found (IsAt gateway number) there.0.copies there.2 in
+    record { packet = there.0; copy = at.0; kept = there.1; sent = at.1; gateway_is = at.2.0; number_is = at.2.1 }
 
 pub comes_soon : (setup : NodeSetup) (calls : List NodeCall) (gateway number : ℕ) → 1 ≤ length setup.gateways → gateway < length setup.gateways →
     IsCopyOrBase (reached setup calls) gateway number → ComesSoon (reached setup calls) gateway number
@@ -458,8 +290,9 @@ comes_soon setup calls gateway number some within which =
         gateway < length (reached setup calls).gateways → SoonAt (reached setup calls).gateways (reached setup calls).packets gateway number
     soon (inl base) law size = subst (λ (n : ℕ). SoonAt (reached setup calls).gateways (reached setup calls).packets gateway n) (sym base) (law.base gateway size)
     soon (inr has) law size = law.copies gateway number size
-        (has_contains gateway number (reached setup calls).packets has.packet
-        (in_contains gateway number has.packet.copies has.copy has.gateway_is has.number_is has.sent) has.kept)
+        (any_at (SentIn gateway number) (reached setup calls).packets has.packet
+        (any_at (IsAt gateway number) has.packet.copies has.copy (has.gateway_is, has.number_is) has.sent.0 has.sent.1
+            has.sent.2) has.kept.0 has.kept.1 has.kept.2)
 
     told : SoonAt (reached setup calls).gateways (reached setup calls).packets gateway number → ComesSoon (reached setup calls) gateway number
     told (inl bound) = inl (omega (arith, bound))

@@ -1,7 +1,8 @@
 -- While the first copy of a packet waits for it, what was sent for the duplicates stays nothing, or has a release among it.
-use Rattle.std.proofs.Common.{◌≡◌, ◌≢◌, ◌⊎◌, inl, inr, ℕ, ◌==◌, Bool, true, false, if◌then◌else◌, ◌||◌, List, [], ◌∷◌, ◌++◌, map, Option, Some, None, option_map, refl, sym, ap, subst, ◌∙◌}
-use Rattle.std.proofs.lemmas.Bool.{false≢true}
-use Rattle.std.specs.List.{AllByRecursion, Contains, find, flat_map, list_any}
+use Rattle.std.proofs.Common.{◌≡◌, ◌≢◌, ◌⊎◌, inl, inr, ℕ, ◌==◌, Bool, true, false, if◌then◌else◌, List, [], ◌∷◌, ◌++◌, map, Option, Some, None, option_map, refl, sym, ap, subst, ◌∙◌}
+use Rattle.std.proofs.lemmas.Bool.{cond_both, false≢true, or_cases, or_left, or_right}
+use Rattle.std.proofs.lemmas.List.Folds.{list_any_at}
+use Rattle.std.specs.List.{AllByRecursion, find, flat_map, list_any}
 use Rattle.std.specs.Option.{option_map_or, option_or}
 use Rattle.node_core.specs.declared.copy.Command.{Command}
 use Rattle.node_core.specs.declared.copy.Order.TheVariants.{Release}
@@ -12,7 +13,7 @@ use Rattle.node_core.specs.declared.peer.Peer.{Peer}
 use Rattle.node_core.specs.declared.port.Port.{Port}
 use Rattle.node_core.specs.declared.sending.Sending.{Sending}
 use Rattle.node_core.specs.declared.sending.Sending.TheVariants as send
-use Rattle.node_core.specs.Copies.{command_hearing, copy_hearing, copy_hearing_own, first_told, is_answered, is_chosen, is_held, is_release, is_unknown, new_copy}
+use Rattle.node_core.specs.Copies.{command_hearing, copy_hearing, first_told, is_answered, is_chosen, is_held, is_release, is_unknown, new_copy}
 use Rattle.node_core.specs.Growing.{CommandGrows, CopyGrows, Extends}
 use Rattle.node_core.specs.Packets.{PacketState, chosen, copies_after, is_done, is_of, packet_after, packet_after_all}
 use Rattle.node_core.specs.Peers.{next_number}
@@ -20,47 +21,30 @@ use Rattle.node_core.specs.Sendings.{again, asking, command_by, command_of, comm
 use Rattle.node_core.specs.Sent.{HasCopyAt, IsCommandOf}
 use Rattle.node_core.proofs.DueMoves.{AreApart, chosen_is, own_number}
 use Rattle.node_core.proofs.GrowingLemmas.{after_all_grows, extends_push, same_copy}
-use Rattle.node_core.proofs.ReleasedLemmas.{Chosen, find_none, find_passes, hearing_keeps}
-use Rattle.node_core.proofs.RestingLemmas.{each_map, each_push}
-use Rattle.node_core.proofs.SentLemmas.{Own, all_own, in_cons, in_found, in_none, packet_with}
+use Rattle.node_core.proofs.ReleasedLemmas.{Chosen, find_none, hearing_keeps}
+use Rattle.node_core.proofs.RestingLemmas.{each_map, each_push, in_found}
+use Rattle.node_core.proofs.SentLemmas.{Own, all_own, in_cons, packet_with}
 use Rattle.node_core.proofs.WaitsLemmas.{Waits, any_found, due_sent, is_waiting, releasing_sent}
+use Rattle.node_core.proofs.CaseLemmas.{either_hears, either_sent}
+use Rattle.node_core.proofs.Moves.{find_passes}
 
 -- ---- one packet stays so
 
 any_grows : (copies after : List PacketCopy) → Extends CopyGrows copies after → list_any is_chosen copies ≡ true → list_any is_chosen after ≡ true
 any_grows [] after grows is = absurd (cc)
 any_grows (copy ∷ copies) [] grows is = absurd grows
-any_grows (copy ∷ copies) (first ∷ after) grows is = by (is_chosen copy) refl is (any_grows copies after grows.1)
+any_grows (copy ∷ copies) (first ∷ after) grows is =
+    elim (or_cases (is_chosen copy) (list_any is_chosen copies) is) [
+      | inl one ↦ or_left (is_chosen first) (list_any is_chosen after)
+            (chosen_on copy.command first.command grows.0.command one)
+      | inr later ↦ or_right (is_chosen first) (list_any is_chosen after) (any_grows copies after grows.1 later)
+    ]
   where
-    or_left : (one two : Bool) → one ≡ true → (one || two) ≡ true
-    or_left true two is = refl
-    or_left false two is = absurd (cc)
-
-    or_right : (one two : Bool) → two ≡ true → (one || two) ≡ true
-    or_right true two is = refl
-    or_right false two is = is
-
     chosen_on : (one two : Option Command) → CommandGrows one two → option_map_or (λ (c : Command). is_release c.order) one false ≡ true →
         option_map_or (λ (c : Command). is_release c.order) two false ≡ true
     chosen_on None two grown is = absurd (cc)
     chosen_on (Some one) None grown is = absurd grown
     chosen_on (Some one) (Some two) grown is = ap is_release grown.0 ∙ is
-
-    by : (b : Bool) → is_chosen copy ≡ b → (b || list_any is_chosen copies) ≡ true →
-        (list_any is_chosen copies ≡ true → list_any is_chosen after ≡ true) → (is_chosen first || list_any is_chosen after) ≡ true
-    by true e is rest = or_left (is_chosen first) (list_any is_chosen after) (chosen_on copy.command first.command grows.0.command e)
-    by false e is rest = or_right (is_chosen first) (list_any is_chosen after) (rest is)
-
-found_here : (test : PacketCopy → Bool) (copies : List PacketCopy) (copy : PacketCopy) → Contains copies copy → test copy ≡ true → list_any test copies ≡ true
-found_here test [] copy is passes = absurd (in_none copy is)
-found_here test (first ∷ copies) copy is passes =
-    by (test first) refl (in_cons first copy copies is) (λ later. found_here test copies copy later passes)
-  where
-    by : (b : Bool) → test first ≡ b → (first ≡ copy) ⊎ Contains copies copy → (Contains copies copy → list_any test copies ≡ true) →
-        (b || list_any test copies) ≡ true
-    by true e at rest = refl
-    by false e (inl same) rest = absurd (false≢true (sym e ∙ ap test same ∙ passes))
-    by false e (inr later) rest = rest later
 
 released_is_chosen : (copy : PacketCopy) (number : ℕ) → IsCommandOf copy Release number → is_chosen copy ≡ true
 released_is_chosen copy number is =
@@ -79,11 +63,7 @@ tests_change_nothing number peers packet (copy ∷ duplicates) same held =
     by copy.verdict held.0 (tests_change_nothing number peers packet duplicates same held.1)
   where
     test_same : packet_after (test_of number copy) packet ≡ packet
-    test_same = at (number == packet.number)
-      where
-        at : (b : Bool) → (if b then record packet { copies = packet.copies } else packet) ≡ packet
-        at true = refl
-        at false = refl
+    test_same = either_sent (λ (p : PacketState). p ≡ packet) (test_of number copy) packet refl refl
 
     by : (verdict : Verdict) → is_held verdict ≡ false → packet_after_all (flat_map (settling peers number) duplicates) packet ≡ packet →
         packet_after_all (settling_by verdict peers number copy ++ flat_map (settling peers number) duplicates) packet ≡ packet
@@ -96,34 +76,30 @@ tests_change_nothing number peers packet (copy ∷ duplicates) same held =
 
 pub waits_hearing : (port : Port) (gateway cause : ℕ) (numbers : List ℕ) (copies : List PacketCopy) → Waits copies → Waits (map (copy_hearing port gateway cause numbers) copies)
 waits_hearing port gateway cause numbers [] waits = tt
-waits_hearing port gateway cause numbers (plain ∷ duplicates) waits = λ waiting. by (waits (before (plain.gateway == gateway) waiting))
+waits_hearing port gateway cause numbers (plain ∷ duplicates) waits = λ waiting. elim (waits (before waiting)) [
+  | inl none_yet ↦ inl (each_map (λ (c : PacketCopy). c.command ≡ None) (λ (c : PacketCopy).
+        c.command ≡ None) (copy_hearing port gateway cause numbers) fresh duplicates none_yet)
+  | inr any ↦ inr (any_same duplicates ∙ any)
+]
   where
     first : (one two : Verdict) → is_waiting (first_told one two) ≡ true → is_waiting one ≡ true
-    first Unknown two e = refl
     first Filed two e = e
-    first Sealed two e = refl
     first Held two e = e
+    first _ two e = refl
 
-    before : (b : Bool) → is_waiting (if b then copy_hearing_own port cause numbers plain else plain).verdict ≡ true → is_waiting plain.verdict ≡ true
-    before true e = first plain.verdict _ e
-    before false e = e
+    before : is_waiting (copy_hearing port gateway cause numbers plain).verdict ≡ true → is_waiting plain.verdict ≡ true
+    before = either_hears (λ (c : PacketCopy). is_waiting c.verdict ≡ true → is_waiting plain.verdict ≡ true) port
+        gateway cause numbers plain
+        (first plain.verdict _) (λ e. e)
 
     fresh : (copy : PacketCopy) → copy.command ≡ None → (copy_hearing port gateway cause numbers copy).command ≡ None
-    fresh copy e = at (copy.gateway == gateway)
-      where
-        at : (b : Bool) → (if b then copy_hearing_own port cause numbers copy else copy).command ≡ None
-        at true = ap (option_map (command_hearing cause numbers)) e
-        at false = e
+    fresh copy e =
+        either_hears (λ (c : PacketCopy). c.command ≡ None) port gateway cause numbers copy
+        (ap (option_map (command_hearing cause numbers)) e) e
 
     any_same : (copies : List PacketCopy) → list_any is_chosen (map (copy_hearing port gateway cause numbers) copies) ≡ list_any is_chosen copies
     any_same [] = refl
-    any_same (copy ∷ copies) =
-        ap (λ (b : Bool). b || list_any is_chosen (map (copy_hearing port gateway cause numbers) copies)) ((hearing_keeps port gateway cause numbers).same copy)
-        ∙ ap (λ (b : Bool). is_chosen copy || b) (any_same copies)
-
-    by : Waiting duplicates → Waiting (map (copy_hearing port gateway cause numbers) duplicates)
-    by (inl none_yet) = inl (each_map (λ (c : PacketCopy). c.command ≡ None) (λ (c : PacketCopy). c.command ≡ None) (copy_hearing port gateway cause numbers) fresh duplicates none_yet)
-    by (inr any) = inr (any_same duplicates ∙ any)
+    any_same (copy ∷ copies) = rw ((hearing_keeps port gateway cause numbers).same copy, any_same copies) refl
 
 -- ---- a tick
 
@@ -142,11 +118,12 @@ waits_settled plain duplicates (first ∷ later) known settled grows =
 waits_released : (plain : PacketCopy) (duplicates after : List PacketCopy) (gateway number drawn : ℕ) → plain.gateway ≢ gateway →
     Extends CopyGrows (plain ∷ duplicates) after → (of : HasCopyAt after gateway number) → IsCommandOf of.copy Release drawn → Waits after
 waits_released plain duplicates [] gateway number drawn apart grows of is = absurd grows
-waits_released plain duplicates (first ∷ later) gateway number drawn apart grows of is = λ waiting. inr (by (in_cons first of.copy later of.among))
-  where
-    by : (first ≡ of.copy) ⊎ Contains later of.copy → list_any is_chosen later ≡ true
-    by (inl same) = absurd (apart (sym grows.0.gateway ∙ ap (λ (c : PacketCopy). c.gateway) same ∙ of.gateway_is))
-    by (inr there) = found_here is_chosen later of.copy there (released_is_chosen of.copy drawn is)
+waits_released plain duplicates (first ∷ later) gateway number drawn apart grows of is =
+    λ waiting. inr (elim (in_cons first of.copy later of.among) [
+  | inl same ↦ absurd (apart (sym grows.0.gateway ∙ ap (λ (c : PacketCopy). c.gateway) same ∙ of.gateway_is))
+  | inr there ↦ list_any_at is_chosen later there.0 of.copy there.1 (ap is_chosen
+        there.2 ∙ released_is_chosen of.copy drawn is)
+])
 
 -- where neither a duplicate was chosen nor one is held nothing is drawn
 none_held : (copies : List PacketCopy) → chosen copies ≡ None → AllByRecursion (λ (copy : PacketCopy). is_held copy.verdict ≡ false) copies
@@ -159,11 +136,11 @@ none_held copies is = by (find is_chosen copies) is
 
 push_waits : (plain : PacketCopy) (duplicates : List PacketCopy) (copy : PacketCopy) → copy.command ≡ None → Waits (plain ∷ duplicates) →
     Waits (plain ∷ (duplicates ++ copy ∷ []))
-push_waits plain duplicates copy fresh waits = λ waiting. by (waits waiting)
-  where
-    by : Waiting duplicates → Waiting (duplicates ++ copy ∷ [])
-    by (inl none_yet) = inl (each_push (λ (c : PacketCopy). c.command ≡ None) duplicates copy none_yet fresh)
-    by (inr any) = inr (any_grows duplicates (duplicates ++ copy ∷ []) (extends_push CopyGrows same_copy duplicates (copy ∷ [])) any)
+push_waits plain duplicates copy fresh waits = λ waiting. elim (waits waiting) [
+  | inl none_yet ↦ inl (each_push (λ (c : PacketCopy). c.command ≡ None) duplicates copy none_yet fresh)
+  | inr any ↦ inr (any_grows duplicates (duplicates ++ copy ∷ []) (extends_push CopyGrows same_copy duplicates
+        (copy ∷ [])) any)
+]
 
 module _ (number favourite : ℕ) (up : Bool) (peers : List Peer) where
   abbrev after : List PacketCopy → List Sending → List PacketCopy
@@ -238,8 +215,10 @@ module _ (number favourite : ℕ) (up : Bool) (peers : List Peer) where
       by : (there : Option PacketCopy) → find is_chosen duplicates ≡ there →
           Waits (after (plain ∷ duplicates) (releasing (Some choice) peers number duplicates))
       by (Some copy) e =
+          let there = in_found is_chosen duplicates copy e in
           waits_grown plain duplicates _ (after_all_grows (releasing (Some choice) peers number duplicates) (packet_with number (plain ∷ duplicates)))
-          (found_here is_chosen duplicates copy (in_found is_chosen duplicates copy e) (find_passes is_chosen duplicates copy e))
+          (list_any_at is_chosen duplicates there.0 copy
+              there.1 (ap is_chosen there.2 ∙ find_passes is_chosen duplicates copy e))
       by None e = fresh_waits plain duplicates apart sealed chosen_was waits choice is (fresh e (waits (ap is_waiting sealed)))
 
   due_waits : (copies : List PacketCopy) → AreApart copies → Chosen copies → Waits copies → Waits (after copies (due_by_copies favourite up peers number copies))
@@ -261,18 +240,16 @@ module _ (number favourite : ℕ) (up : Bool) (peers : List Peer) where
 -- what is due for a packet, and the packet after it
 module _ (favourite : ℕ) (up : Bool) (peers : List Peer) (packet : PacketState) (apart : AreApart packet.copies) (chosen_was : Chosen packet.copies)
     (waits : Waits packet.copies) where
+  abbrev due : List Sending
+  due = due_by_copies favourite up peers packet.number packet.copies
+
   pub waits_after : Waits (packet_after_all (due_for favourite up peers packet) packet).copies
-  waits_after = by (is_done packet.copies)
-    where
-      by : (done : Bool) → Waits (packet_after_all (if done then [] else due_by_copies favourite up peers packet.number packet.copies) packet).copies
-      by true = waits
-      by false = due_waits packet.number favourite up peers packet.copies apart chosen_was waits
+  waits_after = cond_both (is_done packet.copies) [] due
+      (λ (sendings : List Sending). Waits (packet_after_all sendings packet).copies)
+      (λ _. waits) (λ _. due_waits packet.number favourite up peers packet.copies apart chosen_was waits)
 
   pub own_due : AllByRecursion (Own packet.number (packet_after_all (due_for favourite up peers packet) packet).copies) (due_for favourite up peers packet)
-  own_due = by (is_done packet.copies)
-    where
-      by : (done : Bool) → AllByRecursion
-          (Own packet.number (packet_after_all (if done then [] else due_by_copies favourite up peers packet.number packet.copies) packet).copies)
-          (if done then [] else due_by_copies favourite up peers packet.number packet.copies)
-      by true = tt
-      by false = all_own (due_sent packet.number favourite up peers packet.copies apart chosen_was waits)
+  own_due = cond_both (is_done packet.copies) [] due
+      (λ (sendings : List Sending). AllByRecursion (Own packet.number (packet_after_all sendings packet).copies)
+      sendings)
+      (λ _. tt) (λ _. all_own (due_sent packet.number favourite up peers packet.copies apart chosen_was waits))

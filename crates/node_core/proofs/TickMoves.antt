@@ -1,5 +1,5 @@
 -- What a tick makes of the packets and of the numbers is a row of moves.
-use Rattle.std.proofs.Common.{◌≡◌, ℕ, ◌<◌, ◌≤◌, ◌==◌, ◌&&◌, ◌||◌, Bool, true, false, if◌then◌else◌, List, [], ◌∷◌, ◌++◌, length, map, Option, Some, None, refl, sym, ap, subst, ◌∙◌, arith}
+use Rattle.std.proofs.Common.{◌≡◌, ℕ, ◌<◌, ◌≤◌, ◌&&◌, ◌||◌, Bool, true, false, if◌then◌else◌, List, [], ◌∷◌, ◌++◌, length, map, Option, Some, None, refl, sym, ap, subst, ◌∙◌, arith}
 use Rattle.std.proofs.lemmas.Bool.{and_right}
 use Rattle.std.specs.List.{list_all, list_any}
 use Rattle.std.specs.Option.{option_map_or, option_or}
@@ -11,7 +11,7 @@ use Rattle.node_core.specs.declared.copy.Verdict.{Verdict}
 use Rattle.node_core.specs.declared.peer.Peer.{Peer}
 use Rattle.node_core.specs.declared.sending.Sending.{Sending}
 use Rattle.node_core.specs.Copies.{is_answered, is_filed, is_release, is_released, is_sealed, is_settled, new_copy}
-use Rattle.node_core.specs.Packets.{PacketState, commanded, copies_after, is_done, is_of, is_resolved, packet_after, packet_after_all, with_command}
+use Rattle.node_core.specs.Packets.{PacketState, commanded, copies_after, is_done, is_of, is_resolved, packet_after, packet_after_all}
 use Rattle.node_core.specs.Peers.{all_drawn, next_number}
 use Rattle.node_core.specs.Sendings.{due_by_copies, due_for, due_for_all}
 use Rattle.node_core.specs.Sound.{planned}
@@ -21,6 +21,7 @@ use Rattle.node_core.proofs.KeptLemmas.{AllKept, IsKept, all_kept_moved, peers_g
 use Rattle.node_core.proofs.Moves.{Copying, Commanding, Move, Moves, are_none, beyond, command_with, copies_moved, here, onward, peers_moved, still}
 use Rattle.node_core.proofs.PlanLemmas.{all_drawn_append}
 use Rattle.node_core.proofs.SentLemmas.{packet_with}
+use Rattle.node_core.proofs.CaseLemmas.{either_commanded}
 
 -- ---- an open packet stays open
 
@@ -37,7 +38,9 @@ module _ (gateway number : ℕ) (order : Order) where
   after_command = commanded gateway (command_with order number)
 
   answered_same : (copy : PacketCopy) → is_answered (after_command copy) ≡ is_answered copy
-  answered_same copy = by (copy.gateway == gateway)
+  answered_same copy =
+      either_commanded (λ (c : PacketCopy). is_answered c ≡ is_answered copy) gateway (command_with order number) copy
+          (at copy.command) refl
     where
       at : (command : Option Command) →
           option_map_or (λ (c : Command). c.is_answered) (option_or command (Some (command_with order number))) false
@@ -45,19 +48,14 @@ module _ (gateway number : ℕ) (order : Order) where
       at None = refl
       at (Some command) = refl
 
-      by : (is : Bool) → is_answered (if is then with_command (command_with order number) copy else copy) ≡ is_answered copy
-      by true = at copy.command
-      by false = refl
-
   verdict_same : (copy : PacketCopy) → (after_command copy).verdict ≡ copy.verdict
-  verdict_same copy = by (copy.gateway == gateway)
-    where
-      by : (is : Bool) → (if is then with_command (command_with order number) copy else copy).verdict ≡ copy.verdict
-      by true = refl
-      by false = refl
+  verdict_same copy =
+      either_commanded (λ (c : PacketCopy). c.verdict ≡ copy.verdict) gateway (command_with order number) copy refl refl
 
   released_same : (copy : PacketCopy) → is_released (after_command copy) ≡ is_released copy
-  released_same copy = by (copy.gateway == gateway)
+  released_same copy =
+      either_commanded (λ (c : PacketCopy). is_released c ≡ is_released copy) gateway (command_with order number) copy
+          (at copy.command) refl
     where
       at : (command : Option Command) →
           (option_map_or (λ (c : Command). is_release c.order) (option_or command (Some (command_with order number))) false
@@ -65,10 +63,6 @@ module _ (gateway number : ℕ) (order : Order) where
           ≡ (option_map_or (λ (c : Command). is_release c.order) command false && option_map_or (λ (c : Command). c.is_answered) command false)
       at None = and_right (is_release order) false refl
       at (Some command) = refl
-
-      by : (is : Bool) → is_released (if is then with_command (command_with order number) copy else copy) ≡ is_released copy
-      by true = at copy.command
-      by false = refl
 
   any_same : (copies : List PacketCopy) → list_any is_released (map after_command copies) ≡ list_any is_released copies
   any_same [] = refl
@@ -149,7 +143,8 @@ module _ (favourite : ℕ) (up : Bool) where
   room_of : (most : ℕ) (peers : List Peer) (packet : PacketState) (packets : List PacketState) → most ≤ 9223372036854775808 → is_done packet.copies ≡ false →
       Bounded most peers (packet ∷ packets) → HasRoom peers packet.copies
   room_of most peers packet packets few open_yet bounded gateway within left =
-      let here : packet_weight gateway packet ≡ weight gateway packet.copies = ap (λ (b : Bool). weight_unless b (weight gateway packet.copies)) open_yet in
+      let here : packet_weight 2 gateway packet ≡ weight gateway packet.copies =
+      ap (λ (b : Bool). weight_unless b (weight gateway packet.copies)) open_yet in
       omega (arith, bounded gateway within, here, left, few)
 
   pub one_packet : (most : ℕ) (peers : List Peer) (packet : PacketState) (packets : List PacketState) → most ≤ 9223372036854775808 → favourite < length peers →

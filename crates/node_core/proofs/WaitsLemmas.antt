@@ -1,5 +1,7 @@
 -- What is due for a packet is of its copies: each release or cancel is the one that was sent for its copy, or the first one.
-use Rattle.std.proofs.Common.{◌≡◌, ◌≢◌, ◌⊎◌, inl, inr, ℕ, ◌==◌, Bool, true, false, if◌then◌else◌, ◌||◌, List, [], ◌∷◌, Option, Some, None, refl, sym, ap, subst, ◌∙◌}
+use Rattle.std.proofs.Common.{◌≡◌, ◌≢◌, ◌⊎◌, inl, inr, ℕ, ◌==◌, Bool, true, false, if◌then◌else◌, List, [], ◌∷◌, Option, Some, None, refl, sym, ap, subst, ◌∙◌}
+use Rattle.std.proofs.lemmas.Bool.{cases_Bool}
+use Rattle.std.proofs.lemmas.List.Elements.{Contains-push}
 use Rattle.std.specs.List.{AllByRecursion, Contains, find, flat_map, list_any}
 use Rattle.std.specs.Option.{IfSome, option_map_or, option_or}
 use Rattle.node_core.specs.declared.copy.Command.{Command}
@@ -13,9 +15,10 @@ use Rattle.node_core.specs.Copies.{is_chosen, is_held, is_release}
 use Rattle.node_core.specs.Packets.{chosen}
 use Rattle.node_core.specs.Sendings.{asking, copy_to, due_by_copies, due_by_verdict, releasing, repeating, settling, settling_beside, test_of}
 use Rattle.node_core.proofs.DueMoves.{AreApart, chosen_is, own_number}
-use Rattle.node_core.proofs.ReleasedLemmas.{Chosen, IsFirstChosen, NoneChosen, OneChosen, find_none, find_passes}
-use Rattle.node_core.proofs.RestingLemmas.{contains_more, each_weaker}
-use Rattle.node_core.proofs.SentLemmas.{CancelBeside, HasOrder, Sents, all_settle, command_sent, each_in, in_found, in_head, in_last, more, none, others_settle}
+use Rattle.node_core.proofs.ReleasedLemmas.{Chosen, IsFirstChosen, NoneChosen, OneChosen, find_none}
+use Rattle.node_core.proofs.RestingLemmas.{contains_more, each_weaker, in_found}
+use Rattle.node_core.proofs.SentLemmas.{CancelBeside, HasOrder, Sents, all_settle, command_sent, each_in, in_head, more, none, others_settle}
+use Rattle.node_core.proofs.Moves.{find_passes}
 
 -- nothing was sent for any duplicate, or a release for one, for as long as the first copy waits for it: it isn't known to be
 -- filed
@@ -54,40 +57,33 @@ release_of copy is = by copy.command is
 
 pub any_found : (copies : List PacketCopy) → list_any is_chosen copies ≡ true → find is_chosen copies ≡ None → ⊥
 any_found [] any none_found = absurd (cc)
-any_found (copy ∷ copies) any none_found = by (is_chosen copy) any none_found (any_found copies)
-  where
-    by : (is : Bool) → (is || list_any is_chosen copies) ≡ true → (if is then Some copy else find is_chosen copies) ≡ None →
-        (list_any is_chosen copies ≡ true → find is_chosen copies ≡ None → ⊥) → ⊥
-    by true any none_found rest = absurd (cc)
-    by false any none_found rest = rest any none_found
-
-all_cancels : (duplicates : List PacketCopy) → NoneChosen duplicates → AllByRecursion (HasOrder Cancel) duplicates
-all_cancels duplicates is = each_weaker (λ (copy : PacketCopy). is_chosen copy ≡ false) (HasOrder Cancel) cancel_of duplicates is
+any_found (copy ∷ copies) any none_found =
+    elim (cases_Bool (is_chosen copy)) [
+      | inl is ↦ let found : Some copy ≡ None = rw is at none_found in absurd (cc)
+      | inr isnt ↦ any_found copies (rw isnt at any) (rw isnt at none_found)
+    ]
 
 -- where the first copy isn't sealed no duplicate is released
 none_released : (plain : PacketCopy) (duplicates : List PacketCopy) (verdict : Verdict) → plain.verdict ≡ verdict → (verdict ≡ Sealed → ⊥) →
     Chosen (plain ∷ duplicates) → NoneChosen duplicates
-none_released plain duplicates verdict is not_sealed chosen_was = by chosen_was.1
-  where
-    by : NoneChosen duplicates ⊎ OneChosen plain duplicates → NoneChosen duplicates
-    by (inl none_yet) = none_yet
-    by (inr one) = absurd (not_sealed (sym is ∙ one.sealed))
+none_released plain duplicates verdict is not_sealed chosen_was =
+    elim chosen_was.1 [ inl none_yet ↦ none_yet | inr one ↦ absurd (not_sealed (sym is ∙ one.sealed)) ]
 
 module _ (number favourite : ℕ) (up : Bool) (peers : List Peer) where
-  again_sent : (copies : List PacketCopy) (copy : PacketCopy) → Contains copies copy → Sents number copies (repeating (Some copy) favourite up peers number)
-  again_sent copies copy there = more (own_number number) (refl, record { copy = copy; among = there; gateway_is = refl; number_is = refl }, refl) none
-
   copy_sent : (alive : Bool) (copies : List PacketCopy) (is_plain : Bool) → Sents number copies (copy_to favourite alive peers number is_plain)
   copy_sent false copies is_plain = none
   copy_sent true copies is_plain =
-      more (own_number number) (refl, record { copy = _; among = in_last copies _; gateway_is = refl; number_is = refl }, refl) none
+      more (own_number number) (refl, record { copy = _; among = Contains-push copies _; gateway_is = refl; number_is =
+          refl }, refl) none
 
   asking_sent : (plain : PacketCopy) (duplicates : List PacketCopy) → Sents number (plain ∷ duplicates) (asking favourite up peers number plain duplicates)
   asking_sent plain duplicates = by (list_any (λ copy. is_held copy.verdict) duplicates)
     where
       repeats : (there : Option PacketCopy) → find (λ (copy : PacketCopy). copy.gateway == favourite) (plain ∷ duplicates) ≡ there →
           Sents number (plain ∷ duplicates) (repeating there favourite up peers number)
-      repeats (Some copy) e = again_sent (plain ∷ duplicates) copy (in_found (λ (copy : PacketCopy). copy.gateway == favourite) (plain ∷ duplicates) copy e)
+      repeats (Some copy) e =
+          more (own_number number) (refl, record { copy = copy; among = in_found (λ (c : PacketCopy).
+          c.gateway == favourite) (plain ∷ duplicates) copy e; gateway_is = refl; number_is = refl }, refl) none
       repeats None e = copy_sent up (plain ∷ duplicates) false
 
       by : (held : Bool) → Sents number (plain ∷ duplicates)
@@ -102,7 +98,9 @@ module _ (number favourite : ℕ) (up : Bool) (peers : List Peer) where
   all_sent : (plain : PacketCopy) (duplicates : List PacketCopy) → AreApart duplicates → NoneChosen duplicates →
       Sents number (plain ∷ duplicates) (flat_map (settling peers number) duplicates)
   all_sent plain duplicates apart none_yet =
-      all_settle number peers duplicates (plain ∷ duplicates) apart (duplicates_in plain duplicates) (all_cancels duplicates none_yet)
+      all_settle number peers duplicates (plain ∷ duplicates) apart (duplicates_in plain duplicates)
+          (each_weaker (λ (copy : PacketCopy).
+      is_chosen copy ≡ false) (HasOrder Cancel) cancel_of duplicates none_yet)
 
   pub releasing_sent : (plain : PacketCopy) (duplicates : List PacketCopy) → AreApart duplicates → plain.verdict ≡ Sealed → Chosen (plain ∷ duplicates) → Waits (plain ∷ duplicates) →
       (choice : Option PacketCopy) → chosen duplicates ≡ choice → Sents number (plain ∷ duplicates) (releasing choice peers number duplicates)

@@ -26,17 +26,20 @@ ghost use Rattle.node_core.specs.Ticks.{due};
 ghost use Rattle.node_core.specs.Value.{NodeValue};
 
 /// A log has as many gateways as its node was made with.
+#[tactic(auto, using(crate::proofs::LogLemmas::gateways_count))]
 pub fn a_log_keeps_its_gateways()
     ensures { (gateways : List Addr) (log : List LogEntry) → length (peers_of gateways log) ≡ length gateways }
 {}
 
 /// The restart counter of a log is the one that its node tells.
+#[tactic(auto, using(crate::proofs::LogLemmas::counter_stays))]
 pub fn a_log_has_one_counter()
     ensures { (first : ℕ) (log : List LogEntry) → (paths_of first log).counter ≡ counter_of first log }
 {}
 
 /// A response that the gateway's device failed (cause 204) teaches a node nothing: at either port it
 /// tells nothing of a copy, fulfills no release and no cancel, and leaves each copy as it was.
+#[tactic(auto, using(crate::proofs::CopiesLemmas::failure_keeps, crate::proofs::CopiesLemmas::failure_tells))]
 pub fn a_failure_teaches_nothing()
     ensures told { (port : Port) (is_plain : Bool) → told port is_plain SYSTEM_FAILURE ≡ verdict.Unknown }
     ensures fulfilled { is_fulfilled SYSTEM_FAILURE ≡ false }
@@ -53,6 +56,7 @@ pub fn knowledge_rests_on_responses()
 /// What a node knows of an open packet's copy is what the first response tells that says something
 /// of it, among those to its number that were heard from its gateway since the number was drawn. A
 /// release or a cancel is fulfilled where one of those to its own number says so.
+#[tactic(auto, using(crate::proofs::KnowingLemmas::all_are_known))]
 pub fn the_first_telling_response_decides()
     ensures { (setup : NodeSetup) (calls : List NodeCall) → 1 ≤ length setup.gateways →
         All (AreKnown (log_of setup calls)) (reached setup calls).packets }
@@ -60,6 +64,7 @@ pub fn the_first_telling_response_decides()
 
 /// Within a start packets and copies stay, what is known of them stays, and what is resolved or done
 /// stays so.
+#[tactic(auto, using(crate::proofs::GrowingLemmas::entry_grows))]
 pub fn knowledge_grows()
     ensures { (entry : LogEntry) (log : List LogEntry) → is_within_start entry ≡ true →
         Extends PacketGrows (packets_of log) (packets_of (entry ∷ log)) }
@@ -73,6 +78,7 @@ pub fn releases_name_the_choice()
 {}
 
 /// A copy for which a release was sent stays the choice of its packet, whose first copy is sealed.
+#[tactic(auto, using(crate::proofs::ReleasedLemmas::all_released_chosen))]
 pub fn released_copies_are_chosen()
     ensures { (setup : NodeSetup) (calls : List NodeCall) → 1 ≤ length setup.gateways →
         All ReleasesChoice (reached setup calls).packets }
@@ -80,6 +86,7 @@ pub fn released_copies_are_chosen()
 
 /// Each request of a tick is of a copy that the packets have after it: a copy, or a test of it, or the
 /// release or the cancel that was sent for it, which is the same whenever it is sent again.
+#[tactic(auto, using(crate::proofs::RequestsLemmas::all_requests_sent))]
 pub fn requests_are_of_copies()
     ensures { (setup : NodeSetup) (calls : List NodeCall) → 1 ≤ length setup.gateways →
         (reached setup calls).is_running ≡ true →
@@ -88,6 +95,7 @@ pub fn requests_are_of_copies()
 
 /// A packet has one copy at a gateway, the first alone is plain, and a release or a cancel has a
 /// greater number than its copy.
+#[tactic(auto, using(crate::proofs::SingleLemmas::all_single))]
 pub fn a_gateway_gets_one_copy()
     ensures { (setup : NodeSetup) (calls : List NodeCall) → 1 ≤ length setup.gateways →
         All (IsSingle (reached setup calls).gateways) (reached setup calls).packets }
@@ -95,6 +103,7 @@ pub fn a_gateway_gets_one_copy()
 
 /// Each request number that was drawn for a gateway since the start is that of one copy, or of one
 /// release or cancel.
+#[tactic(auto, using(crate::proofs::RolesLemmas::one_role))]
 pub fn each_number_has_one_role()
     ensures { (setup : NodeSetup) (calls : List NodeCall) (gateway number : ℕ) → 1 ≤ length setup.gateways →
         gateway < length setup.gateways → HasOneRole (reached setup calls) gateway number }
@@ -102,6 +111,7 @@ pub fn each_number_has_one_role()
 
 /// Numbers rise: each request number that a tick draws is at least the gateway's next one before it and
 /// below the next one after it, and no next number falls by it.
+#[tactic(auto, using(crate::proofs::RisingLemmas::all_draw_between, crate::proofs::RisingLemmas::next_goes_on))]
 pub fn numbers_rise()
     ensures drawn { (setup : NodeSetup) (calls : List NodeCall) → 1 ≤ length setup.gateways →
         (reached setup calls).is_running ≡ true →
@@ -121,6 +131,7 @@ pub fn open_numbers_stay_near()
 
 /// Behind the number of each copy, and behind 65,535, the number of another copy comes within 65, or
 /// the next number does.
+#[tactic(auto, using(crate::proofs::SoonLemmas::comes_soon))]
 pub fn copies_come_soon()
     ensures { (setup : NodeSetup) (calls : List NodeCall) (gateway number : ℕ) → 1 ≤ length setup.gateways →
         gateway < length setup.gateways → IsCopyOrBase (reached setup calls) gateway number →
@@ -138,6 +149,7 @@ pub fn numbers_stay_near_the_last_settled()
 {}
 
 /// The least number of the open packets' copies at a gateway is the least of all their numbers there.
+#[tactic(auto, using(crate::proofs::LeastLemmas::least_of_copies))]
 pub fn the_least_number_is_of_a_copy()
     ensures { (setup : NodeSetup) (calls : List NodeCall) (gateway number : ℕ) → 1 ≤ length setup.gateways →
         least number (flat_map (unsettled_at gateway) (reached setup calls).packets)

@@ -9,7 +9,7 @@ use Rattle.area_disk.specs.MomentLaws.{begin}
 use Rattle.entry_codec.specs.Content.{entries_of}
 use Rattle.entry_codec.specs.Laws.{entries_of-nil}
 use Rattle.cgf_journal.specs.Format.{entries_in}
-use Rattle.cgf_journal.specs.Sound.{IsSound}
+use Rattle.cgf_journal.specs.Sound.{IsSound, is_founded}
 use Rattle.cgf_journal.specs.Tally.{Tallies, TallyValue}
 use Rattle.cgf_journal.specs.Trail.{StandsForOr, area_of, firm_entries, header_of, length_of, waiting}
 use Rattle.cgf_journal.proofs.Coming.{commit_planned}
@@ -17,7 +17,6 @@ use Rattle.cgf_journal.proofs.Entries.{entries_in-push}
 use Rattle.cgf_journal.proofs.Reopening.{either_way}
 use Rattle.cgf_journal.proofs.Reserves.{still_enough}
 use Rattle.cgf_journal.proofs.Sounds.{fits, settled as settled_sound}
-use Rattle.cgf_journal.proofs.Standing.{founded_still}
 use Rattle.cgf_journal.proofs.Trails.{entries_firm, entries_open, leaves_either, length_firm, same_free, same_room, settled, waiting-none, waiting_octets-none}
 use Rattle.cgf_journal.proofs.trail.Trail.commit.Goals as goal
 
@@ -59,7 +58,8 @@ invariant_of-self-in-Ok g c =
     let j = c.append.new.self in
     let some : t.waiting.octets ≢ [] = λ e. not_none t.waiting.octets c.octets.result.now c.octets.ensures (sym c.is_empty.ensures ∙ c.if-is_empty.false) e in
     let counted : length t.places.items ≡ c.len-self.result = sym (search rules) in
-    let is = settled_sound t.journal t.size t.waiting t.places.items t.firm t.tally t.sound j (founded_still _ _ c.append.ensures.stays.front t.sound.founded) c.append.ensures.stays.size
+    let is = settled_sound t.journal t.size t.waiting t.places.items t.firm t.tally t.sound j
+        (ap is_founded c.append.ensures.stays.front ∙ t.sound.founded) c.append.ensures.stays.size
     (c.in-Ok.ensures.ok.end ∙ ap (λ (l : List ℕ). journal.end t.journal + 5 + length l) c.octets-2.ensures) c.in-Ok.ensures.ok.settled.place
     (λ told. c.in-Ok.ensures.ok.batches told ∙ ap (λ (l : List ℕ). journal.batches t.journal ++ l ∷ []) c.octets-2.ensures) some c.in-Ok.ensures.ok.ready in
     record {

@@ -5,6 +5,7 @@ use Rattle.gate_journal.specs.Journal as gates
 use Rattle.gate_journal.specs.declared.faults.OpenFault.{OpenFault}
 use Rattle.gate_journal.specs.declared.faults.OpenFault.TheVariants.{Device, NotOurs}
 use Rattle.area_disk.specs.MomentLaws.{follow}
+use Rattle.area_disk.specs.declared.area.Area.{Ghosts}
 use Rattle.gate_journal.specs.Spelling.{first-header, length-header}
 use Rattle.gate_journal.specs.Opening.{is_device_fault}
 use Rattle.gate_journal.specs.Planned.{SyncPlanned}
@@ -16,12 +17,30 @@ use Rattle.cgf_journal.proofs.Opened.{calls_on, err_is, fault_is, found_is, leav
 use Rattle.cgf_journal.proofs.Meanings.{broken_or_starts}
 use Rattle.cgf_journal.proofs.Planning.{made_on, none_refused, not_device, opened_on, sync_on}
 use Rattle.cgf_journal.proofs.trail.Trail.open_judged.Goals as goal
+use Rattle.gw_base.specs.declared.history.HistoryEntry.{HistoryEntry}
 
 rises : (before mid now : ℕ) → before ≤ mid → Rose mid now → Rose before now
 rises before mid now le rose = omega (arith, le, rose)
 
 le_trans : {a b c : ℕ} → a ≤ b → b ≤ c → a ≤ c
 le_trans ab bc = omega (arith, ab, bc)
+
+-- what stands in the area that was handed in, or is unfit, doesn't start
+module _ {A : Type 0} (tells : Ghosts A) (area : A) (address generation : ℕ)
+    (fits : ℕ → List HistoryEntry → HistoryEntry → Type 0) where
+  abbrev asked : List ℕ
+  asked = header (tells.size area) address generation
+
+  stands_unlike : (h : List HistoryEntry) → StandsFit fits asked (tells.octets area) h →
+      Starts asked (tells.octets area) → ⊥
+  stands_unlike =
+      stands_not_starts fits asked (length-header (tells.size area) address generation)
+          (first-header (tells.size area) address generation) (tells.octets area)
+
+  unfit_unlike : (at : ℕ) → IsUnfitTo fits asked (tells.octets area) at → Starts asked (tells.octets area) → ⊥
+  unfit_unlike =
+      unfit_not_starts fits asked (length-header (tells.size area) address generation)
+          (first-header (tells.size area) address generation) (tells.octets area)
 
 -- an area that is foreign doesn't start
 no_start : (header : List ℕ) → length header ≡ 32 → get_or header 0 0 ≡ 67 → (octets : List ℕ) (at : ℕ) → IsForeign header octets at → Starts header octets → ⊥
@@ -68,20 +87,17 @@ returns-in-Ok-open-clause-err g c =
 pub returns-in-Ok-open-clause-reads : goal.returns-in-Ok-open-clause-reads
 returns-in-Ok-open-clause-reads g c = λ told history stands.
     let a = c.args.area in
-    let o = g.A.Area.octets c.args.area in
-    let h = header (g.A.Area.size c.args.area) c.args.address c.args.generation in
-    let long = length-header (g.A.Area.size c.args.area) c.args.address c.args.generation in
-    let begins = first-header (g.A.Area.size c.args.area) c.args.address c.args.generation in
-    let fits = g.J.Judge.fits in
     let j = c.in-Ok-open.journal in
-    let opened = c.in-Ok-open.ensures.ok in
-    let counted = c.in-Ok-open.ensures.counted in
-    let leaves = c.in-Ok-open.ensures.any_moment in
-    let list = in_batches c.entries_are_read_back.ensures h o history stands.stands in
+    let unlike = stands_unlike g.A.Area a c.args.address c.args.generation g.J.Judge.fits history stands in
+    let list = in_batches c.entries_are_read_back.ensures (header (g.A.Area.size a)
+        c.args.address c.args.generation) (g.A.Area.octets a) history stands.stands in
     record {
-      listed = listed_is c.over.result (entries_in (gates.batches j)) history (c.over.ensures.entries told) (ap entries_in (opened.reads told list.batches list.stands) ∙ sym list.history);
-      moments = leaves_on a (gates.area_of j) c.over.result (g.A.Area.may_leave c.args.area) (leaves.unmade told (stands_not_starts fits h long begins o history stands)) c.over.ensures.kept;
-      calls = λ tells. calls_on a (gates.area_of j) tells c.over.result _ (counted.calls tells told (stands_not_starts fits h long begins o history stands)) c.over.ensures.kept;
+      listed = listed_is c.over.result (entries_in (gates.batches j)) history (c.over.ensures.entries told)
+          (ap entries_in (c.in-Ok-open.ensures.ok.reads told list.batches list.stands) ∙ sym list.history);
+      moments = leaves_on a (gates.area_of j) c.over.result (g.A.Area.may_leave a)
+          (c.in-Ok-open.ensures.any_moment.unmade told unlike) c.over.ensures.kept;
+      calls = λ tells. calls_on a (gates.area_of j) tells c.over.result _
+          (c.in-Ok-open.ensures.counted.calls tells told unlike) c.over.ensures.kept;
     }
 
 pub returns-in-Ok-open-clause-anew : goal.returns-in-Ok-open-clause-anew
@@ -168,18 +184,17 @@ returns-in-Err-NotOurs-default-clause-anew g c = λ told starts.
 pub returns-in-Err-NotOurs-default-clause-foreign : goal.returns-in-Err-NotOurs-default-clause-foreign
 returns-in-Err-NotOurs-default-clause-foreign g c = λ told at foreign.
     let a = c.args.area in
-    let o = g.A.Area.octets c.args.area in
-    let h = header (g.A.Area.size c.args.area) c.args.address c.args.generation in
-    let long = length-header (g.A.Area.size c.args.area) c.args.address c.args.generation in
-    let begins = first-header (g.A.Area.size c.args.area) c.args.address c.args.generation in
-    let fits = g.J.Judge.fits in
-    let mid = c.in-Err-NotOurs-default.area in
-    let opened = c.in-Err-NotOurs-default.ensures in
-    let leaves = opened.any_moment in
+    let h = asked g.A.Area a c.args.address c.args.generation g.J.Judge.fits in
     record {
-      place = fault_is fits h long begins o c.fault_before-fault.result ((returns-in-Err-NotOurs-default-clause-err g c).place told) at foreign;
+      place = fault_is g.J.Judge.fits h (length-header (g.A.Area.size a) c.args.address c.args.generation)
+          (first-header (g.A.Area.size a) c.args.address c.args.generation) (g.A.Area.octets a)
+              c.fault_before-fault.result
+          ((returns-in-Err-NotOurs-default-clause-err g c).place told) at foreign;
       moments =
-          follow g.A.Area a mid c.fault_before-fault.new.area (g.A.Area.may_leave c.args.area) (leaves.unmade told (unfit_not_starts fits h long begins o at foreign)) c.fault_before-fault.ensures.kept.leaves;
+          follow g.A.Area a c.in-Err-NotOurs-default.area c.fault_before-fault.new.area (g.A.Area.may_leave a)
+          (c.in-Err-NotOurs-default.ensures.any_moment.unmade told
+              (unfit_unlike g.A.Area a c.args.address c.args.generation g.J.Judge.fits at foreign))
+          c.fault_before-fault.ensures.kept.leaves;
     }
 
 -- and one that the device or want of memory ended
@@ -192,12 +207,8 @@ returns-in-Err-Device-default-clause-anew g c = λ told starts.
 
 pub returns-in-Err-Device-default-clause-foreign : goal.returns-in-Err-Device-default-clause-foreign
 returns-in-Err-Device-default-clause-foreign g c = λ told at foreign.
-    let o = g.A.Area.octets c.args.area in
-    let h = header (g.A.Area.size c.args.area) c.args.address c.args.generation in
-    let long = length-header (g.A.Area.size c.args.area) c.args.address c.args.generation in
-    let begins = first-header (g.A.Area.size c.args.area) c.args.address c.args.generation in
-    let fits = g.J.Judge.fits in
-    record { place = inr (inl refl); moments = c.in-Err-Device-default.ensures.any_moment.unmade told (unfit_not_starts fits h long begins o at foreign) }
+    let unlike = unfit_unlike g.A.Area c.args.area c.args.address c.args.generation g.J.Judge.fits at foreign in
+    record { place = inr (inl refl); moments = c.in-Err-Device-default.ensures.any_moment.unmade told unlike }
 
 pub returns-clause-anew : goal.returns-clause-anew
 returns-clause-anew g c = λ told starts.
@@ -207,44 +218,29 @@ returns-clause-anew g c = λ told starts.
 
 pub returns-clause-foreign : goal.returns-clause-foreign
 returns-clause-foreign g c = λ told at foreign.
-    let o = g.A.Area.octets c.args.area in
-    let h = header (g.A.Area.size c.args.area) c.args.address c.args.generation in
-    let long = length-header (g.A.Area.size c.args.area) c.args.address c.args.generation in
-    let begins = first-header (g.A.Area.size c.args.area) c.args.address c.args.generation in
-    let fits = g.J.Judge.fits in
-    record { place = inr (inr refl); moments = c.in-Err-NoMemory-default.ensures.any_moment.unmade told (unfit_not_starts fits h long begins o at foreign) }
+    let unlike = unfit_unlike g.A.Area c.args.area c.args.address c.args.generation g.J.Judge.fits at foreign in
+    record { place = inr (inr refl); moments = c.in-Err-NoMemory-default.ensures.any_moment.unmade told unlike }
 
 pub returns-in-Err-Device-default-clause-reads : goal.returns-in-Err-Device-default-clause-reads
 returns-in-Err-Device-default-clause-reads g c = λ told history stands.
-    let o = g.A.Area.octets c.args.area in
-    let h = header (g.A.Area.size c.args.area) c.args.address c.args.generation in
-    let long = length-header (g.A.Area.size c.args.area) c.args.address c.args.generation in
-    let begins = first-header (g.A.Area.size c.args.area) c.args.address c.args.generation in
-    let fits = g.J.Judge.fits in
-    record { listed = tt; moments = c.in-Err-Device-default.ensures.any_moment.unmade told (stands_not_starts fits h long begins o history stands); calls = λ tells. tt }
+    let unlike = stands_unlike g.A.Area c.args.area c.args.address c.args.generation g.J.Judge.fits history stands in
+    record { listed = tt; moments = c.in-Err-Device-default.ensures.any_moment.unmade told unlike; calls = λ tells. tt }
 
 pub returns-clause-reads : goal.returns-clause-reads
 returns-clause-reads g c = λ told history stands.
-    let o = g.A.Area.octets c.args.area in
-    let h = header (g.A.Area.size c.args.area) c.args.address c.args.generation in
-    let long = length-header (g.A.Area.size c.args.area) c.args.address c.args.generation in
-    let begins = first-header (g.A.Area.size c.args.area) c.args.address c.args.generation in
-    let fits = g.J.Judge.fits in
-    record { listed = tt; moments = c.in-Err-NoMemory-default.ensures.any_moment.unmade told (stands_not_starts fits h long begins o history stands); calls = λ tells. tt }
+    let unlike = stands_unlike g.A.Area c.args.area c.args.address c.args.generation g.J.Judge.fits history stands in
+    record { listed = tt; moments = c.in-Err-NoMemory-default.ensures.any_moment.unmade told unlike; calls = λ tells.
+        tt }
 
 pub returns-in-Err-NotOurs-default-clause-reads : goal.returns-in-Err-NotOurs-default-clause-reads
 returns-in-Err-NotOurs-default-clause-reads g c = λ told history stands.
-    let a = c.args.area in
-    let o = g.A.Area.octets c.args.area in
-    let h = header (g.A.Area.size c.args.area) c.args.address c.args.generation in
-    let long = length-header (g.A.Area.size c.args.area) c.args.address c.args.generation in
-    let begins = first-header (g.A.Area.size c.args.area) c.args.address c.args.generation in
-    let fits = g.J.Judge.fits in
+    let unlike = stands_unlike g.A.Area c.args.area c.args.address c.args.generation g.J.Judge.fits history stands in
     record {
       listed = tt;
       moments =
-          follow g.A.Area a c.in-Err-NotOurs-default.area c.fault_before-fault.new.area (g.A.Area.may_leave c.args.area)
-          (c.in-Err-NotOurs-default.ensures.any_moment.unmade told (stands_not_starts fits h long begins o history stands)) c.fault_before-fault.ensures.kept.leaves;
+          follow g.A.Area c.args.area c.in-Err-NotOurs-default.area c.fault_before-fault.new.area
+              (g.A.Area.may_leave c.args.area)
+          (c.in-Err-NotOurs-default.ensures.any_moment.unmade told unlike) c.fault_before-fault.ensures.kept.leaves;
       calls = λ tells. tt;
     }
 

@@ -12,7 +12,7 @@ use Rattle.cgf_journal.specs.Tally.{Tallies, TallyValue}
 use Rattle.cgf_journal.specs.Trail.{firm_entries, waiting}
 use Rattle.cgf_journal.proofs.Coming.{reopen_failed, reopen_planned}
 use Rattle.cgf_journal.proofs.Entries.{entries_in-push}
-use Rattle.cgf_journal.proofs.Reopening.{either_way, end_goes, goes, list_goes, list_stays, stays, tally_closed}
+use Rattle.cgf_journal.proofs.Reopening.{either_way, end_goes, goes, list_goes, list_stays, stays}
 use Rattle.cgf_journal.proofs.Reserves.{still_enough}
 use Rattle.cgf_journal.proofs.Sounds.{dropped, settled as settled_sound}
 use Rattle.cgf_journal.proofs.Standing.{founded_is}
@@ -68,7 +68,7 @@ returns-then-end-clause-dropped g c = λ is.
     let same_end : journal.end j ≡ journal.end t.journal = sym c.end.ensures.place ∙ c.if-end.true ∙ c.end-end.ensures.place in
     let tallies = ap (λ (v : Tallies). let w : TallyValue = if journal.is_closed j then v.firm else v.live in w) c.revert.ensures
     ∙ either_way (journal.is_closed j) t.tally.firm
-    ∙ sym (tally_closed t j c.requires.closed) in
+    ∙ sym (ap (λ b. let w : TallyValue = if b then t.tally.firm else t.tally.live in w) c.requires.closed) in
     record {
       listed = λ told. ap entries_in (list_stays t j (c.in_ok-reopen.ensures.ok.batches told) (stays t j (c.in_ok-reopen.ensures.ok.place told) same_end));
       count = refl;

@@ -1,4 +1,4 @@
-use Rattle.std.proofs.Common.{◌≤◌, ◌+◌, ◌-◌, List, ap, arith, length, vec_capacity}
+use Rattle.std.proofs.Common.{◌≤◌, ◌+◌, ◌-◌, List, ap, arith, length, vec_capacity, ◌≡◌}
 use Rattle.dup_buffer.specs.Stored.{all_held, copies_of, held_in}
 use Rattle.dup_buffer.specs.declared.copy.HeldCopy.{HeldCopy}
 use Rattle.dup_buffer.proofs.CountLemmas.{held_all}
@@ -17,36 +17,39 @@ copy_held-requires-2 c =
       c.self.invariant.4,
     )
 
+-- what the other holds is held, and there is room for it
+same : (c : goal.After-self-1) →
+    all_held c.copy_held.new.copies.items c.copy_held-2.new.copies.items
+    ≡ all_held c.other.inside.kept.items c.other.inside.late.items
+same c =
+    copied_same c.other.inside.kept.items c.other.inside.late.items c.deref.result.now c.deref-2.result.now
+        c.copy_held.new.copies.items c.copy_held-2.new.copies.items
+    c.other.invariant.0.held c.deref.ensures.value c.deref-2.ensures.value c.copy_held.ensures.items
+        c.copy_held-2.ensures.items
+
+room : (c : goal.After-self-1) → length (all_held c.other.inside.kept.items c.other.inside.late.items)
+    ≤ length (all_held c.self.inside.kept.items c.self.inside.late.items) + (vec_capacity c.self.inside.kept -
+        c.self.inside.count)
+room c = rw (← c.self.view_is, ← c.other.view_is) at c.requires
+
 pub invariant_of-self : goal.invariant_of-self
 invariant_of-self c =
     let kept = c.other.inside.kept.items in
     let late = c.other.inside.late.items in
-    let same = copied_same kept late c.deref.result.now c.deref-2.result.now c.copy_held.new.copies.items c.copy_held-2.new.copies.items c.other.invariant.0.held
-    c.deref.ensures.value c.deref-2.ensures.value c.copy_held.ensures.items c.copy_held-2.ensures.items in
-    let room : length (all_held kept late) ≤ length (all_held c.self.inside.kept.items c.self.inside.late.items) + (vec_capacity c.self.inside.kept - c.self.inside.count) =
-    rw (← c.self.view_is, ← c.other.view_is) at c.requires in (
+    (
       rw (c.copy_held.ensures.items, c.copy_held-2.ensures.items, c.deref.ensures.value, c.deref-2.ensures.value) (copied_stored kept late c.other.invariant.0),
-      omega (arith, c.other.invariant.1, ap (λ (l : List HeldCopy). length l) same),
+      omega (arith, c.other.invariant.1, ap (λ (l : List HeldCopy). length l) (same c)),
       c.other.invariant.2,
-      omega (arith, room, c.other.invariant.1, c.self.invariant.1, c.self.invariant.3, c.copy_held.ensures.capacity),
+      omega (arith, room c, c.other.invariant.1, c.self.invariant.1, c.self.invariant.3, c.copy_held.ensures.capacity),
       omega (arith, c.self.invariant.4, c.copy_held-2.ensures.capacity),
     )
 
 pub returns-clause-copies : goal.returns-clause-copies
 returns-clause-copies c =
-    let kept = c.other.inside.kept.items in
-    let late = c.other.inside.late.items in
-    let same = copied_same kept late c.deref.result.now c.deref-2.result.now c.copy_held.new.copies.items c.copy_held-2.new.copies.items c.other.invariant.0.held
-    c.deref.ensures.value c.deref-2.ensures.value c.copy_held.ensures.items c.copy_held-2.ensures.items in
-    rw (← c.other.view_is) (ap (λ (l : List HeldCopy). copies_of (stored l)) same)
+    rw (← c.other.view_is) (ap (λ (l : List HeldCopy). copies_of (stored l)) (same c))
 
 pub returns-clause-spare : goal.returns-clause-spare
 returns-clause-spare c =
-    let kept = c.other.inside.kept.items in
-    let late = c.other.inside.late.items in
-    let same = copied_same kept late c.deref.result.now c.deref-2.result.now c.copy_held.new.copies.items c.copy_held-2.new.copies.items c.other.invariant.0.held
-    c.deref.ensures.value c.deref-2.ensures.value c.copy_held.ensures.items c.copy_held-2.ensures.items in
-    let room : length (all_held kept late) ≤ length (all_held c.self.inside.kept.items c.self.inside.late.items) + (vec_capacity c.self.inside.kept - c.self.inside.count) =
-    rw (← c.self.view_is, ← c.other.view_is) at c.requires in
     rw (← c.self.view_is)
-    (omega (arith, room, ap (λ (l : List HeldCopy). length l) same, c.other.invariant.1, c.copy_held.ensures.capacity, c.self.invariant.1, c.self.invariant.3))
+    (omega (arith, room c, ap (λ (l : List HeldCopy).
+        length l) (same c), c.other.invariant.1, c.copy_held.ensures.capacity, c.self.invariant.1, c.self.invariant.3))

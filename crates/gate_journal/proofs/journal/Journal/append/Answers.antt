@@ -3,8 +3,7 @@ use Rattle.gate_journal.specs.Journal.{batches, torn, stop_stands}
 use Rattle.gate_journal.proofs.Turns.{other_bool}
 use Rattle.gate_journal.proofs.Kept.{as_before}
 use Rattle.area_disk.specs.MomentLaws.{begin}
-use Rattle.gate_journal.proofs.Appends.{grown, grown_sound, left_or, only_octets, shut_gate, torn_sound, torn_stay}
-use Rattle.gate_journal.proofs.States.{closed_when_torn, settled}
+use Rattle.gate_journal.proofs.States.{closed_when_torn, settled, grown, grown_sound, left_or, only_octets, shut_gate, torn_sound, torn_stay}
 use Rattle.gate_journal.proofs.journal.Journal.append.Goals as goal
 
 pub returns-then-free-length-clause-any_moment : goal.returns-then-free-length-clause-any_moment
@@ -28,7 +27,10 @@ unfolding batches
 returns-in-Ok-clause-ok g c = record {
   ready = c.requires.ready;
   settled = settled g.A.Area c.area_laws.ensures _ c.requires.ready;
-  batches = grown g.A.Area c.area_laws.ensures c.args.self.now c.requires.ready c.args.batch.now _ c.fill.new.buffer.items c.add.new.area c.requires.short (c.as_slice.ensures.value ∙ c.fill.ensures.framed) c.fill.ensures.held c.fill.ensures.size (omega (arith, c.length.ensures)) c.add.ensures.size c.in-Ok.ensures.added;
+  batches = grown g.A.Area c.area_laws.ensures c.args.self.now c.requires.ready c.args.batch.now _
+      c.fill.new.buffer.items c.add.new.area c.requires.short (c.as_slice.ensures.value ∙ c.fill.ensures.framed)
+      c.fill.ensures.held c.fill.ensures.size (omega (arith, c.length.ensures)) c.add.ensures.size c.in-Ok.ensures.added
+      c.in-Ok.ensures.durable;
   end = refl;
 }
 
