@@ -7,7 +7,7 @@ work=$(mktemp -d)
 trap 'rm -rf "$work"' EXIT
 mkdir -p "$work/crates/book_bench/src"
 for crate in gw_base case_table gtpp_header gtpp_elements gtpp_message ber_frame transfer_cmd path_mgmt area_disk \
-    gate_journal entry_codec cgf_journal seq_window dup_buffer gateway_book; do
+    gate_journal entry_codec cgf_journal seq_window dup_buffer gateway_index gateway_answer gateway_book; do
     grep "^$crate:" crates.txt
     cp -a "crates/$crate" "$work/crates/"
 done >"$work/crates.txt"

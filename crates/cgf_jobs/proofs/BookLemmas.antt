@@ -6,14 +6,14 @@ use Rattle.area_disk.specs.Disk.{zeros}
 use Rattle.area_disk.specs.declared.area.Area.{Ghosts}
 use Rattle.file_writer.specs.AllStreams.{IsFit}
 use Rattle.gate_journal.specs.Format.{Starts, header, spelled}
-use Rattle.gateway_book.specs.Answer.{Decided, Says, Silent, decided}
-use Rattle.gateway_book.specs.Answered.{act_decided, answer_to, entry_by, no_caller, room_for, with_act}
+use Rattle.gateway_answer.specs.Answer.{Decided, Says, Silent, decided}
+use Rattle.gateway_answer.specs.Answered.{act_decided, answer_to, entry_by, no_caller, room_for, with_act}
 use Rattle.gateway_book.specs.Book.{Stays, open_time_of, size_of, value_of}
 use Rattle.gateway_book.specs.Calls.{outcome_at, taken}
-use Rattle.gateway_book.specs.Items.{IsWritable}
+use Rattle.gateway_answer.specs.Items.{IsWritable}
 use Rattle.gateway_book.specs.Opened.{IsNotOurs}
-use Rattle.gateway_book.specs.Preparing.{PreparedValue}
-use Rattle.gateway_book.specs.Value.{BookValue, Fortune, after_commit, committed, history_of, opened, recorded, recorded_if, standing_for}
+use Rattle.gateway_answer.specs.Preparing.{PreparedValue}
+use Rattle.gateway_answer.specs.Value.{BookValue, Fortune, after_commit, committed, history_of, opened, recorded, recorded_if, standing_for}
 use Rattle.gateway_book.specs.declared.book.Book.{Book}
 use Rattle.gateway_book.specs.declared.outcome.Outcome.{Outcome}
 use Rattle.gw_base.specs.declared.address.Addr.{Addr}

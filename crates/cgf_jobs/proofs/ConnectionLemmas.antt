@@ -4,12 +4,12 @@ use Rattle.std.proofs.lemmas.Bool.{cases_lt, lt-ltb}
 use Rattle.area_disk.specs.Disk.{counted, last_count}
 use Rattle.area_disk.specs.declared.area.Area as areas
 use Rattle.cgf_journal.specs.Trail.{is_closed}
-use Rattle.gateway_book.specs.Answer.{Decided, Says, Silent, decided, failure_answer, failure_reply, reply_in}
-use Rattle.gateway_book.specs.Answered.{no_caller}
+use Rattle.gateway_answer.specs.Answer.{Decided, Says, Silent, decided, failure_answer, failure_reply, reply_in}
+use Rattle.gateway_answer.specs.Answered.{no_caller}
 use Rattle.gateway_book.specs.Book.{HasCause, IsLeft, Stays, area_of, fortune_of, size_of, value_of}
 use Rattle.gateway_book.specs.Calls.{given_at, outcome_at, taken}
-use Rattle.gateway_book.specs.Preparing.{prepared_of}
-use Rattle.gateway_book.specs.Value.{BookValue, after_commit, readied}
+use Rattle.gateway_answer.specs.Preparing.{prepared_of}
+use Rattle.gateway_answer.specs.Value.{BookValue, after_commit, readied}
 use Rattle.gateway_book.specs.declared.book.Book.{Book}
 use Rattle.gateway_book.specs.declared.outcome.Outcome.{Outcome}
 use Rattle.gateway_book.specs.declared.outcome.Outcome.TheVariants as outcome

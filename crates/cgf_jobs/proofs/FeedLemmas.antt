@@ -3,10 +3,10 @@ use Rattle.std.proofs.Common.{◌≡◌, ℕ, ◌+◌, true, false, List, [], �
 use Rattle.std.specs.Prelude.{IfOk}
 use Rattle.gw_base.specs.declared.fault.NoMemory.{NoMemory}
 use Rattle.gateway_book.specs.Calls.{counts_of}
-use Rattle.gateway_book.specs.Filed.{filed}
-use Rattle.gateway_book.specs.Items.{items_of}
-use Rattle.gateway_book.specs.Value.{history_of, standing_for}
-use Rattle.gateway_book.specs.declared.told.Counts.{Counts}
+use Rattle.gateway_answer.specs.Filed.{filed}
+use Rattle.gateway_answer.specs.Items.{items_of}
+use Rattle.gateway_answer.specs.Value.{history_of, standing_for}
+use Rattle.gateway_book.specs.declared.outcome.Counts.{Counts}
 use Rattle.gw_base.specs.History.{copies_of}
 use Rattle.gw_base.specs.declared.history.HistoryEntry.{HistoryEntry}
 use Rattle.gw_base.specs.declared.item.Item.{Item}

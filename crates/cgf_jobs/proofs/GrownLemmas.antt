@@ -1,10 +1,10 @@
 -- How a history has grown from the one that was found to the one that was settled.
 use Rattle.std.proofs.Common.{◌≡◌, ◌⊎◌, ⊎_elim, inl, inr, ℕ, Bool, true, false, if◌then◌else◌, List, [], ◌∷◌, ◌++◌, Option, refl, sym, ap, subst, ◌∙◌, append_assoc}
 use Rattle.std.proofs.lemmas.List.{append-nil}
-use Rattle.gateway_book.specs.Answered.{entry_by, no_caller, room_for, with_act}
-use Rattle.gateway_book.specs.Marks.{Makes, NotDue}
+use Rattle.gateway_answer.specs.Answered.{entry_by, no_caller, room_for, with_act}
+use Rattle.gateway_answer.specs.Marks.{Makes, NotDue}
 use Rattle.gateway_book.specs.Turning.{act_marked}
-use Rattle.gateway_book.specs.Value.{BookValue, history_of, opened, recorded, standing_for}
+use Rattle.gateway_answer.specs.Value.{BookValue, history_of, opened, recorded, standing_for}
 use Rattle.gw_base.specs.EntryLaws.{is_close_due-append}
 use Rattle.gw_base.specs.Facts.{Facts, joined}
 use Rattle.gw_base.specs.Owes.{Begins, base}

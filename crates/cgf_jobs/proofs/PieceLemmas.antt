@@ -8,7 +8,7 @@ use Rattle.area_disk.specs.Disk.{last_count}
 use Rattle.area_disk.specs.declared.area.Area as areas
 use Rattle.gate_journal.specs.Moments.{Told}
 use Rattle.gateway_book.specs.Book.{Stays, area_of, size_of, value_of}
-use Rattle.gateway_book.specs.Value.{BookValue}
+use Rattle.gateway_answer.specs.Value.{BookValue}
 use Rattle.gateway_book.specs.declared.book.Book.{Book}
 use Rattle.gtpp_stream.specs.Frames.{first_fault, frames, rest_of}
 use Rattle.gtpp_stream.specs.Kept.{IsPart}

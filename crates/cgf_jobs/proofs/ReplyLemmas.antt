@@ -5,11 +5,11 @@ use Rattle.gw_base.specs.declared.address.Addr.{Addr}
 use Rattle.gw_base.specs.declared.history.HistoryAct.{HistoryAct}
 use Rattle.gw_base.specs.declared.history.HistoryAct.TheVariants.{Start}
 use Rattle.gw_base.specs.declared.history.HistoryEntry.{HistoryEntry}
-use Rattle.gateway_book.specs.Answer.{decided}
-use Rattle.gateway_book.specs.Answered.{act_decided, entry_by, no_caller, room_for, with_act}
+use Rattle.gateway_answer.specs.Answer.{decided}
+use Rattle.gateway_answer.specs.Answered.{act_decided, entry_by, no_caller, room_for, with_act}
 use Rattle.gateway_book.specs.Calls.{given_at}
-use Rattle.gateway_book.specs.Preparing.{prepared_of}
-use Rattle.gateway_book.specs.Value.{BookValue, Fortune, Reopening, Refused, after_commit, committed, faulted, history_of, is_batch_full, opened, readied, recorded_if, reopened, tried, tried_with}
+use Rattle.gateway_answer.specs.Preparing.{prepared_of}
+use Rattle.gateway_answer.specs.Value.{BookValue, Fortune, Reopening, Refused, after_commit, committed, faulted, history_of, is_batch_full, opened, readied, recorded_if, reopened, tried, tried_with}
 use Rattle.node_session.specs.Turns.{decided_at, decided_by_fault}
 use Rattle.cgf_jobs.specs.Replies.{Tried, after_all, after_message, behind_one, message_of, octets_said, replies, sent_for, sent_for_all}
 

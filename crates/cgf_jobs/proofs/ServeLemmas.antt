@@ -5,7 +5,7 @@ use Rattle.area_disk.specs.declared.area.Area as areas
 use Rattle.cdr_shelf.specs.declared.shelf.Shelf as shelves
 use Rattle.gate_journal.specs.Format.{Starts}
 use Rattle.gate_journal.specs.Moments.{Told}
-use Rattle.gateway_book.specs.FitHistory.{StandsFitFor}
+use Rattle.gateway_answer.specs.FitHistory.{StandsFitFor}
 use Rattle.gateway_book.specs.Opened.{IsNotOurs, StandsOrStarts}
 use Rattle.gw_base.specs.Faults.{Rose}
 use Rattle.gw_base.specs.Written.{AppendsFront}

@@ -11,15 +11,15 @@ use Rattle.file_writer.specs.Streams.{Settings, closed_of, stream_count, stream_
 use Rattle.file_writer.specs.Writer.{is_broken, sealed_in, settings_in, shelf_of, taken_of}
 use Rattle.file_writer.specs.declared.writer.Writer.{Writer}
 use Rattle.gate_journal.specs.Moments.{Told}
-use Rattle.gateway_book.specs.Answered.{no_caller}
+use Rattle.gateway_answer.specs.Answered.{no_caller}
 use Rattle.gateway_book.specs.Book.{Stays, area_of, header_of, value_of}
 use Rattle.gateway_book.specs.Comes.{LeavesFit}
-use Rattle.gateway_book.specs.Filed.{along}
-use Rattle.gateway_book.specs.FitHistory.{StandsFitFor}
-use Rattle.gateway_book.specs.Items.{items_by, items_of}
+use Rattle.gateway_answer.specs.Filed.{along}
+use Rattle.gateway_answer.specs.FitHistory.{StandsFitFor}
+use Rattle.gateway_answer.specs.Items.{items_by, items_of}
 use Rattle.gateway_book.specs.Opened.{IsOpened}
 use Rattle.gateway_book.specs.Turning.{facts_of, tells_lists}
-use Rattle.gateway_book.specs.Value.{BookValue, history_of, torn_of}
+use Rattle.gateway_answer.specs.Value.{BookValue, history_of, torn_of}
 use Rattle.gateway_book.specs.declared.book.Book.{Book}
 use Rattle.gw_base.specs.Facts.{joined}
 use Rattle.gw_base.specs.History.{is_close_due}

@@ -10,13 +10,13 @@ use Rattle.file_writer.specs.declared.writer.Writer.{Writer}
 use Rattle.cgf_journal.specs.Format.{StandsFor}
 use Rattle.gate_journal.specs.Format.{Starts}
 use Rattle.gate_journal.specs.Moments.{Told}
-use Rattle.gateway_book.specs.Answered.{no_caller}
+use Rattle.gateway_answer.specs.Answered.{no_caller}
 use Rattle.gateway_book.specs.Book.{area_of, header_of, value_of}
 use Rattle.gateway_book.specs.Comes.{LeavesFit}
-use Rattle.gateway_book.specs.FitHistory.{StandsFitFor}
-use Rattle.gateway_book.specs.Items.{items_of}
+use Rattle.gateway_answer.specs.FitHistory.{StandsFitFor}
+use Rattle.gateway_answer.specs.Items.{items_of}
 use Rattle.gateway_book.specs.Opened.{FindsHistory, IsMadeAnew, IsNotOurs, IsOpened, IsRefused, StandsOrStarts}
-use Rattle.gateway_book.specs.Value.{BookValue}
+use Rattle.gateway_answer.specs.Value.{BookValue}
 use Rattle.gateway_book.specs.declared.book.Book.{Book}
 use Rattle.gateway_book.specs.declared.outcome.BookFault.{BookFault}
 use Rattle.gateway_book.specs.declared.outcome.BookFault.TheVariants as of_book

@@ -3,7 +3,7 @@ use Rattle.std.proofs.Common.{◌≡◌, ℕ, Bool, true, false, if◌then◌els
 use Rattle.area_disk.specs.declared.area.Area as areas
 use Rattle.gateway_book.specs.Book.{value_of}
 use Rattle.gateway_book.specs.Turning.{facts_of}
-use Rattle.gateway_book.specs.Value.{BookValue, Fortune, Whole, Gone, after_commit, history_of, torn_of}
+use Rattle.gateway_answer.specs.Value.{BookValue, Fortune, Whole, Gone, after_commit, history_of, torn_of}
 use Rattle.gateway_book.specs.declared.book.Book.{Book}
 use Rattle.gw_base.specs.Owes.{base}
 use Rattle.gw_base.specs.declared.history.HistoryEntry.{HistoryEntry}

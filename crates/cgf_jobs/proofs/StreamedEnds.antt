@@ -12,8 +12,8 @@ use Rattle.cgf_journal.specs.Format.{StandsFor}
 use Rattle.gate_journal.specs.Format.{Starts}
 use Rattle.gate_journal.specs.Moments.{Told}
 use Rattle.gateway_book.specs.Book.{area_of}
-use Rattle.gateway_book.specs.FitHistory.{StandsFitFor}
-use Rattle.gateway_book.specs.Items.{items_of}
+use Rattle.gateway_answer.specs.FitHistory.{StandsFitFor}
+use Rattle.gateway_answer.specs.Items.{items_of}
 use Rattle.gateway_book.specs.Opened.{FindsHistory, IsMadeAnew, IsNotOurs, IsOpened, IsRefused, StandsOrStarts}
 use Rattle.gateway_book.specs.declared.book.Book.{Book}
 use Rattle.gateway_book.specs.declared.outcome.BookFault.{BookFault}

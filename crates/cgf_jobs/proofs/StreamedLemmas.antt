@@ -11,17 +11,17 @@ use Rattle.file_writer.specs.Streams.{Settings, closed_of, stream_count, stream_
 use Rattle.file_writer.specs.Writer.{is_broken, settings_in, shelf_of}
 use Rattle.file_writer.specs.declared.writer.Writer.{Writer}
 use Rattle.gate_journal.specs.Moments.{Told}
-use Rattle.gateway_book.specs.Answer.{decided}
-use Rattle.gateway_book.specs.Answered.{act_decided, no_caller}
+use Rattle.gateway_answer.specs.Answer.{decided}
+use Rattle.gateway_answer.specs.Answered.{act_decided, no_caller}
 use Rattle.gateway_book.specs.Book.{Stays, area_of, header_of, size_of, value_of}
 use Rattle.gateway_book.specs.Calls.{given_at}
 use Rattle.gateway_book.specs.Comes.{LeavesFit}
-use Rattle.gateway_book.specs.FitHistory.{StandsFitFor}
-use Rattle.gateway_book.specs.Items.{items_of}
+use Rattle.gateway_answer.specs.FitHistory.{StandsFitFor}
+use Rattle.gateway_answer.specs.Items.{items_of}
 use Rattle.gateway_book.specs.Opened.{IsOpened}
-use Rattle.gateway_book.specs.Preparing.{prepared_of}
+use Rattle.gateway_answer.specs.Preparing.{prepared_of}
 use Rattle.gateway_book.specs.Turning.{facts_of, tells_lists}
-use Rattle.gateway_book.specs.Value.{BookValue, Fortune, Reopening, Whole, after_commit, committed, faulted, history_of, is_batch_full, opened, readied, recorded_if, reopened, tried, tried_with}
+use Rattle.gateway_answer.specs.Value.{BookValue, Fortune, Reopening, Whole, after_commit, committed, faulted, history_of, is_batch_full, opened, readied, recorded_if, reopened, tried, tried_with}
 use Rattle.gateway_book.specs.declared.book.Book.{Book}
 use Rattle.gw_base.specs.Facts.{WhereTold}
 use Rattle.gw_base.specs.History.{is_close_due}

@@ -1,9 +1,9 @@
 -- The book of a gateway in memory, between two calls.
 use Rattle.std.specs.Prelude.{◌≡◌, ℕ, Option}
 use Rattle.area_disk.specs.declared.area.Area.{Ghosts}
-use Rattle.gateway_book.specs.Answered.{no_caller}
+use Rattle.gateway_answer.specs.Answered.{no_caller}
 use Rattle.gateway_book.specs.Book.{open_time_of, size_of, value_of}
-use Rattle.gateway_book.specs.Value.{recorded_if, standing_for}
+use Rattle.gateway_answer.specs.Value.{recorded_if, standing_for}
 use Rattle.gateway_book.specs.declared.book.Book.{Book}
 use Rattle.gw_base.specs.declared.history.HistoryAct.{HistoryAct}
 use Rattle.cgf_jobs.specs.Gateway.{GatewayValue}

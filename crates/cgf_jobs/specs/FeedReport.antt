@@ -3,9 +3,9 @@
 use Rattle.std.specs.Prelude.{ℕ, ◌+◌, ◌*◌, length, nat_lt, Bool, false, if◌then◌else◌, List, [], ◌∷◌, ◌++◌, Option, Some, None, codes}
 use Rattle.hex.specs.Hex.{encode_upper}
 use Rattle.cdr_shelf.specs.Files.{SealedFile}
-use Rattle.gateway_book.specs.Answer.{Decided, Says, Silent}
-use Rattle.gateway_book.specs.Items.{items_of}
-use Rattle.gateway_book.specs.Value.{standing_for}
+use Rattle.gateway_answer.specs.Answer.{Decided, Says, Silent}
+use Rattle.gateway_answer.specs.Items.{items_of}
+use Rattle.gateway_answer.specs.Value.{standing_for}
 use Rattle.gtpp_message.specs.Names.{name_of}
 use Rattle.gtpp_message.specs.declared.reading.Why.{Why}
 use Rattle.gw_base.specs.declared.history.HistoryEntry.{HistoryEntry}

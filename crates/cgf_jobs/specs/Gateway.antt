@@ -1,10 +1,10 @@
 -- The gateway of a feed: what it answers and records. No session makes its entries, and each is firm before the next line
 -- is run.
 use Rattle.std.specs.Prelude.{ℕ, List, [], Option, Some, None}
-use Rattle.gateway_book.specs.Answer.{Decided, decided}
-use Rattle.gateway_book.specs.Answered.{act_decided, answer, no_caller, with_act}
-use Rattle.gateway_book.specs.Marks.{Mark, NotDue, NoRoom, Makes, close_mark, tick_mark}
-use Rattle.gateway_book.specs.Value.{history_of, opened}
+use Rattle.gateway_answer.specs.Answer.{Decided, decided}
+use Rattle.gateway_answer.specs.Answered.{act_decided, answer, no_caller, with_act}
+use Rattle.gateway_answer.specs.Marks.{Mark, NotDue, NoRoom, Makes, close_mark, tick_mark}
+use Rattle.gateway_answer.specs.Value.{history_of, opened}
 use Rattle.gw_base.specs.declared.address.Addr.{Addr}
 use Rattle.gw_base.specs.declared.history.HistoryAct.{HistoryAct}
 use Rattle.gw_base.specs.declared.history.HistoryEntry.{HistoryEntry}

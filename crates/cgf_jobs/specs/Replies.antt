@@ -3,11 +3,11 @@
 use Rattle.std.specs.Prelude.{◌≡◌, ℕ, if◌then◌else◌, List, [], ◌∷◌, ◌++◌, map}
 use Rattle.gw_base.specs.declared.address.Addr.{Addr}
 use Rattle.gw_base.specs.declared.history.HistoryEntry.{HistoryEntry}
-use Rattle.gateway_book.specs.Answer.{Decided, Says, Silent, decided}
-use Rattle.gateway_book.specs.Answered.{act_decided, no_caller, with_act}
+use Rattle.gateway_answer.specs.Answer.{Decided, Says, Silent, decided}
+use Rattle.gateway_answer.specs.Answered.{act_decided, no_caller, with_act}
 use Rattle.gateway_book.specs.Calls.{given_at, taken}
-use Rattle.gateway_book.specs.Preparing.{prepared_of}
-use Rattle.gateway_book.specs.Value.{BookValue, Fortune, after_commit, readied}
+use Rattle.gateway_answer.specs.Preparing.{prepared_of}
+use Rattle.gateway_answer.specs.Value.{BookValue, Fortune, after_commit, readied}
 use Rattle.node_session.specs.Turns.{decided_at, decided_by_fault}
 
 -- what is sent for a decision

@@ -8,7 +8,7 @@ use Rattle.file_writer.specs.Writer.{settings_in, shelf_of}
 use Rattle.file_writer.specs.declared.writer.Writer.{Writer}
 use Rattle.gate_journal.specs.Moments.{Told}
 use Rattle.gateway_book.specs.Book.{Stays, area_of, size_of, value_of}
-use Rattle.gateway_book.specs.Answered.{no_caller}
+use Rattle.gateway_answer.specs.Answered.{no_caller}
 use Rattle.gateway_book.specs.Opened.{IsNotOurs}
 use Rattle.gateway_book.specs.Turning.{facts_of, tells_lists}
 use Rattle.gateway_book.specs.declared.book.Book.{Book}

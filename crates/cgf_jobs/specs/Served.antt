@@ -9,11 +9,11 @@ use Rattle.file_writer.specs.Holding.{IsBegun}
 use Rattle.file_writer.specs.Streams.{Settings, stream_count}
 use Rattle.gate_journal.specs.Format.{header}
 use Rattle.gate_journal.specs.Moments.{Told}
-use Rattle.gateway_book.specs.Answered.{entry_by, no_caller}
-use Rattle.gateway_book.specs.FitHistory.{StandsFitFor}
-use Rattle.gateway_book.specs.Items.{items_of}
+use Rattle.gateway_answer.specs.Answered.{entry_by, no_caller}
+use Rattle.gateway_answer.specs.FitHistory.{StandsFitFor}
+use Rattle.gateway_answer.specs.Items.{items_of}
 use Rattle.gateway_book.specs.Opened.{StandsOrStarts}
-use Rattle.gateway_book.specs.Value.{standing_for}
+use Rattle.gateway_answer.specs.Value.{standing_for}
 use Rattle.gw_base.specs.Owes.{Begins}
 use Rattle.gw_base.specs.declared.address.Addr.{Addr}
 use Rattle.gw_base.specs.declared.history.HistoryAct.TheVariants as act

@@ -6,11 +6,11 @@ use Rattle.area_disk.specs.declared.area.Area as areas
 use Rattle.cdr_shelf.specs.declared.shelf.Shelf as shelves
 use Rattle.gate_journal.specs.Format.{header}
 use Rattle.gate_journal.specs.Moments.{Told}
-use Rattle.gateway_book.specs.Answered.{no_caller}
-use Rattle.gateway_book.specs.FitHistory.{StandsFitFor}
-use Rattle.gateway_book.specs.Items.{items_of}
+use Rattle.gateway_answer.specs.Answered.{no_caller}
+use Rattle.gateway_answer.specs.FitHistory.{StandsFitFor}
+use Rattle.gateway_answer.specs.Items.{items_of}
 use Rattle.gateway_book.specs.Opened.{IsNotOurs, StandsOrStarts}
-use Rattle.gateway_book.specs.Value.{BookValue, Fortune, after_commit, history_of, opened}
+use Rattle.gateway_answer.specs.Value.{BookValue, Fortune, after_commit, history_of, opened}
 use Rattle.gtpp_stream.specs.Frames.{first_fault, frames, rest_of}
 use Rattle.gtpp_stream.specs.declared.frame.FrameKind.{FrameKind}
 use Rattle.gw_base.specs.Faults.{Rose}

@@ -7,11 +7,11 @@ use Rattle.cdr_shelf.specs.declared.shelf.Shelf as shelves
 use Rattle.file_writer.specs.Writer.{settings_in, shelf_of}
 use Rattle.file_writer.specs.declared.writer.Writer.{Writer}
 use Rattle.gate_journal.specs.Moments.{Told}
-use Rattle.gateway_book.specs.Answered.{no_caller}
+use Rattle.gateway_answer.specs.Answered.{no_caller}
 use Rattle.gateway_book.specs.Book.{Stays, area_of, header_of, size_of, value_of}
 use Rattle.gateway_book.specs.Comes.{LeavesFit}
-use Rattle.gateway_book.specs.FitHistory.{StandsFitFor}
-use Rattle.gateway_book.specs.Items.{items_of}
+use Rattle.gateway_answer.specs.FitHistory.{StandsFitFor}
+use Rattle.gateway_answer.specs.Items.{items_of}
 use Rattle.gateway_book.specs.Turning.{tells_lists}
 use Rattle.gateway_book.specs.declared.book.Book.{Book}
 use Rattle.gtpp_stream.specs.Frames.{first_fault, frames, rest_of}

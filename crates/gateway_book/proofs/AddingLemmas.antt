@@ -11,17 +11,17 @@ use Rattle.gw_base.specs.declared.address.Addr.{Addr}
 use Rattle.gw_base.specs.declared.history.Caller.{Caller}
 use Rattle.gw_base.specs.declared.history.HistoryAct.{HistoryAct}
 use Rattle.gateway_book.specs.Adding.{AddsIf, IsSame, MayAdd, room_in}
-use Rattle.gateway_book.specs.Answer.{Decided, Given, Drops, Replies, Says, Silent, answer_within, decided, may_record, node_of}
-use Rattle.gateway_book.specs.Answered.{act_decided, act_given}
-use Rattle.gateway_book.specs.Fit.{is_act_fit}
-use Rattle.gateway_book.specs.FitLaws.{records_fit}
-use Rattle.gateway_book.specs.Index.{MayCome, observed_by}
-use Rattle.gateway_book.specs.Preparing.{IsShort, IsWhole, PreparedValue}
-use Rattle.gateway_book.specs.Recording.{Fits, IfRecords}
-use Rattle.gateway_book.specs.RoomAsked.{room_asked}
-use Rattle.gateway_book.specs.SizeLaws.{IsBrief, records_brief}
-use Rattle.gateway_book.specs.Value.{most_for_one}
-use Rattle.gateway_book.specs.declared.index.Index.{Index}
+use Rattle.gateway_answer.specs.Answer.{Decided, Given, Drops, Replies, Says, Silent, answer_within, decided, may_record, node_of}
+use Rattle.gateway_answer.specs.Answered.{act_decided, act_given}
+use Rattle.gateway_answer.specs.Fit.{is_act_fit}
+use Rattle.gateway_answer.specs.FitLaws.{records_fit}
+use Rattle.gateway_index.specs.Index.{MayCome, observed_by}
+use Rattle.gateway_answer.specs.Preparing.{IsShort, IsWhole, PreparedValue}
+use Rattle.gateway_answer.specs.Recording.{Fits, IfRecords}
+use Rattle.gateway_answer.specs.RoomAsked.{room_asked}
+use Rattle.gateway_answer.specs.SizeLaws.{IsBrief, records_brief}
+use Rattle.gateway_answer.specs.Value.{most_for_one}
+use Rattle.gateway_index.specs.declared.index.Index.{Index}
 
 -- what holds of what an answer records holds of the act that is decided
 recorded_holds : (P : HistoryAct → Type 0) (given : Given) (a : HistoryAct) → IfRecords (λ number message b. P b) given → act_given given ≡ Some a → P a

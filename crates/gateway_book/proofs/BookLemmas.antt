@@ -9,11 +9,11 @@ use Rattle.cgf_journal.specs.Outcomes.{IsReopened, TornDropped, TornStand}
 use Rattle.cgf_journal.specs.Trail.{area_of, firm_entries, waiting}
 use Rattle.cgf_journal.specs.declared.trail.Trail.{Trail}
 use Rattle.gw_base.specs.declared.history.HistoryEntry.{HistoryEntry}
-use Rattle.gateway_book.specs.Fit.{IsFit}
-use Rattle.gateway_book.specs.FitHistory.{AllFit}
+use Rattle.gateway_answer.specs.Fit.{IsFit}
+use Rattle.gateway_answer.specs.FitHistory.{AllFit}
 use Rattle.gateway_book.specs.Followed.{IsFollowed, all_entries}
-use Rattle.gateway_book.specs.Index.{Follows}
-use Rattle.gateway_book.specs.declared.index.Index.{Index}
+use Rattle.gateway_index.specs.Index.{Follows}
+use Rattle.gateway_index.specs.declared.index.Index.{Index}
 
 fit_front_of : (size : ℕ) (before h g : List HistoryEntry) → journal.AllFit (IsFit size) before (h ++ g) → journal.AllFit (IsFit size) before h
 fit_front_of size before [] g fit = tt

@@ -11,16 +11,16 @@ use Rattle.gw_base.specs.declared.address.Addr.{Addr}
 use Rattle.gw_base.specs.declared.cause.TheConstants.{NO_RESOURCES, SYSTEM_FAILURE}
 use Rattle.gw_base.specs.declared.history.HistoryAct.{HistoryAct}
 use Rattle.gw_base.specs.declared.history.HistoryEntry.{HistoryEntry}
-use Rattle.gateway_book.specs.Answer.{Decided, Drops, Given, Replies, Says, Silent, answer_within, decided, may_record, node_of}
-use Rattle.gateway_book.specs.Answered.{answer_to, room_for}
+use Rattle.gateway_answer.specs.Answer.{Decided, Drops, Given, Replies, Says, Silent, answer_within, decided, may_record, node_of}
+use Rattle.gateway_answer.specs.Answered.{answer_to, room_for}
 use Rattle.gateway_book.specs.Caller.{AnswersBy, HasStorage, IsAnswered, IsServed, TellsFault}
 use Rattle.gateway_book.specs.Calls.{outcome_at}
-use Rattle.gateway_book.specs.FaultLaws.{running_tells_none}
-use Rattle.gateway_book.specs.Preparing.{PreparedValue, Request, prepared_of}
-use Rattle.gateway_book.specs.Recording.{is_without_resources, tells_a_fault}
-use Rattle.gateway_book.specs.ResourceLaws.{room_is_enough}
+use Rattle.gateway_answer.specs.FaultLaws.{running_tells_none}
+use Rattle.gateway_answer.specs.Preparing.{PreparedValue, Request, prepared_of}
+use Rattle.gateway_answer.specs.Recording.{is_without_resources, tells_a_fault}
+use Rattle.gateway_answer.specs.ResourceLaws.{room_is_enough}
 use Rattle.gateway_book.specs.Taking.{IsDoneBy}
-use Rattle.gateway_book.specs.Value.{BookValue}
+use Rattle.gateway_answer.specs.Value.{BookValue}
 use Rattle.gateway_book.specs.declared.adding.Done.{Done}
 use Rattle.gateway_book.specs.declared.adding.Done.TheVariants as done
 use Rattle.gateway_book.specs.declared.outcome.Outcome.{Outcome}

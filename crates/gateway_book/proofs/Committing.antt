@@ -2,9 +2,9 @@
 use Rattle.std.proofs.Common.{◌≡◌, ◌≢◌, ℕ, Bool, true, false, if◌then◌else◌, List, [], ◌∷◌, Result, Ok, Err, length, refl, sym, ap, ◌∙◌}
 use Rattle.gw_base.specs.declared.history.HistoryEntry.{HistoryEntry}
 use Rattle.gateway_book.specs.Calls.{commit_answer}
-use Rattle.gateway_book.specs.Index.{Follows}
-use Rattle.gateway_book.specs.Value.{BookValue, Fortune, Reopening, after_commit, reopened, tried, tried_with}
-use Rattle.gateway_book.specs.declared.index.Index.{Index}
+use Rattle.gateway_index.specs.Index.{Follows}
+use Rattle.gateway_answer.specs.Value.{BookValue, Fortune, Reopening, after_commit, reopened, tried, tried_with}
+use Rattle.gateway_index.specs.declared.index.Index.{Index}
 use Rattle.gateway_book.specs.declared.outcome.Broken.{Broken}
 
 module _ (f : Fortune) (v now : BookValue) where

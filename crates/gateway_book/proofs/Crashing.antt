@@ -7,7 +7,7 @@ use Rattle.cgf_journal.specs.Format.{StandsFor}
 use Rattle.cgf_journal.specs.Trail.{StandsForOr, entries, firm_entries, is_closed}
 use Rattle.gw_base.specs.declared.history.HistoryEntry.{HistoryEntry}
 use Rattle.gateway_book.specs.Book.{area_of, header_of, size_of, value_of}
-use Rattle.gateway_book.specs.FitHistory.{AllFit, StandsFitFor, StandsFitForOr}
+use Rattle.gateway_answer.specs.FitHistory.{AllFit, StandsFitFor, StandsFitForOr}
 use Rattle.gateway_book.specs.Followed.{all_entries}
 use Rattle.gateway_book.specs.declared.book.Book.{Book}
 use Rattle.gateway_book.proofs.BookLemmas.{fit_front}

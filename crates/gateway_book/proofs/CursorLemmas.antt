@@ -12,10 +12,10 @@ use Rattle.gw_base.specs.declared.history.HistoryAct.{HistoryAct}
 use Rattle.gw_base.specs.declared.history.HistoryEntry.{HistoryEntry}
 use Rattle.gw_base.specs.declared.item.Item.{Item}
 use Rattle.gateway_book.specs.Cursor.{AreHeldIn, HasPassed, HasStayed, IsAt, IsBegun, IsWithin, NamesOnce, StandsIn, gathered_at_last, items_from}
-use Rattle.gateway_book.specs.Filed.{along, filed_under, packet_of_hold, present_key, released_records}
+use Rattle.gateway_answer.specs.Filed.{along, filed_under, packet_of_hold, present_key, released_records}
 use Rattle.gateway_book.specs.Gathering.{Gathered, gathered}
 use Rattle.gateway_book.specs.HeldCopies.{AreBelow, CopyPlaces, HoldCopies, copies_after, copy_at, no_copies, packet_at, places_of}
-use Rattle.gateway_book.specs.Items.{items_by, items_of}
+use Rattle.gateway_answer.specs.Items.{items_by, items_of}
 use Rattle.gateway_book.specs.Read.{IsRead}
 use Rattle.gateway_book.specs.declared.cursor.Cursor.{Cursor}
 use Rattle.gateway_book.proofs.GatheringLemmas.{full_stays, gathered_on, none_more}

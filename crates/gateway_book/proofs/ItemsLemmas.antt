@@ -17,12 +17,12 @@ use Rattle.gw_base.specs.declared.history.HistoryEntry.{HistoryEntry}
 use Rattle.gw_base.specs.declared.history.PacketKey.{PacketKey}
 use Rattle.gw_base.specs.declared.item.Item.{Item}
 use Rattle.gateway_book.specs.Cursor.{NamesOnce, items_from}
-use Rattle.gateway_book.specs.Filed.{along, filed_under, present_key, records_from, records_if, released_by, released_records}
-use Rattle.gateway_book.specs.FiledLaws.{along-append}
-use Rattle.gateway_book.specs.Fit.{IsFit, are_distinct, is_act_fit}
-use Rattle.gateway_book.specs.FitHistory.{FitBehind}
+use Rattle.gateway_answer.specs.Filed.{along, filed_under, present_key, records_from, records_if, released_by, released_records}
+use Rattle.gateway_answer.specs.FiledLaws.{along-append}
+use Rattle.gateway_answer.specs.Fit.{IsFit, are_distinct, is_act_fit}
+use Rattle.gateway_answer.specs.FitHistory.{FitBehind}
 use Rattle.gateway_book.specs.Gathering.{Gathered, gathered, packet_items, record_item}
-use Rattle.gateway_book.specs.Items.{items_by, items_by_act, items_of, part_of}
+use Rattle.gateway_answer.specs.Items.{items_by, items_by_act, items_of, part_of}
 use Rattle.gateway_book.proofs.GatheringLemmas.{gathered_on, none_more}
 
 -- ---- packets

@@ -9,13 +9,13 @@ use Rattle.gw_base.specs.History.{last_moment}
 use Rattle.gw_base.specs.Observed.{observed}
 use Rattle.gw_base.specs.declared.history.HistoryAct.{HistoryAct}
 use Rattle.gw_base.specs.declared.history.HistoryEntry.{HistoryEntry}
-use Rattle.gateway_book.specs.Fit.{IsFit, is_act_fit, latest_moment}
-use Rattle.gateway_book.specs.Index.{Follows, MayGrow, observed_by, side_of}
+use Rattle.gateway_answer.specs.Fit.{IsFit, is_act_fit, latest_moment}
+use Rattle.gateway_index.specs.Index.{Follows, MayGrow, observed_by, side_of}
 use Rattle.gateway_book.specs.Judging.{IsJudging, is_within, promised_of}
-use Rattle.gateway_book.specs.Tells.{totals_of}
-use Rattle.gateway_book.specs.declared.index.Index.{Index}
+use Rattle.gateway_index.specs.Tells.{totals_of}
+use Rattle.gateway_index.specs.declared.index.Index.{Index}
 use Rattle.gateway_book.specs.declared.judge.FitJudge.{FitJudge}
-use Rattle.gateway_book.specs.declared.totals.Totals.{Totals}
+use Rattle.gateway_index.specs.declared.totals.Totals.{Totals}
 
 -- ---- lengths
 

@@ -10,7 +10,7 @@ use Rattle.cgf_journal.specs.Format.{StandsFor}
 use Rattle.cgf_journal.specs.Trail as trail
 use Rattle.gateway_book.specs.Book.{area_of, header_of, size_of, value_of}
 use Rattle.gateway_book.specs.Comes.{LeavesFit, left_by_stop}
-use Rattle.gateway_book.specs.FitHistory.{AllFit}
+use Rattle.gateway_answer.specs.FitHistory.{AllFit}
 use Rattle.gateway_book.specs.Followed.{all_entries}
 use Rattle.gateway_book.specs.Opened.{StandsFitFor}
 use Rattle.gateway_book.specs.declared.book.Book.{Book}

@@ -10,15 +10,15 @@ use Rattle.gw_base.specs.declared.history.HistoryAct.{HistoryAct}
 use Rattle.gw_base.specs.declared.history.HistoryAct.TheVariants.{Close}
 use Rattle.gw_base.specs.declared.history.HistoryEntry.{HistoryEntry}
 use Rattle.gateway_book.specs.Adding.{entry_of}
-use Rattle.gateway_book.specs.Answered.{room_for}
+use Rattle.gateway_answer.specs.Answered.{room_for}
 use Rattle.gateway_book.specs.Calls.{Left, marked_at, marked_if_ready, ticked}
-use Rattle.gateway_book.specs.FitLaws.{room_is_for_each}
+use Rattle.gateway_answer.specs.FitLaws.{room_is_for_each}
 use Rattle.gateway_book.specs.Followed.{all_entries}
-use Rattle.gateway_book.specs.Index.{MayCome}
+use Rattle.gateway_index.specs.Index.{MayCome}
 use Rattle.gateway_book.specs.Marking.{IsMark, with_entry}
-use Rattle.gateway_book.specs.Marks.{Mark, NotDue, NoRoom, Makes, close_mark, made_if, tick_mark}
-use Rattle.gateway_book.specs.Value.{BookValue, Fortune, history_of, readied, recorded}
-use Rattle.gateway_book.specs.declared.index.Index.{Index}
+use Rattle.gateway_answer.specs.Marks.{Mark, NotDue, NoRoom, Makes, close_mark, made_if, tick_mark}
+use Rattle.gateway_answer.specs.Value.{BookValue, Fortune, history_of, readied, recorded}
+use Rattle.gateway_index.specs.declared.index.Index.{Index}
 use Rattle.gateway_book.specs.declared.outcome.Marked.{Marked}
 use Rattle.gateway_book.specs.declared.outcome.Marked.TheVariants as marked
 

@@ -22,12 +22,12 @@ use Rattle.gateway_book.specs.Opened.{IsOpened, StandsOrStarts}
 use Rattle.gateway_book.specs.declared.book.Book.{Book}
 use Rattle.gateway_book.specs.declared.outcome.BookFault.{BookFault}
 use Rattle.gateway_book.specs.declared.outcome.BookFault.TheVariants.{Device, NoMemory, NotOurs}
-use Rattle.gateway_book.specs.Answered.{entry_by, no_caller, room_for}
-use Rattle.gateway_book.specs.Fit.{IsFit, is_act_fit}
-use Rattle.gateway_book.specs.FitHistory.{AllFit}
-use Rattle.gateway_book.specs.FitHistoryLaws.{fit_is_within, last_is_in_range}
-use Rattle.gateway_book.specs.Index.{MayGrow}
-use Rattle.gateway_book.specs.Value.{BookValue, history_of, opened, recorded, started}
+use Rattle.gateway_answer.specs.Answered.{entry_by, no_caller, room_for}
+use Rattle.gateway_answer.specs.Fit.{IsFit, is_act_fit}
+use Rattle.gateway_answer.specs.FitHistory.{AllFit}
+use Rattle.gateway_answer.specs.FitHistoryLaws.{fit_is_within, last_is_in_range}
+use Rattle.gateway_index.specs.Index.{MayGrow}
+use Rattle.gateway_answer.specs.Value.{BookValue, history_of, opened, recorded, started}
 use Rattle.gateway_book.proofs.JudgeLemmas.{costs_at_least}
 
 -- a fit history may grow

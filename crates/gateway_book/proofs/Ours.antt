@@ -15,8 +15,8 @@ use Rattle.entry_codec.specs.Laws.{costs_of-append}
 use Rattle.cgf_journal.specs.BatchLaws.{in_batches}
 use Rattle.cgf_journal.specs.Fit.{AreFit}
 use Rattle.cgf_journal.specs.Format.{IsSpoiledBy, entries_in}
-use Rattle.gateway_book.specs.Fit.{IsFit}
-use Rattle.gateway_book.specs.FitHistory.{AllFit}
+use Rattle.gateway_answer.specs.Fit.{IsFit}
+use Rattle.gateway_answer.specs.FitHistory.{AllFit}
 use Rattle.gateway_book.specs.Opened.{IsNotOurs, StandsFitFor}
 use Rattle.gateway_book.proofs.BookLemmas.{fit_front}
 

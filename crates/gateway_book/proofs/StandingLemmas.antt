@@ -12,12 +12,12 @@ use Rattle.gw_base.specs.declared.history.HistoryEntry.{HistoryEntry}
 use Rattle.gw_base.specs.declared.item.Item.{Item}
 use Rattle.gateway_book.specs.Calls.{length_at}
 use Rattle.gateway_book.specs.Cursor.{IsAt, IsBegun, IsWithin, StandsIn, gathered_at_last, items_from}
-use Rattle.gateway_book.specs.FiledLaws.{along-append}
-use Rattle.gateway_book.specs.FitHistory.{AllFit}
+use Rattle.gateway_answer.specs.FiledLaws.{along-append}
+use Rattle.gateway_answer.specs.FitHistory.{AllFit}
 use Rattle.gateway_book.specs.Followed.{all_entries}
 use Rattle.gateway_book.specs.Gathering.{Gathered}
 use Rattle.gateway_book.specs.HeldCopies.{HoldCopies, places_of}
-use Rattle.gateway_book.specs.Items.{items_between, items_by, items_of}
+use Rattle.gateway_answer.specs.Items.{items_between, items_by, items_of}
 use Rattle.gateway_book.specs.Standing.{HasCursor, IsCounting}
 use Rattle.gateway_book.specs.declared.cursor.Cursor.{Cursor}
 use Rattle.gateway_book.proofs.BookLemmas.{fit_front}

@@ -15,22 +15,22 @@ use Rattle.gw_base.specs.declared.history.Caller.{Caller}
 use Rattle.gw_base.specs.declared.history.HistoryAct.{HistoryAct}
 use Rattle.gw_base.specs.declared.history.HistoryEntry.{HistoryEntry}
 use Rattle.gateway_book.specs.Adding.{AddsIf, IsAdded, IsSame, entry_of, room_told}
-use Rattle.gateway_book.specs.Answer.{Decided, Given, Replies, Says, Silent, answer_within, decided, node_of}
-use Rattle.gateway_book.specs.Answered.{act_decided, answer, answer_to, entry_by, room_for}
+use Rattle.gateway_answer.specs.Answer.{Decided, Given, Replies, Says, Silent, answer_within, decided, node_of}
+use Rattle.gateway_answer.specs.Answered.{act_decided, answer, answer_to, entry_by, room_for}
 use Rattle.gateway_book.specs.Calls.{left_by, outcome_at}
-use Rattle.gateway_book.specs.Fit.{IsFit, latest_moment}
-use Rattle.gateway_book.specs.FitHistory.{AllFit}
-use Rattle.gateway_book.specs.FitHistoryLaws.{last_is_in_range}
-use Rattle.gateway_book.specs.FitLaws.{answer_fits, room_is_for_each}
+use Rattle.gateway_answer.specs.Fit.{IsFit, latest_moment}
+use Rattle.gateway_answer.specs.FitHistory.{AllFit}
+use Rattle.gateway_answer.specs.FitHistoryLaws.{last_is_in_range}
+use Rattle.gateway_answer.specs.FitLaws.{answer_fits, room_is_for_each}
 use Rattle.gateway_book.specs.Followed.{IsFollowed, all_entries}
-use Rattle.gateway_book.specs.Index.{Follows, observed_by}
-use Rattle.gateway_book.specs.Preparing.{IsWhole, PreparedValue, prepared_of}
-use Rattle.gateway_book.specs.Recording.{IfRecords}
+use Rattle.gateway_index.specs.Index.{Follows, observed_by}
+use Rattle.gateway_answer.specs.Preparing.{IsWhole, PreparedValue, prepared_of}
+use Rattle.gateway_answer.specs.Recording.{IfRecords}
 use Rattle.gateway_book.specs.Taking.{IsDone}
-use Rattle.gateway_book.specs.Value.{BookValue, history_of, recorded_if}
+use Rattle.gateway_answer.specs.Value.{BookValue, history_of, recorded_if}
 use Rattle.gateway_book.specs.declared.adding.Done.{Done}
 use Rattle.gateway_book.specs.declared.adding.Done.TheVariants as done
-use Rattle.gateway_book.specs.declared.index.Index.{Index}
+use Rattle.gateway_index.specs.declared.index.Index.{Index}
 use Rattle.gateway_book.specs.declared.outcome.Outcome.{Outcome}
 use Rattle.gateway_book.proofs.BookLemmas.{fit_more}
 use Rattle.gateway_book.proofs.Openings.{fit_may_grow}

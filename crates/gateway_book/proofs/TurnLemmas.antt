@@ -14,15 +14,15 @@ use Rattle.gw_base.specs.declared.history.Caller.{Caller}
 use Rattle.gw_base.specs.declared.history.HistoryAct.{HistoryAct}
 use Rattle.gw_base.specs.declared.history.HistoryEntry.{HistoryEntry}
 use Rattle.gw_base.specs.declared.address.Addr.{Addr}
-use Rattle.gateway_book.specs.Answer.{decided, failure_answer}
-use Rattle.gateway_book.specs.Answered.{act_decided, answer_to, entry_by}
+use Rattle.gateway_answer.specs.Answer.{decided, failure_answer}
+use Rattle.gateway_answer.specs.Answered.{act_decided, answer_to, entry_by}
 use Rattle.gateway_book.specs.Book.{HasCause, Stays, area_of, fortune_of, reopening_of, value_of}
 use Rattle.gateway_book.specs.Calls.{Left, given_at, length_at, marked_at, marked_if_ready, taken}
-use Rattle.gateway_book.specs.Marks.{Mark, Makes, NoRoom, NotDue}
-use Rattle.gateway_book.specs.Preparing.{PreparedValue, Drop}
+use Rattle.gateway_answer.specs.Marks.{Mark, Makes, NoRoom, NotDue}
+use Rattle.gateway_answer.specs.Preparing.{PreparedValue, Drop}
 use Rattle.gateway_book.specs.Read.{IsUnchanged}
 use Rattle.gateway_book.specs.Turning.{IsTurn, act_in, act_marked, added_to, drops_of, facts_of, is_gone, tells_lists}
-use Rattle.gateway_book.specs.Value.{BookValue, Fortune, Gone, Refused, Reopening, Whole, after_commit, faulted, history_of, is_batch_full, readied, recorded_if, reopened, torn_of, tried, tried_with}
+use Rattle.gateway_answer.specs.Value.{BookValue, Fortune, Gone, Refused, Reopening, Whole, after_commit, faulted, history_of, is_batch_full, readied, recorded_if, reopened, torn_of, tried, tried_with}
 use Rattle.gateway_book.specs.declared.book.Book.{Book}
 use Rattle.gateway_book.specs.declared.outcome.Marked.{Marked}
 use Rattle.gateway_book.specs.declared.outcome.Marked.TheVariants as marked

@@ -11,10 +11,10 @@ use Rattle.gw_base.specs.declared.address.Addr.{Addr}
 use Rattle.gw_base.specs.declared.history.Caller.{Caller}
 use Rattle.gw_base.specs.declared.history.HistoryAct.{HistoryAct}
 use Rattle.gw_base.specs.declared.history.HistoryEntry.{HistoryEntry}
-use Rattle.gateway_book.specs.Answer.{Given, answer_within, node_of}
-use Rattle.gateway_book.specs.Index.{Follows, MayCome, MayGrow, observed_by}
-use Rattle.gateway_book.specs.Preparing.{PreparedValue}
-use Rattle.gateway_book.specs.declared.index.Index.{Index}
+use Rattle.gateway_answer.specs.Answer.{Given, answer_within, node_of}
+use Rattle.gateway_index.specs.Index.{Follows, MayCome, MayGrow, observed_by}
+use Rattle.gateway_answer.specs.Preparing.{PreparedValue}
+use Rattle.gateway_index.specs.declared.index.Index.{Index}
 
 -- the entry of an act at a moment, by a caller
 abbrev pub entry_of : ℕ → Caller → HistoryAct → HistoryEntry

@@ -5,7 +5,7 @@ use Rattle.gate_journal.specs.Moments.{Told}
 use Rattle.cgf_journal.specs.Trail as trail
 use Rattle.cgf_journal.specs.declared.trail.Trail.{Trail}
 use Rattle.gateway_book.specs.Book.{IsFirm, area_of, header_of, open_time_of, value_of}
-use Rattle.gateway_book.specs.Value.{opened, started}
+use Rattle.gateway_answer.specs.Value.{opened, started}
 use Rattle.gateway_book.specs.declared.book.Book.{Book}
 
 -- The book has the trail's entries, and a Start where there was room for one.

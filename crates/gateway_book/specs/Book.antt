@@ -5,8 +5,8 @@ use Rattle.area_disk.specs.declared.area.Area.{Ghosts}
 use Rattle.gate_journal.specs.Moments.{Leaves, Told}
 use Rattle.cgf_journal.specs.Trail as trail
 use Rattle.gateway_book.specs.Calls.{Left, length_at}
-use Rattle.gateway_book.specs.FitHistory.{StandsFitFor, StandsFitForOr}
-use Rattle.gateway_book.specs.Value.{BookValue, Fortune, Reopening, Whole, Gone, Refused}
+use Rattle.gateway_answer.specs.FitHistory.{StandsFitFor, StandsFitForOr}
+use Rattle.gateway_answer.specs.Value.{BookValue, Fortune, Reopening, Whole, Gone, Refused}
 use Rattle.gateway_book.specs.declared.book.Book.{Book}
 
 -- what a book stands for

@@ -10,11 +10,11 @@ use Rattle.gw_base.specs.declared.address.Addr.{Addr}
 use Rattle.gw_base.specs.declared.cause.TheConstants.{NO_RESOURCES, SYSTEM_FAILURE}
 use Rattle.gw_base.specs.declared.history.HistoryAct.{HistoryAct}
 use Rattle.gw_base.specs.declared.history.HistoryEntry.{HistoryEntry}
-use Rattle.gateway_book.specs.Answer.{Decided, Says, Silent, answer_within, decided, failure_answer, node_of}
-use Rattle.gateway_book.specs.Answered.{room_for}
+use Rattle.gateway_answer.specs.Answer.{Decided, Says, Silent, answer_within, decided, failure_answer, node_of}
+use Rattle.gateway_answer.specs.Answered.{room_for}
 use Rattle.gateway_book.specs.Calls.{cause_in}
-use Rattle.gateway_book.specs.Preparing.{PreparedValue, Request}
-use Rattle.gateway_book.specs.Recording.{HasRoomFor, IsWithinLimits}
+use Rattle.gateway_answer.specs.Preparing.{PreparedValue, Request}
+use Rattle.gateway_answer.specs.Recording.{HasRoomFor, IsWithinLimits}
 use Rattle.gateway_book.specs.declared.book.Book.{Book}
 use Rattle.gateway_book.specs.declared.outcome.Broken.{Broken}
 use Rattle.gateway_book.specs.declared.outcome.Marked.{Marked}

@@ -8,11 +8,11 @@ use Rattle.gw_base.specs.HeldKeys.{promised_octets}
 use Rattle.gw_base.specs.History.{copies_of}
 use Rattle.gw_base.specs.declared.address.Addr.{Addr}
 use Rattle.gw_base.specs.declared.history.Caller.{Caller}
-use Rattle.gateway_book.specs.Answer.{Decided, Given, Says, Silent, decided, failure_answer}
-use Rattle.gateway_book.specs.Answered.{act_decided, answer_to}
-use Rattle.gateway_book.specs.Marks.{Mark, NotDue, NoRoom, Makes, close_mark, tick_mark}
-use Rattle.gateway_book.specs.Preparing.{PreparedValue}
-use Rattle.gateway_book.specs.Value.{BookValue, Fortune, after_commit, history_of, readied, recorded, recorded_if}
+use Rattle.gateway_answer.specs.Answer.{Decided, Given, Says, Silent, decided, failure_answer}
+use Rattle.gateway_answer.specs.Answered.{act_decided, answer_to}
+use Rattle.gateway_answer.specs.Marks.{Mark, NotDue, NoRoom, Makes, close_mark, tick_mark}
+use Rattle.gateway_answer.specs.Preparing.{PreparedValue}
+use Rattle.gateway_answer.specs.Value.{BookValue, Fortune, after_commit, history_of, readied, recorded, recorded_if}
 use Rattle.gateway_book.specs.declared.outcome.Broken.{Broken}
 use Rattle.gateway_book.specs.declared.outcome.Marked.{Marked}
 use Rattle.gateway_book.specs.declared.outcome.Marked.TheVariants as marked
@@ -20,7 +20,7 @@ use Rattle.gateway_book.specs.declared.outcome.Outcome.{Outcome}
 use Rattle.gateway_book.specs.declared.outcome.Outcome.TheVariants as outcome
 use Rattle.gateway_book.specs.declared.outcome.Settled.{Settled}
 use Rattle.gateway_book.specs.declared.outcome.Settled.TheVariants as settled
-use Rattle.gateway_book.specs.declared.told.Counts.{Counts}
+use Rattle.gateway_book.specs.declared.outcome.Counts.{Counts}
 
 -- A datagram is taken.
 

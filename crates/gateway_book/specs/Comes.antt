@@ -12,7 +12,7 @@ use Rattle.cgf_journal.specs.Trail.{is_closed, stop_stands, torn_stands}
 use Rattle.gw_base.specs.declared.history.HistoryEntry.{HistoryEntry}
 use Rattle.gateway_book.specs.Book.{area_of, header_of, value_of}
 use Rattle.gateway_book.specs.Opened.{StandsFitFor}
-use Rattle.gateway_book.specs.Value.{BookValue, is_batch_full}
+use Rattle.gateway_answer.specs.Value.{BookValue, is_batch_full}
 use Rattle.gateway_book.specs.declared.book.Book.{Book}
 
 -- what a call of a book asks of the device: nothing, a commit, or that the journal is opened again

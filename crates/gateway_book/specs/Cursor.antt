@@ -7,12 +7,12 @@ use Rattle.gw_base.specs.declared.history.HistoryAct.{HistoryAct}
 use Rattle.gw_base.specs.declared.history.HistoryAct.TheVariants.{Release}
 use Rattle.gw_base.specs.declared.history.HistoryEntry.{HistoryEntry}
 use Rattle.gw_base.specs.declared.item.Item.{Item}
-use Rattle.gateway_book.specs.Filed.{along}
-use Rattle.gateway_book.specs.Fit.{are_distinct}
-use Rattle.gateway_book.specs.FitHistory.{AllFit}
+use Rattle.gateway_answer.specs.Filed.{along}
+use Rattle.gateway_answer.specs.Fit.{are_distinct}
+use Rattle.gateway_answer.specs.FitHistory.{AllFit}
 use Rattle.gateway_book.specs.Gathering.{Gathered, gathered}
 use Rattle.gateway_book.specs.HeldCopies.{AreBelow, CopyPlaces, HoldCopies, copies_after, no_copies, places_of}
-use Rattle.gateway_book.specs.Items.{items_by, items_of}
+use Rattle.gateway_answer.specs.Items.{items_by, items_of}
 use Rattle.gateway_book.specs.declared.cursor.Cursor.{Cursor}
 
 -- the items that the entries from the k-th on make

@@ -6,9 +6,9 @@ use Rattle.gate_journal.specs.Moments.{Told}
 use Rattle.cgf_journal.specs.Trail.{area_of, firm_entries, waiting}
 use Rattle.cgf_journal.specs.declared.trail.Trail.{Trail}
 use Rattle.gw_base.specs.declared.history.HistoryEntry.{HistoryEntry}
-use Rattle.gateway_book.specs.FitHistory.{AllFit}
-use Rattle.gateway_book.specs.Index.{Follows}
-use Rattle.gateway_book.specs.declared.index.Index.{Index}
+use Rattle.gateway_answer.specs.FitHistory.{AllFit}
+use Rattle.gateway_index.specs.Index.{Follows}
+use Rattle.gateway_index.specs.declared.index.Index.{Index}
 
 -- the firm entries and those behind them, which wait or are torn
 abbrev pub all_entries : {A : Type 0} {tells : Ghosts A} → Trail A tells → List HistoryEntry

@@ -4,10 +4,10 @@ use Rattle.std.specs.Coded.{×_prop, Unit-prop}
 use Rattle.std.proofs.Props.{props}
 use Rattle.cgf_journal.specs.Fit as journal
 use Rattle.gw_base.specs.declared.history.HistoryEntry.{HistoryEntry}
-use Rattle.gateway_book.specs.Fit.{IsFit}
-use Rattle.gateway_book.specs.FitHistory.{AllFit}
-use Rattle.gateway_book.specs.Index.{Follows}
-use Rattle.gateway_book.specs.declared.index.Index.{Index}
+use Rattle.gateway_answer.specs.Fit.{IsFit}
+use Rattle.gateway_answer.specs.FitHistory.{AllFit}
+use Rattle.gateway_index.specs.Index.{Follows}
+use Rattle.gateway_index.specs.declared.index.Index.{Index}
 
 IsFit-prop : (size : ℕ) (h : List HistoryEntry) (e : HistoryEntry) → IsProp (IsFit size h e)
 IsFit-prop size h e = hlevel props

@@ -4,7 +4,7 @@ use Rattle.gtpp_message.specs.Packet.{PacketValue, Empty, Full}
 use Rattle.gw_base.specs.CdrKind.{kind_of}
 use Rattle.gw_base.specs.declared.item.Item.{Item}
 use Rattle.gw_base.specs.declared.item.Item.TheVariants.{Part}
-use Rattle.gateway_book.specs.Filed.{record_tag}
+use Rattle.gateway_answer.specs.Filed.{record_tag}
 
 -- how many of the items that come are still left out, for how many more there is room, and those that were taken
 pub record Gathered : Type 0 where

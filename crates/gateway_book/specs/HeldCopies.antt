@@ -9,7 +9,7 @@ use Rattle.gw_base.specs.History.{begins_epoch, names}
 use Rattle.gw_base.specs.declared.history.HistoryAct.{HistoryAct}
 use Rattle.gw_base.specs.declared.history.HistoryAct.TheVariants.{Hold}
 use Rattle.gw_base.specs.declared.history.HistoryEntry.{HistoryEntry}
-use Rattle.gateway_book.specs.Filed.{held_packet, packet_of_hold}
+use Rattle.gateway_answer.specs.Filed.{held_packet, packet_of_hold}
 use Rattle.gateway_book.specs.declared.held_copies.CopyKey.{CopyKey}
 use Rattle.gateway_book.specs.declared.held_copies.HeldCopies.{HeldCopies}
 

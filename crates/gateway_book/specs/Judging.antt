@@ -2,8 +2,8 @@
 use Rattle.std.specs.Prelude.{◌≡◌, ℕ, ◌+◌, ◌*◌, Bool, false, if◌then◌else◌, nat_le, List}
 use Rattle.entry_codec.specs.Room.{capacity_of, costs_of}
 use Rattle.gw_base.specs.declared.history.HistoryEntry.{HistoryEntry}
-use Rattle.gateway_book.specs.Index.{Follows, side_of}
-use Rattle.gateway_book.specs.Sides.{Side}
+use Rattle.gateway_index.specs.Index.{Follows, side_of}
+use Rattle.gateway_index.specs.Sides.{Side}
 use Rattle.gateway_book.specs.declared.judge.FitJudge.{FitJudge}
 
 -- The judge was asked of these entries: its index follows them, and it knows what they cost.

@@ -7,8 +7,8 @@ use Rattle.gw_base.specs.Observed.{Observed}
 use Rattle.gw_base.specs.Starts.{start_by}
 use Rattle.gw_base.specs.declared.address.Addr.{Addr}
 use Rattle.gw_base.specs.declared.address.NodeId.{NodeId}
-use Rattle.gateway_book.specs.Sides.{Side}
-use Rattle.gateway_book.specs.declared.told.Key.{Key}
+use Rattle.gateway_index.specs.Sides.{Side}
+use Rattle.gateway_answer.specs.declared.key.Key.{Key}
 
 -- where a node sends from, if a Path opened its present epoch
 abbrev pub path_in : Side → NodeId → Option Addr

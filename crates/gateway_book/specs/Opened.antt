@@ -9,9 +9,9 @@ use Rattle.cgf_journal.specs.Format.{StandsFor}
 use Rattle.cgf_journal.specs.Trail.{is_closed}
 use Rattle.gw_base.specs.declared.history.HistoryEntry.{HistoryEntry}
 use Rattle.gateway_book.specs.Book.{IsFirm, area_of, header_of, open_time_of, value_of}
-use Rattle.gateway_book.specs.Fit.{IsFit}
-pub use Rattle.gateway_book.specs.FitHistory.{StandsFitFor}
-use Rattle.gateway_book.specs.Value.{opened}
+use Rattle.gateway_answer.specs.Fit.{IsFit}
+pub use Rattle.gateway_answer.specs.FitHistory.{StandsFitFor}
+use Rattle.gateway_answer.specs.Value.{opened}
 use Rattle.gateway_book.specs.declared.book.Book.{Book}
 use Rattle.gateway_book.specs.declared.outcome.BookFault.{BookFault}
 use Rattle.gateway_book.specs.declared.outcome.BookFault.TheVariants.{Device, NoMemory, NotOurs}

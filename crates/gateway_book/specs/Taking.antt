@@ -3,10 +3,10 @@ use Rattle.std.specs.Prelude.{◌≡◌, ℕ, Option}
 use Rattle.gw_base.specs.declared.address.Addr.{Addr}
 use Rattle.gw_base.specs.declared.history.Caller.{Caller}
 use Rattle.gw_base.specs.declared.history.HistoryAct.{HistoryAct}
-use Rattle.gateway_book.specs.Answer.{Decided, Says, Silent}
+use Rattle.gateway_answer.specs.Answer.{Decided, Says, Silent}
 use Rattle.gateway_book.specs.Caller.{IsDecided}
-use Rattle.gateway_book.specs.Preparing.{PreparedValue}
-use Rattle.gateway_book.specs.Value.{BookValue, recorded_if}
+use Rattle.gateway_answer.specs.Preparing.{PreparedValue}
+use Rattle.gateway_answer.specs.Value.{BookValue, recorded_if}
 use Rattle.gateway_book.specs.declared.adding.Done.{Done}
 use Rattle.gateway_book.specs.declared.adding.Done.TheVariants as done
 

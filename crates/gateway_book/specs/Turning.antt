@@ -7,10 +7,10 @@ use Rattle.gw_base.specs.Owes.{Adds, Owes}
 use Rattle.gw_base.specs.declared.history.Caller.{Caller}
 use Rattle.gw_base.specs.declared.history.HistoryAct.{HistoryAct}
 use Rattle.gw_base.specs.declared.history.HistoryEntry.{HistoryEntry}
-use Rattle.gateway_book.specs.Answered.{entry_by}
+use Rattle.gateway_answer.specs.Answered.{entry_by}
 use Rattle.gateway_book.specs.Book.{area_of, fortune_of, header_of, length_of, size_of, value_of}
-use Rattle.gateway_book.specs.Marks.{Mark, Makes, NoRoom, NotDue}
-use Rattle.gateway_book.specs.Value.{BookValue, Fortune, Gone, Refused, Reopening, Whole, history_of, torn_of}
+use Rattle.gateway_answer.specs.Marks.{Mark, Makes, NoRoom, NotDue}
+use Rattle.gateway_answer.specs.Value.{BookValue, Fortune, Gone, Refused, Reopening, Whole, history_of, torn_of}
 use Rattle.gateway_book.specs.declared.book.Book.{Book}
 
 -- whether the lists of a book on such an area are told

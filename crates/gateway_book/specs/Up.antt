@@ -12,7 +12,7 @@ use Rattle.gateway_book.specs.Book.{header_of, value_of}
 use Rattle.gateway_book.specs.Calls.{Left}
 use Rattle.gateway_book.specs.Comes.{Asked, AsksCommit, AsksNothing, AsksReopening, asked_to_commit, asked_to_ready, left_by_stop, plan_of}
 use Rattle.gateway_book.specs.Opened.{StandsFitFor}
-use Rattle.gateway_book.specs.Value.{BookValue, Fortune, Gone, Refused, Whole}
+use Rattle.gateway_answer.specs.Value.{BookValue, Fortune, Gone, Refused, Whole}
 use Rattle.gateway_book.specs.declared.book.Book.{Book}
 
 -- What comes of a call: the book goes on, and this is armed then; it breaks, by a commit's last call or by one before

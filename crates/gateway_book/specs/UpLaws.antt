@@ -19,17 +19,17 @@ use Rattle.gw_base.specs.declared.address.Addr.{Addr}
 use Rattle.gw_base.specs.declared.history.Caller.{Caller}
 use Rattle.gw_base.specs.declared.history.HistoryAct.{HistoryAct}
 use Rattle.gw_base.specs.declared.history.HistoryEntry.{HistoryEntry}
-use Rattle.gateway_book.specs.Answer.{decided}
-use Rattle.gateway_book.specs.Answered.{act_decided}
+use Rattle.gateway_answer.specs.Answer.{decided}
+use Rattle.gateway_answer.specs.Answered.{act_decided}
 use Rattle.gateway_book.specs.Book.{IsLeft, area_of, fortune_of, header_of, reopening_of, value_of}
 use Rattle.gateway_book.specs.Calls.{Left, commit_answer, commit_left, given_at, left_by, marked_at, marked_if_ready}
 use Rattle.gateway_book.specs.Comes.{Asked, AsksCommit, AsksNothing, AsksReopening, AsPlanned, CommitsAsPlanned, LeavesFit, ReopensAsPlanned, asked_to_commit, asked_to_ready, asked_with, left_by_stop, plan_of}
-use Rattle.gateway_book.specs.Marks.{Mark, Makes, NoRoom, NotDue}
+use Rattle.gateway_answer.specs.Marks.{Mark, Makes, NoRoom, NotDue}
 use Rattle.gateway_book.specs.Opened.{IsOpened, StandsFitFor}
-use Rattle.gateway_book.specs.Preparing.{PreparedValue}
+use Rattle.gateway_answer.specs.Preparing.{PreparedValue}
 use Rattle.gateway_book.specs.Read.{IsUnchanged}
 use Rattle.gateway_book.specs.Up.{Breaks, HasLeft, HoldsHistory, IsCut, IsUp, StandsAfter, Stops, commit_sequel, fortune_by, reopening_sequel, sequel_of}
-use Rattle.gateway_book.specs.Value.{BookValue, Fortune, Gone, Refused, Reopening, Whole, after_commit, is_batch_full, readied, recorded_if, reopened, tried, tried_with}
+use Rattle.gateway_answer.specs.Value.{BookValue, Fortune, Gone, Refused, Reopening, Whole, after_commit, is_batch_full, readied, recorded_if, reopened, tried, tried_with}
 use Rattle.gateway_book.specs.declared.book.Book.{Book}
 use Rattle.gateway_book.specs.declared.outcome.Broken.{Broken}
 use Rattle.gateway_book.specs.declared.outcome.Marked.{Marked}

@@ -8,11 +8,11 @@ ghost use Rattle.gate_journal.specs.Planned.{is_new};
 ghost use Rattle.gw_base.specs.declared.history.HistoryEntry.{HistoryEntry};
 ghost use Rattle.gateway_book.specs.Book.{size_of};
 ghost use Rattle.gateway_book.specs.Calls.{commit_left, taken};
-ghost use Rattle.gateway_book.specs.Items.{items_between};
+ghost use Rattle.gateway_answer.specs.Items.{items_between};
 ghost use Rattle.gateway_book.specs.Opened.{StandsFitFor};
-ghost use Rattle.gateway_book.specs.Preparing.{prepared_of};
+ghost use Rattle.gateway_answer.specs.Preparing.{prepared_of};
 ghost use Rattle.gateway_book.specs.Up.{HasLeft, HoldsHistory, IsCut, IsUp, commit_sequel_of, fortune_by, ready_sequel_of};
-ghost use Rattle.gateway_book.specs.Value.{BookValue};
+ghost use Rattle.gateway_answer.specs.Value.{BookValue};
 
 use crate::book::Book;
 use crate::laws::{

@@ -9,8 +9,8 @@ ghost use Rattle.cgf_journal.specs.Trail.{IsAtRest, firm_length, is_closed, left
 ghost use Rattle.gateway_book.specs.Caller.{IsCommitTold};
 ghost use Rattle.gateway_book.specs.Calls.{commit_left, counts_of, is_above, settled_by, settled_of};
 ghost use Rattle.gateway_book.specs.Comes.{asked_to_commit};
-ghost use Rattle.gateway_book.specs.FitHistory.{AllFit};
-ghost use Rattle.gateway_book.specs.Value.{after_commit};
+ghost use Rattle.gateway_answer.specs.FitHistory.{AllFit};
+ghost use Rattle.gateway_answer.specs.Value.{after_commit};
 
 use crate::book::Book;
 use crate::observed::an_index_tells_its_history;
@@ -22,7 +22,7 @@ use gw_base::scan::held_keys_are_as_many_as_held_copies;
 impl<A: Area> Book<A> {
     ghost use Rattle.gateway_book.specs.Book.{CrashLeaves, HasCause, IsFirm, IsLeft, Stays, area_of, fortune_of, header_of, size_of, value_of};
     ghost use Rattle.gateway_book.specs.Comes.{AsPlanned, LeavesFit};
-    ghost use Rattle.gateway_book.specs.Told.{AreCounted};
+    ghost use Rattle.gateway_book.specs.Counted.{AreCounted};
 
     /// Makes the whole history firm, and answers its length. A broken book opens its journal again, with one call of
     /// the device; else it makes four calls where an entry waits, and none where none does.

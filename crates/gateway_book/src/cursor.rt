@@ -5,7 +5,7 @@ ghost use Rattle.cgf_journal.specs.Trail.{firm_length};
 ghost use Rattle.gw_base.specs.Entry.{act_view};
 ghost use Rattle.gw_base.specs.declared.history.HistoryEntry.{HistoryEntry};
 ghost use Rattle.gateway_book.specs.Cursor.{HasPassed, HasStayed, IsAt, IsBegun, IsWithin, StandsIn, gathered_at_last};
-ghost use Rattle.gateway_book.specs.Items.{IsWritable, items_between};
+ghost use Rattle.gateway_answer.specs.Items.{IsWritable, items_between};
 ghost use Rattle.gateway_book.specs.Read.{HasCauseOf, IsRead, RunsOn};
 
 use crate::ItemsFault;

@@ -7,10 +7,10 @@ ghost use Rattle.gw_base.specs.Entry.{act_view, entry_view};
 ghost use Rattle.gw_base.specs.declared.history.HistoryEntry.{HistoryEntry};
 ghost use Rattle.gw_base.specs.declared.history.PacketKey.{PacketKey};
 ghost use Rattle.gateway_book.specs.Cursor.{AreHeldIn, NamesOnce};
-ghost use Rattle.gateway_book.specs.Filed.{filed_under, packet_of_hold, released_by, released_records};
+ghost use Rattle.gateway_answer.specs.Filed.{filed_under, packet_of_hold, released_by, released_records};
 ghost use Rattle.gateway_book.specs.Gathering.{gathered};
 ghost use Rattle.gateway_book.specs.HeldCopies.{AreBelow, places_of};
-ghost use Rattle.gateway_book.specs.Items.{IsWritable, items_by, part_of};
+ghost use Rattle.gateway_answer.specs.Items.{IsWritable, items_by, part_of};
 ghost use Rattle.gateway_book.specs.Read.{HasCauseOf, IsRead, RunsOn};
 
 use crate::ItemsFault;

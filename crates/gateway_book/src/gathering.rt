@@ -3,7 +3,7 @@ ghost use Rattle.std.specs.Prelude.{◌≡◌, ◌==◌, ◌<◌, [], ◌∷◌,
 ghost use Rattle.gtpp_message.specs.Packet.{IsPacket};
 ghost use Rattle.gtpp_message.specs.Values.{packet_value};
 ghost use Rattle.gateway_book.specs.Gathering.{gathered, packet_items, record_item};
-ghost use Rattle.gateway_book.specs.Items.{IsWritable};
+ghost use Rattle.gateway_answer.specs.Items.{IsWritable};
 
 use crate::filing::record_tag;
 use gtpp_message::Packet;
@@ -25,7 +25,7 @@ pub(crate) struct Gathering {
 impl Model for Gathering {
     ghost use Rattle.std.specs.Prelude.{All};
     ghost use Rattle.gateway_book.specs.Gathering.{Gathered};
-    ghost use Rattle.gateway_book.specs.Items.{IsWritable};
+    ghost use Rattle.gateway_answer.specs.Items.{IsWritable};
 
     ghost Value = { Gathered };
 

@@ -1,7 +1,7 @@
 // What a writer of files is told of a book.
 ghost use Rattle.std.specs.Prelude.{◌≡◌, IsTrue, IfOk, All};
 ghost use Rattle.gate_journal.specs.Moments.{Kept, Told};
-ghost use Rattle.gateway_book.specs.Items.{IsWritable, items_between};
+ghost use Rattle.gateway_answer.specs.Items.{IsWritable, items_between};
 
 use crate::ItemsFault;
 use crate::book::Book;

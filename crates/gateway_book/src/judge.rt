@@ -1,8 +1,8 @@
 //! Whether the entries of a journal are fit, as it is opened.
 ghost use Rattle.std.specs.Prelude.{◌≡◌, ◌≤◌, ◌&&◌, ◌+◌, ◌<◌, false, [], nat_le, IfOk};
 ghost use Rattle.gw_base.specs.Entry.{act_view};
-ghost use Rattle.gateway_book.specs.Fit.{is_act_fit, latest_moment};
-ghost use Rattle.gateway_book.specs.Index.{observed_by, side_of};
+ghost use Rattle.gateway_answer.specs.Fit.{is_act_fit, latest_moment};
+ghost use Rattle.gateway_index.specs.Index.{observed_by, side_of};
 
 use crate::fit::is_act_fit;
 use crate::index::Index;
@@ -63,7 +63,7 @@ impl FitJudge {
 }
 
 impl Judge for FitJudge {
-    ghost use Rattle.gateway_book.specs.Fit.{IsFit};
+    ghost use Rattle.gateway_answer.specs.Fit.{IsFit};
     ghost use Rattle.gateway_book.specs.Judging.{IsJudging};
 
     ghost follows = { λ judge h. IsJudging judge h };

@@ -2,10 +2,11 @@
 ghost use Rattle.std.specs.Prelude.{◌≡◌, slice_get};
 ghost use Rattle.gate_journal.specs.Moments.{Told};
 ghost use Rattle.cgf_journal.specs.Trail.{is_closed};
-ghost use Rattle.gateway_book.specs.Index.{observed_by, side_of};
-ghost use Rattle.gateway_book.specs.Lookups.{key_seen, path_in, paths_in};
-ghost use Rattle.gateway_book.specs.Told.{key_of, paths_of};
-ghost use Rattle.gateway_book.specs.Value.{history_of};
+ghost use Rattle.gateway_index.specs.Index.{observed_by, side_of};
+ghost use Rattle.gateway_book.specs.Lookups.{key_seen};
+ghost use Rattle.gateway_index.specs.Paths.{path_in, paths_in};
+ghost use Rattle.gateway_answer.specs.Told.{key_of, paths_of};
+ghost use Rattle.gateway_answer.specs.Value.{history_of};
 
 use crate::Key;
 use crate::book::Book;

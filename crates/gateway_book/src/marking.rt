@@ -7,16 +7,16 @@ ghost use Rattle.cgf_journal.specs.Trail.{has_room_of, is_closed, waiting_octets
 ghost use Rattle.gw_base.specs.Entry.{act_view, entry_view};
 ghost use Rattle.gw_base.specs.History.{is_close_due};
 ghost use Rattle.gw_base.specs.TickDue.{is_tick_due};
-ghost use Rattle.gateway_book.specs.Answered.{room_for};
+ghost use Rattle.gateway_answer.specs.Answered.{room_for};
 ghost use Rattle.gateway_book.specs.Caller.{IsMarkTold};
 ghost use Rattle.gateway_book.specs.Calls.{closed, marked_at, ticked};
 ghost use Rattle.gateway_book.specs.Comes.{asked_to_ready};
-ghost use Rattle.gateway_book.specs.Fit.{IsFit};
+ghost use Rattle.gateway_answer.specs.Fit.{IsFit};
 ghost use Rattle.gateway_book.specs.Followed.{all_entries};
-ghost use Rattle.gateway_book.specs.Index.{MayCome};
+ghost use Rattle.gateway_index.specs.Index.{MayCome};
 ghost use Rattle.gateway_book.specs.Marking.{IsMark, IsQuiet, OnlyAdds, with_entry};
-ghost use Rattle.gateway_book.specs.Marks.{close_mark, made_if, tick_mark};
-ghost use Rattle.gateway_book.specs.Value.{history_of, most_for_one, readied};
+ghost use Rattle.gateway_answer.specs.Marks.{close_mark, made_if, tick_mark};
+ghost use Rattle.gateway_answer.specs.Value.{history_of, most_for_one, readied};
 
 use crate::Marked;
 use crate::adding::record;

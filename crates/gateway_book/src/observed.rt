@@ -7,15 +7,15 @@ ghost use Rattle.gw_base.specs.declared.address.Addr.{Addr};
 ghost use Rattle.gw_base.specs.declared.address.NodeId.{NodeId};
 ghost use Rattle.gw_base.specs.declared.history.HistoryAct.{HistoryAct};
 ghost use Rattle.gw_base.specs.declared.history.HistoryEntry.{HistoryEntry};
-ghost use Rattle.gateway_book.specs.Answer.{answer_within, node_of};
-ghost use Rattle.gateway_book.specs.Fit.{is_act_fit};
-ghost use Rattle.gateway_book.specs.Index.{Follows, observed_by, side_of};
+ghost use Rattle.gateway_answer.specs.Answer.{answer_within, node_of};
+ghost use Rattle.gateway_answer.specs.Fit.{is_act_fit};
+ghost use Rattle.gateway_index.specs.Index.{Follows, observed_by, side_of};
 ghost use Rattle.gateway_book.specs.Lookups.{key_seen};
-ghost use Rattle.gateway_book.specs.Preparing.{PreparedValue};
-ghost use Rattle.gateway_book.specs.Tells.{totals_of};
-ghost use Rattle.gateway_book.specs.Told.{key_of};
-ghost use Rattle.gateway_book.specs.Windows.{narrowed};
-ghost use Rattle.gateway_book.specs.declared.index.Index.{Index};
+ghost use Rattle.gateway_answer.specs.Preparing.{PreparedValue};
+ghost use Rattle.gateway_index.specs.Tells.{totals_of};
+ghost use Rattle.gateway_answer.specs.Told.{key_of};
+ghost use Rattle.gateway_index.specs.Windows.{narrowed};
+ghost use Rattle.gateway_index.specs.declared.index.Index.{Index};
 
 use gw_base::scan::{held_keys_are_those_in_that_state, present_state_is_that_of_the_epoch};
 

@@ -6,7 +6,7 @@ ghost use Rattle.cgf_journal.specs.Trail.{area_of as trail_area, firm_entries, i
 ghost use Rattle.gw_base.specs.declared.history.HistoryEntry.{HistoryEntry};
 ghost use Rattle.gateway_book.specs.Begun.{IsBegun, IsStarted};
 ghost use Rattle.gateway_book.specs.Faults.{book_fault};
-ghost use Rattle.gateway_book.specs.FitHistory.{AllFit};
+ghost use Rattle.gateway_answer.specs.FitHistory.{AllFit};
 ghost use Rattle.gateway_book.specs.Judging.{IsJudging};
 ghost use Rattle.gateway_book.specs.OpenPlan.{OpensAsPlanned, is_memory};
 ghost use Rattle.gateway_book.specs.Opened.{FindsHistory, IsMadeAnew, IsNotOurs, IsOpened, IsRefused, OnArea, RefusesForeign, StandsFitFor};

@@ -7,7 +7,7 @@ ghost use Rattle.gate_journal.specs.Format.{longest_batch};
 ghost use Rattle.cgf_journal.specs.Trail.{is_closed, stop_stands, torn_stands, waiting_octets};
 ghost use Rattle.gateway_book.specs.Calls.{length_at};
 ghost use Rattle.gateway_book.specs.Comes.{asked_to_ready};
-ghost use Rattle.gateway_book.specs.Value.{committed, faulted, is_batch_full, most_for_one, readied, reopened};
+ghost use Rattle.gateway_answer.specs.Value.{committed, faulted, is_batch_full, most_for_one, readied, reopened};
 
 use crate::book::Book;
 use area_disk::Area;

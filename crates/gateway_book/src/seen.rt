@@ -12,7 +12,7 @@ pub(crate) struct Seen<'a> {
 
 impl Observe for Seen<'_> {
     ghost use Rattle.std.specs.Prelude.{false};
-    ghost use Rattle.gateway_book.specs.Index.{observed_by};
+    ghost use Rattle.gateway_index.specs.Index.{observed_by};
 
     ghost seen = { λ s node. observed_by false s.index.now node };
 

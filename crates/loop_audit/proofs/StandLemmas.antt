@@ -8,8 +8,8 @@ use Rattle.std.proofs.lemmas.List.Sums.{count_by_more_no, count_by_more_yes}
 use Rattle.std.proofs.lemmas.Option.{get_or_from_slice_get, slice_get-map, slice_get_cases, slice_get_within}
 use Rattle.area_disk.specs.declared.area.Area.{Ghosts}
 use Rattle.gateway_book.specs.Book.{value_of}
-use Rattle.gateway_book.specs.Told.{key_of}
-use Rattle.gateway_book.specs.Value.{history_of}
+use Rattle.gateway_answer.specs.Told.{key_of}
+use Rattle.gateway_answer.specs.Value.{history_of}
 use Rattle.gateway_book.specs.declared.book.Book.{Book}
 use Rattle.gw_base.specs.declared.address.NodeId.{NodeId}
 use Rattle.gw_base.specs.declared.history.HistoryEntry.{HistoryEntry}

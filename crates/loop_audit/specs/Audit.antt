@@ -5,8 +5,8 @@
 use Rattle.std.specs.Prelude.{ℕ, ◌==◌, ◌&&◌, ◌||◌, nat_lt, if◌then◌else◌, Bool, true, false, List, map, count_by, Option, Some, None, slice_get}
 use Rattle.std.specs.List.{find, flat_map}
 use Rattle.std.specs.Option.{option_map_or}
-use Rattle.gateway_book.specs.Told.{key_of}
-use Rattle.gateway_book.specs.declared.told.Key.{Key}
+use Rattle.gateway_answer.specs.Told.{key_of}
+use Rattle.gateway_answer.specs.declared.key.Key.{Key}
 use Rattle.gw_base.specs.declared.address.NodeId.{NodeId}
 use Rattle.gw_base.specs.declared.history.HistoryEntry.{HistoryEntry}
 use Rattle.gw_base.specs.declared.key_state.KeyState.{KeyState}

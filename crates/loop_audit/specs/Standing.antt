@@ -2,7 +2,7 @@
 use Rattle.std.specs.Prelude.{◌≡◌, ◌≤◌, List, All, length, map}
 use Rattle.std.specs.List.{range_with_len}
 use Rattle.gateway_book.specs.Book.{value_of}
-use Rattle.gateway_book.specs.Value.{history_of}
+use Rattle.gateway_answer.specs.Value.{history_of}
 use Rattle.gateway_book.specs.declared.book.Book.{Book}
 use Rattle.area_disk.specs.declared.area.Area.{Ghosts}
 use Rattle.gw_base.specs.declared.history.HistoryEntry.{HistoryEntry}

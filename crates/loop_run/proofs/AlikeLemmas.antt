@@ -3,7 +3,7 @@ use Rattle.std.proofs.Common.{◌≡◌, ◌∙◌, ℕ, zero, suc, ◌+◌, ◌
 use Rattle.std.specs.Prelude.{slice_set}
 use Rattle.std.proofs.lemmas.List.{take_more}
 use Rattle.gateway_book.specs.Book.{value_of}
-use Rattle.gateway_book.specs.Value.{BookValue}
+use Rattle.gateway_answer.specs.Value.{BookValue}
 use Rattle.loop_run.specs.Ending.{gateway_sum}
 use Rattle.loop_run.specs.Finishing.{AreAlike, shown}
 use Rattle.loop_run.specs.Seats.{LoopBook}

@@ -7,7 +7,7 @@ use Rattle.cgf_journal.specs.Trail as trail
 use Rattle.gate_journal.specs.Format.{Starts, header, spelled}
 use Rattle.gateway_book.specs.Book.{Stays, fortune_of, header_of, reopening_of, size_of, value_of}
 use Rattle.gateway_book.specs.Opened.{IsNotOurs}
-use Rattle.gateway_book.specs.Value.{BookValue, Fortune, after_commit, opened, standing_for}
+use Rattle.gateway_answer.specs.Value.{BookValue, Fortune, after_commit, opened, standing_for}
 use Rattle.gw_base.specs.Owes.{Begins}
 use Rattle.gw_base.specs.declared.history.HistoryEntry.{HistoryEntry}
 use Rattle.loop_run.specs.Addresses.{gateway_at}

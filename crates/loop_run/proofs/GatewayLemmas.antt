@@ -5,7 +5,7 @@ use Rattle.std.proofs.lemmas.List.{append-nil, nil_from_length}
 use Rattle.std.proofs.lemmas.List.Elements.{All-head, All-tail, All-weaker}
 use Rattle.area_disk.specs.Disk.{Rose}
 use Rattle.gateway_book.specs.Turning.{facts_of}
-use Rattle.gateway_book.specs.Value.{BookValue, history_of, standing_for, torn_of}
+use Rattle.gateway_answer.specs.Value.{BookValue, history_of, standing_for, torn_of}
 use Rattle.gw_base.specs.Facts.{joined as whole_of}
 use Rattle.gw_base.specs.Owes.{Begins}
 use Rattle.gw_base.specs.declared.address.Addr.{Addr}

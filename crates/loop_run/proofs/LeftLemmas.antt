@@ -3,7 +3,7 @@ use Rattle.std.proofs.Common.{◌≡◌, ◌≢◌, ◌⊎◌, ⊎_elim, ◌∙�
 use Rattle.std.proofs.lemmas.Option.{slice_get_within}
 use Rattle.std.specs.Prelude.{slice_get}
 use Rattle.gateway_book.specs.Book.{value_of}
-use Rattle.gateway_book.specs.Value.{BookValue, standing_for}
+use Rattle.gateway_answer.specs.Value.{BookValue, standing_for}
 use Rattle.gw_base.specs.declared.address.Addr.{Addr}
 use Rattle.loop_audit.specs.Standing.{KeepsAll}
 use Rattle.net_link.specs.Making.{LinksState}

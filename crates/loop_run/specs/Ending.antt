@@ -3,9 +3,9 @@ use Rattle.std.specs.Prelude.{◌≡◌, ℕ, ◌+◌, ◌<◌, not, Bool, true,
 use Rattle.std.specs.List.{flat_map, range_with_len}
 use Rattle.area_disk.specs.contracts.quiet.QuietAreaArea.TheImpl.{ghosts as quiet_area}
 use Rattle.area_disk.specs.declared.quiet.QuietArea.{QuietArea}
-use Rattle.gateway_book.specs.Filed.{filed}
+use Rattle.gateway_answer.specs.Filed.{filed}
 use Rattle.gateway_book.specs.Book.{value_of}
-use Rattle.gateway_book.specs.Value.{BookValue, history_of, standing_for}
+use Rattle.gateway_answer.specs.Value.{BookValue, history_of, standing_for}
 use Rattle.gateway_book.specs.declared.book.Book.{Book}
 use Rattle.gw_base.specs.Faults.{Rose}
 use Rattle.gw_base.specs.History.{copies_of}

@@ -1,7 +1,7 @@
 -- The steps of an end. No contract of a public call cites these.
 use Rattle.std.specs.Prelude.{◌≡◌, ℕ, ◌≤◌, suc, if◌then◌else◌, List, [], ◌∷◌, length, map, Option, None, Some, IfSome}
 use Rattle.gateway_book.specs.Book.{header_of, size_of, value_of}
-use Rattle.gateway_book.specs.Value.{BookValue}
+use Rattle.gateway_answer.specs.Value.{BookValue}
 use Rattle.gw_base.specs.declared.packet.PacketId.{PacketId}
 use Rattle.loop_audit.specs.Audit.{id_of}
 use Rattle.node_core.specs.Counting.{phase_of}

@@ -4,9 +4,9 @@
 use Rattle.std.specs.Prelude.{◌≡◌, ℕ, ◌+◌, ◌≤◌, List, [], ◌∷◌, Option, Some, length, slice_get}
 use Rattle.area_disk.specs.declared.area.Area as areas
 use Rattle.gate_journal.specs.Format.{header}
-use Rattle.gateway_book.specs.Answered.{entry_by, no_caller}
+use Rattle.gateway_answer.specs.Answered.{entry_by, no_caller}
 use Rattle.gateway_book.specs.Book.{header_of, size_of, value_of}
-use Rattle.gateway_book.specs.Value.{standing_for}
+use Rattle.gateway_answer.specs.Value.{standing_for}
 use Rattle.gateway_book.specs.declared.book.Book.{Book}
 use Rattle.gw_base.specs.declared.history.HistoryAct.TheVariants as act
 use Rattle.gw_base.specs.declared.history.HistoryEntry.{HistoryEntry}

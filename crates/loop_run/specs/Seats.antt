@@ -5,10 +5,10 @@ use Rattle.area_disk.specs.declared.quiet.QuietArea.{QuietArea}
 use Rattle.cdr_shelf.specs.contracts.quiet.QuietShelfShelf.TheImpl.{ghosts as quiet_shelf}
 use Rattle.cdr_shelf.specs.declared.quiet.QuietShelf.{QuietShelf}
 use Rattle.gate_journal.specs.Format.{header}
-use Rattle.gateway_book.specs.Answered.{entry_by, no_caller}
+use Rattle.gateway_answer.specs.Answered.{entry_by, no_caller}
 use Rattle.gateway_book.specs.Book.{header_of, size_of, value_of}
 use Rattle.gateway_book.specs.Turning.{facts_of}
-use Rattle.gateway_book.specs.Value.{BookValue, history_of, standing_for, torn_of}
+use Rattle.gateway_answer.specs.Value.{BookValue, history_of, standing_for, torn_of}
 use Rattle.gateway_book.specs.declared.book.Book.{Book}
 use Rattle.gw_base.specs.Owes.{Begins}
 use Rattle.gw_base.specs.declared.history.HistoryAct.TheVariants as act

@@ -8,8 +8,8 @@ use Rattle.area_disk.specs.declared.area.Area.{Ghosts}
 use Rattle.cdr_shelf.specs.declared.shelf.Shelf as shelf
 use Rattle.gate_journal.specs.Moments.{Told}
 use Rattle.gateway_book.specs.Book.{value_of}
-use Rattle.gateway_book.specs.Filed.{along}
-use Rattle.gateway_book.specs.Items.{items_between, items_by, items_of}
+use Rattle.gateway_answer.specs.Filed.{along}
+use Rattle.gateway_answer.specs.Items.{items_between, items_by, items_of}
 use Rattle.gateway_book.specs.Turning.{facts_of as book_facts, tells_lists}
 use Rattle.gateway_book.specs.declared.book.Book.{Book}
 use Rattle.gateway_book.specs.declared.outcome.ItemsFault.{ItemsFault}

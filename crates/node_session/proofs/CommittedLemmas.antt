@@ -11,7 +11,7 @@ use Rattle.gateway_book.specs.Read.{IsUnchanged}
 use Rattle.gateway_book.specs.Caller.{IsCommitTold}
 use Rattle.gateway_book.specs.Calls.{commit_left, length_at, settled_by, settled_of}
 use Rattle.gateway_book.specs.Turning.{facts_of, tells_lists}
-use Rattle.gateway_book.specs.Value.{BookValue, Fortune, Refused, Reopening, after_commit, committed, faulted, history_of, reopened, tried, tried_with}
+use Rattle.gateway_answer.specs.Value.{BookValue, Fortune, Refused, Reopening, after_commit, committed, faulted, history_of, reopened, tried, tried_with}
 use Rattle.gateway_book.specs.declared.book.Book.{Book}
 use Rattle.gateway_book.specs.declared.outcome.Broken.{Broken}
 use Rattle.gateway_book.specs.declared.outcome.Settled.{Settled}

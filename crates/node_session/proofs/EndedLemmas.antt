@@ -11,7 +11,7 @@ use Rattle.gw_base.specs.declared.history.HistoryEntry.{HistoryEntry}
 use Rattle.gateway_book.specs.Book.{Stays as StaysSo, value_of}
 use Rattle.gateway_book.specs.Read.{IsUnchanged}
 use Rattle.gateway_book.specs.Turning.{tells_lists}
-use Rattle.gateway_book.specs.Value.{BookValue}
+use Rattle.gateway_answer.specs.Value.{BookValue}
 use Rattle.gateway_book.specs.declared.book.Book.{Book}
 use Rattle.file_writer.specs.declared.writer.Writer.{Writer}
 use Rattle.node_session.specs.Settling.{Grows, HasTakenAll, IsSettled}

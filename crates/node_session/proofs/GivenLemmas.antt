@@ -5,7 +5,7 @@ use Rattle.std.proofs.lemmas.Bool.{true≢false, eq-eqb, eqb-true}
 use Rattle.std.proofs.lemmas.List.{append-nil, drop_at, length-drop, length-take, nil_from_length, take-append-drop, take_at}
 use Rattle.cdr_shelf.specs.Files.{SealedFile}
 use Rattle.cdr_shelf.specs.declared.shelf.Shelf.{Ghosts}
-use Rattle.gateway_book.specs.Items.{items_between, items_of}
+use Rattle.gateway_answer.specs.Items.{items_between, items_of}
 use Rattle.gw_base.specs.Facts.{WhereTold}
 use Rattle.gw_base.specs.declared.history.HistoryEntry.{HistoryEntry}
 use Rattle.gw_base.specs.declared.item.Item.{Item}

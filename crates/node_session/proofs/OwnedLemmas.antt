@@ -7,7 +7,7 @@ use Rattle.gw_base.specs.Facts.{Facts}
 use Rattle.gw_base.specs.Owes.{base}
 use Rattle.gw_base.specs.declared.history.HistoryAct.{HistoryAct}
 use Rattle.gw_base.specs.declared.history.HistoryEntry.{HistoryEntry}
-use Rattle.gateway_book.specs.Answered.{act_decided}
+use Rattle.gateway_answer.specs.Answered.{act_decided}
 use Rattle.job_inbox.specs.declared.job.Job.{Job}
 use Rattle.turn_cell.specs.Knowing.{facts_of}
 use Rattle.turn_cell.specs.Passes.{AreOwned}

@@ -6,11 +6,11 @@ use Rattle.std.proofs.lemmas.List.{append-nil}
 use Rattle.std.proofs.lemmas.List.Elements.{All-append, All-cons, All-nil, Contains-append_left, Contains-push}
 use Rattle.area_disk.specs.declared.area.Area.{Ghosts}
 use Rattle.gw_base.specs.Facts.{Facts, WhereTold}
-use Rattle.gateway_book.specs.Answer.{Decided, Says, Silent, failure_reply}
-use Rattle.gateway_book.specs.Answered.{act_decided}
+use Rattle.gateway_answer.specs.Answer.{Decided, Says, Silent, failure_reply}
+use Rattle.gateway_answer.specs.Answered.{act_decided}
 use Rattle.gateway_book.specs.Caller as caller
 use Rattle.gateway_book.specs.Calls.{cause_in}
-use Rattle.gateway_book.specs.Preparing.{prepared_of}
+use Rattle.gateway_answer.specs.Preparing.{prepared_of}
 use Rattle.gateway_book.specs.Turning.{facts_of as book_facts, tells_lists}
 use Rattle.gateway_book.specs.declared.outcome.Outcome.{Outcome}
 use Rattle.gateway_book.specs.declared.outcome.Outcome.TheVariants as outcome

@@ -9,12 +9,12 @@ use Rattle.gw_base.specs.Owes.{base}
 use Rattle.gw_base.specs.declared.history.Caller.{Caller}
 use Rattle.gw_base.specs.declared.history.HistoryAct.{HistoryAct}
 use Rattle.gw_base.specs.declared.history.HistoryEntry.{HistoryEntry}
-use Rattle.gateway_book.specs.Answered.{entry_by, with_act}
+use Rattle.gateway_answer.specs.Answered.{entry_by, with_act}
 use Rattle.gateway_book.specs.Book.{IsLeft, fortune_of, value_of}
 use Rattle.gateway_book.specs.Calls.{Left, closed, commit_left, marked_at, marked_if_ready}
-use Rattle.gateway_book.specs.Marks.{Mark, NotDue, close_mark}
+use Rattle.gateway_answer.specs.Marks.{Mark, NotDue, close_mark}
 use Rattle.gateway_book.specs.Turning.{IsTurn, act_in, act_marked, added_to, drops_of, facts_of, is_gone, tells_lists}
-use Rattle.gateway_book.specs.Value.{BookValue, history_of, readied, torn_of}
+use Rattle.gateway_answer.specs.Value.{BookValue, history_of, readied, torn_of}
 use Rattle.gateway_book.specs.declared.book.Book.{Book}
 use Rattle.gateway_book.specs.declared.outcome.Broken.{Broken}
 use Rattle.gateway_book.specs.declared.outcome.Marked.{Marked}

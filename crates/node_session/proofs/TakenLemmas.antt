@@ -12,14 +12,14 @@ use Rattle.gw_base.specs.declared.address.Addr.{Addr}
 use Rattle.gw_base.specs.declared.history.Caller.{Caller}
 use Rattle.gw_base.specs.declared.history.HistoryAct.{HistoryAct}
 use Rattle.gw_base.specs.declared.history.HistoryEntry.{HistoryEntry}
-use Rattle.gateway_book.specs.Answer.{Decided, Says, Silent, decided, failure_answer}
-use Rattle.gateway_book.specs.Answered.{act_decided, answer_to}
+use Rattle.gateway_answer.specs.Answer.{Decided, Says, Silent, decided, failure_answer}
+use Rattle.gateway_answer.specs.Answered.{act_decided, answer_to}
 use Rattle.gateway_book.specs.Book.{HasCause, IsLeft, fortune_of, size_of, value_of}
 use Rattle.gateway_book.specs.Caller.{IsAnswered, IsCounted, IsFailure, IsTold}
 use Rattle.gateway_book.specs.Calls.{given_at, outcome_at, taken}
-use Rattle.gateway_book.specs.Preparing.{prepared_of}
+use Rattle.gateway_answer.specs.Preparing.{prepared_of}
 use Rattle.gateway_book.specs.Turning.{added_to, drops_of, facts_of, is_gone, tells_lists}
-use Rattle.gateway_book.specs.Value.{BookValue, history_of, readied, recorded_if}
+use Rattle.gateway_answer.specs.Value.{BookValue, history_of, readied, recorded_if}
 use Rattle.gateway_book.specs.declared.book.Book.{Book}
 use Rattle.gateway_book.specs.declared.outcome.Outcome.{Outcome}
 use Rattle.gateway_book.specs.declared.outcome.Outcome.TheVariants.{Answer, Drop}

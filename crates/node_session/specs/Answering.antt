@@ -11,9 +11,9 @@ use Rattle.gw_base.specs.Owes.{Begins, base}
 use Rattle.gw_base.specs.declared.cause.TheConstants.{SYSTEM_FAILURE}
 use Rattle.gw_base.specs.declared.history.HistoryAct.{HistoryAct}
 use Rattle.gw_base.specs.declared.history.HistoryEntry.{HistoryEntry}
-use Rattle.gateway_book.specs.Answer.{Says, failure_reply}
+use Rattle.gateway_answer.specs.Answer.{Says, failure_reply}
 use Rattle.gateway_book.specs.Calls.{cause_in, is_above}
-use Rattle.gateway_book.specs.Preparing.{prepared_of}
+use Rattle.gateway_answer.specs.Preparing.{prepared_of}
 use Rattle.job_inbox.specs.declared.job.Job.{Job}
 use Rattle.net_link.specs.Datagrams.{LinkState, with_one}
 use Rattle.net_link.specs.Steps.{HasFailed}

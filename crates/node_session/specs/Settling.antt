@@ -9,16 +9,16 @@ use Rattle.gw_base.specs.Facts.{WhereTold}
 use Rattle.gw_base.specs.Owes.{base}
 use Rattle.gw_base.specs.declared.history.Caller.{Caller}
 use Rattle.gw_base.specs.declared.history.HistoryEntry.{HistoryEntry}
-use Rattle.gateway_book.specs.Answered.{with_act}
+use Rattle.gateway_answer.specs.Answered.{with_act}
 use Rattle.gateway_book.specs.Book.{area_of, size_of, value_of}
 use Rattle.gateway_book.specs.Calls.{counts_of}
-use Rattle.gateway_book.specs.Items.{items_of}
-use Rattle.gateway_book.specs.Marks.{close_mark}
-use Rattle.gateway_book.specs.Told.{AreCounted}
+use Rattle.gateway_answer.specs.Items.{items_of}
+use Rattle.gateway_answer.specs.Marks.{close_mark}
+use Rattle.gateway_book.specs.Counted.{AreCounted}
 use Rattle.gateway_book.specs.Turning.{act_marked, facts_of}
-use Rattle.gateway_book.specs.Value.{history_of}
+use Rattle.gateway_answer.specs.Value.{history_of}
 use Rattle.gateway_book.specs.declared.book.Book.{Book}
-use Rattle.gateway_book.specs.declared.told.Counts.{Counts}
+use Rattle.gateway_book.specs.declared.outcome.Counts.{Counts}
 use Rattle.file_writer.specs.Writer.{IsAt, is_broken, shelf_of, taken_of}
 use Rattle.file_writer.specs.declared.writer.Writer.{Writer}
 use Rattle.node_session.specs.Writing.{none_closed}

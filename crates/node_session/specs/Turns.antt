@@ -8,12 +8,12 @@ use Rattle.gw_base.specs.declared.history.Caller.{Caller}
 use Rattle.gw_base.specs.declared.history.HistoryAct.{HistoryAct}
 use Rattle.gw_base.specs.declared.history.HistoryEntry.{HistoryEntry}
 use Rattle.gw_base.specs.declared.item.Item.{Item}
-use Rattle.gateway_book.specs.Answer.{Decided, Says, Silent, decided, failure_answer}
-use Rattle.gateway_book.specs.Answered.{act_decided, answer, entry_by}
+use Rattle.gateway_answer.specs.Answer.{Decided, Says, Silent, decided, failure_answer}
+use Rattle.gateway_answer.specs.Answered.{act_decided, answer, entry_by}
 use Rattle.gateway_book.specs.Caller.{IsAnswered, IsFailure, TellsFault}
 use Rattle.gateway_book.specs.Calls.{cause_in, settled_by}
-use Rattle.gateway_book.specs.Items.{IsWritable, items_between}
-use Rattle.gateway_book.specs.Preparing.{prepared_of}
+use Rattle.gateway_answer.specs.Items.{IsWritable, items_between}
+use Rattle.gateway_answer.specs.Preparing.{prepared_of}
 use Rattle.gateway_book.specs.declared.outcome.ItemsFault.{ItemsFault}
 use Rattle.gateway_book.specs.declared.outcome.ItemsFault.TheVariants as fault
 use Rattle.gateway_book.specs.declared.outcome.Outcome.{Outcome}

@@ -6,7 +6,7 @@ use Rattle.cdr_shelf.specs.declared.shelf.Shelf.{Ghosts}
 use Rattle.gw_base.specs.Facts.{WhereTold}
 use Rattle.gw_base.specs.declared.history.HistoryEntry.{HistoryEntry}
 use Rattle.gw_base.specs.declared.item.Item.{Item}
-use Rattle.gateway_book.specs.Items.{items_of}
+use Rattle.gateway_answer.specs.Items.{items_of}
 use Rattle.file_writer.specs.Holding.{IsBegun}
 use Rattle.file_writer.specs.Writer.{Holds, IsAt, is_broken, settings_in, shelf_of, taken_of}
 use Rattle.file_writer.specs.declared.writer.Writer.{Writer}

@@ -4,7 +4,7 @@ ghost use Rattle.area_disk.specs.Disk.{Rose};
 ghost use Rattle.file_writer.specs.AllStreams.{IsFit};
 ghost use Rattle.file_writer.specs.Writer.{IsAt, is_broken, settings_in, shelf_of, taken_of};
 ghost use Rattle.file_writer.specs.declared.fault.ShelfFault.TheVariants.{Device};
-ghost use Rattle.gateway_book.specs.Items.{items_of};
+ghost use Rattle.gateway_answer.specs.Items.{items_of};
 ghost use Rattle.gw_base.specs.declared.history.HistoryEntry.{HistoryEntry};
 ghost use Rattle.gw_base.specs.declared.item.Item.{Item as ItemValue};
 ghost use Rattle.node_session.specs.Writing.{AreNext, Begins, HoldsFilesOf, IsWriterOf, none_closed, taken_before};

@@ -2,7 +2,7 @@
 use Rattle.std.proofs.Common.{◌≡◌, ℕ, ◌==◌, ◌&&◌, ◌||◌, Bool, true, false, if◌then◌else◌, List, [], ◌∷◌, ◌++◌, refl, sym, ap, subst, ◌∙◌}
 use Rattle.std.proofs.lemmas.Bool.{and_parts, eqb-true, false≢true}
 use Rattle.std.specs.List.{list_all, list_any}
-use Rattle.gateway_book.specs.Fit.{are_distinct, is_act_lawful, is_first, is_fresh, is_in_window, is_list_fit, is_packet_fit}
+use Rattle.gateway_answer.specs.Fit.{are_distinct, is_act_lawful, is_first, is_fresh, is_in_window, is_list_fit, is_packet_fit}
 use Rattle.gw_base.specs.EntryLaws.{present_state_is, state_of-append}
 use Rattle.gw_base.specs.History.{epoch_entries, epoch_of, given_state, last_naming, present_state, state_by, state_of}
 use Rattle.gw_base.specs.Observed.{Observed, observed}

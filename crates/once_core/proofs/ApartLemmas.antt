@@ -1,8 +1,8 @@
 -- No two records that nodes were given have one key: what is filed, and so what stands at a place, counts for one of them.
 use Rattle.std.proofs.Common.{◌≡◌, ℕ, zero, suc, ◌+◌, ◌≤◌, ◌==◌, ◌&&◌, Bool, true, false, cond, List, [], ◌∷◌, filter, map, Some, slice_get, refl, ap, ◌∙◌, arith}
 use Rattle.std.proofs.lemmas.Bool.{and_parts, eq-eqb, eqb-true}
-use Rattle.gateway_book.specs.Once.{is_record_of, same_key}
-use Rattle.gateway_book.specs.declared.filing.FiledRecord.{FiledRecord}
+use Rattle.gateway_answer.specs.Once.{is_record_of, same_key}
+use Rattle.gateway_answer.specs.declared.filing.FiledRecord.{FiledRecord}
 use Rattle.gw_base.specs.declared.history.PacketKey.{PacketKey}
 use Rattle.node_core.specs.Packets.{PacketState}
 use Rattle.node_core.specs.Roles.{uses, uses_by_copies}

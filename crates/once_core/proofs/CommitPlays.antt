@@ -3,9 +3,9 @@ pub use Rattle.once_core.proofs.PartLemmas.{noted, whole_book}
 use Rattle.std.proofs.Common.{◌≡◌, ℕ, ◌-◌, nat_le, not, Bool, true, false, List, [], ◌∷◌, ◌++◌, length, map, filter, Contains, refl, sym, ap, subst, ◌∙◌, arith, if◌then◌else◌, take_all}
 use Rattle.std.proofs.lemmas.Bool.{both_ways, cond-false, cond-true, not-true}
 use Rattle.gw_base.specs.declared.history.HistoryEntry.{HistoryEntry}
-use Rattle.gateway_book.specs.Value.{BookValue, history_of}
+use Rattle.gateway_answer.specs.Value.{BookValue, history_of}
 use Rattle.gw_base.specs.declared.history.HistoryAct.{HistoryAct}
-use Rattle.gateway_book.specs.Answered.{entry_by, no_caller}
+use Rattle.gateway_answer.specs.Answered.{entry_by, no_caller}
 use Rattle.once_core.specs.Gateway.{Gateway, cut, giving_up, is_reached, settling, still, Moved}
 use Rattle.once_core.specs.Happenings.{Firms, Keeps, Post, Scene, Happening, Notes, act_noted}
 use Rattle.once_core.specs.Happenings as did

@@ -18,10 +18,10 @@ use Rattle.gw_base.specs.declared.history.PacketKey.{PacketKey}
 use Rattle.gw_base.specs.declared.key_state.KeyState.{KeyState}
 use Rattle.gw_base.specs.declared.key_state.KeyState.TheVariants.{Fresh, Filed, Held, Released}
 use Rattle.node_core.specs.declared.copy.Order.TheVariants as order
-use Rattle.gateway_book.specs.Filed.{filed, filed_by, filed_under, held_packet, packet_of_hold, present_key, released_by, released_records, filed_by_act, filed_record, records_if}
-use Rattle.gateway_book.specs.FiledLaws.{along-append}
-use Rattle.gateway_book.specs.Once.{same_key, times_filed}
-use Rattle.gateway_book.specs.declared.filing.FiledRecord.{FiledRecord}
+use Rattle.gateway_answer.specs.Filed.{filed, filed_by, filed_under, held_packet, packet_of_hold, present_key, released_by, released_records, filed_by_act, filed_record, records_if}
+use Rattle.gateway_answer.specs.FiledLaws.{along-append}
+use Rattle.gateway_answer.specs.Once.{same_key, times_filed}
+use Rattle.gateway_answer.specs.declared.filing.FiledRecord.{FiledRecord}
 use Rattle.gtpp_message.specs.Packet.{PacketForm, packet_of}
 use Rattle.gw_base.specs.CdrKind.{kind_of}
 use Rattle.once_core.specs.Epochs.{RisesBy, StartsRise, epoch_with}

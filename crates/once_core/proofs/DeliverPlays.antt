@@ -18,11 +18,11 @@ use Rattle.gtpp_message.specs.Packet.{Empty, Full}
 use Rattle.gtpp_message.specs.Writing.{written}
 use Rattle.gtpp_message.specs.declared.message_types.TheConstants.{TRANSFER_REQUEST}
 use Rattle.gtpp_message.specs.declared.role.Role.TheVariants as role
-use Rattle.gateway_book.specs.Answer.{Given, answer_by, asked_by, decided, listed, responding, tabled, Decided, failure_answer, opening_epoch, replying}
-use Rattle.gateway_book.specs.Answered.{entry_by, no_caller}
-use Rattle.gateway_book.specs.Preparing.{PreparedValue, Refused, Request, framed, prepared_of, sends_values, Path}
-use Rattle.gateway_book.specs.PreparingLaws.{RolesRead}
-use Rattle.gateway_book.specs.Value.{history_of, recorded_if, recorded}
+use Rattle.gateway_answer.specs.Answer.{Given, answer_by, asked_by, decided, listed, responding, tabled, Decided, failure_answer, opening_epoch, replying}
+use Rattle.gateway_answer.specs.Answered.{entry_by, no_caller}
+use Rattle.gateway_answer.specs.Preparing.{PreparedValue, Refused, Request, framed, prepared_of, sends_values, Path}
+use Rattle.gateway_answer.specs.PreparingLaws.{RolesRead}
+use Rattle.gateway_answer.specs.Value.{history_of, recorded_if, recorded}
 use Rattle.gtpp_message.specs.Reading.{Message}
 use Rattle.gtpp_message.specs.Role.{for_role}
 use Rattle.gw_base.specs.declared.history.HistoryAct.TheVariants as act
@@ -32,7 +32,7 @@ use Rattle.path_mgmt.specs.GatewayPath.{opened_by}
 use Rattle.path_mgmt.specs.declared.event.PathEvent.{PathEvent}
 use Rattle.path_mgmt.specs.declared.event.PathEvent.TheVariants.{EchoAsked, EchoTold, AliveAsked, AliveTold}
 use Rattle.byteorder.specs.Endian.{big_bytes}
-use Rattle.gateway_book.specs.Told.{paths_of}
+use Rattle.gateway_answer.specs.Told.{paths_of}
 use Rattle.once_core.specs.Addresses.{node_address, node_id, node_ip, port_number, gateway_address}
 use Rattle.once_core.specs.Answers.{acting, answered, failed, failed_by}
 use Rattle.once_core.specs.Expired.{is_expired, is_expired_request, present_start, taken_for}

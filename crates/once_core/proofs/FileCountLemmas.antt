@@ -12,8 +12,8 @@ use Rattle.file_rotate.specs.Items.{Filed, Item, Record, records_of}
 use Rattle.file_rotate.specs.declared.limits.Limits.{Limits}
 use Rattle.file_writer.specs.Places.{FilePlace}
 use Rattle.file_writer.specs.Streams.{Settings}
-use Rattle.gateway_book.specs.Filed.{along, filed, filed_by, filed_by_act}
-use Rattle.gateway_book.specs.declared.filing.FiledRecord.{FiledRecord}
+use Rattle.gateway_answer.specs.Filed.{along, filed, filed_by, filed_by_act}
+use Rattle.gateway_answer.specs.declared.filing.FiledRecord.{FiledRecord}
 use Rattle.gw_base.specs.Lists.{once}
 use Rattle.gw_base.specs.declared.history.HistoryAct.{HistoryAct}
 use Rattle.gw_base.specs.declared.history.HistoryAct.TheVariants as act

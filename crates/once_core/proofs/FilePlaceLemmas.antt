@@ -7,9 +7,9 @@ use Rattle.std.proofs.lemmas.List.FromFn.{get_or-enumerate_from, length-enumerat
 use Rattle.file_rotate.specs.Items.{Filed, Item, Record, records_of}
 use Rattle.file_writer.specs.Places.{FilePlace, in_run, record_at, run_with}
 use Rattle.file_writer.specs.Streams.{Settings, stream_record}
-use Rattle.gateway_book.specs.Filed.{along, filed, filed_by, filed_by_act}
-use Rattle.gateway_book.specs.Items.{items_of}
-use Rattle.gateway_book.specs.declared.filing.FiledRecord.{FiledRecord}
+use Rattle.gateway_answer.specs.Filed.{along, filed, filed_by, filed_by_act}
+use Rattle.gateway_answer.specs.Items.{items_of}
+use Rattle.gateway_answer.specs.declared.filing.FiledRecord.{FiledRecord}
 use Rattle.gw_base.specs.declared.history.HistoryAct.{HistoryAct}
 use Rattle.gw_base.specs.declared.history.HistoryAct.TheVariants as act
 use Rattle.gw_base.specs.declared.history.HistoryEntry.{HistoryEntry}

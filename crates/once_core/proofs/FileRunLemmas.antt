@@ -15,9 +15,9 @@ use Rattle.file_rotate.specs.Items.{Filed, Item, Record, Tick, Close}
 use Rattle.file_rotate.specs.declared.limits.Limits.{Limits}
 use Rattle.file_writer.specs.Places.{runs_of}
 use Rattle.file_writer.specs.Streams.{Settings, record_if, stream_division, stream_item, stream_record}
-use Rattle.gateway_book.specs.Filed.{along, filed_by_act}
-use Rattle.gateway_book.specs.Items.{items_by, items_by_act, items_of, part_of}
-use Rattle.gateway_book.specs.declared.filing.FiledRecord.{FiledRecord}
+use Rattle.gateway_answer.specs.Filed.{along, filed_by_act}
+use Rattle.gateway_answer.specs.Items.{items_by, items_by_act, items_of, part_of}
+use Rattle.gateway_answer.specs.declared.filing.FiledRecord.{FiledRecord}
 use Rattle.gw_base.specs.declared.history.HistoryAct.{HistoryAct}
 use Rattle.gw_base.specs.declared.history.HistoryAct.TheVariants as act
 use Rattle.gw_base.specs.declared.history.HistoryEntry.{HistoryEntry}

@@ -5,9 +5,9 @@ use Rattle.std.specs.Option.{option_map_or}
 use Rattle.std.proofs.lemmas.Bool.Decides.{nat_tests}
 use Rattle.gtpp_message.specs.Packet.{PacketForm, packet_of}
 use Rattle.gw_base.specs.declared.history.PacketKey.{PacketKey}
-use Rattle.gateway_book.specs.Filed.{filed_record, filed_under, records_from, records_if}
-use Rattle.gateway_book.specs.Once.{is_record_of, same_key, times_filed}
-use Rattle.gateway_book.specs.declared.filing.FiledRecord.{FiledRecord}
+use Rattle.gateway_answer.specs.Filed.{filed_record, filed_under, records_from, records_if}
+use Rattle.gateway_answer.specs.Once.{is_record_of, same_key, times_filed}
+use Rattle.gateway_answer.specs.declared.filing.FiledRecord.{FiledRecord}
 use Rattle.once_core.specs.FiledOnce.{record_count, records_within}
 use Rattle.once_core.proofs.ListLemmas.{in_cons, in_none}
 use Rattle.once_core.proofs.CaseLemmas.{by_bool, by_option}

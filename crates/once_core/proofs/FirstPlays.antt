@@ -5,8 +5,8 @@ use Rattle.std.specs.Option.{option_map_or}
 use Rattle.std.proofs.lemmas.Bool.{cases_lt, ne_eqb}
 use Rattle.std.proofs.lemmas.Option.{same_Some, slice_get_past, slice_get_within}
 use Rattle.gw_base.specs.declared.history.HistoryAct.TheVariants as act
-use Rattle.gateway_book.specs.Answered.{no_caller}
-use Rattle.gateway_book.specs.Value.{committed, history_of, standing_for, BookValue}
+use Rattle.gateway_answer.specs.Answered.{no_caller}
+use Rattle.gateway_answer.specs.Value.{committed, history_of, standing_for, BookValue}
 use Rattle.node_core.specs.Log.{LogEntry, Began}
 use Rattle.once_core.specs.Addresses.{node_ip}
 use Rattle.once_core.specs.Beginning.{beginning, first_gateway, first_world, gateways_by, times_of, world_of}

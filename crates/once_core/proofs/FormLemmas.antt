@@ -7,7 +7,7 @@ use Rattle.ber_frame.specs.Checked.{checked, is_one_value}
 use Rattle.ber_frame.specs.declared.fault.BerFault.{BerFault}
 use Rattle.gtpp_message.specs.Packet.{PacketForm, Full, SpellRecords, packet_of, records_at}
 use Rattle.gtpp_message.specs.PacketWriting.{record_octets, value_of, with_record}
-use Rattle.gateway_book.specs.Preparing.{has_values}
+use Rattle.gateway_answer.specs.Preparing.{has_values}
 use Rattle.node_core.specs.Drafts.{addition_fault, ber_fault_of, is_without_records, most_datagram_octets, most_records, packet_anew, packet_of_form, packet_of_records, request_length, value_octets, value_octets_of}
 use Rattle.once_core.specs.World.{draft_of, is_draft, is_fault_free, takes_all}
 use Rattle.once_core.proofs.CaseLemmas.{by_bool, if_both, if_known}

@@ -11,7 +11,7 @@ use Rattle.gw_base.specs.declared.history.HistoryEntry.{HistoryEntry}
 use Rattle.gw_base.specs.declared.history.PacketKey.{PacketKey}
 use Rattle.gw_base.specs.declared.key_state.KeyState.{KeyState}
 use Rattle.gw_base.specs.declared.key_state.KeyState.TheVariants.{Fresh, Filed, Sealed, Held, Released}
-use Rattle.gateway_book.specs.Fit.{is_fresh}
+use Rattle.gateway_answer.specs.Fit.{is_fresh}
 use Rattle.gw_base.specs.ListLaws.{by_last}
 use Rattle.node_core.specs.declared.copy.Order.TheVariants as order
 use Rattle.once_core.specs.Epochs.{StartsRise, key_in}

@@ -4,9 +4,9 @@ use Rattle.std.proofs.lemmas.Bool.{ltb-false, ltb-true, cond-false}
 use Rattle.std.proofs.lemmas.List.{drop-take, drop_all, length-drop, length-take-le, take-append-drop, take-take, take_all}
 use Rattle.gw_base.specs.declared.address.Addr.{Addr}
 use Rattle.gw_base.specs.declared.history.HistoryEntry.{HistoryEntry}
-use Rattle.gateway_book.specs.Answer.{decided}
-use Rattle.gateway_book.specs.Answered.{answer}
-use Rattle.gateway_book.specs.Value.{BookValue, Whole, committed, history_of, reopened, standing_for}
+use Rattle.gateway_answer.specs.Answer.{decided}
+use Rattle.gateway_answer.specs.Answered.{answer}
+use Rattle.gateway_answer.specs.Value.{BookValue, Whole, committed, history_of, reopened, standing_for}
 use Rattle.once_core.specs.Addresses.{node_address}
 use Rattle.once_core.specs.Answers.{answer_at, answered, delivered, failed, if_broken}
 use Rattle.once_core.specs.Beginning.{default_rules}

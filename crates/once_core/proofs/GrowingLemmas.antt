@@ -1,11 +1,11 @@
 -- Firm parts grow in every move of a gateway, and so in every turn.
 use Rattle.std.proofs.Common.{ℕ, List, [], ◌++◌, None, refl, sym, ap, subst, ◌∙◌, append_assoc, append-nil, length, slice_get}
-use Rattle.gateway_book.specs.Answer.{Decided, Silent, Says, decided, failure_answer}
-use Rattle.gateway_book.specs.Filed.{along, filed, filed_by}
-use Rattle.gateway_book.specs.FiledLaws.{along-append}
-use Rattle.gateway_book.specs.Items.{items_by, items_of}
-use Rattle.gateway_book.specs.Preparing.{prepared_of}
-use Rattle.gateway_book.specs.Value.{history_of}
+use Rattle.gateway_answer.specs.Answer.{Decided, Silent, Says, decided, failure_answer}
+use Rattle.gateway_answer.specs.Filed.{along, filed, filed_by}
+use Rattle.gateway_answer.specs.FiledLaws.{along-append}
+use Rattle.gateway_answer.specs.Items.{items_by, items_of}
+use Rattle.gateway_answer.specs.Preparing.{prepared_of}
+use Rattle.gateway_answer.specs.Value.{history_of}
 use Rattle.gw_base.specs.declared.history.HistoryEntry.{HistoryEntry}
 use Rattle.node_core.specs.Log.{LogEntry}
 use Rattle.node_core.specs.Reached.{Halt}

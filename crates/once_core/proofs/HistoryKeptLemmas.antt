@@ -11,7 +11,7 @@ use Rattle.gw_base.specs.Lists.{raised}
 use Rattle.gw_base.specs.Starts.{opening_after, opening_of}
 use Rattle.gw_base.specs.declared.fault.NoMemory.{NoMemory}
 use Rattle.gw_base.specs.declared.history.Opening.{Opening}
-use Rattle.gateway_book.specs.declared.plain.OwnedAnswer.{OwnedAnswer}
+use Rattle.gateway_answer.specs.declared.plain.OwnedAnswer.{OwnedAnswer}
 use Rattle.gw_base.specs.Nearest.{nearest}
 use Rattle.gw_base.specs.Observed.{Observed}
 use Rattle.gw_base.specs.declared.address.Addr.{Addr}
@@ -31,10 +31,10 @@ use Rattle.transfer_cmd.specs.declared.decision.Ask.{Ask}
 use Rattle.transfer_cmd.specs.declared.decision.Ask.TheVariants as ask
 use Rattle.transfer_cmd.specs.declared.verdict.Verdict.{Verdict}
 use Rattle.transfer_cmd.specs.declared.verdict.Verdict.TheVariants.{Change}
-use Rattle.gateway_book.specs.Answer.{Decided, Given, answer_within, asked_by, changes, decided, held_ones, listed, may_record, node_of, opening_epoch, path_given, recorded_as, recording, tabled}
-use Rattle.gateway_book.specs.Limits.{has_place, is_in_range, may_hold, numbers_end, least_number, within_limits}
-use Rattle.gateway_book.specs.Plain.{IsBounded, answer_view}
-use Rattle.gateway_book.specs.Preparing.{PreparedValue, Path, Request}
+use Rattle.gateway_answer.specs.Answer.{Decided, Given, answer_within, asked_by, changes, decided, held_ones, listed, may_record, node_of, opening_epoch, path_given, recorded_as, recording, tabled}
+use Rattle.gateway_answer.specs.Limits.{has_place, is_in_range, may_hold, numbers_end, least_number, within_limits}
+use Rattle.gateway_answer.specs.Plain.{IsBounded, answer_view}
+use Rattle.gateway_answer.specs.Preparing.{PreparedValue, Path, Request}
 use Rattle.once_core.specs.Addresses.{first_node_ip}
 use Rattle.once_core.specs.HistoryKept.{AllKept, is_kept_act, is_kept_answer, is_of_world}
 use Rattle.once_core.proofs.CaseLemmas.{if_both, if_known}

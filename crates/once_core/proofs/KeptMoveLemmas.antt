@@ -10,11 +10,11 @@ use Rattle.gw_base.specs.declared.address.Addr.{Addr}
 use Rattle.gw_base.specs.declared.history.HistoryAct.{HistoryAct}
 use Rattle.gw_base.specs.declared.history.HistoryAct.TheVariants.{Tick, Close}
 use Rattle.gw_base.specs.declared.history.HistoryEntry.{HistoryEntry}
-use Rattle.gateway_book.specs.Answer.{Decided, Silent, Says, decided, failure_answer}
-use Rattle.gateway_book.specs.Preparing.{prepared_of}
-use Rattle.gateway_book.specs.Told.{paths_of}
-use Rattle.gateway_book.specs.Value.{BookValue, Fortune, history_of, recorded}
-use Rattle.gateway_book.specs.Answered.{no_caller}
+use Rattle.gateway_answer.specs.Answer.{Decided, Silent, Says, decided, failure_answer}
+use Rattle.gateway_answer.specs.Preparing.{prepared_of}
+use Rattle.gateway_answer.specs.Told.{paths_of}
+use Rattle.gateway_answer.specs.Value.{BookValue, Fortune, history_of, recorded}
+use Rattle.gateway_answer.specs.Answered.{no_caller}
 use Rattle.once_core.specs.Addresses.{gateway_address, node_at, port_at}
 use Rattle.once_core.specs.Answers.{acting, answer_at, answered, delivered, delivered_broken, delivered_running, failed, failed_by, if_broken, making_close, making_tick, marked, recorded_where, redirected, unless_expired}
 use Rattle.once_core.specs.Expired.{is_expired}

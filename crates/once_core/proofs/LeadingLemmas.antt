@@ -5,8 +5,8 @@ use Rattle.std.specs.List.{cons_option, filter_map}
 use Rattle.std.specs.Option.{option_map, option_map_or}
 use Rattle.std.proofs.lemmas.List.Elements.{All-cons, All-nil}
 use Rattle.std.proofs.lemmas.Option.{slice_get_within}
-use Rattle.gateway_book.specs.Told.{path_of, paths_of}
-use Rattle.gateway_book.specs.Value.{history_of}
+use Rattle.gateway_answer.specs.Told.{path_of, paths_of}
+use Rattle.gateway_answer.specs.Value.{history_of}
 use Rattle.gw_base.specs.EntryLaws.{opening_of-append}
 use Rattle.gw_base.specs.Known.{known_nodes}
 use Rattle.gw_base.specs.Starts.{opening_after, opening_of, start_by, start_of}

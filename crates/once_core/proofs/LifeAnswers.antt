@@ -28,14 +28,14 @@ use Rattle.transfer_cmd.specs.declared.decision.Ask.{Ask}
 use Rattle.transfer_cmd.specs.declared.decision.Ask.TheVariants as ask
 use Rattle.transfer_cmd.specs.declared.verdict.Verdict.{Verdict}
 use Rattle.transfer_cmd.specs.declared.verdict.Verdict.TheVariants.{Change}
-use Rattle.gateway_book.specs.Answer.{Given, Replies, answer_by, asked_by, changes, decided, failure_answer, held_ones, judged, opening_epoch, path_given, recorded_as, responding, sending, sending_again, tabled}
-use Rattle.gateway_book.specs.Answer as says
-use Rattle.gateway_book.specs.Answered.{entry_by, no_caller}
-use Rattle.gateway_book.specs.Preparing as of
-use Rattle.gateway_book.specs.Preparing.{PreparedValue, framed, prepared_of, sends_values}
-use Rattle.gateway_book.specs.PreparingLaws.{RolesRead}
-use Rattle.gateway_book.specs.Told.{paths_of}
-use Rattle.gateway_book.specs.Value.{history_of}
+use Rattle.gateway_answer.specs.Answer.{Given, Replies, answer_by, asked_by, changes, decided, failure_answer, held_ones, judged, opening_epoch, path_given, recorded_as, responding, sending, sending_again, tabled}
+use Rattle.gateway_answer.specs.Answer as says
+use Rattle.gateway_answer.specs.Answered.{entry_by, no_caller}
+use Rattle.gateway_answer.specs.Preparing as of
+use Rattle.gateway_answer.specs.Preparing.{PreparedValue, framed, prepared_of, sends_values}
+use Rattle.gateway_answer.specs.PreparingLaws.{RolesRead}
+use Rattle.gateway_answer.specs.Told.{paths_of}
+use Rattle.gateway_answer.specs.Value.{history_of}
 use Rattle.once_core.specs.Addresses.{node_address, node_id, node_ip, port_number}
 use Rattle.once_core.specs.Answers.{acting, answered, failed, failed_by, redirected, redirecting, replying}
 use Rattle.once_core.specs.Expired.{is_expired}

@@ -10,8 +10,8 @@ use Rattle.gw_base.specs.declared.history.HistoryAct.{HistoryAct}
 use Rattle.gw_base.specs.declared.history.HistoryAct.TheVariants as act
 use Rattle.gw_base.specs.declared.history.HistoryEntry.{HistoryEntry}
 use Rattle.gtpp_message.specs.declared.message_types.TheConstants.{NODE_ALIVE_RESPONSE}
-use Rattle.gateway_book.specs.Answered.{entry_by, no_caller}
-use Rattle.gateway_book.specs.Value.{BookValue, history_of, standing_for}
+use Rattle.gateway_answer.specs.Answered.{entry_by, no_caller}
+use Rattle.gateway_answer.specs.Value.{BookValue, history_of, standing_for}
 use Rattle.once_core.specs.Addresses.{node_ip}
 use Rattle.once_core.specs.Answers as out
 use Rattle.once_core.specs.Answers.{replying}

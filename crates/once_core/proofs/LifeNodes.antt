@@ -9,7 +9,7 @@ use Rattle.gtpp_message.specs.Role.{for_role}
 use Rattle.gtpp_message.specs.Writing.{written}
 use Rattle.gtpp_message.specs.declared.message_types.TheConstants.{NODE_ALIVE_RESPONSE}
 use Rattle.gtpp_message.specs.declared.role.Role.TheVariants as role
-use Rattle.gateway_book.specs.PreparingLaws.{RolesRead}
+use Rattle.gateway_answer.specs.PreparingLaws.{RolesRead}
 use Rattle.gw_base.specs.Nearest.{nearest}
 use Rattle.gw_base.specs.declared.cause.TheConstants.{ACCEPTED}
 use Rattle.path_mgmt.specs.NodePath.{is_alive, node_anew}

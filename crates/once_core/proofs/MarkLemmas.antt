@@ -1,10 +1,10 @@
 -- What an answer records is no mark.
 use Rattle.std.proofs.Common.{◌≡◌, Bool, false, refl}
-use Rattle.gateway_book.specs.Answer.{Given, answer_by, node_of}
-use Rattle.gateway_book.specs.EachAnswer.{HoldsOfEach, of_path, of_request}
-use Rattle.gateway_book.specs.Marks.{is_mark}
-use Rattle.gateway_book.specs.Preparing.{PreparedValue, Path, Request}
-use Rattle.gateway_book.specs.Recording.{IfRecords}
+use Rattle.gateway_answer.specs.Answer.{Given, answer_by, node_of}
+use Rattle.gateway_answer.specs.EachAnswer.{HoldsOfEach, of_path, of_request}
+use Rattle.gateway_answer.specs.Marks.{is_mark}
+use Rattle.gateway_answer.specs.Preparing.{PreparedValue, Path, Request}
+use Rattle.gateway_answer.specs.Recording.{IfRecords}
 use Rattle.gw_base.specs.Observed.{Observed}
 use Rattle.gw_base.specs.declared.address.Addr.{Addr}
 use Rattle.gw_base.specs.declared.history.HistoryAct.{HistoryAct}

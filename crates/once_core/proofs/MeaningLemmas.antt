@@ -6,8 +6,8 @@ use Rattle.gtpp_message.specs.Reading.{Message, reading}
 use Rattle.gtpp_message.specs.Role.{for_role, role_reading}
 use Rattle.gtpp_message.specs.Writing.{IsSendableMessage, body_octets, message_type, written}
 use Rattle.gtpp_message.specs.declared.role.Role.{Role}
-use Rattle.gateway_book.specs.Preparing.{sends_values}
-use Rattle.gateway_book.specs.PreparingLaws.{RolesRead}
+use Rattle.gateway_answer.specs.Preparing.{sends_values}
+use Rattle.gateway_answer.specs.PreparingLaws.{RolesRead}
 use Rattle.once_core.specs.Happenings.{Answers}
 use Rattle.once_core.specs.Meaning.{meaning_by, meaning_in, meaning_of}
 use Rattle.once_core.specs.Messages.{about, failing}

@@ -9,8 +9,8 @@ use Rattle.gw_base.specs.declared.history.Caller.{Caller}
 use Rattle.gw_base.specs.declared.history.HistoryAct.{HistoryAct}
 use Rattle.gw_base.specs.declared.history.HistoryAct.TheVariants as act
 use Rattle.gw_base.specs.declared.history.HistoryEntry.{HistoryEntry}
-use Rattle.gateway_book.specs.Answer.{Given}
-use Rattle.gateway_book.specs.Answered.{act_given, entry_by, with_act}
+use Rattle.gateway_answer.specs.Answer.{Given}
+use Rattle.gateway_answer.specs.Answered.{act_given, entry_by, with_act}
 use Rattle.node_core.specs.declared.copy.Order.TheVariants as order
 use Rattle.once_core.specs.Happenings.{Adds, Asks, Comes, Firms, Happening, Hears, Keeps, Letter, Meaning, Note, Notes, Opens, Orders, Post, Request, Scene, Sends, Starts, WaitingLetter, about, act_noted, cause_of, given, history, is_timely, reply}
 use Rattle.once_core.specs.Resting.{IsBorneOut, IsKnown, IsSent, PostHolds, Rests, RestsBy, SceneHolds, Tells, Waits}

@@ -1,7 +1,7 @@
 -- The number of an open copy is read as it is meant, where the gateway's present epoch is that of the node's start.
 use Rattle.std.proofs.Common.{◌↔◌, ◌≡◌, ◌⊎◌, inl, inr, ℕ, ◌+◌, ◌<◌, ◌≤◌, ◌%◌, Bool, false, List, [], Option, Some, None, Contains, refl, sym, ap, subst, ◌∙◌, arith}
 use Rattle.std.proofs.lemmas.Option.{same_Some, none-some}
-use Rattle.gateway_book.specs.Fit.{is_fresh}
+use Rattle.gateway_answer.specs.Fit.{is_fresh}
 use Rattle.gw_base.specs.EntryLaws.{present_state_is}
 use Rattle.gw_base.specs.History.{epoch_of, state_of, top_of}
 use Rattle.gw_base.specs.Nearest.{IsNearest, nearest}

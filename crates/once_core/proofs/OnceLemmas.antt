@@ -5,8 +5,8 @@ use Rattle.std.proofs.lemmas.List.Elements.{Contains-get_or}
 use Rattle.std.specs.List.{list_any}
 use Rattle.std.specs.Option.{option_map_or}
 use Rattle.std.proofs.lemmas.Option.{same_Some}
-use Rattle.gateway_book.specs.Filed.{filed}
-use Rattle.gateway_book.specs.Once.{times_filed}
+use Rattle.gateway_answer.specs.Filed.{filed}
+use Rattle.gateway_answer.specs.Once.{times_filed}
 use Rattle.gw_base.specs.History.{state_of}
 use Rattle.gw_base.specs.declared.history.HistoryEntry.{HistoryEntry}
 use Rattle.gw_base.specs.declared.key_state.KeyState.{KeyState}
@@ -19,7 +19,7 @@ use Rattle.node_core.specs.declared.copy.Order.TheVariants as order
 use Rattle.node_core.specs.declared.copy.PacketCopy.{PacketCopy}
 use Rattle.node_core.specs.declared.copy.Verdict.{Verdict}
 use Rattle.node_core.specs.declared.copy.Verdict.TheVariants as verdict
-use Rattle.gateway_book.specs.declared.filing.FiledRecord.{FiledRecord}
+use Rattle.gateway_answer.specs.declared.filing.FiledRecord.{FiledRecord}
 use Rattle.once_core.specs.Epochs.{epoch_with, key_in, state_with, times_with}
 use Rattle.once_core.specs.FiledOnce.{IsFiledUnder, IsOnce, filing_count, is_withheld, kind_within, record_count, records_within}
 use Rattle.once_core.specs.Following.{Follows}

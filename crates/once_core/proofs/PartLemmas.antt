@@ -2,15 +2,15 @@
 use Rattle.std.proofs.Common.{Bool, Contains, List, None, Option, Some, [], ap, append-nil, arith, false, length, not, refl, slice_get, subst, suc, sym, take, true, true≢false, ℕ, ◌&&◌, ◌++◌, ◌-◌, ◌||◌, ◌∙◌, ◌≡◌, ◌≤◌, option_map}
 use Rattle.std.proofs.lemmas.Bool.{and_parts, false≢true, leb-false, not-false, both_ways}
 use Rattle.std.specs.Option.{option_map_or, option_or}
-use Rattle.gateway_book.specs.Value.{BookValue, Fortune, Gone, Refused, Reopening, committed, faulted, history_of, recorded, reopened, standing_for, Whole}
+use Rattle.gateway_answer.specs.Value.{BookValue, Fortune, Gone, Refused, Reopening, committed, faulted, history_of, recorded, reopened, standing_for, Whole}
 use Rattle.gw_base.specs.declared.history.HistoryAct.{HistoryAct}
 use Rattle.gw_base.specs.declared.history.HistoryEntry.{HistoryEntry}
 use Rattle.gw_base.specs.declared.history.HistoryAct.TheVariants as act
 use Rattle.node_core.specs.Reached as call
 use Rattle.gw_base.specs.History.{is_close_due, moment_after}
 use Rattle.gw_base.specs.TickDue.{is_long_ago, is_tick_due, last_tick}
-use Rattle.gateway_book.specs.Marks.{is_mark}
-use Rattle.gateway_book.specs.Answered.{no_caller}
+use Rattle.gateway_answer.specs.Marks.{is_mark}
+use Rattle.gateway_answer.specs.Answered.{no_caller}
 use Rattle.node_core.specs.Log.{runs}
 use Rattle.once_core.specs.declared.event.WorldKind.TheVariants.{Halted, Restarts, Running}
 use Rattle.once_core.specs.Happenings.{Closes, Note, Starts, Ticks, act_noted}

@@ -6,7 +6,7 @@ use Rattle.std.proofs.lemmas.Bool.{and_from, false≢true, and_left, or_from}
 use Rattle.std.proofs.lemmas.Option.{slice_get_within}
 use Rattle.gw_base.specs.Starts.{start_of}
 use Rattle.gw_base.specs.declared.history.HistoryEntry.{HistoryEntry}
-use Rattle.gateway_book.specs.Value.{BookValue, Fortune, Gone, Refused, Reopening, Whole, history_of, reopened, tried}
+use Rattle.gateway_answer.specs.Value.{BookValue, Fortune, Gone, Refused, Reopening, Whole, history_of, reopened, tried}
 use Rattle.node_core.specs.Log.{LogEntry, NodeSetup, packets_of, paths_of, runs}
 use Rattle.node_core.specs.Moving.{moved_at_tick}
 use Rattle.node_core.specs.Nearness.{HasOpenCopy}

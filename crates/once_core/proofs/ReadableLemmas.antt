@@ -19,9 +19,9 @@ use Rattle.file_writer.specs.Places.{FilePlace, record_at}
 use Rattle.file_writer.specs.Reading.{IsStamped, ReadsAt}
 use Rattle.file_writer.specs.Streams.{Settings, closed_of, record_if, stream_count, stream_item, stream_items, stream_record}
 use Rattle.gate_journal.specs.Format.{most_octets}
-use Rattle.gateway_book.specs.Filed.{along, filed_under, held_packet, packet_of_hold, present_key, records_from, records_if, released_by, released_records}
-use Rattle.gateway_book.specs.Items.{items_by, items_by_act, items_of, part_of}
-use Rattle.gateway_book.specs.declared.filing.FiledRecord.{FiledRecord}
+use Rattle.gateway_answer.specs.Filed.{along, filed_under, held_packet, packet_of_hold, present_key, records_from, records_if, released_by, released_records}
+use Rattle.gateway_answer.specs.Items.{items_by, items_by_act, items_of, part_of}
+use Rattle.gateway_answer.specs.declared.filing.FiledRecord.{FiledRecord}
 use Rattle.gtpp_header.specs.Header.{two_octets}
 use Rattle.gtpp_message.specs.Packet.{PacketForm, packet_of, records_at}
 use Rattle.gtpp_message.specs.Packet as packets

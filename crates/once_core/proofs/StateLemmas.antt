@@ -3,7 +3,7 @@ use Rattle.std.proofs.Common.{◌≡◌, true, refl}
 use Rattle.std.proofs.lemmas.Bool.{false≢true}
 use Rattle.gw_base.specs.declared.key_state.KeyState.{KeyState}
 use Rattle.gw_base.specs.declared.key_state.KeyState.TheVariants.{Fresh, Filed, Sealed, Held, Released, Cancelled}
-use Rattle.gateway_book.specs.Fit.{is_fresh}
+use Rattle.gateway_answer.specs.Fit.{is_fresh}
 use Rattle.transfer_cmd.specs.Lists.{is_held}
 use Rattle.once_core.specs.Admitted.{moves_on}
 

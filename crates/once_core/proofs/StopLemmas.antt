@@ -1,6 +1,6 @@
 -- What a failed commit leaves, and what a stop leaves.
 use Rattle.std.proofs.Common.{◌≡◌, ℕ, ◌-◌, ◌≤◌, Bool, false, if◌then◌else◌, List, [], ◌++◌, length, take, refl, sym, ap, ◌∙◌, append-nil, length-append, take_all, arith}
-use Rattle.gateway_book.specs.Value.{BookValue, Gone, Whole, faulted, history_of, reopened, standing_for}
+use Rattle.gateway_answer.specs.Value.{BookValue, Gone, Whole, faulted, history_of, reopened, standing_for}
 use Rattle.gw_base.specs.declared.history.HistoryEntry.{HistoryEntry}
 use Rattle.once_core.specs.Gateway.{Gateway, cut}
 use Rattle.once_core.specs.Growing.{HoldSame}

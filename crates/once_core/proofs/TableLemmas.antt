@@ -3,14 +3,14 @@ use Rattle.std.proofs.Common.{◌≡◌, ℕ, ◌-◌, true, false, List, [], �
 use Rattle.std.specs.Prelude.{⊤, slice_get}
 use Rattle.std.proofs.lemmas.Bool.{both_ways}
 use Rattle.std.proofs.lemmas.Option.{same_Some}
-use Rattle.gateway_book.specs.Answer.{Decided, Given, Replies, Silent, Says, answer_by, decided, failure_answer}
-use Rattle.gateway_book.specs.Answered.{entry_by, no_caller}
-use Rattle.gateway_book.specs.Fit.{is_act_fit, is_act_lawful}
-use Rattle.gateway_book.specs.FitLaws.{records_also, records_tabled}
-use Rattle.gateway_book.specs.Marks.{is_mark}
-use Rattle.gateway_book.specs.Preparing.{IsWhole, prepared_of}
-use Rattle.gateway_book.specs.Recording.{IfRecords, IsTabled}
-use Rattle.gateway_book.specs.Value.{BookValue, history_of, recorded}
+use Rattle.gateway_answer.specs.Answer.{Decided, Given, Replies, Silent, Says, answer_by, decided, failure_answer}
+use Rattle.gateway_answer.specs.Answered.{entry_by, no_caller}
+use Rattle.gateway_answer.specs.Fit.{is_act_fit, is_act_lawful}
+use Rattle.gateway_answer.specs.FitLaws.{records_also, records_tabled}
+use Rattle.gateway_answer.specs.Marks.{is_mark}
+use Rattle.gateway_answer.specs.Preparing.{IsWhole, prepared_of}
+use Rattle.gateway_answer.specs.Recording.{IfRecords, IsTabled}
+use Rattle.gateway_answer.specs.Value.{BookValue, history_of, recorded}
 use Rattle.gw_base.specs.History.{is_close_due}
 use Rattle.gw_base.specs.Observed.{observed}
 use Rattle.gw_base.specs.declared.history.HistoryAct.{HistoryAct}

@@ -2,9 +2,9 @@
 use Rattle.std.proofs.Common.{◌≡◌, ◌⊎◌, inl, inr, ℕ, ◌-◌, ◌<◌, ◌≤◌, ◌==◌, ◌&&◌, true, false, List, [], filter, Option, Contains, slice_get, refl, sym, ap, subst, ◌∙◌, arith}
 use Rattle.std.specs.Option.{option_map_or}
 use Rattle.std.proofs.lemmas.Bool.{and_from, cases_lt, eq-eqb, eqb-true}
-use Rattle.gateway_book.specs.Filed.{filed}
-use Rattle.gateway_book.specs.Once.{same_key}
-use Rattle.gateway_book.specs.declared.filing.FiledRecord.{FiledRecord}
+use Rattle.gateway_answer.specs.Filed.{filed}
+use Rattle.gateway_answer.specs.Once.{same_key}
+use Rattle.gateway_answer.specs.declared.filing.FiledRecord.{FiledRecord}
 use Rattle.gw_base.specs.declared.cause.TheConstants.{ALREADY_FULFILLED}
 use Rattle.gw_base.specs.declared.history.HistoryEntry.{HistoryEntry}
 use Rattle.gw_base.specs.declared.history.PacketKey.{PacketKey}

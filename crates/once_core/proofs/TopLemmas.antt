@@ -2,7 +2,7 @@
 use Rattle.std.proofs.Common.{◌≡◌, ◌⊎◌, inl, inr, ℕ, max, ◌≤◌, ◌==◌, ◌&&◌, Bool, true, false, if◌then◌else◌, List, [], ◌∷◌, Option, Some, None, refl, sym, ap, subst, ◌∙◌, arith, ⊎_elim, eqb-true}
 use Rattle.std.specs.List.{list_any}
 use Rattle.std.proofs.lemmas.Bool.{and_parts, cases_lt, false≢true, or_cases}
-use Rattle.gateway_book.specs.Fit.{is_fresh}
+use Rattle.gateway_answer.specs.Fit.{is_fresh}
 use Rattle.gw_base.specs.EntryLaws.{opening_of-append, present_state-append, top_of-append}
 use Rattle.gw_base.specs.History.{given_state, present_state, top_after, top_of}
 use Rattle.gw_base.specs.Lists.{raised}

@@ -1,7 +1,7 @@
 -- Each turn of a world is what happens in a scene.
 pub use Rattle.once_core.proofs.PartLemmas.{it_runs}
 use Rattle.std.proofs.Common.{ℕ, suc, ◌≤◌, List, length, Contains, sym, ap, subst, ◌∙◌, take}
-use Rattle.gateway_book.specs.PreparingLaws.{RolesRead}
+use Rattle.gateway_answer.specs.PreparingLaws.{RolesRead}
 use Rattle.node_core.specs.Log.{LogEntry, runs}
 use Rattle.node_core.specs.Reached as call
 use Rattle.once_core.specs.Expired.{starts_in}

@@ -9,8 +9,8 @@ use Rattle.gtpp_message.specs.Packet.{PacketForm}
 use Rattle.gw_base.specs.CdrKind.{kind_of}
 use Rattle.gw_base.specs.declared.history.HistoryEntry.{HistoryEntry}
 use Rattle.gw_base.specs.declared.history.PacketKey.{PacketKey}
-use Rattle.gateway_book.specs.Once.{same_key}
-use Rattle.gateway_book.specs.declared.filing.FiledRecord.{FiledRecord}
+use Rattle.gateway_answer.specs.Once.{same_key}
+use Rattle.gateway_answer.specs.declared.filing.FiledRecord.{FiledRecord}
 use Rattle.node_core.specs.Drafts.{value_octets}
 use Rattle.node_core.specs.Log.{LogEntry}
 use Rattle.node_core.specs.Packets.{PacketState}

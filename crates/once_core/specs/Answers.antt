@@ -11,11 +11,11 @@ use Rattle.gw_base.specs.declared.address.Addr.{Addr}
 use Rattle.gw_base.specs.declared.history.HistoryAct.{HistoryAct}
 use Rattle.gw_base.specs.declared.history.HistoryAct.TheVariants.{Tick, Close}
 use Rattle.gw_base.specs.declared.history.HistoryEntry.{HistoryEntry}
-use Rattle.gateway_book.specs.Answer.{Decided, Silent, Says, answer_by, decided, failure_answer}
-use Rattle.gateway_book.specs.Answered.{no_caller}
-use Rattle.gateway_book.specs.Preparing.{prepared_of}
-use Rattle.gateway_book.specs.Told.{paths_of}
-use Rattle.gateway_book.specs.Value.{Fortune, history_of, recorded, recorded_if}
+use Rattle.gateway_answer.specs.Answer.{Decided, Silent, Says, answer_by, decided, failure_answer}
+use Rattle.gateway_answer.specs.Answered.{no_caller}
+use Rattle.gateway_answer.specs.Preparing.{prepared_of}
+use Rattle.gateway_answer.specs.Told.{paths_of}
+use Rattle.gateway_answer.specs.Value.{Fortune, history_of, recorded, recorded_if}
 use Rattle.once_core.specs.Addresses.{gateway_address, node_address, node_at, node_id, port_at}
 use Rattle.once_core.specs.Expired.{is_expired}
 use Rattle.once_core.specs.Gateway.{Gateway, Moved, Rules, followed, readying, settling, still}

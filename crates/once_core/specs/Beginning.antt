@@ -1,8 +1,8 @@
 -- How a world begins, and the settings of it by default.
 use Rattle.std.specs.Prelude.{◌≡◌, ℕ, suc, zero, ◌≤◌, true, false, List, [], ◌∷◌}
-use Rattle.gateway_book.specs.Answer.{may_record}
-use Rattle.gateway_book.specs.Answered.{room_for}
-use Rattle.gateway_book.specs.Value.{committed, is_batch_full, standing_for}
+use Rattle.gateway_answer.specs.Answer.{may_record}
+use Rattle.gateway_answer.specs.Answered.{room_for}
+use Rattle.gateway_answer.specs.Value.{committed, is_batch_full, standing_for}
 use Rattle.gw_base.specs.Observed.{observed}
 use Rattle.node_core.specs.Log.{Began}
 use Rattle.once_core.specs.Gateway.{Gateway, Rules, with_start}

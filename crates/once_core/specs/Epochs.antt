@@ -1,8 +1,8 @@
 -- Which epoch of a node began with which start, and the state and the filed records of a number by the start of its epoch.
 use Rattle.std.specs.Prelude.{ℕ, ◌==◌, ◌<◌, List, [], ◌∷◌, ◌++◌, Option, find, option_map}
 use Rattle.std.specs.Option.{option_map_or}
-use Rattle.gateway_book.specs.Filed.{filed}
-use Rattle.gateway_book.specs.Once.{times_filed}
+use Rattle.gateway_answer.specs.Filed.{filed}
+use Rattle.gateway_answer.specs.Once.{times_filed}
 use Rattle.gw_base.specs.History.{state_of}
 use Rattle.gw_base.specs.Starts.{start_of, starts_of}
 use Rattle.gw_base.specs.declared.history.HistoryAct.{HistoryAct}

@@ -8,8 +8,8 @@ use Rattle.file_rotate.specs.Division.{division_of}
 use Rattle.file_rotate.specs.Items.{Filed, Item, Record, Tick, Close}
 use Rattle.file_writer.specs.Places.{FilePlace, runs_of}
 use Rattle.file_writer.specs.Streams.{Settings}
-use Rattle.gateway_book.specs.Filed.{along, filed_by_act}
-use Rattle.gateway_book.specs.declared.filing.FiledRecord.{FiledRecord}
+use Rattle.gateway_answer.specs.Filed.{along, filed_by_act}
+use Rattle.gateway_answer.specs.declared.filing.FiledRecord.{FiledRecord}
 use Rattle.gw_base.specs.Lists.{once}
 use Rattle.gw_base.specs.declared.history.HistoryAct.{HistoryAct}
 use Rattle.gw_base.specs.declared.history.HistoryAct.TheVariants as act

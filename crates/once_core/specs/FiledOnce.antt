@@ -1,9 +1,9 @@
 -- Whether each record of a packet is filed once by all gateways together.
 use Rattle.std.specs.Prelude.{◌≡◌, ℕ, ◌<◌, ◌≤◌, Bool, true, false, All, Contains, List, [], length, Option, Some, option_map, slice_get, sum_by}
 use Rattle.std.specs.Option.{option_map_or}
-use Rattle.gateway_book.specs.Filed.{filed}
-use Rattle.gateway_book.specs.Once.{same_key}
-use Rattle.gateway_book.specs.declared.filing.FiledRecord.{FiledRecord}
+use Rattle.gateway_answer.specs.Filed.{filed}
+use Rattle.gateway_answer.specs.Once.{same_key}
+use Rattle.gateway_answer.specs.declared.filing.FiledRecord.{FiledRecord}
 use Rattle.gtpp_message.specs.Packet.{packet_of}
 use Rattle.gw_base.specs.CdrKind.{kind_of}
 use Rattle.gw_base.specs.declared.history.HistoryEntry.{HistoryEntry}

@@ -1,6 +1,6 @@
 -- What stays, whatever happens: laws say that a list goes on, and that two books hold the same.
 use Rattle.std.specs.Prelude.{◌≡◌, List, ◌++◌}
-use Rattle.gateway_book.specs.Value.{BookValue}
+use Rattle.gateway_answer.specs.Value.{BookValue}
 use Rattle.gw_base.specs.declared.history.HistoryEntry.{HistoryEntry}
 
 -- a list goes on with some more

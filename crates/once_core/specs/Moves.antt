@@ -1,7 +1,7 @@
 -- How a gateway that is kept moves.
 use Rattle.std.specs.Prelude.{◌≡◌, ℕ, List, ◌++◌}
-use Rattle.gateway_book.specs.Answered.{no_caller}
-use Rattle.gateway_book.specs.Value.{recorded}
+use Rattle.gateway_answer.specs.Answered.{no_caller}
+use Rattle.gateway_answer.specs.Value.{recorded}
 use Rattle.gw_base.specs.declared.history.HistoryAct.{HistoryAct}
 use Rattle.once_core.specs.Beginning.{default_rules}
 use Rattle.once_core.specs.Gateway.{Gateway, Moved, with_start}

@@ -2,8 +2,8 @@
 use Rattle.std.specs.Prelude.{ℕ, List, [], ◌∷◌, Option, option_map}
 use Rattle.std.specs.Option.{option_map_or}
 use Rattle.byteorder.specs.Endian.{big_bytes}
-use Rattle.gateway_book.specs.Told.{path_of}
-use Rattle.gateway_book.specs.Value.{history_of}
+use Rattle.gateway_answer.specs.Told.{path_of}
+use Rattle.gateway_answer.specs.Value.{history_of}
 use Rattle.gtpp_message.specs.Message.{RedirectionRequest}
 use Rattle.gtpp_message.specs.Writing.{written}
 use Rattle.gw_base.specs.declared.address.NodeId.{NodeId}

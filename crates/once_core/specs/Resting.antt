@@ -8,7 +8,7 @@ use Rattle.gw_base.specs.declared.history.HistoryEntry.{HistoryEntry}
 use Rattle.gw_base.specs.declared.cause.TheConstants.{ACCEPTED, ALREADY_FULFILLED}
 use Rattle.gw_base.specs.declared.key_state.KeyState.{KeyState}
 use Rattle.gw_base.specs.declared.key_state.KeyState.TheVariants.{Fresh, Filed, Sealed, Held, Released}
-use Rattle.gateway_book.specs.Fit.{is_fresh}
+use Rattle.gateway_answer.specs.Fit.{is_fresh}
 use Rattle.node_core.specs.Copies.{is_filing, is_fulfilled}
 use Rattle.node_core.specs.declared.copy.Order.TheVariants as order
 use Rattle.node_core.specs.declared.port.Port.{Port}

@@ -5,8 +5,8 @@ use Rattle.gw_base.specs.declared.cause.TheConstants.{ACCEPTED, ALREADY_FULFILLE
 use Rattle.gw_base.specs.declared.history.Caller.{Caller}
 use Rattle.gw_base.specs.declared.history.HistoryAct.{HistoryAct}
 use Rattle.gw_base.specs.declared.history.HistoryAct.TheVariants as act
-use Rattle.gateway_book.specs.Answer.{Given}
-use Rattle.gateway_book.specs.Answered.{act_given, entry_by}
+use Rattle.gateway_answer.specs.Answer.{Given}
+use Rattle.gateway_answer.specs.Answered.{act_given, entry_by}
 use Rattle.once_core.specs.Happenings.{Asks, Answers, Else, Happening, Sends, Hears, Comes, Opens, Notes, Firms, Keeps, Adds, Letter, Meaning, Deed, Sent, Heard, Post, Request, Scene, act_noted, given, history, is_timely, reply}
 
 -- the cause tells a node something of a copy

@@ -4,7 +4,7 @@
 use Rattle.std.specs.Prelude.{◌≡◌, ℕ, suc, ◌-◌, ◌%◌, ◌==◌, ◌&&◌, ◌||◌, not, nat_lt, Bool, false, List, [], ◌∷◌, length, map}
 use Rattle.entry_codec.specs.Content.{spelled}
 use Rattle.gate_journal.specs.Format.{longest_batch}
-use Rattle.gateway_book.specs.Value.{Fortune, Whole, most_for_one}
+use Rattle.gateway_answer.specs.Value.{Fortune, Whole, most_for_one}
 use Rattle.gw_base.specs.declared.history.HistoryEntry.{HistoryEntry}
 use Rattle.node_core.specs.Log.{LogEntry}
 use Rattle.node_core.specs.Value.{NodeValue}

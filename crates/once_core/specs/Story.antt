@@ -1,6 +1,6 @@
 -- A story in which a node follows the procedure: its packet comes to a gateway, is filed and answered.
 use Rattle.std.specs.Prelude.{ℕ, true, List, [], ◌∷◌, None}
-use Rattle.gateway_book.specs.Answered.{no_caller}
+use Rattle.gateway_answer.specs.Answered.{no_caller}
 use Rattle.node_core.specs.Packets.{PacketState}
 use Rattle.node_core.specs.declared.copy.Verdict.TheVariants.{Filed}
 use Rattle.node_core.specs.declared.port.Port.TheVariants.{First}

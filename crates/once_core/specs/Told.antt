@@ -1,7 +1,7 @@
 -- What the requests and the answers among the messages of a world tell for certain, and of which packets the records
 -- are that its gateways filed.
 use Rattle.std.specs.Prelude.{◌≡◌, ℕ, true, Contains, Some, slice_get}
-use Rattle.gateway_book.specs.declared.filing.FiledRecord.{FiledRecord}
+use Rattle.gateway_answer.specs.declared.filing.FiledRecord.{FiledRecord}
 use Rattle.gw_base.specs.CdrKind.{kind_of}
 use Rattle.gw_base.specs.declared.cause.TheConstants.{ALREADY_FULFILLED}
 use Rattle.gw_base.specs.declared.key_state.KeyState.TheVariants as state

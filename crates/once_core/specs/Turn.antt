@@ -1,7 +1,7 @@
 -- What an event makes of a world: whether the world allows it, and what happens then.
 use Rattle.std.specs.Prelude.{ℕ, ◌-◌, ◌&&◌, not, nat_le, nat_lt, Bool, true, false, if◌then◌else◌, List, [], ◌∷◌, ◌++◌, length, Option, Some, None, option_map, take, slice_get, slice_set}
 use Rattle.std.specs.Option.{option_map_or, option_or}
-use Rattle.gateway_book.specs.Value.{Fortune, Whole}
+use Rattle.gateway_answer.specs.Value.{Fortune, Whole}
 use Rattle.node_core.specs.Log.{LogEntry, runs}
 use Rattle.node_core.specs.Reached.{Halt, Start}
 use Rattle.once_core.specs.Answers.{closing, delivered, making_tick, marked, redirected}

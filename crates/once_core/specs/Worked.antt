@@ -2,7 +2,7 @@
 use Rattle.std.specs.Prelude.{ℕ, pos, Bool, true, List, [], ◌∷◌, ◌++◌, length, map, None}
 use Rattle.std.specs.List.{flat_map}
 use Rattle.file_writer.specs.Streams.{Settings}
-use Rattle.gateway_book.specs.Value.{Gone}
+use Rattle.gateway_answer.specs.Value.{Gone}
 use Rattle.node_core.specs.Packets.{is_resolved}
 use Rattle.once_core.specs.Addresses.{node_ip}
 use Rattle.once_core.specs.Beginning.{default_rules, world_of}

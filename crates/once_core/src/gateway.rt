@@ -1,12 +1,12 @@
 // A gateway of a world, as plain lists.
 ghost use Rattle.std.specs.Prelude.{◌≡◌, [], ◌∷◌, ◌||◌, false, true, IfOk, OnOk};
-ghost use Rattle.gateway_book.specs.Value.{is_batch_full};
+ghost use Rattle.gateway_answer.specs.Value.{is_batch_full};
 ghost use Rattle.once_core.specs.HistoryKept.{is_kept_act};
 
 use crate::due::{joined, parted};
 use crate::message::{Message, Waiting};
 use crate::room::{SIZE, first_moment, is_rest_full};
-use gateway_book::has_room;
+use gateway_answer::has_room;
 use gw_base::{Act, Caller, HistoryAct, HistoryEntry, Moment, NoMemory, scan};
 use std::alloc::Global;
 use std::marker::Model;

@@ -1,7 +1,7 @@
 // What a gateway of a world makes of a message, of a mark and of a redirection.
 ghost use Rattle.std.specs.Prelude.{◌≡◌, ◌<◌, [], ◌++◌, true, IfOk, OnOk};
-ghost use Rattle.gateway_book.specs.Plain.{answer_view};
-ghost use Rattle.gateway_book.specs.Value.{history_of};
+ghost use Rattle.gateway_answer.specs.Plain.{answer_view};
+ghost use Rattle.gateway_answer.specs.Value.{history_of};
 ghost use Rattle.once_core.specs.Answers.{answer_at};
 ghost use Rattle.once_core.specs.HistoryKept.{is_kept_answer};
 ghost use Rattle.once_core.specs.Messages.{answering};
@@ -12,7 +12,7 @@ use crate::expired::is_expired;
 use crate::gateway::KeptGateway;
 use crate::message::{Message, Waiting};
 use crate::room::SIZE;
-use gateway_book::{OwnedAnswer, answer, has_room, prepare};
+use gateway_answer::{OwnedAnswer, answer, has_room, prepare};
 use gtpp_message::Message as Body;
 use gw_base::{Act, Addr, HistoryAct, Moment, NoMemory, NodeId, Octets, Short, scan};
 use std::alloc::Global;

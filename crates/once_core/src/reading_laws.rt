@@ -7,9 +7,9 @@ ghost use Rattle.file_writer.specs.Places.{FilePlace};
 ghost use Rattle.file_writer.specs.Reading.{ReadsAt};
 ghost use Rattle.file_writer.specs.Streams.{Settings, closed_of, stream_record};
 ghost use Rattle.gate_journal.specs.Format.{most_octets};
-ghost use Rattle.gateway_book.specs.FitHistory.{StandsFitFor};
-ghost use Rattle.gateway_book.specs.Items.{items_of};
-ghost use Rattle.gateway_book.specs.declared.filing.FiledRecord.{FiledRecord};
+ghost use Rattle.gateway_answer.specs.FitHistory.{StandsFitFor};
+ghost use Rattle.gateway_answer.specs.Items.{items_of};
+ghost use Rattle.gateway_answer.specs.declared.filing.FiledRecord.{FiledRecord};
 ghost use Rattle.gw_base.specs.declared.history.HistoryEntry.{HistoryEntry};
 ghost use Rattle.once_core.specs.FilePlaces.{placed};
 ghost use Rattle.once_core.specs.Readable.{AreFileSettings};
@@ -27,6 +27,6 @@ pub fn what_a_history_files_is_read()
 {
     cdr_file::each_stamp_fits();
     file_writer::places::a_record_is_read_at_its_place();
-    gateway_book::laws::items_are_fewer_than_octets();
+    gateway_answer::laws::items_are_fewer_than_octets();
     what_stands_at_a_place_was_filed();
 }

@@ -3,7 +3,7 @@ ghost use Rattle.std.specs.Prelude.{◌≡◌};
 ghost use Rattle.once_core.specs.Standing.{is_rest_full};
 
 use gate_journal::LONGEST_BATCH;
-use gateway_book::costs_of;
+use gateway_answer::costs_of;
 use gw_base::{HistoryEntry, Moment};
 
 /// The octets of a gateway's journal.

@@ -3,8 +3,8 @@
 //! function that does nothing.
 
 ghost use Rattle.std.specs.Prelude.{ℕ, Contains};
-ghost use Rattle.gateway_book.specs.Filed.{filed};
-ghost use Rattle.gateway_book.specs.declared.filing.FiledRecord.{FiledRecord};
+ghost use Rattle.gateway_answer.specs.Filed.{filed};
+ghost use Rattle.gateway_answer.specs.declared.filing.FiledRecord.{FiledRecord};
 ghost use Rattle.once_core.specs.Beginning.{IsReached};
 ghost use Rattle.once_core.specs.Once.{firm_in};
 ghost use Rattle.once_core.specs.Told.{MeanCopies, NameChoices, TellStates, WasSubmitted};

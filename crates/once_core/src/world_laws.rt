@@ -5,12 +5,12 @@ ghost use Rattle.std.specs.Prelude.{◌≡◌, ◌-◌, ◌<◌, ◌≤◌, ◌+
 ghost use Rattle.file_rotate.specs.Items.{Filed};
 ghost use Rattle.file_writer.specs.Places.{FilePlace, place_in, record_at};
 ghost use Rattle.file_writer.specs.Streams.{Settings, stream_record};
-ghost use Rattle.gateway_book.specs.Filed.{filed};
-ghost use Rattle.gateway_book.specs.Items.{items_of};
-ghost use Rattle.gateway_book.specs.Once.{is_record_of, times_filed};
-ghost use Rattle.gateway_book.specs.Told.{paths_of};
-ghost use Rattle.gateway_book.specs.Value.{BookValue, Gone, Refused, Whole, faulted, history_of, reopened, standing_for};
-ghost use Rattle.gateway_book.specs.declared.filing.FiledRecord.{FiledRecord};
+ghost use Rattle.gateway_answer.specs.Filed.{filed};
+ghost use Rattle.gateway_answer.specs.Items.{items_of};
+ghost use Rattle.gateway_answer.specs.Once.{is_record_of, times_filed};
+ghost use Rattle.gateway_answer.specs.Told.{paths_of};
+ghost use Rattle.gateway_answer.specs.Value.{BookValue, Gone, Refused, Whole, faulted, history_of, reopened, standing_for};
+ghost use Rattle.gateway_answer.specs.declared.filing.FiledRecord.{FiledRecord};
 ghost use Rattle.gw_base.specs.History.{state_of};
 ghost use Rattle.gw_base.specs.declared.history.HistoryEntry.{HistoryEntry};
 ghost use Rattle.gw_base.specs.declared.history.PacketKey.{PacketKey};
@@ -32,7 +32,7 @@ ghost use Rattle.once_core.specs.declared.message.Message.{Message};
 
 use crate::once_laws::{a_node_follows_the_procedure, a_node_knows_what_it_was_told};
 use crate::told_laws::what_is_filed_was_submitted;
-use gateway_book::FiledRecord as Filing;
+use gateway_answer::FiledRecord as Filing;
 
 /// What turns make of a first world of a gateway or more is reached, also where all gateways go by the
 /// same rules in every turn; and what turns make of a world that is reached is reached.
@@ -159,7 +159,7 @@ pub fn histories_keep_to_the_table()
     ensures states { (w : World) (later : List RuledTurn) (place : ℕ) (key : PacketKey) → IsReached w →
         moves_on (state_of key (firm_in w place)) (state_of key (firm_in (ruled_turns w later) place)) ≡ true }
 {
-    gateway_book::laws::what_is_prepared_is_whole();
+    gateway_answer::laws::what_is_prepared_is_whole();
 }
 
 /// The starts of each node rise in what is firm at a gateway. So no two epochs of a node there begin

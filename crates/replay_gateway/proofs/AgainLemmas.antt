@@ -1,10 +1,10 @@
 -- What a message makes of a broken gateway, by what comes of the opening of its journal.
 use Rattle.std.proofs.Common.{◌≡◌, ◌∙◌, refl, sym, ap, subst, ℕ, ◌||◌, Bool, true, false, true≢false, if◌then◌else◌, List, [], ◌++◌, Option, Some, None, append-nil}
-use Rattle.gateway_book.specs.Answer.{decided, failure_answer}
+use Rattle.gateway_answer.specs.Answer.{decided, failure_answer}
 use Rattle.gateway_book.specs.Comes.{Asked, AsksCommit, AsksNothing, AsksReopening, asked_to_commit, asked_to_ready}
-use Rattle.gateway_book.specs.Preparing.{prepared_of}
+use Rattle.gateway_answer.specs.Preparing.{prepared_of}
 use Rattle.gateway_book.specs.Up.{Sequel, GoesOn, Breaks, Stops, fortune_by}
-use Rattle.gateway_book.specs.Value.{BookValue, Fortune, Gone, Whole, faulted, history_of, is_batch_full, readied, reopened, tried}
+use Rattle.gateway_answer.specs.Value.{BookValue, Fortune, Gone, Whole, faulted, history_of, is_batch_full, readied, reopened, tried}
 use Rattle.gw_base.specs.declared.history.HistoryEntry.{HistoryEntry}
 use Rattle.once_core.specs.Answers.{answer_at, answered, delivered, failed, if_broken}
 use Rattle.once_core.specs.Expired.{is_expired}

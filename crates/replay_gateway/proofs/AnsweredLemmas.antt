@@ -3,14 +3,14 @@ use Rattle.std.proofs.Common.{◌≡◌, ◌∙◌, refl, sym, ap, subst, ℕ, n
 use Rattle.std.proofs.lemmas.List.{append-nil}
 use Rattle.area_disk.specs.Armed.{Armed}
 use Rattle.area_disk.specs.Armed.Armed.{Nothing}
-use Rattle.gateway_book.specs.Answer.{Decided, Silent, Says, decided, failure_answer}
-use Rattle.gateway_book.specs.Answered.{answer_to, no_caller}
+use Rattle.gateway_answer.specs.Answer.{Decided, Silent, Says, decided, failure_answer}
+use Rattle.gateway_answer.specs.Answered.{answer_to, no_caller}
 use Rattle.gateway_book.specs.Calls.{Left, cause_in, left_by, outcome_at}
 use Rattle.gateway_book.specs.Comes.{Asked, AsksNothing, asked_to_ready}
-use Rattle.gateway_book.specs.Items.{items_of}
-use Rattle.gateway_book.specs.Preparing.{PreparedValue, Drop, Refused, Request, prepared_of}
+use Rattle.gateway_answer.specs.Items.{items_of}
+use Rattle.gateway_answer.specs.Preparing.{PreparedValue, Drop, Refused, Request, prepared_of}
 use Rattle.gateway_book.specs.Up.{IsUp, Sequel, GoesOn, Breaks, Stops, fortune_by}
-use Rattle.gateway_book.specs.Value.{BookValue, Fortune, committed, faulted, history_of, is_batch_full, readied, recorded_if, reopened, tried}
+use Rattle.gateway_answer.specs.Value.{BookValue, Fortune, committed, faulted, history_of, is_batch_full, readied, recorded_if, reopened, tried}
 use Rattle.gateway_book.specs.declared.outcome.Outcome.{Outcome}
 use Rattle.gateway_book.specs.declared.outcome.Outcome.TheVariants as outcome
 use Rattle.gateway_book.specs.declared.outcome.Receipt.{Receipt}

@@ -14,11 +14,11 @@ use Rattle.area_disk.specs.declared.plan.Plan.{Plan}
 use Rattle.cdr_shelf.specs.declared.memory.MemoryShelf.{MemoryShelf}
 use Rattle.cgf_journal.specs.Trail.{stop_stands}
 use Rattle.file_writer.specs.Leaving.{AreOpenFiles}
-use Rattle.gateway_book.specs.Items.{items_of}
+use Rattle.gateway_answer.specs.Items.{items_of}
 use Rattle.gateway_book.specs.Book.{Stays, area_of, value_of}
 use Rattle.gateway_book.specs.Opened.{StandsFitFor}
 use Rattle.gateway_book.specs.Up.{HoldsHistory, IsUp}
-use Rattle.gateway_book.specs.Value.{BookValue}
+use Rattle.gateway_answer.specs.Value.{BookValue}
 use Rattle.gateway_book.specs.declared.book.Book.{Book}
 use Rattle.replay_gateway.specs.Opening.{ArmsAs}
 use Rattle.once_core.specs.Gateway.{Gateway}

@@ -1,9 +1,9 @@
 -- What is asked of a gateway's book, call by call.
 use Rattle.std.proofs.Common.{◌≡◌, ℕ, true, false, All}
-use Rattle.gateway_book.specs.Answered.{no_caller}
-use Rattle.gateway_book.specs.Marks.{close_mark, tick_mark}
+use Rattle.gateway_answer.specs.Answered.{no_caller}
+use Rattle.gateway_answer.specs.Marks.{close_mark, tick_mark}
 use Rattle.gateway_book.specs.Up.{fortune_by}
-use Rattle.gateway_book.specs.Value.{Fortune, history_of, readied}
+use Rattle.gateway_answer.specs.Value.{Fortune, history_of, readied}
 use Rattle.once_core.specs.Gateway.{Gateway, is_reached, with_book}
 use Rattle.replay_gateway.specs.Asking.{asked_by, asked_move, asked_value}
 use Rattle.replay_gateway.specs.Device.{is_stop, sequel_on}

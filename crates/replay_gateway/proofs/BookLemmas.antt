@@ -2,13 +2,13 @@
 use Rattle.std.proofs.Common.{◌≡◌, ◌∙◌, refl, sym, ap, subst, ℕ, Bool, true, false, if◌then◌else◌, List, [], ◌∷◌, ◌++◌}
 use Rattle.std.proofs.lemmas.List.{append-nil}
 use Rattle.area_disk.specs.Armed.{Armed}
-use Rattle.gateway_book.specs.Answer.{Decided}
-use Rattle.gateway_book.specs.Answered.{act_decided}
+use Rattle.gateway_answer.specs.Answer.{Decided}
+use Rattle.gateway_answer.specs.Answered.{act_decided}
 use Rattle.gateway_book.specs.Calls.{Left, left_by, marked_at, marked_if_ready}
 use Rattle.gateway_book.specs.Comes.{AsksCommit, AsksNothing, AsksReopening}
-use Rattle.gateway_book.specs.Marks.{Mark, NotDue}
+use Rattle.gateway_answer.specs.Marks.{Mark, NotDue}
 use Rattle.gateway_book.specs.Up.{Sequel, Stops, fortune_by, ready_sequel_of, sequel_of}
-use Rattle.gateway_book.specs.Value.{BookValue, Fortune, Refused, Reopening, Whole, after_commit, committed, faulted, is_batch_full, readied, recorded_if, reopened, tried, tried_with}
+use Rattle.gateway_answer.specs.Value.{BookValue, Fortune, Refused, Reopening, Whole, after_commit, committed, faulted, is_batch_full, readied, recorded_if, reopened, tried, tried_with}
 use Rattle.gateway_book.specs.declared.outcome.Marked.{Marked}
 use Rattle.gateway_book.specs.declared.outcome.Marked.TheVariants as made
 use Rattle.gw_base.specs.declared.history.Caller.{Caller}

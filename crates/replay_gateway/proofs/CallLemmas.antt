@@ -9,10 +9,10 @@ use Rattle.area_disk.specs.declared.memory.MemoryArea.{MemoryArea}
 use Rattle.file_writer.specs.Streams.{Settings}
 use Rattle.gateway_book.specs.Book.{Stays}
 use Rattle.gateway_book.specs.Calls.{Left}
-use Rattle.gateway_book.specs.Filed.{along}
-use Rattle.gateway_book.specs.Items.{items_by, items_of}
+use Rattle.gateway_answer.specs.Filed.{along}
+use Rattle.gateway_answer.specs.Items.{items_by, items_of}
 use Rattle.gateway_book.specs.Up.{HasLeft, HoldsHistory, Sequel, GoesOn, Breaks, Stops}
-use Rattle.gateway_book.specs.Value.{BookValue, history_of}
+use Rattle.gateway_answer.specs.Value.{BookValue, history_of}
 use Rattle.gateway_book.specs.declared.book.Book.{Book}
 use Rattle.gw_base.specs.declared.history.HistoryEntry.{HistoryEntry}
 use Rattle.gw_base.specs.declared.item.Item.{Item}

@@ -1,9 +1,9 @@
 -- How many records the items of a history are.
 use Rattle.std.proofs.Common.{◌≡◌, refl, ℕ, ◌+◌, List, [], ◌∷◌, ◌++◌, length, map, count_by, if◌then◌else◌, arith, length-append}
 use Rattle.std.proofs.lemmas.List.Sums.{sum_by-append, sum_by-cons}
-use Rattle.gateway_book.specs.Filed.{along, filed, filed_by, filed_by_act}
-use Rattle.gateway_book.specs.Items.{items_by, items_by_act, items_of, part_of}
-use Rattle.gateway_book.specs.declared.filing.FiledRecord.{FiledRecord}
+use Rattle.gateway_answer.specs.Filed.{along, filed, filed_by, filed_by_act}
+use Rattle.gateway_answer.specs.Items.{items_by, items_by_act, items_of, part_of}
+use Rattle.gateway_answer.specs.declared.filing.FiledRecord.{FiledRecord}
 use Rattle.gw_base.specs.declared.history.HistoryAct.{HistoryAct}
 use Rattle.gw_base.specs.declared.history.HistoryAct.TheVariants as act
 use Rattle.gw_base.specs.declared.history.HistoryEntry.{HistoryEntry}

@@ -2,7 +2,7 @@
 use Rattle.std.proofs.Common.{◌≡◌, ◌∙◌, refl, sym, ap, subst, ℕ, ◌&&◌, Bool, true, false, not, if◌then◌else◌, []}
 use Rattle.gateway_book.specs.Comes.{Asked, AsksNothing, asked_to_ready}
 use Rattle.gateway_book.specs.Up.{Sequel, GoesOn, Breaks, Stops, fortune_by}
-use Rattle.gateway_book.specs.Value.{Fortune, history_of, readied}
+use Rattle.gateway_answer.specs.Value.{Fortune, history_of, readied}
 use Rattle.once_core.specs.Answers.{answer_at, delivered, delivered_broken, delivered_running, if_broken}
 use Rattle.once_core.specs.Expired.{is_expired}
 use Rattle.once_core.specs.Gateway.{Gateway, Moved, still}

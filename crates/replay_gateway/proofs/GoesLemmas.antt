@@ -4,12 +4,12 @@ use Rattle.std.proofs.lemmas.List.{append-nil}
 use Rattle.std.proofs.lemmas.List.Elements.{recursion_from_All}
 use Rattle.std.specs.List.{AllByRecursion}
 use Rattle.area_disk.specs.Armed.{Armed}
-use Rattle.gateway_book.specs.Answered.{no_caller, room_for}
+use Rattle.gateway_answer.specs.Answered.{no_caller, room_for}
 use Rattle.gateway_book.specs.Calls.{marked_at, marked_if_ready}
 use Rattle.gateway_book.specs.Comes.{Asked, AsksNothing, AsksReopening, asked_to_commit, asked_with}
-use Rattle.gateway_book.specs.Marks.{Mark, NotDue, Makes, close_mark, made_if, tick_mark}
+use Rattle.gateway_answer.specs.Marks.{Mark, NotDue, Makes, close_mark, made_if, tick_mark}
 use Rattle.gateway_book.specs.Up.{Sequel, GoesOn, Breaks, Stops, fortune_by, sequel_of}
-use Rattle.gateway_book.specs.Value.{BookValue, Fortune, after_commit, history_of, is_batch_full, readied, reopened, tried, tried_with}
+use Rattle.gateway_answer.specs.Value.{BookValue, Fortune, after_commit, history_of, is_batch_full, readied, reopened, tried, tried_with}
 use Rattle.gw_base.specs.History.{is_close_due}
 use Rattle.gw_base.specs.TickDue.{is_tick_due}
 use Rattle.gw_base.specs.declared.history.HistoryAct.TheVariants.{Tick, Close}

@@ -1,6 +1,6 @@
 -- What is told of a message at a gateway that has opened its journal again, by what the gateway is then.
 use Rattle.std.proofs.Common.{◌≡◌, ◌∙◌, ap, Bool, true, false, if◌then◌else◌, Option, Some, None}
-use Rattle.gateway_book.specs.Value.{history_of}
+use Rattle.gateway_answer.specs.Value.{history_of}
 use Rattle.once_core.specs.Expired.{is_expired}
 use Rattle.once_core.specs.Gateway.{Gateway}
 use Rattle.once_core.specs.declared.message.Message.{Message}

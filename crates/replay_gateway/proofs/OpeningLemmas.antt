@@ -11,15 +11,15 @@ use Rattle.area_disk.specs.declared.plan.Plan.{Plan}
 use Rattle.area_disk.specs.declared.plan.Outcome3.TheVariants.{New}
 use Rattle.cgf_journal.specs.Trail.{stop_stands}
 use Rattle.gate_journal.specs.Format.{Starts, header}
-use Rattle.gateway_book.specs.Answered.{no_caller, room_for}
+use Rattle.gateway_answer.specs.Answered.{no_caller, room_for}
 use Rattle.gateway_book.specs.Book.{area_of, header_of, size_of, value_of}
 use Rattle.gateway_book.specs.Comes.{LeavesFit, asked_to_commit, left_by_stop, plan_of}
-use Rattle.gateway_book.specs.Filed.{along}
-use Rattle.gateway_book.specs.Items.{items_by, items_of}
+use Rattle.gateway_answer.specs.Filed.{along}
+use Rattle.gateway_answer.specs.Items.{items_by, items_of}
 use Rattle.gateway_book.specs.OpenPlan.{OpensAsPlanned, is_device, is_memory_fault}
 use Rattle.gateway_book.specs.Opened.{FindsHistory, IsMadeAnew, IsNotOurs, IsOpened, IsRefused, StandsFitFor}
 use Rattle.gateway_book.specs.Up.{GoesOn, IsUp, Sequel, fortune_by, sequel_of}
-use Rattle.gateway_book.specs.Value.{BookValue, after_commit, committed, history_of, opened, recorded, standing_for}
+use Rattle.gateway_answer.specs.Value.{BookValue, after_commit, committed, history_of, opened, recorded, standing_for}
 use Rattle.gateway_book.specs.declared.book.Book.{Book}
 use Rattle.gateway_book.specs.declared.outcome.BookFault.{BookFault}
 use Rattle.gateway_book.specs.declared.outcome.BookFault.TheVariants.{Device, NoMemory, NotOurs}

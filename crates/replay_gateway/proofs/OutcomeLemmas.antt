@@ -1,14 +1,14 @@
 -- What a book makes of a message's datagram.
 use Rattle.std.proofs.Common.{◌≡◌, ◌∙◌, refl, ap, subst, ℕ, ◌++◌, Bool, true, false, if◌then◌else◌, List, Option, Some, None}
 use Rattle.area_disk.specs.Armed.{Armed}
-use Rattle.gateway_book.specs.Answer.{Given, decided, failure_answer}
-use Rattle.gateway_book.specs.Answered.{act_decided, answer_to, no_caller}
+use Rattle.gateway_answer.specs.Answer.{Given, decided, failure_answer}
+use Rattle.gateway_answer.specs.Answered.{act_decided, answer_to, no_caller}
 use Rattle.gateway_book.specs.Calls.{given_at, taken}
-use Rattle.gateway_book.specs.Filed.{along}
-use Rattle.gateway_book.specs.Items.{items_by, items_of}
-use Rattle.gateway_book.specs.Preparing.{PreparedValue, Drop, prepared_of}
+use Rattle.gateway_answer.specs.Filed.{along}
+use Rattle.gateway_answer.specs.Items.{items_by, items_of}
+use Rattle.gateway_answer.specs.Preparing.{PreparedValue, Drop, prepared_of}
 use Rattle.gateway_book.specs.Up.{Sequel, fortune_by, ready_sequel_of}
-use Rattle.gateway_book.specs.Value.{BookValue, Fortune, history_of, readied, recorded_if}
+use Rattle.gateway_answer.specs.Value.{BookValue, Fortune, history_of, readied, recorded_if}
 use Rattle.gateway_book.specs.declared.outcome.Outcome.{Outcome}
 use Rattle.gw_base.specs.declared.address.Addr.{Addr}
 use Rattle.gw_base.specs.declared.history.HistoryAct.{HistoryAct}

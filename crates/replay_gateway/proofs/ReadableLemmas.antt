@@ -14,9 +14,9 @@ use Rattle.file_writer.specs.Places.{FilePlace, in_run, record_at, run_with}
 use Rattle.file_writer.specs.Reading.{ReadsAt}
 use Rattle.file_writer.specs.Streams.{Settings, closed_of, stream_division, stream_record}
 use Rattle.gate_journal.specs.Format.{most_octets}
-use Rattle.gateway_book.specs.Items.{items_of}
+use Rattle.gateway_answer.specs.Items.{items_of}
 use Rattle.gateway_book.specs.Opened.{StandsFitFor}
-use Rattle.gateway_book.specs.declared.filing.FiledRecord.{FiledRecord}
+use Rattle.gateway_answer.specs.declared.filing.FiledRecord.{FiledRecord}
 use Rattle.gw_base.specs.declared.history.HistoryEntry.{HistoryEntry}
 use Rattle.gw_base.specs.declared.item.Item.{Item}
 use Rattle.gw_base.specs.declared.tag.Tag.{Tag}

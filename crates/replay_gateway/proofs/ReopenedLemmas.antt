@@ -1,7 +1,7 @@
 -- What a message makes of a broken gateway, which opens its journal again first.
 use Rattle.std.proofs.Common.{◌≡◌, ◌∙◌, ap, ℕ, ◌&&◌, ◌||◌, Bool, true, false, not, if◌then◌else◌}
 use Rattle.gateway_book.specs.Comes.{AsksCommit, AsksNothing, AsksReopening, asked_to_commit, asked_to_ready, asked_with}
-use Rattle.gateway_book.specs.Value.{Fortune, history_of, is_batch_full, reopened, tried}
+use Rattle.gateway_answer.specs.Value.{Fortune, history_of, is_batch_full, reopened, tried}
 use Rattle.once_core.specs.Answers.{answered, delivered, delivered_broken, delivered_running, if_broken, unless_expired}
 use Rattle.once_core.specs.Expired.{is_expired}
 use Rattle.once_core.specs.Gateway.{Gateway, Moved, committing, followed, still, with_book}

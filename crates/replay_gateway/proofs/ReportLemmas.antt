@@ -4,11 +4,11 @@ use Rattle.std.specs.List.{flat_map}
 use Rattle.std.proofs.lemmas.List.Concat.{flat_map-append}
 use Rattle.cdr_shelf.specs.Files.{SealedFile}
 use Rattle.file_writer.specs.Files.{stream_files}
-use Rattle.gateway_book.specs.declared.told.Counts as told
-use Rattle.gateway_book.specs.Answered.{entry_by, no_caller, room_for}
-use Rattle.gateway_book.specs.Filed.{filed}
-use Rattle.gateway_book.specs.Items.{items_of}
-use Rattle.gateway_book.specs.Value.{BookValue, history_of, opened, recorded, standing_for}
+use Rattle.gateway_book.specs.declared.outcome.Counts as told
+use Rattle.gateway_answer.specs.Answered.{entry_by, no_caller, room_for}
+use Rattle.gateway_answer.specs.Filed.{filed}
+use Rattle.gateway_answer.specs.Items.{items_of}
+use Rattle.gateway_answer.specs.Value.{BookValue, history_of, opened, recorded, standing_for}
 use Rattle.gw_base.specs.History.{begins_epoch, copies_of, fate_of, names, with_entry, with_fate}
 use Rattle.gw_base.specs.declared.history.HistoryAct.{HistoryAct}
 use Rattle.gw_base.specs.declared.history.HistoryAct.TheVariants.{Start, Hold}

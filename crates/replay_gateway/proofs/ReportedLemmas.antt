@@ -4,7 +4,7 @@ use Rattle.std.specs.List.{flat_map}
 use Rattle.cdr_shelf.specs.Files.{SealedFile}
 use Rattle.file_writer.specs.Files.{files_below, stream_files}
 use Rattle.file_writer.specs.Streams.{Settings, closed_of, stream_count}
-use Rattle.gateway_book.specs.Items.{items_of}
+use Rattle.gateway_answer.specs.Items.{items_of}
 use Rattle.gw_base.specs.declared.item.Item.{Item}
 use Rattle.once_core.specs.Gateway.{Gateway}
 use Rattle.replay_gateway.specs.GatewayReport.{book_of, counts_line, file_line, gateway_report, gateway_text, sealed_below}

@@ -7,7 +7,7 @@ use Rattle.file_rotate.specs.Items.{Filed}
 use Rattle.file_writer.specs.Files.{AreFilesOf, stream_files}
 use Rattle.file_writer.specs.Leaving.{AreOpenFiles, IsOpenFile}
 use Rattle.file_writer.specs.Streams.{Settings, closed_of, stream_count}
-use Rattle.gateway_book.specs.Items.{items_of}
+use Rattle.gateway_answer.specs.Items.{items_of}
 use Rattle.gateway_book.specs.Opened.{StandsFitFor}
 use Rattle.gw_base.specs.declared.history.HistoryEntry.{HistoryEntry}
 use Rattle.gw_base.specs.declared.item.Item.{Item}

@@ -7,8 +7,8 @@ use Rattle.file_rotate.specs.Items as stream
 use Rattle.file_rotate.specs.declared.limits.Limits.{Limits}
 use Rattle.file_writer.specs.Laws.{DivisionGoesOn}
 use Rattle.file_writer.specs.Streams.{Settings, stream_division, stream_item, stream_items}
-use Rattle.gateway_book.specs.Filed.{along}
-use Rattle.gateway_book.specs.Items.{items_by, items_by_act, items_of}
+use Rattle.gateway_answer.specs.Filed.{along}
+use Rattle.gateway_answer.specs.Items.{items_by, items_by_act, items_of}
 use Rattle.gw_base.specs.EntryLaws.{is_close_due-append}
 use Rattle.gw_base.specs.History.{due_after, is_close_due}
 use Rattle.gw_base.specs.ListLaws.{by_last}

@@ -1,11 +1,11 @@
 -- What a gateway makes of a message, by what its book answers.
 use Rattle.std.proofs.Common.{◌≡◌, ◌∙◌, refl, sym, ap, ℕ, Bool, true, false, if◌then◌else◌, List, All}
 use Rattle.std.proofs.lemmas.List.{append-nil}
-use Rattle.gateway_book.specs.Answer.{Decided, Silent, decided, failure_answer}
-use Rattle.gateway_book.specs.Answered.{answer_to}
+use Rattle.gateway_answer.specs.Answer.{Decided, Silent, decided, failure_answer}
+use Rattle.gateway_answer.specs.Answered.{answer_to}
 use Rattle.gateway_book.specs.Calls.{given_at}
-use Rattle.gateway_book.specs.Preparing.{prepared_of}
-use Rattle.gateway_book.specs.Value.{BookValue, Fortune, history_of, readied}
+use Rattle.gateway_answer.specs.Preparing.{prepared_of}
+use Rattle.gateway_answer.specs.Value.{BookValue, Fortune, history_of, readied}
 use Rattle.gtpp_message.specs.declared.reading.Why.{Why}
 use Rattle.once_core.specs.Addresses.{node_address}
 use Rattle.once_core.specs.Answers.{acting, answer_at, answered, failed, failed_by, if_broken}

@@ -23,7 +23,7 @@ use Rattle.file_writer.specs.Writer as writer
 use Rattle.file_writer.specs.declared.fault.ShelfFault.{ShelfFault}
 use Rattle.file_writer.specs.declared.fault.ShelfFault.TheVariants.{Device, NoMemory}
 use Rattle.file_writer.specs.declared.writer.Writer.{Writer}
-use Rattle.gateway_book.specs.Items.{IsWritable}
+use Rattle.gateway_answer.specs.Items.{IsWritable}
 use Rattle.gw_base.specs.declared.item.Item.{Item}
 use Rattle.gw_base.specs.declared.item.Item.TheVariants as item
 use Rattle.replay_gateway.specs.Filing.{all_filed, filed_by, filing_after, items_given, items_taken, shelf_calls, shelf_came}

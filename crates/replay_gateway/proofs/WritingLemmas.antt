@@ -1,7 +1,7 @@
 -- The items that a gateway's firm entries make, which are read and written.
 use Rattle.std.proofs.Common.{◌≡◌, ◌∙◌, sym, ap, subst, ℕ, ◌+◌, ◌<◌, ◌^◌, List, length, take, drop, take_all, length-take, length-drop, Option, Some, None, false, true≢false, arith}
 use Rattle.area_disk.specs.declared.memory.MemoryArea.{MemoryArea}
-use Rattle.gateway_book.specs.Items.{items_of}
+use Rattle.gateway_answer.specs.Items.{items_of}
 use Rattle.gateway_book.specs.Read.{IsUnchanged}
 use Rattle.gateway_book.specs.Up.{IsUp}
 use Rattle.gateway_book.specs.declared.book.Book.{Book}

@@ -1,9 +1,9 @@
 -- What is asked of a gateway's book: what the area is asked for it, and what comes of it.
 use Rattle.std.specs.Prelude.{ℕ}
-use Rattle.gateway_book.specs.Answered.{no_caller}
+use Rattle.gateway_answer.specs.Answered.{no_caller}
 use Rattle.gateway_book.specs.Calls.{closed}
 use Rattle.gateway_book.specs.Comes.{Asked, asked_to_commit, asked_to_ready}
-use Rattle.gateway_book.specs.Value.{BookValue, Fortune, after_commit}
+use Rattle.gateway_answer.specs.Value.{BookValue, Fortune, after_commit}
 use Rattle.once_core.specs.Answers.{making_close, making_tick, marked}
 use Rattle.once_core.specs.Gateway.{Gateway, Moved, committing}
 use Rattle.replay_gateway.specs.Called.{tick_left}

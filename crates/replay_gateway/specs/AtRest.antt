@@ -7,9 +7,9 @@ use Rattle.file_writer.specs.Files.{AreFilesOf}
 use Rattle.file_writer.specs.Places.{FilePlace}
 use Rattle.file_writer.specs.Reading.{ReadsAt}
 use Rattle.file_writer.specs.Streams.{Settings, stream_division, stream_record}
-use Rattle.gateway_book.specs.Items.{items_of}
+use Rattle.gateway_answer.specs.Items.{items_of}
 use Rattle.gateway_book.specs.Opened.{StandsFitFor}
-use Rattle.gateway_book.specs.declared.filing.FiledRecord.{FiledRecord}
+use Rattle.gateway_answer.specs.declared.filing.FiledRecord.{FiledRecord}
 use Rattle.gw_base.specs.declared.history.HistoryEntry.{HistoryEntry}
 use Rattle.gw_base.specs.declared.item.Item.{Item}
 use Rattle.once_core.specs.FilePlaces.{placed}

@@ -5,14 +5,14 @@ use Rattle.area_disk.specs.Armed.{IsArmed}
 use Rattle.area_disk.specs.Armed.Armed.{Nothing}
 use Rattle.area_disk.specs.declared.area.Area.{Ghosts}
 use Rattle.area_disk.specs.declared.memory.MemoryArea.{MemoryArea}
-use Rattle.gateway_book.specs.Answered.{no_caller}
+use Rattle.gateway_answer.specs.Answered.{no_caller}
 use Rattle.gateway_book.specs.Book.{open_time_of, size_of, value_of}
 use Rattle.gateway_book.specs.Calls.{Left, taken, ticked}
-use Rattle.gateway_book.specs.Items.{items_of}
-use Rattle.gateway_book.specs.Preparing.{prepared_of}
+use Rattle.gateway_answer.specs.Items.{items_of}
+use Rattle.gateway_answer.specs.Preparing.{prepared_of}
 use Rattle.gateway_book.specs.Up as up
 use Rattle.gateway_book.specs.Up.{IsCut, HoldsHistory, Sequel, GoesOn, Breaks, Stops, fortune_by}
-use Rattle.gateway_book.specs.Value.{BookValue, Fortune}
+use Rattle.gateway_answer.specs.Value.{BookValue, Fortune}
 use Rattle.gateway_book.specs.declared.book.Book.{Book}
 use Rattle.gateway_book.specs.declared.outcome.Marked.{Marked}
 use Rattle.gateway_book.specs.declared.outcome.Outcome.{Outcome}

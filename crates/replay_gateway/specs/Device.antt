@@ -3,7 +3,7 @@ use Rattle.std.specs.Prelude.{ℕ, not, ◌&&◌, Bool, true, false, if◌then�
 use Rattle.area_disk.specs.Armed.Armed.{Nothing}
 use Rattle.gateway_book.specs.Comes.{Asked, AsksCommit, AsksNothing, AsksReopening, asked_to_ready}
 use Rattle.gateway_book.specs.Up.{Sequel, GoesOn, Breaks, Stops, sequel_of}
-use Rattle.gateway_book.specs.Value.{history_of}
+use Rattle.gateway_answer.specs.Value.{history_of}
 use Rattle.once_core.specs.Expired.{is_expired}
 use Rattle.once_core.specs.Gateway.{Gateway}
 use Rattle.once_core.specs.declared.message.Message.{Message}

@@ -6,9 +6,9 @@ use Rattle.cdr_shelf.specs.Files.{SealedFile}
 use Rattle.cdr_shelf.specs.declared.file_name.FileName.{FileName}
 use Rattle.file_writer.specs.Files.{files_of, stream_files}
 use Rattle.file_writer.specs.Streams.{Settings, stream_count}
-use Rattle.gateway_book.specs.Filed.{filed}
-use Rattle.gateway_book.specs.Items.{items_of}
-use Rattle.gateway_book.specs.Value.{BookValue, history_of, standing_for}
+use Rattle.gateway_answer.specs.Filed.{filed}
+use Rattle.gateway_answer.specs.Items.{items_of}
+use Rattle.gateway_answer.specs.Value.{BookValue, history_of, standing_for}
 use Rattle.gw_base.specs.History.{copies_of}
 use Rattle.gw_base.specs.declared.item.Item.{Item}
 use Rattle.hex.specs.Hex.{encode_upper}

@@ -2,7 +2,7 @@
 use Rattle.std.specs.Prelude.{◌≡◌, ℕ, List}
 use Rattle.gateway_book.specs.Comes.{Asked}
 use Rattle.gateway_book.specs.Up.{Sequel, GoesOn, Breaks, Stops, fortune_by}
-use Rattle.gateway_book.specs.Value.{Fortune}
+use Rattle.gateway_answer.specs.Value.{Fortune}
 use Rattle.once_core.specs.Gateway.{Gateway, Moved, cut, still}
 use Rattle.once_core.specs.declared.message.Message.{Message}
 use Rattle.replay_gateway.specs.Device.{entries_kept, machine_after, sequel_on}

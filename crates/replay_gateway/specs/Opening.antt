@@ -4,7 +4,7 @@ use Rattle.area_disk.specs.Armed.{Armed}
 use Rattle.area_disk.specs.Armed.Armed.{Nothing, Fail, Stop}
 use Rattle.area_disk.specs.Disk.{last_count}
 use Rattle.area_disk.specs.declared.plan.Plan.{Plan}
-use Rattle.gateway_book.specs.Value.{opened}
+use Rattle.gateway_answer.specs.Value.{opened}
 use Rattle.once_core.specs.Gateway.{Gateway, opened as reopened}
 use Rattle.replay_gateway.specs.Setup.{Setup, rules_in}
 use Rattle.replay_gateway.specs.Standing.{StandsUp}

@@ -1,7 +1,7 @@
 -- What a gateway asks nodes to do that it has a path to.
 use Rattle.std.specs.Prelude.{ℕ, ◌%◌, ◌<◌, false, All, Option, None, option_map, slice_get}
-use Rattle.gateway_book.specs.Told.{paths_of}
-use Rattle.gateway_book.specs.Value.{BookValue, history_of}
+use Rattle.gateway_answer.specs.Told.{paths_of}
+use Rattle.gateway_answer.specs.Value.{BookValue, history_of}
 use Rattle.gw_base.specs.Starts.{start_of}
 use Rattle.gw_base.specs.declared.address.Addr.{Addr}
 use Rattle.once_core.specs.Addresses.{node_at, port_at}

@@ -4,9 +4,9 @@ use Rattle.std.specs.Prelude.{ℕ, ℤ, pos, true, List, [], ◌∷◌, ◌++◌
 use Rattle.std.specs.Option.{option_map_or}
 use Rattle.file_rotate.specs.declared.limits.Limits.{Limits}
 use Rattle.file_writer.specs.Streams.{Settings}
-use Rattle.gateway_book.specs.Answer.{may_record}
-use Rattle.gateway_book.specs.Answered.{room_for}
-use Rattle.gateway_book.specs.Value.{is_batch_full}
+use Rattle.gateway_answer.specs.Answer.{may_record}
+use Rattle.gateway_answer.specs.Answered.{room_for}
+use Rattle.gateway_answer.specs.Value.{is_batch_full}
 use Rattle.gw_base.specs.Observed.{observed}
 use Rattle.once_core.specs.Addresses.{gateway_address}
 use Rattle.once_core.specs.Beginning.{default_open_time, default_size}

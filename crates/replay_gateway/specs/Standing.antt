@@ -7,9 +7,9 @@ use Rattle.area_disk.specs.declared.area.Area.{Ghosts}
 use Rattle.area_disk.specs.declared.memory.MemoryArea.{MemoryArea}
 use Rattle.gate_journal.specs.Format.{header}
 use Rattle.gateway_book.specs.Book.{open_time_of, size_of}
-use Rattle.gateway_book.specs.Items.{items_of}
+use Rattle.gateway_answer.specs.Items.{items_of}
 use Rattle.gateway_book.specs.Up.{HoldsHistory, IsUp}
-use Rattle.gateway_book.specs.Value.{history_of}
+use Rattle.gateway_answer.specs.Value.{history_of}
 use Rattle.gateway_book.specs.declared.book.Book.{Book}
 use Rattle.once_core.specs.Addresses.{gateway_address}
 use Rattle.once_core.specs.Gateway.{Gateway, is_reached}

@@ -1,10 +1,10 @@
 -- A gateway that takes a message, or doesn't, and what is told of that.
 use Rattle.std.specs.Prelude.{◌≡◌, ℕ, ◌++◌, Bool, false, not, nat_le, if◌then◌else◌, List, [], ◌∷◌, map, filter, Option, Some, None}
-use Rattle.gateway_book.specs.Answer.{Decided, Says, Silent, decided, failure_answer}
+use Rattle.gateway_answer.specs.Answer.{Decided, Says, Silent, decided, failure_answer}
 use Rattle.gateway_book.specs.Comes.{asked_to_ready}
-use Rattle.gateway_book.specs.Preparing.{prepared_of}
+use Rattle.gateway_answer.specs.Preparing.{prepared_of}
 use Rattle.gateway_book.specs.Up.{Sequel, GoesOn, Breaks, Stops, fortune_by}
-use Rattle.gateway_book.specs.Value.{Fortune, history_of, readied}
+use Rattle.gateway_answer.specs.Value.{Fortune, history_of, readied}
 use Rattle.gtpp_message.specs.declared.reading.Why.{Why}
 use Rattle.gw_base.specs.declared.history.HistoryEntry.{HistoryEntry}
 use Rattle.once_core.specs.Answers.{answer_at, answered, delivered, failed, if_broken}

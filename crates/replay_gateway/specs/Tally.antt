@@ -1,8 +1,8 @@
 -- What a report counts of a gateway.
 use Rattle.std.specs.Prelude.{◌≡◌, ℕ, Bool, true, false, List, count_by, length}
 use Rattle.gateway_book.specs.Calls.{counts_of}
-use Rattle.gateway_book.specs.Filed.{filed}
-use Rattle.gateway_book.specs.Value.{BookValue, history_of}
+use Rattle.gateway_answer.specs.Filed.{filed}
+use Rattle.gateway_answer.specs.Value.{BookValue, history_of}
 use Rattle.gw_base.specs.History.{copies_of}
 use Rattle.gw_base.specs.declared.item.Item.{Item}
 use Rattle.gw_base.specs.declared.item.Item.TheVariants as item

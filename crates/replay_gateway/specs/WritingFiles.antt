@@ -1,6 +1,6 @@
 -- What a write makes of a gateway, and what is seen of that.
 use Rattle.std.specs.Prelude.{◌≡◌, ℕ}
-use Rattle.gateway_book.specs.Items.{items_of}
+use Rattle.gateway_answer.specs.Items.{items_of}
 use Rattle.once_core.specs.Gateway.{Gateway}
 use Rattle.replay_gateway.specs.Filing.{filing_then, shelf_came}
 use Rattle.replay_gateway.specs.Setup.{Setup, files_in}

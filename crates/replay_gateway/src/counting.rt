@@ -3,7 +3,7 @@ ghost use Rattle.std.specs.Prelude.{◌≡◌, ◌≤◌, Err, IfOk};
 ghost use Rattle.area_disk.specs.Disk.{Rose};
 ghost use Rattle.gate_journal.specs.Moments.{Told};
 ghost use Rattle.gateway_book.specs.Book.{area_of, value_of};
-ghost use Rattle.gateway_book.specs.Items.{items_of};
+ghost use Rattle.gateway_answer.specs.Items.{items_of};
 ghost use Rattle.gateway_book.specs.Read.{IsUnchanged};
 ghost use Rattle.replay_gateway.specs.Tally.{part_count};
 

@@ -43,7 +43,7 @@ pub(crate) struct Files {
 
 impl Files {
     ghost use Rattle.area_disk.specs.Armed.{Armed};
-    ghost use Rattle.gateway_book.specs.Items.{items_of};
+    ghost use Rattle.gateway_answer.specs.Items.{items_of};
     ghost use Rattle.once_core.specs.Gateway.{Gateway};
     ghost use Rattle.replay_gateway.specs.Opening.{ArmsAs};
     ghost use Rattle.replay_gateway.specs.Setup.{Setup};

@@ -3,8 +3,8 @@
 ghost use Rattle.std.specs.Prelude.{◌≡◌, ◌≤◌, ℕ, List, Ok, count_by, false, length};
 ghost use Rattle.area_disk.specs.declared.memory.MemoryArea.{MemoryArea};
 ghost use Rattle.cdr_shelf.specs.declared.memory.MemoryShelf.{MemoryShelf};
-ghost use Rattle.gateway_book.specs.Filed.{filed};
-ghost use Rattle.gateway_book.specs.Items.{items_of};
+ghost use Rattle.gateway_answer.specs.Filed.{filed};
+ghost use Rattle.gateway_answer.specs.Items.{items_of};
 ghost use Rattle.gw_base.specs.History.{is_close_due};
 ghost use Rattle.gw_base.specs.declared.history.HistoryEntry.{HistoryEntry};
 ghost use Rattle.once_core.specs.Gateway.{Gateway};
@@ -24,7 +24,7 @@ use gw_base::Octets;
 pub fn no_file_is_open_where_no_close_is_due()
     ensures { (h : List HistoryEntry) → is_close_due h ≡ false → AreShut (items_of h) }
 {
-    gateway_book::laws::filed_records_stay();
+    gateway_answer::laws::filed_records_stay();
     file_rotate::division_goes_on::<Octets>();
 }
 

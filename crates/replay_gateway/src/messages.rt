@@ -1,7 +1,7 @@
 // Messages: what answers them, and which are expired.
 ghost use Rattle.std.specs.Prelude.{◌≡◌, ◌%◌, IfOk, ◌∷◌, []};
 ghost use Rattle.gateway_book.specs.Book.{value_of};
-ghost use Rattle.gateway_book.specs.Value.{history_of};
+ghost use Rattle.gateway_answer.specs.Value.{history_of};
 ghost use Rattle.gtpp_message.specs.Message.{TransferResponse};
 ghost use Rattle.gtpp_message.specs.Writing.{written};
 ghost use Rattle.gw_base.specs.declared.cause.TheConstants.{SYSTEM_FAILURE};

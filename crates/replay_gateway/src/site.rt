@@ -2,11 +2,11 @@
 ghost use Rattle.std.specs.Prelude.{◌≡◌, ◌≢◌, ◌+◌, ◌<◌, ◌≤◌, ◌^◌, ℕ, All, IfOk, MatchOption, OnOk, Some, false, length};
 ghost use Rattle.area_disk.specs.Armed.{Armed};
 ghost use Rattle.file_writer.specs.AllStreams.{IsFit};
-ghost use Rattle.gateway_book.specs.Answered.{no_caller};
+ghost use Rattle.gateway_answer.specs.Answered.{no_caller};
 ghost use Rattle.gateway_book.specs.Calls.{taken};
-ghost use Rattle.gateway_book.specs.Items.{items_of};
+ghost use Rattle.gateway_answer.specs.Items.{items_of};
 ghost use Rattle.gateway_book.specs.OpenPlan.{is_memory_fault};
-ghost use Rattle.gateway_book.specs.Preparing.{prepared_of};
+ghost use Rattle.gateway_answer.specs.Preparing.{prepared_of};
 ghost use Rattle.gateway_book.specs.Up.{fortune_by, ready_sequel_of};
 ghost use Rattle.once_core.specs.Addresses.{gateway_address};
 ghost use Rattle.once_core.specs.Beginning.{first_gateway};

@@ -1,10 +1,10 @@
 // A message that reaches a gateway.
 ghost use Rattle.std.specs.Prelude.{◌≡◌, ℕ, IfOk, false, true};
-ghost use Rattle.gateway_book.specs.Answered.{no_caller};
+ghost use Rattle.gateway_answer.specs.Answered.{no_caller};
 ghost use Rattle.gateway_book.specs.Calls.{taken};
-ghost use Rattle.gateway_book.specs.Preparing.{prepared_of};
+ghost use Rattle.gateway_answer.specs.Preparing.{prepared_of};
 ghost use Rattle.gateway_book.specs.Up.{fortune_by, ready_sequel_of};
-ghost use Rattle.gateway_book.specs.Value.{history_of};
+ghost use Rattle.gateway_answer.specs.Value.{history_of};
 ghost use Rattle.once_core.specs.Expired.{is_expired};
 ghost use Rattle.once_core.specs.Gateway.{Gateway};
 ghost use Rattle.once_core.specs.Messages.{answering};
@@ -20,7 +20,8 @@ use crate::messages::{Ends, is_expired};
 use crate::site::Site;
 use crate::writing::what_was_written_stays;
 use area_disk::MemoryArea;
-use gateway_book::laws::{a_gateway_goes_as_armed, filed_records_stay};
+use gateway_answer::laws::filed_records_stay;
+use gateway_book::laws::a_gateway_goes_as_armed;
 use gateway_book::{Book, Outcome, Prepared, Receipt, prepare};
 use gtpp_message::Why;
 use gw_base::{Addr, Caller, Moment, NoMemory};

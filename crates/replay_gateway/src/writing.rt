@@ -3,7 +3,7 @@ ghost use Rattle.std.specs.Prelude.{◌≡◌, ◌+◌, ◌++◌, ◌<◌, ◌�
 ghost use Rattle.file_writer.specs.AllStreams.{IsFit};
 ghost use Rattle.file_writer.specs.Streams.{Settings};
 ghost use Rattle.file_writer.specs.Writer.{IsAt, is_broken, settings_in, taken_of};
-ghost use Rattle.gateway_book.specs.Items.{items_of};
+ghost use Rattle.gateway_answer.specs.Items.{items_of};
 ghost use Rattle.gw_base.specs.declared.item.Item.{Item as ItemValue};
 ghost use Rattle.once_core.specs.Gateway.{Gateway};
 ghost use Rattle.replay_gateway.specs.Parts.{IsPart, IsTold};

@@ -3,7 +3,7 @@ use Rattle.std.proofs.Common.{◌≡◌, ◌∙◌, refl, sym, ap, subst, ℕ, �
 use Rattle.std.specs.Option.{option_map_or, option_or}
 use Rattle.std.proofs.lemmas.Option.{slice_get_past, slice_get_within}
 use Rattle.gateway_book.specs.Comes.{Asked, AsksNothing, asked_to_ready}
-use Rattle.gateway_book.specs.Value.{Fortune, history_of}
+use Rattle.gateway_answer.specs.Value.{Fortune, history_of}
 use Rattle.once_core.specs.Answers.{delivered}
 use Rattle.once_core.specs.Expired.{is_expired}
 use Rattle.once_core.specs.Gateway.{Gateway, Moved}

@@ -1,7 +1,7 @@
 -- What a line asks of a gateway's book, as an event, call by call.
 use Rattle.std.proofs.Common.{◌≡◌, refl, ℕ, ◌-◌, false, [], Some, None}
 use Rattle.std.specs.Option.{option_map_or}
-use Rattle.gateway_book.specs.Value.{Fortune}
+use Rattle.gateway_answer.specs.Value.{Fortune}
 use Rattle.once_core.specs.Answers.{making_close, making_tick}
 use Rattle.once_core.specs.Gateway.{Gateway}
 use Rattle.once_core.specs.Turn.{at_gateway, no_running_gateway, refusal_of, turn_by}

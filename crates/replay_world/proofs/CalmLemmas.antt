@@ -5,10 +5,10 @@ use Rattle.std.proofs.lemmas.List.Elements.{All-set}
 use Rattle.std.proofs.lemmas.Option.{get_or_from_slice_get, slice_get_within}
 use Rattle.area_disk.specs.Armed.{Armed}
 use Rattle.area_disk.specs.Armed.Armed.{Nothing}
-use Rattle.gateway_book.specs.Answered.{no_caller}
+use Rattle.gateway_answer.specs.Answered.{no_caller}
 use Rattle.gateway_book.specs.Comes.{Asked, AsksCommit, AsksNothing, AsksReopening}
 use Rattle.gateway_book.specs.Up.{Sequel, GoesOn, fortune_by, sequel_of}
-use Rattle.gateway_book.specs.Value.{BookValue, Fortune, history_of, recorded}
+use Rattle.gateway_answer.specs.Value.{BookValue, Fortune, history_of, recorded}
 use Rattle.gw_base.specs.History.{is_close_due}
 use Rattle.gw_base.specs.declared.history.HistoryAct.TheVariants.{Close}
 use Rattle.once_core.specs.Answers.{making_close, marked}

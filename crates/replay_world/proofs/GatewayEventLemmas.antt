@@ -3,7 +3,7 @@ use Rattle.std.proofs.Common.{◌≡◌, ◌∙◌, refl, sym, ap, subst, ℕ, �
 use Rattle.std.specs.Option.{option_map_or, option_or}
 use Rattle.std.proofs.lemmas.Bool.{ltb-true}
 use Rattle.gateway_book.specs.Comes.{asked_to_ready}
-use Rattle.gateway_book.specs.Value.{Fortune}
+use Rattle.gateway_answer.specs.Value.{Fortune}
 use Rattle.once_core.specs.Answers.{marked}
 use Rattle.once_core.specs.Gateway.{Gateway, Moved}
 use Rattle.once_core.specs.Turn.{at_gateway, is_down_in, is_none_of, no_running_gateway, refusal_of, refusing, turn_by}

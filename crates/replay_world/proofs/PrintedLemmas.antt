@@ -3,7 +3,7 @@ use Rattle.std.proofs.Common.{◌≡◌, ◌∙◌, refl, sym, ap, ℕ, ◌-◌,
 use Rattle.std.specs.Option.{option_map_or}
 use Rattle.std.proofs.lemmas.List.Concat.{flat_map-append}
 use Rattle.gateway_book.specs.Up.{Sequel, GoesOn}
-use Rattle.gateway_book.specs.Value.{Fortune}
+use Rattle.gateway_answer.specs.Value.{Fortune}
 use Rattle.once_core.specs.Gateway.{Gateway, Moved}
 use Rattle.once_core.specs.declared.event.Event.{Event}
 use Rattle.once_core.specs.declared.message.Message.{Message}

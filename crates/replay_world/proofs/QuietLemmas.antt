@@ -4,7 +4,7 @@ use Rattle.std.proofs.Common.{◌≡◌, ◌∙◌, refl, sym, ap, subst, ℕ, �
 use Rattle.std.specs.Option.{option_map_or, option_or}
 use Rattle.area_disk.specs.Armed.{Armed, Came}
 use Rattle.area_disk.specs.Armed.Came.{Ran}
-use Rattle.gateway_book.specs.Items.{items_of}
+use Rattle.gateway_answer.specs.Items.{items_of}
 use Rattle.gw_base.specs.declared.item.Item.{Item}
 use Rattle.once_core.specs.Answers.{redirected}
 use Rattle.once_core.specs.Gateway.{Gateway, Moved}

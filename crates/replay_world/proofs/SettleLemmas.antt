@@ -7,8 +7,8 @@ use Rattle.area_disk.specs.Armed.{Armed, Came, calls_under}
 use Rattle.area_disk.specs.Armed.Armed.{Nothing}
 use Rattle.area_disk.specs.Armed.Came.{Ran}
 use Rattle.file_writer.specs.Streams.{Settings}
-use Rattle.gateway_book.specs.Items.{items_of}
-use Rattle.gateway_book.specs.Value.{Fortune}
+use Rattle.gateway_answer.specs.Items.{items_of}
+use Rattle.gateway_answer.specs.Value.{Fortune}
 use Rattle.gw_base.specs.declared.item.Item.{Item}
 use Rattle.once_core.specs.Answers.{making_close, marked}
 use Rattle.once_core.specs.Gateway.{Gateway, Moved, committing, opened, still}

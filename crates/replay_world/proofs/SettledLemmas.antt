@@ -4,11 +4,11 @@ use Rattle.std.specs.List.{flat_map, range_with_len}
 use Rattle.std.specs.Option.{option_map_or}
 use Rattle.std.proofs.lemmas.Option.{slice_get_within}
 use Rattle.area_disk.specs.Armed.Armed.{Nothing}
-use Rattle.gateway_book.specs.Answered.{entry_by, no_caller}
+use Rattle.gateway_answer.specs.Answered.{entry_by, no_caller}
 use Rattle.gateway_book.specs.Comes.{Asked}
-use Rattle.gateway_book.specs.Items.{items_of}
+use Rattle.gateway_answer.specs.Items.{items_of}
 use Rattle.gateway_book.specs.Up.{Sequel, GoesOn, fortune_by}
-use Rattle.gateway_book.specs.Value.{BookValue, Fortune, Gone, Whole, committed, history_of, recorded, reopened}
+use Rattle.gateway_answer.specs.Value.{BookValue, Fortune, Gone, Whole, committed, history_of, recorded, reopened}
 use Rattle.gw_base.specs.EntryLaws.{is_close_due-append}
 use Rattle.gw_base.specs.History.{is_close_due}
 use Rattle.gw_base.specs.declared.history.HistoryAct.TheVariants.{Close}

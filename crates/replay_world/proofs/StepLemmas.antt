@@ -2,7 +2,7 @@
 use Rattle.std.proofs.Common.{◌≡◌, ◌∙◌, refl, ap, ℕ, ◌+◌, ◌-◌, ◌≤◌, true, false, Option, Some, None, slice_get, arith}
 use Rattle.std.specs.Option.{option_map_or}
 use Rattle.gateway_book.specs.Up.{Sequel, GoesOn, Breaks, Stops, fortune_by}
-use Rattle.gateway_book.specs.Value.{Fortune}
+use Rattle.gateway_answer.specs.Value.{Fortune}
 use Rattle.once_core.specs.Beginning.{IsReached}
 use Rattle.once_core.specs.Gateway.{Gateway, Moved, cut, still}
 use Rattle.once_core.specs.ReachedLaws.{reached_then}

@@ -5,8 +5,8 @@ use Rattle.cdr_shelf.specs.declared.memory.MemoryShelf.{MemoryShelf}
 use Rattle.file_rotate.specs.Items.{Filed}
 use Rattle.file_writer.specs.Places.{FilePlace, record_at}
 use Rattle.file_writer.specs.Streams.{Settings, stream_record}
-use Rattle.gateway_book.specs.Items.{items_of}
-use Rattle.gateway_book.specs.declared.filing.FiledRecord.{FiledRecord}
+use Rattle.gateway_answer.specs.Items.{items_of}
+use Rattle.gateway_answer.specs.declared.filing.FiledRecord.{FiledRecord}
 use Rattle.once_core.specs.FilePlaces.{placed}
 use Rattle.once_core.specs.Gateway.{Gateway}
 use Rattle.once_core.specs.Once.{firm_in}

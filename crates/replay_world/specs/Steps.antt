@@ -5,7 +5,7 @@ use Rattle.std.specs.List.{enumerate_from}
 use Rattle.std.specs.Option.{option_map_or}
 use Rattle.area_disk.specs.Armed.{Armed}
 use Rattle.gw_base.specs.declared.item.Item.{Item}
-use Rattle.gateway_book.specs.Items.{items_of}
+use Rattle.gateway_answer.specs.Items.{items_of}
 use Rattle.gateway_book.specs.Up.{Sequel}
 use Rattle.once_core.specs.Gateway.{Gateway}
 use Rattle.once_core.specs.Turn.{Turn, calm, turns}

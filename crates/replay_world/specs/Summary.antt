@@ -2,8 +2,8 @@
 use Rattle.std.specs.Prelude.{ℕ, ◌≤◌, List, [], ◌∷◌, ◌++◌, length, sum_by, slice_get, Option, Some, None, codes}
 use Rattle.std.specs.Fmt.{decimal}
 use Rattle.std.specs.List.{enumerate_from}
-use Rattle.gateway_book.specs.Filed.{filed}
-use Rattle.gateway_book.specs.Value.{history_of}
+use Rattle.gateway_answer.specs.Filed.{filed}
+use Rattle.gateway_answer.specs.Value.{history_of}
 use Rattle.gw_base.specs.History.{copies_of}
 use Rattle.node_core.specs.Counting.{counts_of}
 use Rattle.node_core.specs.Log.{LogEntry}

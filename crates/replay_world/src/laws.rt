@@ -1,7 +1,7 @@
 //! Laws of replays. Each stands on a function that does nothing.
 
 ghost use Rattle.std.specs.Prelude.{◌≡◌, ◌≤◌, ℕ, List, None, Ok, false, true};
-ghost use Rattle.gateway_book.specs.Items.{items_of};
+ghost use Rattle.gateway_answer.specs.Items.{items_of};
 ghost use Rattle.std.specs.List.{list_any};
 ghost use Rattle.once_core.specs.Gateway.{Gateway};
 ghost use Rattle.once_core.specs.Once.{Once};

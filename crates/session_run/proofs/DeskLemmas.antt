@@ -6,8 +6,8 @@ use Rattle.std.proofs.lemmas.List.{append-nil}
 use Rattle.std.proofs.lemmas.List.Elements.{All-push, Contains-append_left, Contains-append_right}
 use Rattle.area_disk.specs.Disk as disk
 use Rattle.area_disk.specs.declared.area.Area.{Ghosts}
-use Rattle.gateway_book.specs.Answer.{Says, failure_reply, reply_in}
-use Rattle.gateway_book.specs.Preparing.{prepared_of}
+use Rattle.gateway_answer.specs.Answer.{Says, failure_reply, reply_in}
+use Rattle.gateway_answer.specs.Preparing.{prepared_of}
 use Rattle.gateway_book.specs.Turning.{facts_of as book_facts, tells_lists}
 use Rattle.gw_base.specs.Facts.{Facts, WhereTold}
 use Rattle.gw_base.specs.Faults.{Rose}

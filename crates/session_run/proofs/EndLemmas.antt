@@ -6,7 +6,7 @@ use Rattle.std.proofs.lemmas.List.{append-nil}
 use Rattle.std.proofs.lemmas.List.Elements.{All-cons, All-head, All-nil, All-tail}
 use Rattle.cdr_shelf.specs.declared.shelf.Shelf as shelves
 use Rattle.file_writer.specs.declared.writer.Writer.{Writer}
-use Rattle.gateway_book.specs.Value.{BookValue, history_of, torn_of}
+use Rattle.gateway_answer.specs.Value.{BookValue, history_of, torn_of}
 use Rattle.gw_base.specs.Facts.{Facts, joined}
 use Rattle.gw_base.specs.Faults.{Rose}
 use Rattle.gw_base.specs.Owes.{Begins}

@@ -5,8 +5,8 @@ use Rattle.std.proofs.lemmas.List.Elements.{All-append, All-weaker}
 use Rattle.cdr_shelf.specs.declared.shelf.Shelf as shelves
 use Rattle.file_writer.specs.Writer.{settings_in, shelf_of}
 use Rattle.file_writer.specs.declared.writer.Writer.{Writer}
-use Rattle.gateway_book.specs.Filed.{along}
-use Rattle.gateway_book.specs.Items.{items_by, items_of}
+use Rattle.gateway_answer.specs.Filed.{along}
+use Rattle.gateway_answer.specs.Items.{items_by, items_of}
 use Rattle.gw_base.specs.Facts.{WhereTold}
 use Rattle.gw_base.specs.Owes as owes
 use Rattle.gw_base.specs.declared.history.HistoryEntry.{HistoryEntry}

@@ -7,8 +7,8 @@ use Rattle.gw_base.specs.Owes.{Begins}
 use Rattle.gw_base.specs.declared.history.Caller.{Caller}
 use Rattle.gw_base.specs.declared.history.HistoryAct.{HistoryAct}
 use Rattle.gw_base.specs.declared.history.HistoryEntry.{HistoryEntry}
-use Rattle.gateway_book.specs.Answer.{Says, failure_reply}
-use Rattle.gateway_book.specs.Preparing.{prepared_of}
+use Rattle.gateway_answer.specs.Answer.{Says, failure_reply}
+use Rattle.gateway_answer.specs.Preparing.{prepared_of}
 use Rattle.job_inbox.specs.declared.job.Job.{Job}
 use Rattle.net_link.specs.Datagrams.{Datagram}
 use Rattle.node_session.specs.Serving.{caller_of}

@@ -10,7 +10,7 @@ use crate::signals::Signals;
 use area_disk::Area;
 use cdr_shelf::Shelf;
 use gateway_book::Book;
-use gateway_book::laws::filed_records_stay;
+use gateway_answer::laws::filed_records_stay;
 use node_session::{FileActor, Filing};
 use std::alloc::Global;
 use std::sync::Wait;

@@ -30,7 +30,7 @@ use area_disk::Area;
 use cdr_shelf::Shelf;
 use file_writer::Writer;
 use gateway_book::Book;
-use gateway_book::laws::filed_records_stay;
+use gateway_answer::laws::filed_records_stay;
 use gw_base::{Addr, Moment};
 use job_inbox::{Inbox, InboxPass};
 use net_link::Link;

@@ -1,7 +1,7 @@
 -- The address of a link stays.
 use Rattle.std.proofs.Common.{◌≡◌, ℕ, List, Bool, Option, None, Some, MatchOption, ap}
-use Rattle.gateway_book.specs.Answer.{failure_reply}
-use Rattle.gateway_book.specs.Preparing.{prepared_of}
+use Rattle.gateway_answer.specs.Answer.{failure_reply}
+use Rattle.gateway_answer.specs.Preparing.{prepared_of}
 use Rattle.job_inbox.specs.declared.job.Job.{Job}
 use Rattle.net_link.specs.Datagrams.{LinkState}
 use Rattle.node_session.specs.Answering.{HasSent, Tells}

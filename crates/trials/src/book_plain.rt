@@ -1,7 +1,7 @@
 // What a gateway without an entry answers to a datagram.
 use crate::book::{FROM, REQUEST, moment};
 use crate::job_datagrams::{ANSWERED, digits, largest, with_255_records};
-use gateway_book::{OwnedAnswer, answer, filed, prepare};
+use gateway_answer::{OwnedAnswer, answer, filed, prepare};
 use gw_base::{Caller, HistoryAct, HistoryEntry};
 use std::alloc::Global;
 use std::process::Abort;

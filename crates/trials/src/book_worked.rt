@@ -3,9 +3,9 @@ ghost use Rattle.std.specs.Prelude.{◌≡◌, [], ◌∷◌, length};
 ghost use Rattle.gtpp_message.specs.Message.{Cancel, Possible, Release, Send};
 ghost use Rattle.gtpp_message.specs.Packet.{Empty};
 ghost use Rattle.path_mgmt.specs.declared.event.PathEvent.TheVariants.{EchoTold};
-ghost use Rattle.gateway_book.specs.Filed.{filed};
-ghost use Rattle.gateway_book.specs.Preparing.{Path, Request};
-ghost use Rattle.gateway_book.specs.Worked.{causes, just_started, one_record, played};
+ghost use Rattle.gateway_answer.specs.Filed.{filed};
+ghost use Rattle.gateway_answer.specs.Preparing.{Path, Request};
+ghost use Rattle.gateway_answer.specs.Worked.{causes, just_started, one_record, played};
 
 /// The commands that send, at numbers of each state.
 fn sends_are_answered_by_the_state()

@@ -3,7 +3,7 @@
 ghost use Rattle.std.specs.Prelude.{◌<◌};
 
 use crate::calls::{does, had, moment, stepped};
-use gateway_book::{FiledRecord, filed};
+use gateway_answer::{FiledRecord, filed};
 use gw_base::{HistoryAct, HistoryEntry, KeyState, Octets, scan};
 use node_core::{Node, Phase};
 use once_core::{Event, Stepped, World};

@@ -1,5 +1,5 @@
 use Rattle.gateway_book.specs.Book.{size_of}
-use Rattle.gateway_book.specs.Preparing.{prepared_of}
+use Rattle.gateway_answer.specs.Preparing.{prepared_of}
 use Rattle.gateway_book.proofs.armed.delivered.Goals as goal
 
 pub returns : goal.returns

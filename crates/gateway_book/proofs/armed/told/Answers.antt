@@ -1,7 +1,7 @@
 use Rattle.std.proofs.Common.{subst}
 use Rattle.std.specs.Prelude.{◌≡◌, IfOk}
-use Rattle.gateway_book.specs.Items.{items_between}
-use Rattle.gateway_book.specs.Value.{BookValue}
+use Rattle.gateway_answer.specs.Items.{items_between}
+use Rattle.gateway_answer.specs.Value.{BookValue}
 use Rattle.gateway_book.proofs.armed.told.Goals as goal
 
 pub returns : goal.returns

@@ -1,11 +1,11 @@
 use Rattle.std.proofs.Common.{◌≡◌, List, [], ℕ, OnOk, Option, ap, subst, sym, ◌∙◌, map}
 use Rattle.std.specs.Option.{option_map_or}
 use Rattle.gw_base.specs.Entry.{entry_view}
-use Rattle.gateway_book.specs.Filed.{filed_under, present_key}
+use Rattle.gateway_answer.specs.Filed.{filed_under, present_key}
 use Rattle.gateway_book.specs.Gathering.{gathered}
 use Rattle.gateway_book.specs.HeldCopies.{places_of}
-use Rattle.gateway_book.specs.Items.{part_of}
-use Rattle.gateway_book.specs.declared.filing.FiledRecord.{FiledRecord}
+use Rattle.gateway_answer.specs.Items.{part_of}
+use Rattle.gateway_answer.specs.declared.filing.FiledRecord.{FiledRecord}
 use Rattle.gateway_book.proofs.CursorLemmas.{released_in}
 use Rattle.gateway_book.proofs.GatheringLemmas.{none_more}
 use Rattle.gateway_book.proofs.entry_items.add_copy.Goals as goal

@@ -1,4 +1,5 @@
-use Rattle.gateway_book.specs.FaultLaws.{broken_alone_tells, running_tells_none}
+use Rattle.gateway_book.specs.BrokenLaws.{broken_alone_tells}
+use Rattle.gateway_answer.specs.FaultLaws.{running_tells_none}
 use Rattle.gateway_book.proofs.laws.only_a_broken_gateway_tells_a_fault.Goals as goal
 
 pub returns-clause-running : goal.returns-clause-running

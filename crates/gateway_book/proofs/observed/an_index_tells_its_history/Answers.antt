@@ -1,4 +1,4 @@
-use Rattle.gateway_book.proofs.IndexLemmas.{answered_as, fit_as, held_are, key_as, known_are, observed_as, totals_are}
+use Rattle.gateway_index.proofs.IndexLemmas.{answered_as, fit_as, held_are, key_as, known_are, observed_as, totals_are}
 use Rattle.gateway_book.proofs.observed.an_index_tells_its_history.Goals as goal
 
 pub returns-clause-observed : goal.returns-clause-observed

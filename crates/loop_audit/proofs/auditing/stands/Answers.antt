@@ -1,9 +1,9 @@
 use Rattle.std.proofs.Common.{◌≡◌, ℕ, length, None, Some, slice_get, refl, sym, ap, ◌∙◌, arith}
 use Rattle.std.proofs.lemmas.Option.{slice_get_past, slice_get_read}
 use Rattle.gateway_book.specs.Book.{value_of}
-use Rattle.gateway_book.specs.Told.{key_of}
-use Rattle.gateway_book.specs.Value.{history_of}
-use Rattle.gateway_book.specs.declared.told.Key.{Key}
+use Rattle.gateway_answer.specs.Told.{key_of}
+use Rattle.gateway_answer.specs.Value.{history_of}
+use Rattle.gateway_answer.specs.declared.key.Key.{Key}
 use Rattle.gw_base.specs.declared.address.NodeId.{NodeId}
 use Rattle.node_core.specs.Octets.{wire}
 use Rattle.loop_audit.specs.Audit.{id_of, tells_filed}

@@ -1,6 +1,6 @@
 use Rattle.std.proofs.Common.{ℕ, [], length, ap, refl, ◌∙◌}
 use Rattle.gate_journal.specs.Format.{header}
-use Rattle.gateway_book.specs.Value.{opened}
+use Rattle.gateway_answer.specs.Value.{opened}
 use Rattle.gw_base.specs.declared.address.Addr.{Addr}
 use Rattle.loop_run.specs.Looped.{area_length}
 use Rattle.loop_run.proofs.BookLemmas.{opened_begun, zeros_ours, zeros_start}

@@ -3,7 +3,7 @@ use Rattle.std.proofs.lemmas.Bool.{and_parts, false≢true}
 use Rattle.file_writer.specs.Writer.{taken_of}
 use Rattle.gateway_book.specs.Book.{value_of}
 use Rattle.gateway_book.specs.Turning.{tells_lists}
-use Rattle.gateway_book.specs.Items.{items_between}
+use Rattle.gateway_answer.specs.Items.{items_between}
 use Rattle.gw_base.specs.Facts.{WhereTold}
 use Rattle.node_session.specs.Writing.{AreNext, HasTakenOf, IsWriterOf, KeepsFiles}
 use Rattle.node_session.proofs.GivenLemmas.{given_some, next_ones, room_within}

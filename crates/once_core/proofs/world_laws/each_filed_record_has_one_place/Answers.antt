@@ -1,4 +1,4 @@
-use Rattle.gateway_book.specs.Once.{is_record_of}
+use Rattle.gateway_answer.specs.Once.{is_record_of}
 use Rattle.once_core.proofs.FileCountLemmas.{placed_count}
 use Rattle.once_core.proofs.FilePlaceLemmas.{one_there}
 use Rattle.once_core.proofs.world_laws.each_filed_record_has_one_place.Goals as goal

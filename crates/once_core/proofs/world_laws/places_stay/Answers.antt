@@ -1,6 +1,6 @@
 use Rattle.std.proofs.Common.{◌≡◌, List, Some, subst, sym}
 use Rattle.file_writer.specs.Places.{place_in}
-use Rattle.gateway_book.specs.Items.{items_of}
+use Rattle.gateway_answer.specs.Items.{items_of}
 use Rattle.gw_base.specs.declared.item.Item.{Item}
 use Rattle.once_core.proofs.GrowingLemmas.{items_grow, turns_grow}
 use Rattle.once_core.proofs.world_laws.places_stay.Goals as goal

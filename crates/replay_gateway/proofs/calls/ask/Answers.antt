@@ -1,5 +1,5 @@
 use Rattle.std.proofs.Common.{ℕ, refl, sym, subst}
-use Rattle.gateway_book.specs.Answered.{no_caller}
+use Rattle.gateway_answer.specs.Answered.{no_caller}
 use Rattle.gateway_book.specs.Book.{open_time_of, size_of}
 use Rattle.gateway_book.specs.Calls.{closed, ticked}
 use Rattle.gateway_book.specs.Up.{HasLeft, Sequel, fortune_by, ready_sequel_of}

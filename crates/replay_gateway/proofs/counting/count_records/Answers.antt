@@ -1,7 +1,7 @@
 use Rattle.std.proofs.Common.{◌≡◌, ◌<◌, ◌^◌, ◌∙◌, ap, arith, List, count_by, drop, length, take}
 use Rattle.gateway_book.specs.Book.{value_of}
-use Rattle.gateway_book.specs.Items.{items_between, items_of}
-use Rattle.gateway_book.specs.Value.{BookValue}
+use Rattle.gateway_answer.specs.Items.{items_between, items_of}
+use Rattle.gateway_answer.specs.Value.{BookValue}
 use Rattle.gw_base.specs.declared.item.Item.{Item}
 use Rattle.replay_gateway.specs.Tally.{is_part}
 use Rattle.replay_gateway.proofs.PieceLemmas.{counted_last, counted_more, goes_on_within, unchanged_then}

@@ -5,7 +5,7 @@ use Rattle.cgf_journal.specs.Trail.{is_closed, stop_stands}
 use Rattle.gateway_book.specs.Book.{area_of, value_of}
 use Rattle.gateway_book.specs.Comes.{left_by_stop}
 use Rattle.gateway_book.specs.Opened.{StandsFitFor}
-use Rattle.gateway_book.specs.Value.{BookValue}
+use Rattle.gateway_answer.specs.Value.{BookValue}
 use Rattle.replay_gateway.specs.HandedOut.{LeavesHistory}
 use Rattle.replay_gateway.specs.Standing.{SiteStands, area_tells, header_at}
 use Rattle.replay_gateway.specs.declared.site.Site.{Site}

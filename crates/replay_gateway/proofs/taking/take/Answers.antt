@@ -1,8 +1,8 @@
 use Rattle.std.proofs.Common.{ℕ, refl, subst}
-use Rattle.gateway_book.specs.Answered.{no_caller}
+use Rattle.gateway_answer.specs.Answered.{no_caller}
 use Rattle.gateway_book.specs.Book.{size_of}
 use Rattle.gateway_book.specs.Calls.{taken}
-use Rattle.gateway_book.specs.Preparing.{prepared_of}
+use Rattle.gateway_answer.specs.Preparing.{prepared_of}
 use Rattle.gateway_book.specs.Up.{HasLeft, Sequel, fortune_by, ready_sequel_of}
 use Rattle.replay_gateway.specs.Standing.{header_at}
 use Rattle.replay_gateway.proofs.CallLemmas.{book_stands}

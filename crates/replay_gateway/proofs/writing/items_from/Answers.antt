@@ -1,7 +1,7 @@
 use Rattle.std.proofs.Common.{◌∙◌, ap, refl, subst, ◌<◌, ◌^◌, drop, length, length-take, arith}
 use Rattle.gateway_book.specs.Book.{value_of}
-use Rattle.gateway_book.specs.Items.{items_between, items_of}
-use Rattle.gateway_book.specs.Value.{BookValue}
+use Rattle.gateway_answer.specs.Items.{items_between, items_of}
+use Rattle.gateway_answer.specs.Value.{BookValue}
 use Rattle.replay_gateway.specs.Standing.{header_at}
 use Rattle.replay_gateway.proofs.WriterLemmas.{all_fit}
 use Rattle.replay_gateway.proofs.WritingLemmas.{few_from, stays_up}

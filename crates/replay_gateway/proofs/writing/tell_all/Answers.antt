@@ -1,7 +1,7 @@
 use Rattle.std.proofs.Common.{◌≡◌, ◌∙◌, refl, sym, ap, subst, ℕ, ◌+◌, List, length, length-drop, length-take, drop, take, take_all, Ok, Err, arith, rules}
 use Rattle.file_writer.specs.Advancing.{Advances}
 use Rattle.file_writer.specs.Parts.{HasAdvanced, part_of}
-use Rattle.gateway_book.specs.Items.{items_of}
+use Rattle.gateway_answer.specs.Items.{items_of}
 use Rattle.gw_base.specs.declared.item.Item.{Item}
 use Rattle.replay_gateway.specs.Written.{shelf_tells}
 use Rattle.replay_gateway.proofs.writing.tell_all.Goals as goal

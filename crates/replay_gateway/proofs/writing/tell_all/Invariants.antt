@@ -1,7 +1,7 @@
 use Rattle.std.proofs.Common.{◌≡◌, ℕ, ◌+◌, ◌-◌, ◌<◌, ◌≤◌, ◌^◌, [], length, take, false, Some}
 use Rattle.file_writer.specs.Parts.{HasAdvanced}
 use Rattle.file_writer.specs.Writer.{IsAt, is_broken, settings_in, taken_of}
-use Rattle.gateway_book.specs.Items.{items_of}
+use Rattle.gateway_answer.specs.Items.{items_of}
 use Rattle.once_core.specs.Gateway.{Gateway}
 use Rattle.replay_gateway.specs.Setup.{Setup}
 use Rattle.replay_gateway.specs.Standing.{SiteStands}

@@ -1,8 +1,8 @@
 use Rattle.std.proofs.Common.{refl, ap, ◌∙◌}
-use Rattle.gateway_book.specs.Answer.{decided}
-use Rattle.gateway_book.specs.Answered.{act_decided, answer_to}
+use Rattle.gateway_answer.specs.Answer.{decided}
+use Rattle.gateway_answer.specs.Answered.{act_decided, answer_to}
 use Rattle.gateway_book.specs.Book.{fortune_of, size_of, value_of}
-use Rattle.gateway_book.specs.Preparing.{prepared_of}
+use Rattle.gateway_answer.specs.Preparing.{prepared_of}
 use Rattle.cgf_jobs.specs.FeedReport.{reply_line}
 use Rattle.cgf_jobs.specs.Gateway.{GatewayValue, after_datagram, answered}
 use Rattle.cgf_jobs.proofs.BookLemmas.{taken_all_firm, taken_records, taken_answers, recorded_gateway}

@@ -1,13 +1,13 @@
 use Rattle.std.proofs.Common.{false, List, refl, sym, ap, ◌∙◌}
 use Rattle.gw_base.specs.declared.history.HistoryEntry.{HistoryEntry}
 use Rattle.gateway_book.specs.Adding.{room_in}
-use Rattle.gateway_book.specs.Answer.{answer_within, decided, node_of}
-use Rattle.gateway_book.specs.Answered.{answer_to}
+use Rattle.gateway_answer.specs.Answer.{answer_within, decided, node_of}
+use Rattle.gateway_answer.specs.Answered.{answer_to}
 use Rattle.gateway_book.specs.Book.{size_of, value_of}
-use Rattle.gateway_book.specs.Cases.{case_value}
+use Rattle.gateway_answer.specs.Cases.{case_value}
 use Rattle.gateway_book.specs.Followed.{all_entries}
-use Rattle.gateway_book.specs.Index.{observed_by}
-use Rattle.gateway_book.specs.Value.{history_of}
+use Rattle.gateway_index.specs.Index.{observed_by}
+use Rattle.gateway_answer.specs.Value.{history_of}
 use Rattle.gateway_book.proofs.CallerLemmas.{done_by}
 use Rattle.gateway_book.proofs.StandingLemmas.{counting_firm, stands_firm}
 use Rattle.gateway_book.proofs.TakingLemmas.{answered_is, done_is, firm_stays, followed_answer, history_is, none_is_lost, recorded_is_fit}

@@ -3,10 +3,10 @@ use Rattle.gw_base.specs.History.{is_close_due}
 use Rattle.gw_base.specs.declared.history.HistoryAct.TheVariants.{Close}
 use Rattle.gateway_book.specs.Book.{IsLeft, size_of, value_of}
 use Rattle.gateway_book.specs.Calls.{marked_at}
-use Rattle.gateway_book.specs.FitHistoryLaws.{fit_is_within}
+use Rattle.gateway_answer.specs.FitHistoryLaws.{fit_is_within}
 use Rattle.gateway_book.specs.Followed.{all_entries}
-use Rattle.gateway_book.specs.Marks.{Mark, made_if}
-use Rattle.gateway_book.specs.Value.{history_of}
+use Rattle.gateway_answer.specs.Marks.{Mark, made_if}
+use Rattle.gateway_answer.specs.Value.{history_of}
 use Rattle.gateway_book.specs.declared.outcome.Marked.{Marked}
 use Rattle.gateway_book.specs.declared.outcome.Marked.TheVariants as marked
 use Rattle.gateway_book.proofs.MarkingLemmas.{close_made}

@@ -1,12 +1,12 @@
 use Rattle.std.proofs.Common.{◌≡◌, ℕ, true, false, length, sym, ap, ◌∙◌}
 use Rattle.gw_base.specs.Entry.{act_view}
 use Rattle.gateway_book.specs.Adding.{entry_of}
-use Rattle.gateway_book.specs.Answered.{room_for}
+use Rattle.gateway_answer.specs.Answered.{room_for}
 use Rattle.gateway_book.specs.Book.{size_of, value_of}
 use Rattle.gateway_book.specs.Calls.{marked_at}
 use Rattle.gateway_book.specs.Followed.{all_entries}
-use Rattle.gateway_book.specs.Marks.{Mark}
-use Rattle.gateway_book.specs.Value.{BookValue, history_of, recorded}
+use Rattle.gateway_answer.specs.Marks.{Mark}
+use Rattle.gateway_answer.specs.Value.{BookValue, history_of, recorded}
 use Rattle.gateway_book.specs.declared.outcome.Marked.TheVariants as marked
 use Rattle.gateway_book.proofs.MarkingLemmas.{made_with_room, mark_may_come, none_without_room, put_is_recorded, room_of_mark, room_of_open}
 use Rattle.gateway_book.proofs.TakingLemmas.{history_is}

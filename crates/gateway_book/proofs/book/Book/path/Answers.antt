@@ -8,9 +8,9 @@ use Rattle.gw_base.specs.Observed.{Observed}
 use Rattle.cgf_journal.specs.Trail.{firm_entries, is_closed}
 use Rattle.gateway_book.specs.Book.{value_of}
 use Rattle.gateway_book.specs.Followed.{all_entries}
-use Rattle.gateway_book.specs.Index.{observed_by, side_of}
-use Rattle.gateway_book.specs.Lookups.{paths_in}
-use Rattle.gateway_book.specs.Value.{history_of}
+use Rattle.gateway_index.specs.Index.{observed_by, side_of}
+use Rattle.gateway_index.specs.Paths.{paths_in}
+use Rattle.gateway_answer.specs.Value.{history_of}
 use Rattle.gateway_book.proofs.Committing.{asked}
 use Rattle.gateway_book.proofs.book.Book.path.Goals as goal
 

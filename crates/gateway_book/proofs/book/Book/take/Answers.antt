@@ -4,16 +4,16 @@ use Rattle.std.proofs.lemmas.Bool.{false≢true}
 use Rattle.cgf_journal.specs.Trail.{is_closed, torn_stands}
 use Rattle.entry_codec.specs.Room.{IsWithin}
 use Rattle.gw_base.specs.declared.history.HistoryEntry.{HistoryEntry}
-use Rattle.gateway_book.specs.Answer.{Given, decided, failure_answer}
-use Rattle.gateway_book.specs.Answered.{act_decided, answer_to}
+use Rattle.gateway_answer.specs.Answer.{Given, decided, failure_answer}
+use Rattle.gateway_answer.specs.Answered.{act_decided, answer_to}
 use Rattle.gateway_book.specs.Book.{fortune_of, reopening_of, size_of, value_of}
 use Rattle.gateway_book.specs.Calls.{Left, given_at, left_by, taken}
 use Rattle.gateway_book.specs.Caller.{HasStorage, IsAnswered, IsFailure}
-use Rattle.gateway_book.specs.Cases.{case_value}
-use Rattle.gateway_book.specs.FitHistoryLaws.{fit_is_within}
+use Rattle.gateway_answer.specs.Cases.{case_value}
+use Rattle.gateway_answer.specs.FitHistoryLaws.{fit_is_within}
 use Rattle.gateway_book.specs.Followed.{all_entries}
-use Rattle.gateway_book.specs.Preparing.{PreparedValue, prepared_of}
-use Rattle.gateway_book.specs.Value.{BookValue, history_of, readied, recorded_if}
+use Rattle.gateway_answer.specs.Preparing.{PreparedValue, prepared_of}
+use Rattle.gateway_answer.specs.Value.{BookValue, history_of, readied, recorded_if}
 use Rattle.gateway_book.specs.declared.outcome.Outcome.{Outcome}
 use Rattle.gateway_book.proofs.CallerLemmas.{has_storage, running_is_sound}
 use Rattle.gateway_book.proofs.Causing.{cause_then}

@@ -3,7 +3,7 @@ use Rattle.std.specs.Prelude.{is_err}
 use Rattle.cgf_journal.specs.Trail.{is_closed, torn_stands}
 use Rattle.gateway_book.specs.Book.{fortune_of, open_time_of, reopening_of, size_of, value_of}
 use Rattle.gateway_book.specs.Calls.{Left}
-use Rattle.gateway_book.specs.Value.{readied}
+use Rattle.gateway_answer.specs.Value.{readied}
 use Rattle.gateway_book.specs.declared.outcome.Marked.{Marked}
 use Rattle.gateway_book.proofs.Causing.{cause_then}
 use Rattle.gateway_book.proofs.MarkingLemmas.{tick_of_ready}

@@ -5,7 +5,7 @@ use Rattle.cgf_journal.specs.Trail.{firm_length}
 use Rattle.gw_base.specs.Owes.{Begins}
 use Rattle.gateway_book.specs.Book.{value_of}
 use Rattle.gateway_book.specs.Calls.{length_at}
-use Rattle.gateway_book.specs.Value.{BookValue, history_of}
+use Rattle.gateway_answer.specs.Value.{BookValue, history_of}
 use Rattle.gateway_book.proofs.StandingLemmas.{at_most}
 use Rattle.gateway_book.proofs.counted.BookCounted.length.Goals as goal
 

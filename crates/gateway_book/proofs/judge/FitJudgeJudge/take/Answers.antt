@@ -4,8 +4,8 @@ use Rattle.entry_codec.specs.Room.{capacity_of, costs_of}
 use Rattle.entry_codec.specs.Spelling.{cost_of}
 use Rattle.gw_base.specs.Entry.{act_view, entry_view}
 use Rattle.gw_base.specs.HeldKeys.{promised_octets}
-use Rattle.gateway_book.specs.Fit.{is_act_fit}
-use Rattle.gateway_book.specs.Index.{observed_by, side_of}
+use Rattle.gateway_answer.specs.Fit.{is_act_fit}
+use Rattle.gateway_index.specs.Index.{observed_by, side_of}
 use Rattle.gateway_book.specs.Judging.{promised_of}
 use Rattle.gateway_book.specs.declared.judge.FitJudge.{FitJudge}
 use Rattle.gateway_book.proofs.JudgeLemmas.{is_fit, judged, no_room, refused}

@@ -1,7 +1,7 @@
 use Rattle.gateway_book.specs.Book.{fortune_of, size_of, value_of}
-use Rattle.gateway_book.specs.Preparing.{prepared_of}
+use Rattle.gateway_answer.specs.Preparing.{prepared_of}
 use Rattle.gateway_book.specs.Turning.{drops_of}
-use Rattle.gateway_book.specs.Value.{readied}
+use Rattle.gateway_answer.specs.Value.{readied}
 use Rattle.node_session.proofs.TakenLemmas.{added_now, has_taken}
 use Rattle.node_session.proofs.taking.TakingTurnBook.run.Goals as goal
 

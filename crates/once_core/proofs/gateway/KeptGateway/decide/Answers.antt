@@ -1,8 +1,8 @@
 use Rattle.std.proofs.Common.{◌≡◌, sym, subst, ◌∙◌, IfOk}
-use Rattle.gateway_book.specs.Answer.{Decided, decided, node_of}
-use Rattle.gateway_book.specs.Answered.{answer, room_for}
-use Rattle.gateway_book.specs.Plain.{answer_view}
-use Rattle.gateway_book.specs.Preparing.{prepared_of}
+use Rattle.gateway_answer.specs.Answer.{Decided, decided, node_of}
+use Rattle.gateway_answer.specs.Answered.{answer, room_for}
+use Rattle.gateway_answer.specs.Plain.{answer_view}
+use Rattle.gateway_answer.specs.Preparing.{prepared_of}
 use Rattle.gw_base.specs.Observed.{observed}
 use Rattle.once_core.proofs.GatewayTurnLemmas.{decided_at, stored}
 use Rattle.once_core.proofs.HistoryKeptLemmas.{answers_keep, kept_by, kept_is_bounded, near_node}

@@ -1,5 +1,5 @@
 use Rattle.std.proofs.Common.{ap, ◌∙◌, arith}
-use Rattle.gateway_book.specs.Value.{history_of, standing_for}
+use Rattle.gateway_answer.specs.Value.{history_of, standing_for}
 use Rattle.once_core.proofs.GatewayTurnLemmas.{all_firm, ok_maps, opens}
 use Rattle.once_core.specs.Gateway.{Gateway}
 use Rattle.once_core.proofs.gateway.KeptGateway.open.Goals as goal

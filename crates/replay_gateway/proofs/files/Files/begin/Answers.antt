@@ -3,7 +3,7 @@ use Rattle.std.proofs.lemmas.Result.{IfOk-weaker}
 use Rattle.file_writer.specs.Streams.{Settings}
 use Rattle.file_writer.specs.Writer.{settings_in, shelf_of}
 use Rattle.file_writer.specs.declared.fault.ShelfFault.{ShelfFault}
-use Rattle.gateway_book.specs.Items.{items_of}
+use Rattle.gateway_answer.specs.Items.{items_of}
 use Rattle.replay_gateway.specs.Parts.{IsTold}
 use Rattle.replay_gateway.specs.Written.{FilesStand, HasWritten}
 use Rattle.replay_gateway.specs.declared.files.Wrote.TheVariants.{All}

@@ -1,5 +1,5 @@
 use Rattle.std.proofs.Common.{refl}
-use Rattle.gateway_book.specs.Items.{items_of}
+use Rattle.gateway_answer.specs.Items.{items_of}
 use Rattle.replay_gateway.specs.Setup.{files_in}
 use Rattle.replay_gateway.proofs.WritingLemmas.{files_set}
 use Rattle.replay_gateway.proofs.machine.Machine.arm_shelf.Goals as goal

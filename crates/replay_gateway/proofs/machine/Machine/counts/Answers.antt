@@ -1,7 +1,7 @@
 use Rattle.std.proofs.Common.{◌∙◌, refl, ap, subst, ℕ, Option, Some}
 use Rattle.gateway_book.specs.Book.{size_of}
 use Rattle.gateway_book.specs.Calls.{counts_of}
-use Rattle.gateway_book.specs.Value.{BookValue}
+use Rattle.gateway_answer.specs.Value.{BookValue}
 use Rattle.replay_gateway.specs.Standing.{SiteStands}
 use Rattle.replay_gateway.specs.declared.site.Site.{Site}
 use Rattle.replay_gateway.proofs.machine.Machine.counts.Goals as goal

@@ -1,6 +1,6 @@
 use Rattle.std.proofs.Common.{subst, ap, ℕ, ◌<◌, List, Option, arith, drop, length, length-drop, length-take}
 use Rattle.std.proofs.lemmas.Result.{IfOk-weaker}
-use Rattle.gateway_book.specs.Items.{items_of}
+use Rattle.gateway_answer.specs.Items.{items_of}
 use Rattle.gw_base.specs.declared.item.Item.{Item}
 use Rattle.replay_gateway.specs.Parts.{IsPart}
 use Rattle.replay_gateway.specs.Standing.{SiteStands}

@@ -1,7 +1,7 @@
 use Rattle.std.proofs.Common.{sym, subst, take}
 use Rattle.cdr_shelf.specs.declared.memory.MemoryShelf.{MemoryShelf}
 use Rattle.file_writer.specs.Leaving.{AreOpenFiles}
-use Rattle.gateway_book.specs.Items.{items_of}
+use Rattle.gateway_answer.specs.Items.{items_of}
 use Rattle.replay_gateway.specs.Setup.{files_in}
 use Rattle.replay_gateway.specs.Written.{AreSealed, shelf_tells}
 use Rattle.replay_gateway.proofs.AreaLemmas.{handed_out}

@@ -1,5 +1,5 @@
 use Rattle.std.proofs.Common.{◌∙◌, ap, subst, Option, Some}
-use Rattle.gateway_book.specs.Value.{BookValue}
+use Rattle.gateway_answer.specs.Value.{BookValue}
 use Rattle.replay_gateway.specs.Standing.{SiteStands}
 use Rattle.replay_gateway.specs.declared.site.Site.{Site}
 use Rattle.replay_gateway.proofs.machine.Machine.is_broken.Goals as goal

@@ -1,5 +1,5 @@
 use Rattle.std.proofs.Common.{◌∙◌, ap, subst, Option, Some}
-use Rattle.gateway_book.specs.Value.{BookValue, history_of}
+use Rattle.gateway_answer.specs.Value.{BookValue, history_of}
 use Rattle.once_core.specs.Expired.{is_expired}
 use Rattle.replay_gateway.specs.Standing.{SiteStands}
 use Rattle.replay_gateway.specs.declared.site.Site.{Site}

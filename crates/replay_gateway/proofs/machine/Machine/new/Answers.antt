@@ -4,7 +4,7 @@ use Rattle.area_disk.specs.Armed.Armed.{Nothing}
 use Rattle.area_disk.specs.Plan.{Schedule, schedule_of}
 use Rattle.cdr_shelf.specs.declared.memory.MemoryShelf.{MemoryShelf}
 use Rattle.file_writer.specs.Writer.{settings_in}
-use Rattle.gateway_book.specs.Items.{items_of}
+use Rattle.gateway_answer.specs.Items.{items_of}
 use Rattle.gateway_book.specs.declared.outcome.Setup.{Setup as BookSetup}
 use Rattle.once_core.specs.Addresses.{gateway_address}
 use Rattle.once_core.specs.Beginning.{first_gateway}

@@ -3,7 +3,7 @@ use Rattle.std.specs.List.{flat_map}
 use Rattle.cdr_shelf.specs.Files.{SealedFile, in_stream}
 use Rattle.cdr_shelf.specs.declared.memory.MemoryShelf.{MemoryShelf}
 use Rattle.file_writer.specs.Streams.{stream_division}
-use Rattle.gateway_book.specs.Items.{items_of}
+use Rattle.gateway_answer.specs.Items.{items_of}
 use Rattle.replay_gateway.specs.GatewayReport.{file_line}
 use Rattle.replay_gateway.specs.Setup.{files_in}
 use Rattle.replay_gateway.specs.Written.{shelf_tells}

@@ -1,7 +1,7 @@
 use Rattle.std.proofs.Common.{◌≡◌, ◌++◌, ◌-◌, ◌<◌, take}
 use Rattle.std.specs.List.{flat_map}
 use Rattle.file_writer.specs.Streams.{stream_count}
-use Rattle.gateway_book.specs.Items.{items_of}
+use Rattle.gateway_answer.specs.Items.{items_of}
 use Rattle.once_core.specs.Gateway.{Gateway}
 use Rattle.replay_gateway.specs.GatewayReport.{file_line}
 use Rattle.replay_gateway.specs.Setup.{Setup, files_in}

@@ -2,7 +2,7 @@ use Rattle.std.proofs.Common.{◌≡◌, refl, sym, ap, subst, ◌∙◌, ◌++�
 use Rattle.area_disk.specs.declared.memory.MemoryArea.{MemoryArea}
 use Rattle.area_disk.specs.declared.plan.Outcome3.TheVariants.{Old}
 use Rattle.gateway_book.specs.Opened.{StandsFitFor}
-use Rattle.gateway_book.specs.Items.{items_of}
+use Rattle.gateway_answer.specs.Items.{items_of}
 use Rattle.replay_gateway.specs.Setup.{files_in}
 use Rattle.replay_gateway.specs.Standing.{SiteStands, area_tells, header_at}
 use Rattle.replay_gateway.specs.declared.site.Site.{Site}

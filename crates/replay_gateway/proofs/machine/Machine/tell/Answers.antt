@@ -1,5 +1,5 @@
 use Rattle.std.proofs.Common.{◌∙◌, ap}
-use Rattle.gateway_book.specs.declared.told.Counts as told
+use Rattle.gateway_book.specs.declared.outcome.Counts as told
 use Rattle.replay_gateway.proofs.machine.Machine.tell.Goals as goal
 
 pub returns-clause-told : goal.returns-clause-told

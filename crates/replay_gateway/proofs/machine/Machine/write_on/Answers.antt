@@ -1,7 +1,7 @@
 use Rattle.std.proofs.Common.{◌≡◌, ◌∙◌, refl, ap, subst, ℕ, ◌<◌, ◌^◌, IfSome, Option}
 use Rattle.std.proofs.lemmas.Result.{IfOk-weaker}
 use Rattle.file_writer.specs.Writer.{taken_of}
-use Rattle.gateway_book.specs.Items.{items_of}
+use Rattle.gateway_answer.specs.Items.{items_of}
 use Rattle.replay_gateway.specs.Setup.{files_in}
 use Rattle.replay_gateway.specs.declared.machine.Machine as real
 use Rattle.replay_gateway.proofs.WritingLemmas.{site_set, writes_files}

@@ -2,8 +2,8 @@ use Rattle.std.proofs.Common.{◌≡◌, ◌∙◌, refl, sym, ap, subst, ℕ, �
 use Rattle.std.proofs.lemmas.List.Elements.{All-weaker}
 use Rattle.std.proofs.lemmas.Option.{slice_get_read}
 use Rattle.std.proofs.lemmas.Result.{on_ok_weaker}
-use Rattle.gateway_book.specs.Told.{paths_of}
-use Rattle.gateway_book.specs.Value.{history_of}
+use Rattle.gateway_answer.specs.Told.{paths_of}
+use Rattle.gateway_answer.specs.Value.{history_of}
 use Rattle.once_core.specs.Addresses.{node_at}
 use Rattle.once_core.specs.Answers.{redirected}
 use Rattle.replay_gateway.specs.Moves.{HasMoved}

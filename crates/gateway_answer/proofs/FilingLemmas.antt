@@ -1,0 +1,73 @@
+-- Lemmas on filed records, for the loops that go over a history, the numbers of a release and the records of a packet.
+use Rattle.std.proofs.Common.{◌≡◌, ℕ, suc, ◌+◌, ◌<◌, Bool, true, false, if◌then◌else◌, List, [], ◌∷◌, ◌++◌, length, get_or, take, drop, fold, Option, Some, None, option_and_then, refl, ap, sym, ◌∙◌, arith, append_assoc}
+use Rattle.std.proofs.Math.Seq.{drop-cons, take-suc}
+use Rattle.gtpp_message.specs.Packet as packet
+use Rattle.gw_base.specs.EntryLaws.{last_naming-append}
+use Rattle.gw_base.specs.History.{begins_epoch, last_naming, names, present_entries}
+use Rattle.gw_base.specs.ListLaws.{after_last-push, fold_is}
+use Rattle.gw_base.specs.declared.history.HistoryEntry.{HistoryEntry}
+use Rattle.gw_base.specs.declared.history.PacketKey.{PacketKey}
+use Rattle.gateway_answer.specs.Filed.{along, filed, filed_by, filed_record, filed_under, held_packet, packet_of_hold, records_from, records_if}
+use Rattle.gateway_answer.specs.Steps.{packet_after}
+use Rattle.gateway_answer.specs.declared.filing.FiledRecord.{FiledRecord}
+
+-- the records so far, and those that the rest of the history files, are all of them
+abbrev pub IsFiledSoFar : List HistoryEntry → ℕ → List FiledRecord → Type 0
+IsFiledSoFar h place found = found ++ along filed_by (take place h) (drop place h) ≡ filed h
+
+pub step_filed : (h : List HistoryEntry) (place : ℕ) (e : HistoryEntry) (before : List HistoryEntry) (found new : List FiledRecord) → place < length h →
+    e ≡ get_or h place e → before ≡ take place h → new ≡ found ++ filed_by before e →
+    IsFiledSoFar h place found → IsFiledSoFar h (place + 1) new
+step_filed h place e before found new lt here front grown so_far =
+    let next : place + 1 ≡ suc place = omega arith in
+    let rest : drop place h ≡ e ∷ drop (suc place) h = drop-cons h place e lt ∙ ap (λ x. x ∷ drop (suc place) h) (sym here) in
+    let with_one : take (suc place) h ≡ take place h ++ e ∷ [] = take-suc h place e lt ∙ ap (λ x. take place h ++ x ∷ []) (sym here) in
+    rw next (
+    ap (λ n. n ++ along filed_by (take (suc place) h) (drop (suc place) h)) (grown ∙ ap (λ b. found ++ filed_by b e) front)
+    ∙ ap (λ b. (found ++ filed_by (take place h) e) ++ along filed_by b (drop (suc place) h)) with_one
+    ∙ append_assoc found (filed_by (take place h) e) (along filed_by (take place h ++ e ∷ []) (drop (suc place) h))
+    ∙ ap (λ r. found ++ along filed_by (take place h) r) (sym rest)
+    ∙ so_far)
+
+-- ---- the held packet, entry by entry
+
+pub held_packet-push : (node number : ℕ) (h : List HistoryEntry) (e : HistoryEntry)
+    → held_packet node number (h ++ e ∷ []) ≡ packet_after node number (held_packet node number h) e.act
+held_packet-push node number h e =
+    ap (λ es. option_and_then (λ (x : HistoryEntry). packet_of_hold x.act) (last_naming node number es)) (after_last-push (λ (x : HistoryEntry). begins_epoch node x.act) h e)
+    ∙ by_epoch (begins_epoch node e.act)
+  where
+    by_name : (b : Bool) → option_and_then (λ (x : HistoryEntry). packet_of_hold x.act) (if b then Some e else last_naming node number (present_entries node h))
+        ≡ (if b then packet_of_hold e.act else held_packet node number h)
+    by_name true = refl
+    by_name false = refl
+
+    by_epoch : (b : Bool) → option_and_then (λ (x : HistoryEntry). packet_of_hold x.act) (last_naming node number (if b then [] else present_entries node h ++ e ∷ []))
+        ≡ (if b then None else (if names node number e.act then packet_of_hold e.act else held_packet node number h))
+    by_epoch true = refl
+    by_epoch false =
+        ap (λ last. option_and_then (λ (x : HistoryEntry). packet_of_hold x.act) last) (last_naming-append node number (present_entries node h) e)
+        ∙ by_name (names node number e.act)
+
+abbrev pub packet_from : ℕ → ℕ → Option (List ℕ) → List HistoryEntry → Option (List ℕ)
+packet_from node number packet h = fold (λ p e. packet_after node number p e.act) packet h
+
+-- the packet found entry by entry is the held one
+pub held_packet_is : (node number : ℕ) (h : List HistoryEntry) → packet_from node number None h ≡ held_packet node number h
+held_packet_is node number h = fold_is (λ (p : Option (List ℕ)) (e : HistoryEntry). packet_after node number p e.act) (held_packet node number) (held_packet-push node number) h
+
+-- ---- the records of a packet
+
+-- the records that a packet's value files are those of the packet that is stated with it
+pub records_filed : (key : PacketKey) (moment count format version : ℕ) (value : List ℕ) → packet.IsPacket (packet.Full (packet.stated_form count format version value) value) →
+    filed_under key moment value ≡ records_from key moment format version 0 (packet.packet_records (packet.Full (packet.stated_form count format version value) value))
+records_filed key moment count format version value is = ap (records_if key moment) is
+
+-- the first of the records is filed
+pub filed_more : (key : PacketKey) (moment format version index : ℕ) (old rest : List (List ℕ)) (r : List ℕ) (front new : List FiledRecord) → old ≡ r ∷ rest →
+    new ≡ front ++ filed_record key moment format version (index, r) ∷ [] →
+    new ++ records_from key moment format version (index + 1) rest ≡ front ++ records_from key moment format version index old
+filed_more key moment format version index old rest r front new is grown =
+    ap (λ n. n ++ records_from key moment format version (index + 1) rest) grown
+    ∙ append_assoc front (filed_record key moment format version (index, r) ∷ []) (records_from key moment format version (index + 1) rest)
+    ∙ ap (λ o. front ++ records_from key moment format version index o) (sym is)

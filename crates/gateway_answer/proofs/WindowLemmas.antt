@@ -1,0 +1,115 @@
+-- Answers ask of the numbers alone that a number on the wire may mean.
+use Rattle.std.proofs.Common.{◌≡◌, ℕ, ◌==◌, ◌&&◌, Bool, true, false, if◌then◌else◌, List, [], ◌∷◌, map, filter, refl, sym, ap, ◌∙◌}
+use Rattle.std.specs.List.{list_all}
+use Rattle.gtpp_message.specs.Message.{TransferValue, Send, Possible, Cancel, Release}
+use Rattle.gtpp_message.specs.Packet.{packet_octets}
+use Rattle.gw_base.specs.Lists.{once}
+use Rattle.gw_base.specs.Nearest.{nearest}
+use Rattle.gw_base.specs.Observed.{Observed}
+use Rattle.gw_base.specs.declared.address.Addr.{Addr}
+use Rattle.gw_base.specs.declared.address.NodeId.{NodeId}
+use Rattle.gw_base.specs.declared.history.HistoryAct.{HistoryAct}
+use Rattle.gw_base.specs.declared.history.HistoryAct.TheVariants as act
+use Rattle.gw_base.specs.declared.key_state.KeyState.{KeyState}
+use Rattle.gw_base.specs.declared.key_state.KeyState.TheVariants.{Fresh}
+use Rattle.transfer_cmd.specs.Lists.{is_held, verdict_cause, verdict_of}
+use Rattle.transfer_cmd.specs.Table.{answer_cause, state_given}
+use Rattle.transfer_cmd.specs.declared.decision.Ask.{Ask}
+use Rattle.gateway_answer.specs.Answer.{answer_within, asked_by, changes, listed, may_record, node_of, recorded_as, sending, sending_again, sent, tabled}
+use Rattle.gateway_answer.specs.Fit.{are_distinct, is_act_fit, is_fresh, is_in_window, is_list_fit, is_new, is_packet_fit}
+use Rattle.gateway_index.specs.Limits.{has_place, is_in_range, may_hold}
+use Rattle.gateway_answer.specs.Preparing.{PreparedValue, Request}
+use Rattle.gateway_index.specs.Windows.{AgreeWhereMeant, if_held, narrowed}
+use Rattle.gateway_answer.specs.FitLaws.{nearest_in_window}
+
+-- ---- other states of numbers that none means
+
+module _ (o : Observed) (s : ℕ → KeyState) (moment : ℕ) (same : (wire : ℕ) → s (nearest o.top wire) ≡ o.state (nearest o.top wire)) where
+  states_are : (numbers : List ℕ) → map s (map (nearest o.top) numbers) ≡ map o.state (map (nearest o.top) numbers)
+  states_are [] = refl
+  states_are (w ∷ numbers) = λ i. same w i ∷ states_are numbers i
+
+  held_are : (numbers : List ℕ) → filter (λ x. is_held (s x)) (map (nearest o.top) numbers) ≡ filter (λ x. is_held (o.state x)) (map (nearest o.top) numbers)
+  held_are [] = refl
+  held_are (w ∷ numbers) = λ i. if is_held (same w i) then nearest o.top w ∷ held_are numbers i else held_are numbers i
+
+  sent_is : (may : HistoryAct → Bool) (node : NodeId) (number : ℕ) (asked : Ask) (packet : List ℕ)
+      → sent (record o { state = s; moment = moment }) may node number asked packet ≡ sent o may node number asked packet
+  sent_is may node number asked packet = ap (λ (state : KeyState). tabled may number (answer_cause asked state) (recorded_as asked node (nearest o.top number) packet (state_given asked state))) (same number)
+
+  listed_is : (may : HistoryAct → Bool) (node : NodeId) (number : ℕ) (release : Bool) (numbers : List ℕ)
+      → listed (record o { state = s; moment = moment }) may node number release numbers ≡ listed o may node number release numbers
+  listed_is may node number release numbers = λ i.
+      let verdict = verdict_of release (states_are numbers i) in
+      tabled may number (verdict_cause verdict) (changes verdict release node (once (λ x y. x == y) (held_are numbers i)))
+
+  asked_is : (may : HistoryAct → Bool) (node : NodeId) (number : ℕ) (body : TransferValue)
+      → asked_by (record o { state = s; moment = moment }) may node number body ≡ asked_by o may node number body
+  asked_is may node number (Send packet) = sent_is may node number (sending packet) (packet_octets packet)
+  asked_is may node number (Possible packet) = sent_is may node number (sending_again packet) (packet_octets packet)
+  asked_is may node number (Cancel numbers) = listed_is may node number false numbers
+  asked_is may node number (Release numbers) = listed_is may node number true numbers
+
+  may_is : (room : HistoryAct → Bool) (a : HistoryAct) → may_record (record o { state = s; moment = moment }) room a ≡ may_record o room a
+  may_is room act.Start = refl
+  may_is room _ = refl
+
+  answer_is : (from : Addr) (datagram : PreparedValue) (room : HistoryAct → Bool)
+      → answer_within (record o { state = s; moment = moment }) from datagram room ≡ answer_within o from datagram room
+  answer_is from (Request number body) room =
+      ap (λ (may : HistoryAct → Bool). asked_by (record o { state = s; moment = moment }) may (node_of from) number body) (λ i a. may_is room a i)
+      ∙ asked_is (may_record o room) (node_of from) number body
+  answer_is from _ room = refl
+
+pub agreed_answer : (o p : Observed) (from : Addr) (datagram : PreparedValue) (room : HistoryAct → Bool) → AgreeWhereMeant o p → answer_within o from datagram room ≡ answer_within p from datagram room
+agreed_answer o p from datagram room agree =
+    ap (λ (q : Observed). answer_within q from datagram room) is ∙ answer_is p o.state o.moment agree.states from datagram room
+  where
+    is : o ≡ record p { state = o.state; moment = o.moment }
+    is = λ i. record { own = agree.own i; opening = agree.opening i; top = agree.top i; state = o.state; is_known = agree.is_known i; known = agree.known i; held = agree.held i; moment = o.moment }
+
+-- ---- windows
+
+pub narrowed_answer : (o : Observed) (from : Addr) (datagram : PreparedValue) (room : HistoryAct → Bool) → answer_within (narrowed o) from datagram room ≡ answer_within o from datagram room
+narrowed_answer o from datagram room = answer_is o (narrowed o).state o.moment
+    (λ wire. ap (λ b. if b then o.state (nearest o.top wire) else if_held (o.state (nearest o.top wire))) (nearest_in_window o.top wire)) from datagram room
+
+held_still : (state : KeyState) → is_held (if_held state) ≡ is_held state
+held_still Fresh = refl
+held_still _ = refl
+
+held_is : (o : Observed) (number : ℕ) → is_held ((narrowed o).state number) ≡ is_held (o.state number)
+held_is o number = by_window (is_in_window o.top number)
+  where
+    by_window : (b : Bool) → is_held (if b then o.state number else if_held (o.state number)) ≡ is_held (o.state number)
+    by_window true = refl
+    by_window false = held_still (o.state number)
+
+none : (a b c : Bool) → (a && b && c && false) ≡ false
+none true true true = refl
+none true true false = refl
+none true false true = refl
+none true false false = refl
+none false true true = refl
+none false true false = refl
+none false false true = refl
+none false false false = refl
+
+new_is : (o : Observed) (x : ℕ) → is_new (narrowed o) x ≡ is_new o x
+new_is o x = by_window (is_in_window o.top x)
+  where
+    by_window : (b : Bool) → (has_place o && is_fresh (if b then o.state x else if_held (o.state x)) && is_in_range x && b) ≡ (has_place o && is_fresh (o.state x) && is_in_range x && b)
+    by_window true = refl
+    by_window false = none (has_place o) (is_fresh (if_held (o.state x))) (is_in_range x) ∙ sym (none (has_place o) (is_fresh (o.state x)) (is_in_range x))
+
+list_is : (o : Observed) (xs : List ℕ) → is_list_fit (narrowed o) xs ≡ is_list_fit o xs
+list_is o [] = refl
+list_is o (x ∷ xs) = ap (λ (test : ℕ → Bool). list_all test (x ∷ xs) && are_distinct (x ∷ xs)) (λ i y. held_is o y i)
+
+pub narrowed_fit : (of : NodeId → Observed) (a : HistoryAct) → is_act_fit (λ node. narrowed (of node)) a ≡ is_act_fit of a
+narrowed_fit of (act.File n x packet) = ap (λ b. b && is_packet_fit packet) (new_is (of n) x)
+narrowed_fit of (act.Hold n x packet) = ap (λ b. b && is_packet_fit packet && may_hold (of n)) (new_is (of n) x)
+narrowed_fit of (act.Seal n x) = new_is (of n) x
+narrowed_fit of (act.Release n xs) = list_is (of n) xs
+narrowed_fit of (act.Cancel n xs) = list_is (of n) xs
+narrowed_fit of _ = refl

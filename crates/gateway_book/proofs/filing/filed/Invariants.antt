@@ -1,5 +1,0 @@
-use Rattle.gateway_book.proofs.FilingLemmas.{IsFiledSoFar}
-use Rattle.gateway_book.proofs.filing.filed.Given as goal
-
-abbrev pub invariant-loop-place : goal.invariant-loop-place
-invariant-loop-place l = IsFiledSoFar l.history l.place l.records.items

@@ -1,9 +1,0 @@
-use Rattle.gateway_book.proofs.HeldStates.{none_told}
-use Rattle.gateway_book.proofs.IndexLemmas.{fresh_follows}
-use Rattle.gateway_book.proofs.index.Index.new.Goals as goal
-
-pub invariant_of-result : goal.invariant_of-result
-invariant_of-result c = record { told = none_told _ _ c.in_ok-nodes.ensures }
-
-pub returns : goal.returns
-returns c = fresh_follows c.a_window_follows_its_history.ensures.none _ c.in_ok-nodes.ensures c.in_ok-held.ensures c.none.ensures c.none-2.ensures

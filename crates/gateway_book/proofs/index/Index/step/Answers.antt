@@ -1,7 +1,0 @@
-use Rattle.std.proofs.Common.{refl}
-use Rattle.gw_base.specs.Entry.{entry_view}
-use Rattle.gateway_book.proofs.IndexLemmas.{after_step}
-use Rattle.gateway_book.proofs.index.Index.step.Goals as goal
-
-pub returns : goal.returns
-returns c = after_step (entry_view c.args.entry.now) c.args.self.now c.act.new.self _ c.act.ensures refl refl refl c.after-self.ensures

@@ -1,5 +1,0 @@
-use Rattle.gateway_book.specs.FitHistoryLaws.{sealed_was_fresh}
-use Rattle.gateway_book.proofs.laws.each_number_is_sealed_once.Goals as goal
-
-pub returns : goal.returns
-returns c = λ size h e node number all seal. sealed_was_fresh size h e node number all seal

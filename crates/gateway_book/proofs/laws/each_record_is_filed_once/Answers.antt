@@ -1,5 +1,0 @@
-use Rattle.gateway_book.specs.OnceLaws.{filed_at_most_once}
-use Rattle.gateway_book.proofs.laws.each_record_is_filed_once.Goals as goal
-
-pub returns : goal.returns
-returns c = λ key index size h all. filed_at_most_once key index size h all

@@ -1,6 +1,0 @@
-use Rattle.std.proofs.Common.{◌∙◌}
-use Rattle.gateway_book.proofs.SlotLemmas.{known_is}
-use Rattle.gateway_book.proofs.nodes.is_known.Goals as goal
-
-pub returns : goal.returns
-returns c = c.lists.ensures ∙ known_is c.args.node c.args.slots.now

@@ -1,8 +1,0 @@
-use Rattle.std.proofs.Common.{◌≡◌, ◌++◌, take, drop, map}
-use Rattle.gateway_book.specs.Nodes.{settled_slot}
-use Rattle.gateway_book.specs.declared.nodes.Slot.{Slot}
-use Rattle.gateway_book.proofs.nodes.settle.Given as goal
-
--- the slots so far are changed, and the others are as they were
-abbrev pub invariant-loop-slot : goal.invariant-loop-slot
-invariant-loop-slot l = l.slots ≡ map (λ (slot : Slot). settled_slot l.firm slot) (take l.slot-index l.initial.slots) ++ drop l.slot-index l.initial.slots

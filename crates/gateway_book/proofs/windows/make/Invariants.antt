@@ -1,6 +1,0 @@
-use Rattle.gateway_book.specs.WindowPairs.{AreBlank}
-use Rattle.gateway_book.proofs.windows.make.Given as goal
-
--- so many are made so far
-abbrev pub invariant-loop : goal.invariant-loop
-invariant-loop l = AreBlank l.counter l.pairs.items

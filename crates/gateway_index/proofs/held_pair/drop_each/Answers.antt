@@ -1,0 +1,6 @@
+use Rattle.std.proofs.Common.{ap, arith}
+use Rattle.dup_buffer.specs.Copies.{Copies}
+use Rattle.gateway_index.proofs.held_pair.drop_each.Goals as goal
+
+pub returns-clause-room : goal.returns-clause-room
+returns-clause-room c = omega (arith, c.drop_node.ensures.spare, ap (λ (k : Copies). k.count) c.drop_node.ensures.others, c.requires.room)
