@@ -7,12 +7,11 @@ use Rattle.std.proofs.lemmas.List.Sums.{sum_by-append}
 use Rattle.std.specs.List.{list_any}
 use Rattle.std.specs.Option.{option_map_or}
 use Rattle.byteorder.specs.Endian.{big_bytes}
-use Rattle.entry_codec.specs.Room.{capacity_of, costs_of}
+use Rattle.entry_codec.specs.Room.{costs_of}
 use Rattle.entry_codec.specs.Spelling.{body, cost_of}
 use Rattle.gw_base.specs.HeldKeys.{held_by, held_keys}
 use Rattle.gw_base.specs.HeldLaws.{held_keys-append}
 use Rattle.gw_base.specs.History.{begins_epoch, last_naming, names, present_entries}
-use Rattle.gw_base.specs.Known.{known_nodes}
 use Rattle.gw_base.specs.Lists.{once}
 use Rattle.gw_base.specs.View.{stays_held}
 use Rattle.gw_base.specs.declared.address.NodeId.{NodeId}
@@ -21,10 +20,7 @@ use Rattle.gw_base.specs.declared.history.HistoryAct.{HistoryAct}
 use Rattle.gw_base.specs.declared.history.HistoryAct.TheVariants as act
 use Rattle.gw_base.specs.declared.history.HistoryEntry.{HistoryEntry}
 use Rattle.gateway_answer.specs.Filed.{along, filed_under, packet_of_hold, present_key, released_by}
-use Rattle.gateway_answer.specs.FitHistory.{AllFit, FitBehind}
-use Rattle.gateway_answer.specs.FitHistoryLaws.{fit_is_within, fit_knows_few}
 use Rattle.gateway_answer.specs.Items.{items_by, items_by_act, items_of, part_of}
-use Rattle.gateway_index.specs.Limits.{most_nodes}
 use Rattle.gateway_answer.specs.ListFitLaws.{distinct_once}
 use Rattle.gateway_answer.specs.OnceLaws.{any_once}
 use Rattle.gateway_answer.proofs.FiledCounts.{filed_count, key_count, load, load_cons, load_less, load_part, packet_count, packet_few, released_all}
@@ -125,22 +121,3 @@ items_cost law before (e ∷ h) =
 -- the items of a history are no more than what its entries cost
 pub few_items : HeldKeysAreHeld → (h : List HistoryEntry) → length (items_of h) ≤ costs_of h
 few_items law h = let all = items_cost law [] h in omega (arith, all)
-
--- ---- a fit history
-
--- the first of these entries are fit
-fit_front : (size : ℕ) (before h more : List HistoryEntry) → FitBehind size before (h ++ more) → FitBehind size before h
-fit_front size before [] more fit = tt
-fit_front size before (e ∷ h) more fit = (fit.0, fit_front size (before ++ e ∷ []) h more fit.1)
-
-pub front_few : HeldKeysAreHeld → (size : ℕ) (h more : List HistoryEntry) → AllFit size (h ++ more) → length (items_of h) ≤ capacity_of size
-front_few law size h more fit =
-    let few = few_items law h in
-    let within = fit_is_within size h (fit_front size [] h more fit) in
-    omega (arith, few, within)
-
--- so is the history of a book, broken or not
-pub history_knows_few : (size : ℕ) (is_broken : Bool) (firm rest : List HistoryEntry) → AllFit size (firm ++ rest)
-    → length (known_nodes (if is_broken then firm else firm ++ rest)) ≤ most_nodes
-history_knows_few size true firm rest fit = fit_knows_few size firm (fit_front size [] firm rest fit)
-history_knows_few size false firm rest fit = fit_knows_few size (firm ++ rest) fit

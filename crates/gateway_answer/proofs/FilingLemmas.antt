@@ -1,13 +1,12 @@
 -- Lemmas on filed records, for the loops that go over a history, the numbers of a release and the records of a packet.
-use Rattle.std.proofs.Common.{◌≡◌, ℕ, suc, ◌+◌, ◌<◌, Bool, true, false, if◌then◌else◌, List, [], ◌∷◌, ◌++◌, length, get_or, take, drop, fold, Option, Some, None, option_and_then, refl, ap, sym, ◌∙◌, arith, append_assoc}
+use Rattle.std.proofs.Common.{◌≡◌, ℕ, suc, ◌+◌, ◌<◌, List, [], ◌∷◌, ◌++◌, length, get_or, take, drop, fold, Option, None, ap, sym, ◌∙◌, arith, append_assoc}
 use Rattle.std.proofs.Math.Seq.{drop-cons, take-suc}
 use Rattle.gtpp_message.specs.Packet as packet
-use Rattle.gw_base.specs.EntryLaws.{last_naming-append}
-use Rattle.gw_base.specs.History.{begins_epoch, last_naming, names, present_entries}
-use Rattle.gw_base.specs.ListLaws.{after_last-push, fold_is}
+use Rattle.gw_base.specs.ListLaws.{fold_is}
 use Rattle.gw_base.specs.declared.history.HistoryEntry.{HistoryEntry}
 use Rattle.gw_base.specs.declared.history.PacketKey.{PacketKey}
-use Rattle.gateway_answer.specs.Filed.{along, filed, filed_by, filed_record, filed_under, held_packet, packet_of_hold, records_from, records_if}
+use Rattle.gateway_answer.specs.Filed.{along, filed, filed_by, filed_record, filed_under, held_packet, records_from, records_if}
+use Rattle.gateway_answer.specs.FiledLaws.{held_packet-push}
 use Rattle.gateway_answer.specs.Steps.{packet_after}
 use Rattle.gateway_answer.specs.declared.filing.FiledRecord.{FiledRecord}
 
@@ -30,24 +29,6 @@ step_filed h place e before found new lt here front grown so_far =
     ∙ so_far)
 
 -- ---- the held packet, entry by entry
-
-pub held_packet-push : (node number : ℕ) (h : List HistoryEntry) (e : HistoryEntry)
-    → held_packet node number (h ++ e ∷ []) ≡ packet_after node number (held_packet node number h) e.act
-held_packet-push node number h e =
-    ap (λ es. option_and_then (λ (x : HistoryEntry). packet_of_hold x.act) (last_naming node number es)) (after_last-push (λ (x : HistoryEntry). begins_epoch node x.act) h e)
-    ∙ by_epoch (begins_epoch node e.act)
-  where
-    by_name : (b : Bool) → option_and_then (λ (x : HistoryEntry). packet_of_hold x.act) (if b then Some e else last_naming node number (present_entries node h))
-        ≡ (if b then packet_of_hold e.act else held_packet node number h)
-    by_name true = refl
-    by_name false = refl
-
-    by_epoch : (b : Bool) → option_and_then (λ (x : HistoryEntry). packet_of_hold x.act) (last_naming node number (if b then [] else present_entries node h ++ e ∷ []))
-        ≡ (if b then None else (if names node number e.act then packet_of_hold e.act else held_packet node number h))
-    by_epoch true = refl
-    by_epoch false =
-        ap (λ last. option_and_then (λ (x : HistoryEntry). packet_of_hold x.act) last) (last_naming-append node number (present_entries node h) e)
-        ∙ by_name (names node number e.act)
 
 abbrev pub packet_from : ℕ → ℕ → Option (List ℕ) → List HistoryEntry → Option (List ℕ)
 packet_from node number packet h = fold (λ p e. packet_after node number p e.act) packet h

@@ -1,6 +1,5 @@
 -- Answers ask of the numbers alone that a number on the wire may mean.
-use Rattle.std.proofs.Common.{◌≡◌, ℕ, ◌==◌, ◌&&◌, Bool, true, false, if◌then◌else◌, List, [], ◌∷◌, map, filter, refl, sym, ap, ◌∙◌}
-use Rattle.std.specs.List.{list_all}
+use Rattle.std.proofs.Common.{◌≡◌, ℕ, ◌==◌, Bool, true, false, if◌then◌else◌, List, [], ◌∷◌, map, filter, refl, ap, ◌∙◌}
 use Rattle.gtpp_message.specs.Message.{TransferValue, Send, Possible, Cancel, Release}
 use Rattle.gtpp_message.specs.Packet.{packet_octets}
 use Rattle.gw_base.specs.Lists.{once}
@@ -11,16 +10,13 @@ use Rattle.gw_base.specs.declared.address.NodeId.{NodeId}
 use Rattle.gw_base.specs.declared.history.HistoryAct.{HistoryAct}
 use Rattle.gw_base.specs.declared.history.HistoryAct.TheVariants as act
 use Rattle.gw_base.specs.declared.key_state.KeyState.{KeyState}
-use Rattle.gw_base.specs.declared.key_state.KeyState.TheVariants.{Fresh}
 use Rattle.transfer_cmd.specs.Lists.{is_held, verdict_cause, verdict_of}
 use Rattle.transfer_cmd.specs.Table.{answer_cause, state_given}
 use Rattle.transfer_cmd.specs.declared.decision.Ask.{Ask}
-use Rattle.gateway_answer.specs.Answer.{answer_within, asked_by, changes, listed, may_record, node_of, recorded_as, sending, sending_again, sent, tabled}
-use Rattle.gateway_answer.specs.Fit.{are_distinct, is_act_fit, is_fresh, is_in_window, is_list_fit, is_new, is_packet_fit}
-use Rattle.gateway_index.specs.Limits.{has_place, is_in_range, may_hold}
-use Rattle.gateway_answer.specs.Preparing.{PreparedValue, Request}
 use Rattle.gateway_index.specs.Windows.{AgreeWhereMeant, if_held, narrowed}
+use Rattle.gateway_answer.specs.Answer.{answer_within, asked_by, changes, listed, may_record, node_of, recorded_as, sending, sending_again, sent, tabled}
 use Rattle.gateway_answer.specs.FitLaws.{nearest_in_window}
+use Rattle.gateway_answer.specs.Preparing.{PreparedValue, Request}
 
 -- ---- other states of numbers that none means
 
@@ -73,43 +69,3 @@ agreed_answer o p from datagram room agree =
 pub narrowed_answer : (o : Observed) (from : Addr) (datagram : PreparedValue) (room : HistoryAct → Bool) → answer_within (narrowed o) from datagram room ≡ answer_within o from datagram room
 narrowed_answer o from datagram room = answer_is o (narrowed o).state o.moment
     (λ wire. ap (λ b. if b then o.state (nearest o.top wire) else if_held (o.state (nearest o.top wire))) (nearest_in_window o.top wire)) from datagram room
-
-held_still : (state : KeyState) → is_held (if_held state) ≡ is_held state
-held_still Fresh = refl
-held_still _ = refl
-
-held_is : (o : Observed) (number : ℕ) → is_held ((narrowed o).state number) ≡ is_held (o.state number)
-held_is o number = by_window (is_in_window o.top number)
-  where
-    by_window : (b : Bool) → is_held (if b then o.state number else if_held (o.state number)) ≡ is_held (o.state number)
-    by_window true = refl
-    by_window false = held_still (o.state number)
-
-none : (a b c : Bool) → (a && b && c && false) ≡ false
-none true true true = refl
-none true true false = refl
-none true false true = refl
-none true false false = refl
-none false true true = refl
-none false true false = refl
-none false false true = refl
-none false false false = refl
-
-new_is : (o : Observed) (x : ℕ) → is_new (narrowed o) x ≡ is_new o x
-new_is o x = by_window (is_in_window o.top x)
-  where
-    by_window : (b : Bool) → (has_place o && is_fresh (if b then o.state x else if_held (o.state x)) && is_in_range x && b) ≡ (has_place o && is_fresh (o.state x) && is_in_range x && b)
-    by_window true = refl
-    by_window false = none (has_place o) (is_fresh (if_held (o.state x))) (is_in_range x) ∙ sym (none (has_place o) (is_fresh (o.state x)) (is_in_range x))
-
-list_is : (o : Observed) (xs : List ℕ) → is_list_fit (narrowed o) xs ≡ is_list_fit o xs
-list_is o [] = refl
-list_is o (x ∷ xs) = ap (λ (test : ℕ → Bool). list_all test (x ∷ xs) && are_distinct (x ∷ xs)) (λ i y. held_is o y i)
-
-pub narrowed_fit : (of : NodeId → Observed) (a : HistoryAct) → is_act_fit (λ node. narrowed (of node)) a ≡ is_act_fit of a
-narrowed_fit of (act.File n x packet) = ap (λ b. b && is_packet_fit packet) (new_is (of n) x)
-narrowed_fit of (act.Hold n x packet) = ap (λ b. b && is_packet_fit packet && may_hold (of n)) (new_is (of n) x)
-narrowed_fit of (act.Seal n x) = new_is (of n) x
-narrowed_fit of (act.Release n xs) = list_is (of n) xs
-narrowed_fit of (act.Cancel n xs) = list_is (of n) xs
-narrowed_fit of _ = refl

@@ -1,5 +1,5 @@
 -- No answer of a gateway whose device runs says that the device failed.
-use Rattle.std.proofs.Common.{◌≡◌, ℕ, ◌==◌, not, nat_lt, Bool, true, false, if◌then◌else◌, List, [], ◌∷◌, length, take, Result, Ok, Err, Some, None, refl, sym, ◌∙◌}
+use Rattle.std.proofs.Common.{◌≡◌, ℕ, ◌==◌, not, nat_lt, Bool, true, false, if◌then◌else◌, List, [], ◌∷◌, length, take, Result, Ok, Err, Some, None, refl}
 use Rattle.gtpp_header.specs.Header.{protocol_type_of, two_octets, version_of}
 use Rattle.gtpp_elements.specs.Reading.{elements_in}
 use Rattle.gtpp_message.specs.Message.{MessageValue, TransferValue, EchoRequest, EchoResponse, VersionNotSupported, NodeAliveRequest, NodeAliveResponse, RedirectionRequest, RedirectionResponse, TransferRequest, TransferResponse, is_message_type}
@@ -10,19 +10,16 @@ use Rattle.gtpp_message.specs.declared.flaw.Flaw.{Flaw}
 use Rattle.gtpp_message.specs.declared.flaw.Flaw.TheVariants.{Elements, Missing, Incorrect}
 use Rattle.gtpp_message.specs.declared.message_types.TheConstants as kind
 use Rattle.gtpp_message.specs.declared.role.Role.TheVariants.{Gateway}
-use Rattle.gw_base.specs.Observed.{Observed, observed}
+use Rattle.gw_base.specs.Observed.{Observed}
 use Rattle.gw_base.specs.declared.address.Addr.{Addr}
 use Rattle.gw_base.specs.declared.cause.TheConstants.{CDR_DECODING_ERROR}
 use Rattle.gw_base.specs.declared.history.HistoryAct.{HistoryAct}
 use Rattle.path_mgmt.specs.declared.event.PathEvent.{PathEvent}
 use Rattle.path_mgmt.specs.declared.event.PathEvent.TheVariants.{EchoAsked, EchoTold, AliveAsked, AliveTold}
-use Rattle.gateway_answer.specs.Answer.{Given, answer_by, failure_answer, may_record, node_of, replying}
-use Rattle.gateway_answer.specs.Answered.{answer_to, room_for}
-use Rattle.gateway_book.specs.Calls.{given_at}
+use Rattle.gateway_answer.specs.Answer.{Given, answer_by, node_of, replying}
 use Rattle.gateway_answer.specs.EachAnswer.{HoldsOfEach, of_path, of_request}
 use Rattle.gateway_answer.specs.Preparing.{PreparedValue, Refused, Path, Request, framed, prepared_of, requested, sends_values}
 use Rattle.gateway_answer.specs.Recording.{tells_a_fault}
-use Rattle.gateway_answer.specs.Value.{BookValue, history_of}
 
 -- the answer doesn't say that the device failed
 abbrev NoFault : Given → Type 0
@@ -105,17 +102,3 @@ sound [] = λ o from may. refl
 pub running_tells_none : (o : Observed) (from : Addr) (octets : List ℕ) (may : HistoryAct → Bool)
     → tells_a_fault (answer_by o from (prepared_of octets) may) ≡ false
 running_tells_none o from octets may = sound octets o from may
-
--- A gateway says that its device failed where it is broken alone.
-pub broken_alone_tells : (ready : BookValue) (from : Addr) (octets : List ℕ) (size : ℕ)
-    → tells_a_fault (given_at ready from (prepared_of octets) size) ≡ true → ready.is_broken ≡ true
-broken_alone_tells ready from octets size tells =
-    by_broken ready.is_broken (failure_answer (prepared_of octets))
-    (answer_to (history_of ready) from (prepared_of octets) size)
-    (sound octets (observed (history_of ready) (node_of from)) from
-    (may_record (observed (history_of ready) (node_of from)) (room_for (history_of ready) size))) tells
-  where
-    by_broken : (b : Bool) (failed given : Given) → NoFault given → tells_a_fault (if b then failed else given) ≡ true
-        → b ≡ true
-    by_broken true failed given off told = refl
-    by_broken false failed given off told = sym off ∙ told

@@ -1,6 +1,5 @@
 -- Which entries are fit to stand in the journal of a gateway, behind those before them.
-use Rattle.std.specs.Prelude.{ℕ, ◌+◌, ◌≤◌, ◌==◌, ◌&&◌, nat_le, Bool, true, false, IsTrue, not, List, [], ◌∷◌, Option}
-use Rattle.std.specs.List.{list_all}
+use Rattle.std.specs.Prelude.{ℕ, ◌≤◌, ◌&&◌, Bool, true, false, IsTrue, List}
 use Rattle.std.specs.Option.{option_map_or}
 use Rattle.entry_codec.specs.Room.{has_room}
 use Rattle.gtpp_message.specs.Packet.{packet_of}
@@ -10,29 +9,14 @@ use Rattle.gw_base.specs.declared.address.NodeId.{NodeId}
 use Rattle.gw_base.specs.declared.history.HistoryAct.{HistoryAct}
 use Rattle.gw_base.specs.declared.history.HistoryAct.TheVariants.{Start, Path, File, Hold, Seal, Release, Cancel, Tick, Close}
 use Rattle.gw_base.specs.declared.history.HistoryEntry.{HistoryEntry}
-use Rattle.gw_base.specs.declared.key_state.KeyState.{KeyState}
-use Rattle.gw_base.specs.declared.key_state.KeyState.TheVariants.{Fresh}
-use Rattle.transfer_cmd.specs.Lists.{is_held}
-use Rattle.gateway_index.specs.Limits.{has_place, is_in_range, may_hold}
+pub use Rattle.gateway_index.specs.FitActs.{are_distinct, fits_with, is_fresh, is_in_window, is_list_fit, is_new}
 use Rattle.gateway_answer.specs.Preparing.{has_values}
 
 -- the last moment that an entry may bear: the last second of the year 2099
 abbrev pub latest_moment : ℕ
 latest_moment = 4102444799
 
-abbrev pub is_fresh : KeyState → Bool
-is_fresh Fresh = true
-is_fresh _ = false
-
--- whether a number lies no more than 32,768 below the greatest one of the epoch, where that names one
-abbrev pub is_in_window : Option ℕ → ℕ → Bool
-is_in_window top number = option_map_or (λ h. nat_le h (number + 32768)) top true
-
--- whether a number may get its first state
-abbrev pub is_new : Observed → ℕ → Bool
-is_new o number = has_place o && is_fresh (o.state number) && is_in_range number && is_in_window o.top number
-
--- the same, whatever the limits are
+-- whether a number may get its first state, whatever the limits are
 abbrev pub is_first : Observed → ℕ → Bool
 is_first o number = is_fresh (o.state number) && is_in_window o.top number
 
@@ -40,27 +24,9 @@ is_first o number = is_fresh (o.state number) && is_in_window o.top number
 abbrev pub is_packet_fit : List ℕ → Bool
 is_packet_fit packet = option_map_or has_values (packet_of packet) false
 
--- whether no two of these numbers are equal
-abbrev pub are_distinct : List ℕ → Bool
-are_distinct [] = true
-are_distinct (x ∷ xs) = list_all (λ y. not (x == y)) xs && are_distinct xs
-
--- whether a list names a number, held ones alone and each once
-abbrev pub is_list_fit : Observed → List ℕ → Bool
-is_list_fit o [] = false
-is_list_fit o (x ∷ xs) = list_all (λ y. is_held (o.state y)) (x ∷ xs) && are_distinct (x ∷ xs)
-
 -- whether an act is fit, by what is observed for each node
 abbrev pub is_act_fit : (NodeId → Observed) → HistoryAct → Bool
-is_act_fit of Start = true
-is_act_fit of (Path n port counter) = has_place (of n)
-is_act_fit of (File n x packet) = is_new (of n) x && is_packet_fit packet
-is_act_fit of (Hold n x packet) = is_new (of n) x && is_packet_fit packet && may_hold (of n)
-is_act_fit of (Seal n x) = is_new (of n) x
-is_act_fit of (Release n xs) = is_list_fit (of n) xs
-is_act_fit of (Cancel n xs) = is_list_fit (of n) xs
-is_act_fit of Tick = true
-is_act_fit of Close = true
+is_act_fit of act = fits_with is_packet_fit of act
 
 -- Whether an act keeps to the table of answers, whatever the limits are: what it files, holds or seals is fresh, and
 -- what it releases or cancels is held.

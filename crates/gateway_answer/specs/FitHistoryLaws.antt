@@ -34,6 +34,11 @@ fit_more size before [] e all one = (subst (λ (b : List HistoryEntry). IsFit si
 fit_more size before (x ∷ h) e all one =
     (all.0, fit_more size (before ++ x ∷ []) h e all.1 (subst (λ (b : List HistoryEntry). IsFit size b e) (sym (append_assoc before (x ∷ []) h)) one))
 
+-- the first entries of a fit history are a fit history
+pub fit_front : (size : ℕ) (before h more : List HistoryEntry) → FitBehind size before (h ++ more) → FitBehind size before h
+fit_front size before [] more fit = tt
+fit_front size before (e ∷ h) more fit = (fit.0, fit_front size (before ++ e ∷ []) h more fit.1)
+
 -- what goes on with each fit entry holds of each fit history
 pub by_fit : (size : ℕ) (P : List HistoryEntry → Type 0) → P [] → ((h : List HistoryEntry) (e : HistoryEntry) → IsFit size h e → P h → P (h ++ e ∷ []))
     → (h : List HistoryEntry) → AllFit size h → P h

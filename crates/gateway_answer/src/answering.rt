@@ -232,7 +232,7 @@ fn replying(event: Option<PathEvent>, act: Option<Act<'_>>) -> Decision<'_>
 }
 
 /// The answer where the device fails before any other is made.
-pub(crate) fn failure_answer(case: &Case<'_>) -> Decision<'static>
+pub fn failure_answer(case: &Case<'_>) -> Decision<'static>
     ensures { decision_view result ≡ decided (failure_answer (case_value case.now)) }
 {
     match case {
@@ -255,7 +255,7 @@ pub fn failure(request: &Prepared<'_>) -> Option<Short>
 }
 
 /// The answer to what was made of a datagram from this sender. It takes no memory.
-pub(crate) fn answer_by<'a, 'p: 'a, O: Observe>(
+pub fn answer_by<'a, 'p: 'a, O: Observe>(
     seen: &O,
     from: Addr,
     case: &Case<'p>,

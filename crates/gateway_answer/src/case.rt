@@ -3,7 +3,7 @@ use path_mgmt::PathEvent;
 
 /// What a gateway makes of a datagram before it looks at its history.
 #[derive(Drop)]
-pub(crate) enum Case<'a> {
+pub enum Case<'a> {
     /// It isn't answered.
     Drop(Why),
     /// A message of another version of GTP', which Version Not Supported answers.

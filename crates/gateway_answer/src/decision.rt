@@ -3,7 +3,7 @@ use gw_base::{Act, Short};
 
 /// What is done with a datagram.
 #[derive(Drop)]
-pub(crate) enum Decision<'a> {
+pub enum Decision<'a> {
     /// It isn't answered.
     Drop(Why),
     /// These octets go back to the sender.

@@ -242,7 +242,7 @@ fn filed_record(
 }
 
 /// The tag in front of a record of a packet with this data record format, where that is BER.
-pub(crate) fn record_tag(format: u8, octets: &[u8]) -> Option<Tag>
+pub fn record_tag(format: u8, octets: &[u8]) -> Option<Tag>
     ensures { result ≡ record_tag format octets.now }
 {
     if format == BER_FORMAT {

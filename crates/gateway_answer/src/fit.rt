@@ -17,7 +17,7 @@ const WINDOW: u64 = 32_768;
 
 /// Whether an act is fit to be recorded next: whether its node may be known, its number may get its first state, its
 /// packet is one, its numbers are held.
-pub(crate) fn is_act_fit<O: Observe>(seen: &O, act: &Act<'_>) -> bool
+pub fn is_act_fit<O: Observe>(seen: &O, act: &Act<'_>) -> bool
     ensures { result ≡ is_act_fit (O.seen seen.now) (act_view act.now) }
 {
     match *act {

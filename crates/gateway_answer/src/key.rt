@@ -11,18 +11,3 @@ pub struct Key {
     /// Its state in that epoch.
     pub state: KeyState,
 }
-
-/// How much a gateway has recorded and holds.
-#[derive(Clone, Copy)]
-pub struct Counts {
-    /// The entries of the history.
-    pub entries: u64,
-    /// Those of them that are firm.
-    pub firm: u64,
-    /// The copies that are held in present epochs.
-    pub held: u64,
-    /// Those of earlier epochs that were neither released nor cancelled.
-    pub stranded: u64,
-    /// The octets of the journal that costs and promises leave.
-    pub free: u64,
-}

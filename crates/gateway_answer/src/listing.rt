@@ -23,7 +23,7 @@ const FEW: usize = 16;
 /// The lists in which answers are worked out: the numbers that a request names, their states, and
 /// the held ones. They have room for the longest list, which fills a message of 65,541 octets.
 #[derive(Drop)]
-pub(crate) struct Scratch {
+pub struct Scratch {
     numbers: Reserved<Absolute>,
     states: Reserved<KeyState>,
     held: Reserved<Absolute>,
@@ -32,11 +32,11 @@ pub(crate) struct Scratch {
 }
 
 impl Scratch {
+    ghost use Rattle.gateway_answer.specs.Scratches.{IsEmpty};
+
     /// Empty lists, which take the memory for all that they will hold.
-    pub(crate) fn new(alloc: Global) -> Result<Scratch, NoMemory>
-        ensures numbers { IfOk result (λ scratch. scratch.numbers.items.items ≡ []) }
-        ensures states { IfOk result (λ scratch. scratch.states.items.items ≡ []) }
-        ensures held { IfOk result (λ scratch. scratch.held.items.items ≡ []) }
+    pub fn new(alloc: Global) -> Result<Scratch, NoMemory>
+        ensures { IfOk result IsEmpty }
     {
         Ok(Scratch {
             numbers: Reserved::new(alloc)?,

@@ -1,7 +1,7 @@
 use gw_base::{Absolute, Act, KeyState, NodeId, Opening};
 
 /// What an answer asks of a gateway's history.
-pub(crate) trait Observe {
+pub trait Observe {
     ghost use Rattle.std.specs.Prelude.{◌≡◌, ◌<◌, ◌^◌, Bool, IfSome};
     ghost use Rattle.gw_base.specs.Entry.{act_view};
     ghost use Rattle.gw_base.specs.Observed.{Observed};

@@ -33,7 +33,7 @@ impl<'a> Model for Prepared<'a> {
 
 impl<'a> Prepared<'a> {
     /// What the gateway makes of the datagram.
-    pub(crate) fn case(&self) -> &Case<'a>
+    pub fn case(&self) -> &Case<'a>
         ensures { IsCaseOf self.now result.now }
     {
         &self.case

@@ -13,9 +13,10 @@ use Rattle.gw_base.specs.declared.history.HistoryAct.{HistoryAct}
 use Rattle.gateway_book.specs.Adding.{AddsIf, IsSame, MayAdd, room_in}
 use Rattle.gateway_answer.specs.Answer.{Decided, Given, Drops, Replies, Says, Silent, answer_within, decided, may_record, node_of}
 use Rattle.gateway_answer.specs.Answered.{act_decided, act_given}
-use Rattle.gateway_answer.specs.Fit.{is_act_fit}
+use Rattle.gateway_answer.specs.Fit.{is_act_fit, is_packet_fit}
 use Rattle.gateway_answer.specs.FitLaws.{records_fit}
 use Rattle.gateway_index.specs.Index.{MayCome, observed_by}
+use Rattle.gateway_index.specs.WindowLaws.{fits_with_any}
 use Rattle.gateway_answer.specs.Preparing.{IsShort, IsWhole, PreparedValue}
 use Rattle.gateway_answer.specs.Recording.{Fits, IfRecords}
 use Rattle.gateway_answer.specs.RoomAsked.{room_asked}
@@ -45,7 +46,7 @@ module _ {A : Type 0} {tells : Ghosts A} (trail : Trail A tells) (index : Index)
       facts : (a : HistoryAct) → act_decided decision ≡ Some a → MayCome a index × IsBrief a
       facts a e =
           let recorded : act_given given ≡ Some a = ap (λ (d : Decided). act_decided d) (sym is) ∙ e in (
-            recorded_fits given a (records_fit (observed_by false index) from datagram (λ b. true) whole) recorded,
+            fits_with_any is_packet_fit (observed_by false index) a (recorded_fits given a (records_fit (observed_by false index) from datagram (λ b. true) whole) recorded),
             recorded_holds IsBrief given a (records_brief (observed_by false index (node_of from)) from datagram (may_record (observed_by false index (node_of from)) (λ b. true)) short) recorded,
           )
         where

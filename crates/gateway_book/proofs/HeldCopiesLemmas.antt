@@ -18,7 +18,7 @@ use Rattle.gw_base.specs.declared.history.HistoryEntry.{HistoryEntry}
 use Rattle.gateway_answer.specs.Filed.{held_packet, packet_of_hold}
 use Rattle.gateway_book.specs.HeldCopies.{AreBelow, CopyPlaces, HoldCopies, copies_after, copy_at, copy_order, hold_by, hold_in, if_after, packet_at, path_in, with_hold, with_path, without_holds}
 use Rattle.gateway_book.specs.declared.held_copies.CopyKey.{CopyKey}
-use Rattle.gateway_answer.proofs.FilingLemmas.{held_packet-push}
+use Rattle.gateway_answer.specs.FiledLaws.{held_packet-push}
 
 -- ---- the maps
 

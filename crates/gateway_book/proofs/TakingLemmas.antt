@@ -16,7 +16,7 @@ use Rattle.gw_base.specs.declared.history.HistoryAct.{HistoryAct}
 use Rattle.gw_base.specs.declared.history.HistoryEntry.{HistoryEntry}
 use Rattle.gateway_book.specs.Adding.{AddsIf, IsAdded, IsSame, entry_of, room_told}
 use Rattle.gateway_answer.specs.Answer.{Decided, Given, Replies, Says, Silent, answer_within, decided, node_of}
-use Rattle.gateway_answer.specs.Answered.{act_decided, answer, answer_to, entry_by, room_for}
+use Rattle.gateway_answer.specs.Answered.{act_decided, answer_to, entry_by, room_for}
 use Rattle.gateway_book.specs.Calls.{left_by, outcome_at}
 use Rattle.gateway_answer.specs.Fit.{IsFit, latest_moment}
 use Rattle.gateway_answer.specs.FitHistory.{AllFit}
@@ -24,7 +24,7 @@ use Rattle.gateway_answer.specs.FitHistoryLaws.{last_is_in_range}
 use Rattle.gateway_answer.specs.FitLaws.{answer_fits, room_is_for_each}
 use Rattle.gateway_book.specs.Followed.{IsFollowed, all_entries}
 use Rattle.gateway_index.specs.Index.{Follows, observed_by}
-use Rattle.gateway_answer.specs.Preparing.{IsWhole, PreparedValue, prepared_of}
+use Rattle.gateway_answer.specs.Preparing.{IsWhole, PreparedValue}
 use Rattle.gateway_answer.specs.Recording.{IfRecords}
 use Rattle.gateway_book.specs.Taking.{IsDone}
 use Rattle.gateway_answer.specs.Value.{BookValue, history_of, recorded_if}
@@ -80,11 +80,6 @@ pub answered_is : {A : Type 0} {tells : Ghosts A} (trail : Trail A tells) (index
     → decided (answer_within (observed_by false index (node_of from)) from datagram (room_told trail moment who)) ≡ decided (answer_to (all_entries trail) from datagram (tells.size (area_of trail)))
 answered_is trail index from datagram now moment who open_now at answers =
     ap decided (answers (room_told trail moment who)) ∙ (λ i. decided (answer_within (observed (all_entries trail) (node_of from)) from datagram (same_room trail now moment who open_now at i)))
-
--- what is answered by the same history, octets and size
-pub answered_at : (h g : List HistoryEntry) (from : Addr) (datagram : PreparedValue) (octets : List ℕ) (size other : ℕ) → h ≡ g → datagram ≡ prepared_of octets → size ≡ other
-    → decided (answer_within (observed h (node_of from)) from datagram (room_for h size)) ≡ decided (answer g from octets other)
-answered_at h g from datagram octets size other hs ds ss = λ i. decided (answer_within (observed (hs i) (node_of from)) from (ds i) (room_for (hs i) (ss i)))
 
 -- what is recorded is fit
 pub fit_of : (size : ℕ) (h : List HistoryEntry) (now : ℕ) (who : Caller) (given : Given) (reply : List ℕ) (a : HistoryAct) → IfRecords (λ number message b. IsFit size h (entry_by h now who b)) given → decided given ≡ Says reply (Some a) → IsFit size h (entry_by h now who a)

@@ -17,14 +17,11 @@ ghost use Rattle.gateway_index.specs.Index.{MayCome};
 ghost use Rattle.gateway_answer.specs.Preparing.{IsShort, IsWhole};
 ghost use Rattle.gateway_answer.specs.Value.{most_for_one};
 
-use crate::answering::answer_by;
-use crate::case::Case;
-use crate::decision::Decision;
-use crate::index::Index;
-use crate::listing::Scratch;
 use crate::seen::Seen;
 use area_disk::Area;
 use cgf_journal::Trail;
+use gateway_answer::{Case, Decision, Scratch, answer_by};
+use gateway_index::Index;
 use gtpp_message::Why;
 use gw_base::{Addr, Caller, Entry, Moment, Short};
 

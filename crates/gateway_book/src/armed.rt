@@ -18,9 +18,9 @@ use crate::book::Book;
 use crate::laws::{
     a_gateway_goes_as_armed, a_gateway_stays_up_as_it_is_read, what_a_gateway_leaves,
 };
-use crate::preparing::Prepared;
 use crate::{Broken, ItemsFault, Outcome};
 use area_disk::Area;
+use gateway_answer::Prepared;
 use gw_base::{Addr, Caller, Item, Moment};
 use std::alloc::Global;
 

@@ -5,10 +5,10 @@ ghost use Rattle.gateway_book.specs.Standing.{HasCursor, IsCounting};
 ghost use Rattle.gateway_book.specs.FollowedProps.{AllFit-prop, Follows-prop};
 
 use crate::cursor::Cursor;
-use crate::index::Index;
-use crate::listing::Scratch;
 use area_disk::Area;
 use cgf_journal::Trail;
+use gateway_answer::Scratch;
+use gateway_index::Index;
 
 /// A gateway: its history on a journal, with an index.
 ///

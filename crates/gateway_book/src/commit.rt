@@ -13,10 +13,10 @@ ghost use Rattle.gateway_answer.specs.FitHistory.{AllFit};
 ghost use Rattle.gateway_answer.specs.Value.{after_commit};
 
 use crate::book::Book;
-use crate::observed::an_index_tells_its_history;
 use crate::{Broken, Counts, Settled};
 use area_disk::Area;
 use cgf_journal::{Device, Waiting};
+use gateway_index::laws::an_index_tells_its_history;
 use gw_base::scan::held_keys_are_as_many_as_held_copies;
 
 impl<A: Area> Book<A> {

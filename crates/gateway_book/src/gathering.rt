@@ -5,7 +5,7 @@ ghost use Rattle.gtpp_message.specs.Values.{packet_value};
 ghost use Rattle.gateway_book.specs.Gathering.{gathered, packet_items, record_item};
 ghost use Rattle.gateway_answer.specs.Items.{IsWritable};
 
-use crate::filing::record_tag;
+use gateway_answer::record_tag;
 use gtpp_message::Packet;
 use gw_base::{Item, Moment, NoMemory, Octets, cdr_kind};
 use std::alloc::Global;

@@ -4,12 +4,13 @@ ghost use Rattle.gw_base.specs.Entry.{act_view};
 ghost use Rattle.gateway_answer.specs.Fit.{is_act_fit, latest_moment};
 ghost use Rattle.gateway_index.specs.Index.{observed_by, side_of};
 
-use crate::fit::is_act_fit;
-use crate::index::Index;
-use crate::observed::an_index_tells_its_history;
+use crate::observed::an_index_is_enough;
 use crate::seen::Seen;
 use cgf_journal::Judge;
 use entry_codec::{capacity, cost, promised};
+use gateway_answer::is_act_fit;
+use gateway_index::Index;
+use gateway_index::laws::an_index_tells_its_history;
 use gw_base::{Entry, NoMemory};
 use std::alloc::Global;
 
@@ -72,6 +73,7 @@ impl Judge for FitJudge {
 
     fn take(&mut self, entry: &Entry<'_>, size: u64) -> Result<bool, NoMemory> {
         an_index_tells_its_history();
+        an_index_is_enough();
         if !self.may_stand(entry) {
             return Ok(false);
         }

@@ -3,64 +3,31 @@ ghost use Rattle.std.specs.Prelude.{◌≡◌, slice_get};
 ghost use Rattle.gate_journal.specs.Moments.{Told};
 ghost use Rattle.cgf_journal.specs.Trail.{is_closed};
 ghost use Rattle.gateway_index.specs.Index.{observed_by, side_of};
-ghost use Rattle.gateway_book.specs.Lookups.{key_seen};
-ghost use Rattle.gateway_index.specs.Paths.{path_in, paths_in};
+ghost use Rattle.gateway_index.specs.Paths.{paths_in};
 ghost use Rattle.gateway_answer.specs.Told.{key_of, paths_of};
 ghost use Rattle.gateway_answer.specs.Value.{history_of};
+ghost use Rattle.gateway_book.specs.Lookups.{key_seen};
 
-use crate::Key;
 use crate::book::Book;
-use crate::index::Index;
-use crate::observed::an_index_tells_its_history;
+use crate::observed::an_index_is_enough;
 use area_disk::Area;
+use gateway_answer::Key;
+use gateway_index::Index;
+use gateway_index::laws::an_index_tells_its_history;
 use gw_base::{Addr, NodeId, nearest_number};
 
-impl Index {
-    // Where a node sends from, if a Path opened its present epoch.
-    #[tactic(auto, unfolding(crate::specs::Index::side_of))]
-    fn path_of(&self, firm: bool, node: NodeId) -> Option<Addr>
-        ensures { result ≡ path_in (side_of firm self.now) node }
-    {
-        match self.nodes.opening(firm, node) {
-            Some(opening) => Some(Addr {
-                ip: node.0,
-                port: opening.port,
-            }),
-            None => None,
-        }
-    }
-
-    // The k-th of the nodes' paths, counted from 0.
-    fn path(&self, firm: bool, k: usize) -> Option<Addr>
-        ensures { result ≡ slice_get (paths_in (side_of firm self.now)) k }
-    {
-        let mut left = k;
-        for place in 0..self.nodes.count(firm) {
-            let node = self.nodes.node(firm, place);
-            let Some(path) = self.path_of(firm, node) else {
-                continue;
-            };
-            if left == 0 {
-                return Some(path);
-            }
-            left -= 1;
-        }
-        None
-    }
-
-    // What a number on the wire means in a node's present epoch.
-    fn key(&self, firm: bool, node: NodeId, wire: u16) -> Key
-        ensures { result ≡ key_seen (observed_by firm self.now node) wire }
-    {
-        let number = nearest_number(self.top(firm, node), wire);
-        Key {
-            start: match self.opening(firm, node) {
-                Some(opening) => opening.counter,
-                None => 0,
-            },
-            number,
-            state: self.state(firm, node, number),
-        }
+// What a number on the wire means in a node's present epoch.
+fn key(index: &Index, firm: bool, node: NodeId, wire: u16) -> Key
+    ensures { result ≡ key_seen (observed_by firm index.now node) wire }
+{
+    let number = nearest_number(index.top(firm, node), wire);
+    Key {
+        start: match index.opening(firm, node) {
+            Some(opening) => opening.counter,
+            None => 0,
+        },
+        number,
+        state: index.state(firm, node, number),
     }
 }
 
@@ -95,8 +62,8 @@ impl<A: Area> Book<A> {
         ensures told { Told A.Area → result ≡ key_of (history_of (value_of self.now)) node wire }
         ensures counted { result ≡ key_seen (observed_by (is_closed self.now.trail) self.now.index node) wire }
     {
-        an_index_tells_its_history();
+        an_index_is_enough();
         let firm = self.trail.is_closed();
-        self.index.key(firm, node, wire)
+        key(&self.index, firm, node, wire)
     }
 }

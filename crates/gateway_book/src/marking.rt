@@ -16,14 +16,14 @@ ghost use Rattle.gateway_book.specs.Followed.{all_entries};
 ghost use Rattle.gateway_index.specs.Index.{MayCome};
 ghost use Rattle.gateway_book.specs.Marking.{IsMark, IsQuiet, OnlyAdds, with_entry};
 ghost use Rattle.gateway_answer.specs.Marks.{close_mark, made_if, tick_mark};
-ghost use Rattle.gateway_answer.specs.Value.{history_of, most_for_one, readied};
+ghost use Rattle.gateway_answer.specs.Value.{history_of, most_for_one};
 
 use crate::Marked;
 use crate::adding::record;
 use crate::book::Book;
-use crate::laws::a_due_close_has_room;
-use crate::observed::an_index_tells_its_history;
 use area_disk::Area;
+use gateway_answer::laws::a_due_close_has_room;
+use gateway_index::laws::an_index_tells_its_history;
 use gw_base::scan::is_long_ago;
 use gw_base::{Act, Caller, Entry, Moment};
 

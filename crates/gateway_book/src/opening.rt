@@ -15,11 +15,11 @@ use crate::adding::record;
 use crate::book::Book;
 use crate::cursor::Cursor;
 use crate::judge::FitJudge;
-use crate::listing::Scratch;
-use crate::observed::an_index_tells_its_history;
 use crate::{BookFault, Setup};
 use area_disk::Area;
 use cgf_journal::{OpenFault, Trail};
+use gateway_answer::Scratch;
+use gateway_index::laws::an_index_tells_its_history;
 use gw_base::{Act, Caller, Entry};
 use std::alloc::Global;
 

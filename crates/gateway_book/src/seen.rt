@@ -1,6 +1,6 @@
 // What an index tells of all entries to whoever answers by it.
-use crate::index::Index;
-use crate::observe::Observe;
+use gateway_answer::Observe;
+use gateway_index::Index;
 use gw_base::{Absolute, Act, KeyState, NodeId, Opening};
 
 /// An index of all entries, where there is room for any act, or for none.

@@ -19,15 +19,13 @@ ghost use Rattle.gateway_book.specs.Taking.{IsDone, IsDoneBy};
 ghost use Rattle.gateway_answer.specs.Value.{history_of, most_for_one, readied};
 
 use crate::adding::{Done, answer};
-use crate::answering::failure_answer;
 use crate::book::Book;
-use crate::case::Case;
-use crate::decision::Decision;
-use crate::laws::what_is_held_can_be_released;
-use crate::observed::an_index_tells_its_history;
-use crate::preparing::Prepared;
+use crate::observed::an_index_is_enough;
 use crate::{Outcome, Receipt};
 use area_disk::Area;
+use gateway_answer::laws::what_is_held_can_be_released;
+use gateway_answer::{Case, Decision, Prepared, failure_answer};
+use gateway_index::laws::an_index_tells_its_history;
 use gtpp_message::message_types::TRANSFER_RESPONSE;
 use gw_base::{Addr, Caller, Moment, Short};
 
@@ -125,7 +123,7 @@ impl<A: Area> Book<A> {
         ensures adds { OnlyAdds self.old self.new }
         ensures stays { Stays self.old self.new }
     {
-        an_index_tells_its_history();
+        an_index_is_enough();
         let moment = self.moment_after(now);
         let (trail, index, scratch) = (&mut self.trail, &mut self.index, &mut self.scratch);
         answer(trail, index, scratch, from, case, moment, who)

@@ -5,31 +5,21 @@ use Rattle.std.proofs.lemmas.Bool.{and_parts, leb-true, ltb-true}
 use Rattle.dup_buffer.specs.Copies.{Copies, most_copies, no_copies, without_node}
 use Rattle.gw_base.specs.HeldKeys.{held_keys}
 use Rattle.gw_base.specs.Known.{is_known, known_nodes}
-use Rattle.gw_base.specs.Nearest.{nearest}
-use Rattle.gw_base.specs.Observed.{Observed, observed}
-use Rattle.gw_base.specs.Starts.{start_of}
-use Rattle.gw_base.specs.declared.address.Addr.{Addr}
+use Rattle.gw_base.specs.Observed.{observed}
 use Rattle.gw_base.specs.declared.address.NodeId.{NodeId}
-use Rattle.gw_base.specs.declared.history.HistoryAct.{HistoryAct}
 use Rattle.gw_base.specs.declared.history.HistoryEntry.{HistoryEntry}
 use Rattle.gw_base.specs.declared.history.Opening.{Opening}
 use Rattle.seq_window.specs.Histories.{IsFreshAbove}
-use Rattle.gateway_answer.specs.Answer.{answer_within, node_of}
-use Rattle.gateway_index.specs.FitActs.{is_act_fit, is_fresh, is_in_window, is_new}
+use Rattle.gateway_index.specs.FitActs.{any_packet, fits_with, is_fresh, is_in_window, is_new}
 use Rattle.gateway_index.specs.HeldPairs.{IsHeldStep, held_in}
 use Rattle.gateway_index.specs.Index.{Follows, Stepped, observed_by, observed_in, side_of}
 use Rattle.gateway_index.specs.Limits.{has_place, half, is_in_range, least_number, may_hold, numbers_end}
-use Rattle.gateway_book.specs.Lookups.{key_seen}
 use Rattle.gateway_index.specs.NodeSides.{AreNew, IsNodesStep, MayBeKnown, nodes_in}
-use Rattle.gateway_answer.specs.Preparing.{PreparedValue}
 use Rattle.gateway_index.specs.Sides.{NodeSide, Side, acted, no_totals, opened, opened_nodes, side_after, totals_after}
 use Rattle.gateway_index.specs.Tells.{AreCopiesOf, Tells, totals_of}
-use Rattle.gateway_answer.specs.Told.{key_of}
-use Rattle.gateway_index.specs.Windows.{if_held, narrowed}
+use Rattle.gateway_index.specs.Windows.{narrowed}
 use Rattle.gateway_index.specs.declared.index.Index.{Index}
-use Rattle.gateway_index.proofs.Tellings.{CountLaw, HeldLaw, PresentLaw, WindowLaw, fit_is, new_is_free, observed_is, tells_after}
-use Rattle.gateway_answer.proofs.WindowLemmas.{narrowed_answer}
-use Rattle.gateway_answer.specs.FitLaws.{nearest_in_window}
+use Rattle.gateway_index.proofs.Tellings.{CountLaw, HeldLaw, PresentLaw, WindowLaw, new_is_free, observed_is, tells_after}
 
 -- ---- what is fit
 
@@ -156,7 +146,7 @@ after_step e old new after stepped nodes held firm live = record {
       same ∙ stepped.firm;
 }
 
-pub follows_after : HeldLaw → PresentLaw → CountLaw → WindowLaw → (e : HistoryEntry) (old new : Index) → is_act_fit (observed_by false old) e.act ≡ true → Stepped (side_after e) old new
+pub follows_after : HeldLaw → PresentLaw → CountLaw → WindowLaw → (e : HistoryEntry) (old new : Index) → fits_with any_packet (observed_by false old) e.act ≡ true → Stepped (side_after e) old new
     → (h : List HistoryEntry) → length h + 2 < 2 ^ 64 → Follows false old h → Follows false new (h ++ e ∷ [])
 unfolding Follows observed_by
 follows_after held_law present_law count_law window_law e old new fit stepped h fits t =
@@ -167,30 +157,6 @@ follows_after held_law present_law count_law window_law e old new fit stepped h 
 pub observed_as : HeldLaw → PresentLaw → (firm : Bool) (index : Index) (h : List HistoryEntry) (node : NodeId) → Follows firm index h → observed_by firm index node ≡ narrowed (observed h node)
 unfolding observed_by Follows
 observed_as held_law present_law firm index h node t = observed_is held_law present_law (side_of firm index) h t node
-
-pub answered_as : HeldLaw → PresentLaw → (firm : Bool) (index : Index) (h : List HistoryEntry) → Follows firm index h → (from : Addr) (datagram : PreparedValue) (room : HistoryAct → Bool)
-    → answer_within (observed_by firm index (node_of from)) from datagram room ≡ answer_within (observed h (node_of from)) from datagram room
-answered_as held_law present_law firm index h follows from datagram room =
-    ap (λ (o : Observed). answer_within o from datagram room) (observed_as held_law present_law firm index h (node_of from) follows) ∙ narrowed_answer (observed h (node_of from)) from datagram room
-
-pub fit_as : HeldLaw → PresentLaw → (firm : Bool) (index : Index) (h : List HistoryEntry) (act : HistoryAct) → Follows firm index h → is_act_fit (observed_by firm index) act ≡ is_act_fit (observed h) act
-unfolding observed_by Follows
-fit_as held_law present_law firm index h act t = fit_is held_law present_law (side_of firm index) h t act
-
--- what a number on the wire means lies in the window
-pub key_as : HeldLaw → PresentLaw → (firm : Bool) (index : Index) (h : List HistoryEntry) (node : NodeId) (wire : ℕ) → Follows firm index h → key_seen (observed_by firm index node) wire ≡ key_of h node wire
-key_as held_law present_law firm index h node wire follows =
-    ap (λ (o : Observed). key_seen o wire) (observed_as held_law present_law firm index h node follows) ∙ narrowed_key
-  where
-    o : Observed
-    o = observed h node
-
-    narrowed_key : key_seen (narrowed o) wire ≡ key_of h node wire
-    narrowed_key = λ i. record {
-      start = start_of node.0 h;
-      number = nearest o.top wire;
-      state = ap (λ (b : Bool). if b then o.state (nearest o.top wire) else if_held (o.state (nearest o.top wire))) (nearest_in_window o.top wire) i;
-    }
 
 pub totals_are : (firm : Bool) (index : Index) (h : List HistoryEntry) → Follows firm index h → (side_of firm index).totals ≡ totals_of h
 unfolding Follows

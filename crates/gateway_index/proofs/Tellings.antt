@@ -25,16 +25,16 @@ use Rattle.gw_base.specs.declared.key_state.KeyState.TheVariants.{Fresh, Held}
 use Rattle.seq_window.specs.Histories.{IsFreshAbove, NamesHeld, seen_after, window_of}
 use Rattle.seq_window.specs.Seen.{Seen, is_within}
 use Rattle.transfer_cmd.specs.Lists.{is_held as is_held_state}
-use Rattle.gateway_index.specs.FitActs.{are_distinct, is_act_fit, is_fresh, is_in_window, is_list_fit, is_new, is_packet_fit}
+use Rattle.gateway_index.specs.FitActs.{any_packet, are_distinct, fits_with, is_fresh, is_in_window, is_list_fit, is_new}
 use Rattle.gateway_index.specs.Index.{observed_in}
 use Rattle.gateway_index.specs.Limits.{has_place, half, is_in_range, may_hold}
 use Rattle.gateway_index.specs.Sides.{Side, acted, listed_nodes, numbered_nodes, opened_nodes, side_after, state_in}
 use Rattle.gateway_index.specs.Tells.{Tells}
+use Rattle.gateway_index.specs.WindowLaws.{narrowed_fit}
 use Rattle.gateway_index.specs.Windows.{if_held, narrowed}
 use Rattle.gateway_index.specs.declared.totals.Totals.{Totals}
 use Rattle.gateway_index.proofs.HeldCounts.{copies-le, count-cons}
 use Rattle.gateway_index.proofs.HeldLemmas.{NamesFree, held_after, same_numbers}
-use Rattle.gateway_answer.proofs.WindowLemmas.{narrowed_fit}
 
 -- ---- the laws of the layers below
 
@@ -112,8 +112,8 @@ module _ (held_law : HeldLaw) (present_law : PresentLaw) (side : Side) (h : List
     moment = ap (λ (v : Totals). v.moment) t.totals i;
   }
 
-  pub fit_is : (act : HistoryAct) → is_act_fit (observed_in side) act ≡ is_act_fit (observed h) act
-  fit_is act = ap (λ (of : NodeId → Observed). is_act_fit of act) (λ i node. observed_is node i) ∙ narrowed_fit (observed h) act
+  fit_is : (act : HistoryAct) → fits_with any_packet (observed_in side) act ≡ fits_with any_packet (observed h) act
+  fit_is act = ap (λ (of : NodeId → Observed). fits_with any_packet of act) (λ i node. observed_is node i) ∙ narrowed_fit any_packet (observed h) act
 
 -- ---- what is fit
 
@@ -129,11 +129,11 @@ new_is_free side node number new =
     by_test true e fresh = absurd (true≢false (sym fresh))
     by_test false e fresh = refl
 
-names_free : (side : Side) (act : HistoryAct) → is_act_fit (observed_in side) act ≡ true → NamesFree act side.held
-names_free side (File n x packet) fit = new_is_free side n x ((and_parts (is_new (observed_in side n) x) (is_packet_fit packet) fit).0)
+names_free : (side : Side) (act : HistoryAct) → fits_with any_packet (observed_in side) act ≡ true → NamesFree act side.held
+names_free side (File n x packet) fit = new_is_free side n x ((and_parts (is_new (observed_in side n) x) (any_packet packet) fit).0)
 names_free side (Hold n x packet) fit =
-    let both = and_parts (is_new (observed_in side n) x && is_packet_fit packet) (may_hold (observed_in side n)) fit in
-    new_is_free side n x ((and_parts (is_new (observed_in side n) x) (is_packet_fit packet) both.0).0)
+    let both = and_parts (is_new (observed_in side n) x && any_packet packet) (may_hold (observed_in side n)) fit in
+    new_is_free side n x ((and_parts (is_new (observed_in side n) x) (any_packet packet) both.0).0)
 names_free side (Seal n x) fit = new_is_free side n x fit
 names_free side _ fit = tt
 
@@ -159,7 +159,7 @@ named_held h m xs node n fit named =
     let parts = and_parts (m.0 == node) (list_any (λ x. x == n) xs) named in
     ap (λ (k : ℕ). present_state k n h) (sym (eqb-true m.0 node parts.0)) ∙ list_held (observed h m) xs n fit parts.1
 
-names_held : (h : List HistoryEntry) (act : HistoryAct) (node : ℕ) → is_act_fit (observed h) act ≡ true → NamesHeld node h act
+names_held : (h : List HistoryEntry) (act : HistoryAct) (node : ℕ) → fits_with any_packet (observed h) act ≡ true → NamesHeld node h act
 names_held h (Release m xs) node fit = λ n named. named_held h m xs node n fit named
 names_held h (Cancel m xs) node fit = λ n named. named_held h m xs node n fit named
 names_held h _ node fit = tt
@@ -223,7 +223,7 @@ starts_after h e fits false is =
     omega (arith, none, start_count-append h e)
 
 -- the side after one more entry says what the history with that entry says
-pub tells_after : HeldLaw → PresentLaw → CountLaw → WindowLaw → (side : Side) (h : List HistoryEntry) (e : HistoryEntry) → length h + 2 < 2 ^ 64 → is_act_fit (observed_in side) e.act ≡ true → Tells side h → Tells (side_after e side) (h ++ e ∷ [])
+pub tells_after : HeldLaw → PresentLaw → CountLaw → WindowLaw → (side : Side) (h : List HistoryEntry) (e : HistoryEntry) → length h + 2 < 2 ^ 64 → fits_with any_packet (observed_in side) e.act ≡ true → Tells side h → Tells (side_after e side) (h ++ e ∷ [])
 tells_after held_law present_law count_law window_law side h e fits fit t = record {
   windows = λ node. acted_window side e.act node ∙ ap (λ (seen : Seen). seen_after half node e.act seen) (t.windows node) ∙ sym (window_law.follows node h e (t.above node));
   openings = λ node. acted_opening side e.act node ∙ ap (λ (o : Option Opening). opening_after node o e.act) (t.openings node) ∙ sym (opening_of-append node h e);

@@ -5,7 +5,7 @@ use Rattle.gw_base.specs.declared.history.HistoryAct.{HistoryAct}
 use Rattle.gw_base.specs.declared.history.HistoryEntry.{HistoryEntry}
 use Rattle.gw_base.specs.Known.{is_known}
 use Rattle.gw_base.specs.Observed.{Observed}
-use Rattle.gateway_index.specs.FitActs.{is_act_fit}
+use Rattle.gateway_index.specs.FitActs.{any_packet, fits_with}
 use Rattle.gateway_index.specs.HeldPairs.{held_in}
 use Rattle.gateway_index.specs.NodeSides.{nodes_in}
 use Rattle.gateway_index.specs.Sides.{Side, state_in}
@@ -41,9 +41,9 @@ observed_in side node = record {
 unfoldable pub observed_by : Bool → Index → NodeId → Observed
 observed_by firm index node = observed_in (side_of firm index) node
 
--- An act may come next: it is fit by what the live side tells.
+-- An act may come next: it is fit by what the live side tells, whatever its packet.
 abbrev pub MayCome : HistoryAct → Index → Type 0
-MayCome act index = is_act_fit (observed_by false index) act ≡ true
+MayCome act index = fits_with any_packet (observed_by false index) act ≡ true
 
 -- a history to which more entries may come, by their number
 abbrev pub MayGrow : List HistoryEntry → Type 0

@@ -1,9 +1,18 @@
-use Rattle.std.proofs.Common.{◌≡◌, ◌∙◌, subst}
+use Rattle.std.proofs.Common.{◌≡◌, ◌∙◌, ℕ, List, subst}
 use Rattle.std.specs.Prelude.{IfOk}
-use Rattle.gateway_answer.specs.Answer.{Decided}
+use Rattle.gw_base.specs.Observed.{observed}
+use Rattle.gw_base.specs.declared.address.Addr.{Addr}
+use Rattle.gw_base.specs.declared.history.HistoryEntry.{HistoryEntry}
+use Rattle.gateway_answer.specs.Answer.{Decided, answer_within, decided, node_of}
+use Rattle.gateway_answer.specs.Answered.{answer, room_for}
 use Rattle.gateway_answer.specs.Plain.{answer_view}
-use Rattle.gateway_book.proofs.TakingLemmas.{answered_at}
+use Rattle.gateway_answer.specs.Preparing.{PreparedValue, prepared_of}
 use Rattle.gateway_answer.proofs.plain.answer.Goals as goal
+
+-- what is answered by the same history, octets and size
+answered_at : (h g : List HistoryEntry) (from : Addr) (datagram : PreparedValue) (octets : List ℕ) (size other : ℕ) → h ≡ g → datagram ≡ prepared_of octets → size ≡ other
+    → decided (answer_within (observed h (node_of from)) from datagram (room_for h size)) ≡ decided (answer g from octets other)
+answered_at h g from datagram octets size other hs ds ss = λ i. decided (answer_within (observed (hs i) (node_of from)) from (ds i) (room_for (hs i) (ss i)))
 
 pub returns : goal.returns
 returns c =

@@ -1,6 +1,6 @@
 use Rattle.cgf_journal.specs.Trail.{firm_entries, is_closed, waiting}
 use Rattle.gateway_book.specs.Book.{size_of}
-use Rattle.gateway_answer.proofs.FewItems.{front_few, history_knows_few}
+use Rattle.gateway_book.proofs.FrontLemmas.{front_few, history_knows_few}
 use Rattle.gateway_book.proofs.laws.a_book_is_within_the_limits.Goals as goal
 
 pub returns-clause-short : goal.returns-clause-short
@@ -8,7 +8,7 @@ returns-clause-short g c = λ book. book.followed.short
 
 pub returns-clause-items : goal.returns-clause-items
 returns-clause-items g c = λ told book.
-    front_few c.held_keys_are_those_in_that_state.ensures (size_of book) (firm_entries book.trail) (waiting book.trail)
+    front_few c.items_are_fewer_than_octets.ensures.costs (size_of book) (firm_entries book.trail) (waiting book.trail)
     (book.followed.fit told)
 
 pub returns-clause-nodes : goal.returns-clause-nodes

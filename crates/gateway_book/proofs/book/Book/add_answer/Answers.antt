@@ -24,7 +24,7 @@ invariant_of-self g c =
       followed = followed_answer book.trail c.answer.new.trail book.index c.answer.new.index moment c.args.who decision c.answer.result book.followed c.answer.ensures.silent c.answer.ensures.said
           (λ told reply a is says.
           let at = c.moment_after-moment.ensures.after told in
-          let seen = c.an_index_tells_its_history.ensures.answers false book.index (all_entries book.trail) (book.followed.live told) from datagram in
+          let seen = c.an_index_is_enough.ensures.answers false book.index (all_entries book.trail) (book.followed.live told) from datagram in
           recorded_is_fit (size_of book) (all_entries book.trail) from datagram c.args.now moment c.args.who decision reply a (book.followed.fit told) c.requires.prepared.0 c.moment_after-moment.ensures.within at
           (c.answer.ensures.told told ∙ answered_is book.trail book.index from datagram c.args.now moment c.args.who c.requires.open at seen) says);
       stands = stands_firm book.trail c.answer.new.trail book.cursor book.stands
@@ -41,7 +41,7 @@ returns-clause-moved g c = λ told.
     let moment = c.moment_after-moment.result in
     let decision = decided (answer_within (observed_by false book.index (node_of from)) from datagram (room_in book.trail moment c.args.who)) in
     let at = c.moment_after-moment.ensures.after told in
-    let seen = c.an_index_tells_its_history.ensures.answers false book.index (all_entries book.trail) (book.followed.live told) from datagram in
+    let seen = c.an_index_is_enough.ensures.answers false book.index (all_entries book.trail) (book.followed.live told) from datagram in
     done_is book.trail c.answer.new.trail book.index c.answer.new.index moment c.args.who decision c.args.now book.cuts (decided (answer_to (history_of (value_of book)) from datagram (size_of book))) c.answer.result c.requires.open at
     (c.answer.ensures.told told
     ∙ answered_is book.trail book.index from datagram c.args.now moment c.args.who c.requires.open at seen

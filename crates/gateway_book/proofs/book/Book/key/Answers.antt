@@ -14,7 +14,7 @@ returns-clause-told g c = λ told.
     let firm = c.is_closed-firm.result in
     let h = history_of (value_of book) in
     let follows = asked (is_closed book.trail) firm book.index (firm_entries book.trail) (all_entries book.trail) c.is_closed-firm.ensures.closed (book.followed.firm told) (book.followed.live told) in
-    c.key.ensures ∙ c.an_index_tells_its_history.ensures.keys firm book.index h c.args.node c.args.wire follows
+    c.key.ensures ∙ c.an_index_is_enough.ensures.keys firm book.index h c.args.node c.args.wire follows
 
 pub returns-clause-counted : goal.returns-clause-counted
 returns-clause-counted g c =

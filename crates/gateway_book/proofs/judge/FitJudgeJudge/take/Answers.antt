@@ -4,8 +4,9 @@ use Rattle.entry_codec.specs.Room.{capacity_of, costs_of}
 use Rattle.entry_codec.specs.Spelling.{cost_of}
 use Rattle.gw_base.specs.Entry.{act_view, entry_view}
 use Rattle.gw_base.specs.HeldKeys.{promised_octets}
-use Rattle.gateway_answer.specs.Fit.{is_act_fit}
 use Rattle.gateway_index.specs.Index.{observed_by, side_of}
+use Rattle.gateway_index.specs.WindowLaws.{fits_with_any}
+use Rattle.gateway_answer.specs.Fit.{is_act_fit, is_packet_fit}
 use Rattle.gateway_book.specs.Judging.{promised_of}
 use Rattle.gateway_book.specs.declared.judge.FitJudge.{FitJudge}
 use Rattle.gateway_book.proofs.JudgeLemmas.{is_fit, judged, no_room, refused}
@@ -15,13 +16,15 @@ pub returns-then-not-may_stand-clause-unfit : goal.returns-then-not-may_stand-cl
 returns-then-not-may_stand-clause-unfit c = λ h judging is.
     let laws = c.an_index_tells_its_history.ensures in
     let no : c.may_stand.result ≡ false = search rules in
-    refused (λ index g act follows. laws.fits false index g act follows) (λ index g follows. laws.totals false index g follows) (λ index g follows. laws.held false index g follows)
+    refused (λ index g act follows. c.an_index_is_enough.ensures.fits false index g act follows) (λ index g follows. laws.totals false index g follows) (λ index g follows. laws.held false index g follows)
     c.args.self.now h c.args.size (entry_view c.args.entry.now) judging (sym c.may_stand.ensures.value ∙ no)
 
 pub note-requires : goal.note-requires
 note-requires c =
     let yes : c.may_stand.result ≡ true = search rules in
-    (and_parts (nat_le (side_of false c.args.self.now.index).totals.moment c.args.entry.now.moment) (is_act_fit (observed_by false c.args.self.now.index) (act_view c.args.entry.now.act)) (sym c.may_stand.ensures.value ∙ yes)).1
+    let act = act_view c.args.entry.now.act in
+    let fit = (and_parts (nat_le (side_of false c.args.self.now.index).totals.moment c.args.entry.now.moment) (is_act_fit (observed_by false c.args.self.now.index) act) (sym c.may_stand.ensures.value ∙ yes)).1 in
+    fits_with_any is_packet_fit (observed_by false c.args.self.now.index) act fit
 
 pub returns-clause-fit : goal.returns-clause-fit
 returns-clause-fit c = λ h judging is.
@@ -33,7 +36,7 @@ returns-clause-fit c = λ h judging is.
     let sum : c.in-Some.costs ≡ c.args.self.now.costs + c.cost.result = search rules in
     let room = leb-true (new.costs + promised_of (side_of false new.index)) (capacity_of c.args.size) (sym c.is_within.ensures ∙ within) in
     let now = judged c.args.self.now new h e judging (λ grow. c.note.ensures.follows h grow judging.index) (omega (arith, sum, c.cost.ensures)) (omega (arith, room, sum, c.ranges.size.fits)) in (
-      is_fit (λ index g act follows. laws.fits false index g act follows) (λ index g follows. laws.totals false index g follows) (λ index g follows. laws.held false index g follows) c.args.self.now new h c.args.size e judging now
+      is_fit (λ index g act follows. c.an_index_is_enough.ensures.fits false index g act follows) (λ index g follows. laws.totals false index g follows) (λ index g follows. laws.held false index g follows) c.args.self.now new h c.args.size e judging now
           c.may_stand.ensures.moment (sym c.may_stand.ensures.value ∙ yes) (sym c.is_within.ensures ∙ within),
       now,
     )
@@ -47,4 +50,4 @@ returns-clause-unfit c = λ h judging is fit.
     let sum : c.in-Some.costs ≡ c.args.self.now.costs + c.cost.result = search rules in
     let room = leb-true (costs_of h + cost_of e + promised_octets (h ++ e ∷ [])) (capacity_of c.args.size) fit.room in
     let now = judged c.args.self.now new h e judging (λ grow. c.note.ensures.follows h grow judging.index) (omega (arith, sum, c.cost.ensures)) (omega (arith, room, judging.cost, c.ranges.size.fits)) in
-    no_room (λ index g act follows. laws.fits false index g act follows) (λ index g follows. laws.totals false index g follows) (λ index g follows. laws.held false index g follows) new h c.args.size e now (sym c.is_within.ensures ∙ past) fit
+    no_room (λ index g act follows. c.an_index_is_enough.ensures.fits false index g act follows) (λ index g follows. laws.totals false index g follows) (λ index g follows. laws.held false index g follows) new h c.args.size e now (sym c.is_within.ensures ∙ past) fit
