@@ -16,7 +16,7 @@ for crate in gw_base case_table gtpp_header gtpp_elements gtpp_message ber_frame
     grep "^$crate:" crates.txt
     tar -c --exclude=out "crates/$crate" | tar -x -C "$work"
 done >"$work/crates.txt"
-echo 'book_memory: gw_base area_disk gateway_book' >>"$work/crates.txt"
+echo 'book_memory: gw_base area_disk gateway_answer gateway_book' >>"$work/crates.txt"
 cp bench/memory/main.rt.txt "$work/crates/book_memory/src/main.rt"
 cd "$work/crates/book_memory" || exit 1
 # So many octets leave no allocation of the book's to fail.

@@ -9,8 +9,8 @@ trap 'rm -rf "$work"' EXIT
 mkdir -p "$work/crates/sessions_bench/src"
 cp HANDLES "$work/"
 for crate in gw_base case_table gtpp_header gtpp_elements gtpp_message ber_frame transfer_cmd path_mgmt area_disk \
-    gate_journal entry_codec cgf_journal seq_window dup_buffer gateway_index gateway_answer gateway_book turn_cell job_inbox net_link route_filter \
-    cdr_file file_rotate cdr_shelf file_writer node_session; do
+    gate_journal entry_codec cgf_journal seq_window dup_buffer gateway_index gateway_answer gateway_book turn_cell \
+    job_inbox net_link route_filter cdr_file file_rotate cdr_shelf file_writer node_session; do
     grep "^$crate:" crates.txt
     tar -c --exclude=out "crates/$crate" | tar -x -C "$work"
 done >"$work/crates.txt"
