@@ -66,8 +66,12 @@ module _ {A : Type 0} {tells : Ghosts A} {new : Trail A tells} {failed : Bool} w
       IsArmed Nothing rest.schedule →
       (failed ≡ true → (outcome : Outcome3) → stop_stands outcome new ≡ stands outcome) → HasFailed new failed stands
   fails_so stands rest fails is armed left =
-      record { fails = fails; armed = subst (λ (c : Course).
-          IsArmed Nothing c.schedule) (sym is) armed; left = left fails }
+      record {
+        fails = fails;
+        armed = subst (λ (c : Course).
+            IsArmed Nothing c.schedule) (sym is) armed;
+        left = left fails;
+      }
 
   stops_so : (stands : Bool) (rest : Course) → failed ≡ true → plan_of new ≡ rest → rest.schedule.stopped ≡ true →
       (failed ≡ true → (outcome : Outcome3) → stop_stands outcome new ≡ stands) → HasStopped new failed stands
@@ -119,63 +123,63 @@ module _ {A : Type 0} {tells : Ghosts A} (old new : Trail A tells) (failed : Boo
   commit_comes (Fail zero) tied =
       let ends = frame_ends (Fail zero) (plan_of old) tied in
       fails_so _ _ (frame_fails (AtWrite Fails) ends)
-          (frame_course (AtWrite Fails) ends ∙ frame_leaves (Fail zero) (plan_of old) tied)
-          (armed_failed (plan_of old).schedule tied.is_armed) (frame_stands (AtWrite Fails) ends)
+      (frame_course (AtWrite Fails) ends ∙ frame_leaves (Fail zero) (plan_of old) tied)
+      (armed_failed (plan_of old).schedule tied.is_armed) (frame_stands (AtWrite Fails) ends)
   commit_comes (Fail (suc zero)) tied =
       let ends = frame_ends (Fail (suc zero)) (plan_of old) tied in
       fails_so _ _ (frame_fails (AtSync Fails) ends)
-          (frame_course (AtSync Fails) ends ∙ frame_leaves (Fail (suc zero)) (plan_of old) tied)
-          (armed_failed (after_write Runs (plan_of old)).schedule (one_armed (Fail (suc zero)) (plan_of old) tied))
-              (frame_stands (AtSync Fails) ends)
+      (frame_course (AtSync Fails) ends ∙ frame_leaves (Fail (suc zero)) (plan_of old) tied)
+      (armed_failed (after_write Runs (plan_of old)).schedule (one_armed (Fail (suc zero)) (plan_of old) tied))
+      (frame_stands (AtSync Fails) ends)
   commit_comes (Fail (suc (suc zero))) tied =
       let ran = frame_ends (Fail (suc (suc zero))) (plan_of old) tied in
       let put = frame_leaves (Fail (suc (suc zero))) (plan_of old) tied in
       let ends = gate_ends (Fail (suc (suc zero))) (plan_of old) tied in
       fails_so _ _ (gate_fails ran put (AtWrite Fails) ends)
-          (gate_course ran put (AtWrite Fails) ends ∙ gate_leaves (Fail (suc (suc zero))) (plan_of old) tied)
-          (armed_failed (after_sync Runs (after_write Runs (plan_of old))).schedule (tied_two (Fail (suc (suc zero)))
-              (plan_of old) tied).is_armed) (gate_stands ran put (AtWrite Fails) ends)
+      (gate_course ran put (AtWrite Fails) ends ∙ gate_leaves (Fail (suc (suc zero))) (plan_of old) tied)
+      (armed_failed (after_sync Runs (after_write Runs (plan_of old))).schedule (tied_two (Fail (suc (suc zero)))
+      (plan_of old) tied).is_armed) (gate_stands ran put (AtWrite Fails) ends)
   commit_comes (Fail (suc (suc (suc zero)))) tied =
       let ran = frame_ends (Fail (suc (suc (suc zero)))) (plan_of old) tied in
       let put = frame_leaves (Fail (suc (suc (suc zero)))) (plan_of old) tied in
       let ends = gate_ends (Fail (suc (suc (suc zero)))) (plan_of old) tied in
       fails_so _ _ (gate_fails ran put (AtSync Fails) ends)
-          (gate_course ran put (AtSync Fails) ends ∙ gate_leaves (Fail (suc (suc (suc zero)))) (plan_of old) tied)
-          (armed_failed (after_write Runs (after_sync Runs (after_write Runs (plan_of old)))).schedule
-              (three_armed (Fail (suc (suc (suc zero)))) (plan_of old) tied)) (gate_stands ran put (AtSync Fails) ends)
+      (gate_course ran put (AtSync Fails) ends ∙ gate_leaves (Fail (suc (suc (suc zero)))) (plan_of old) tied)
+      (armed_failed (after_write Runs (after_sync Runs (after_write Runs (plan_of old)))).schedule
+      (three_armed (Fail (suc (suc (suc zero)))) (plan_of old) tied)) (gate_stands ran put (AtSync Fails) ends)
   commit_comes (Fail (suc (suc (suc (suc k))))) tied = all_ran (Fail (suc (suc (suc (suc k))))) tied refl refl refl refl
   commit_comes (Stop zero outcome) tied =
       let ends = frame_ends (Stop zero outcome) (plan_of old) tied in
       stops_so _ _ (frame_fails (AtWrite (Stops outcome)) ends)
-          (frame_course (AtWrite (Stops outcome)) ends ∙ frame_leaves (Stop zero outcome) (plan_of old) tied)
-          (stop_is_one (plan_of old).schedule.stopped tied.is_armed.running) (frame_stands (AtWrite (Stops outcome))
-              ends)
+      (frame_course (AtWrite (Stops outcome)) ends ∙ frame_leaves (Stop zero outcome) (plan_of old) tied)
+      (stop_is_one (plan_of old).schedule.stopped tied.is_armed.running) (frame_stands (AtWrite (Stops outcome))
+      ends)
   commit_comes (Stop (suc zero) outcome) tied =
       let ends = frame_ends (Stop (suc zero) outcome) (plan_of old) tied in
       stops_so _ _ (frame_fails (AtSync (Stops outcome)) ends)
-          (frame_course (AtSync (Stops outcome)) ends ∙ frame_leaves (Stop (suc zero) outcome) (plan_of old) tied)
-          (stop_is_one (after_write Runs (plan_of old)).schedule.stopped (one_armed (Stop (suc zero) outcome)
-              (plan_of old) tied).running) (frame_stands (AtSync (Stops outcome)) ends)
+      (frame_course (AtSync (Stops outcome)) ends ∙ frame_leaves (Stop (suc zero) outcome) (plan_of old) tied)
+      (stop_is_one (after_write Runs (plan_of old)).schedule.stopped (one_armed (Stop (suc zero) outcome)
+      (plan_of old) tied).running) (frame_stands (AtSync (Stops outcome)) ends)
   commit_comes (Stop (suc (suc zero)) outcome) tied =
       let ran = frame_ends (Stop (suc (suc zero)) outcome) (plan_of old) tied in
       let put = frame_leaves (Stop (suc (suc zero)) outcome) (plan_of old) tied in
       let ends = gate_ends (Stop (suc (suc zero)) outcome) (plan_of old) tied in
       stops_so _ _ (gate_fails ran put (AtWrite (Stops outcome)) ends)
-          (gate_course ran put (AtWrite (Stops outcome)) ends
-          ∙ gate_leaves (Stop (suc (suc zero)) outcome) (plan_of old) tied)
-          (stop_is_one (after_sync Runs (after_write Runs (plan_of old))).schedule.stopped
-              (tied_two (Stop (suc (suc zero)) outcome) (plan_of old) tied).is_armed.running) (gate_stands ran put
-              (AtWrite (Stops outcome)) ends)
+      (gate_course ran put (AtWrite (Stops outcome)) ends
+      ∙ gate_leaves (Stop (suc (suc zero)) outcome) (plan_of old) tied)
+      (stop_is_one (after_sync Runs (after_write Runs (plan_of old))).schedule.stopped
+      (tied_two (Stop (suc (suc zero)) outcome) (plan_of old) tied).is_armed.running) (gate_stands ran put
+      (AtWrite (Stops outcome)) ends)
   commit_comes (Stop (suc (suc (suc zero))) outcome) tied =
       let ran = frame_ends (Stop (suc (suc (suc zero))) outcome) (plan_of old) tied in
       let put = frame_leaves (Stop (suc (suc (suc zero))) outcome) (plan_of old) tied in
       let ends = gate_ends (Stop (suc (suc (suc zero))) outcome) (plan_of old) tied in
       stops_so _ _ (gate_fails ran put (AtSync (Stops outcome)) ends)
-          (gate_course ran put (AtSync (Stops outcome)) ends
-          ∙ gate_leaves (Stop (suc (suc (suc zero))) outcome) (plan_of old) tied)
-          (stop_is_one (after_write Runs (after_sync Runs (after_write Runs (plan_of old)))).schedule.stopped
-              (three_armed (Stop (suc (suc (suc zero))) outcome) (plan_of old) tied).running) (gate_stands ran put
-              (AtSync (Stops outcome)) ends)
+      (gate_course ran put (AtSync (Stops outcome)) ends
+      ∙ gate_leaves (Stop (suc (suc (suc zero))) outcome) (plan_of old) tied)
+      (stop_is_one (after_write Runs (after_sync Runs (after_write Runs (plan_of old)))).schedule.stopped
+      (three_armed (Stop (suc (suc (suc zero))) outcome) (plan_of old) tied).running) (gate_stands ran put
+      (AtSync (Stops outcome)) ends)
   commit_comes (Stop (suc (suc (suc (suc k)))) outcome) tied = all_ran (Stop (suc (suc (suc (suc k)))) outcome) tied refl refl refl refl
 
 -- an opening again is a sync
@@ -204,13 +208,13 @@ module _ {A : Type 0} {tells : Ghosts A} (old new : Trail A tells) (failed : Boo
   reopen_comes (Fail zero) armed =
       let is = tied_sync (Fail zero) (plan_of old) armed in
       fails_so _ _ (sync_fails Fails is armed.reads) (sync_course Fails is armed.reads)
-          (armed_reads Nothing (after_sync Fails (plan_of old)).schedule (plan_of new).schedule.reads
-              (armed_failed (plan_of old).schedule armed)) (sync_stands Fails is armed.reads)
+      (armed_reads Nothing (after_sync Fails (plan_of old)).schedule (plan_of new).schedule.reads
+      (armed_failed (plan_of old).schedule armed)) (sync_stands Fails is armed.reads)
   reopen_comes (Fail (suc k)) armed = sync_ran (Fail (suc k)) armed (tied_sync (Fail (suc k)) (plan_of old) armed)
   reopen_comes (Stop zero outcome) armed =
       let is = tied_sync (Stop zero outcome) (plan_of old) armed in
       stops_so _ _ (sync_fails (Stops outcome) is armed.reads) (sync_course (Stops outcome) is armed.reads)
-          (stop_is_one (plan_of old).schedule.stopped armed.running) (sync_stands (Stops outcome) is armed.reads)
+      (stop_is_one (plan_of old).schedule.stopped armed.running) (sync_stands (Stops outcome) is armed.reads)
   reopen_comes (Stop (suc k) outcome) armed = sync_ran (Stop (suc k) outcome) armed (tied_sync (Stop (suc k) outcome) (plan_of old) armed)
 
 -- the clauses of a commit and of an opening again

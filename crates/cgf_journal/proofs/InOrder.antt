@@ -46,8 +46,14 @@ placed : (key : HeldKey) (keys : List HeldKey) → key.number < 2 ^ 64 → AreIn
 placed key [] small up = (small, (tt, tt))
 placed key (first ∷ keys) small up =
     cond_both (nat_lt (place first) (place key)) (first ∷ key_in_order key keys) (key ∷ first ∷ keys) AreInOrder
-    (λ is. (up.0, (from_placed (place first) key keys (omega (arith, ltb-true (place first) (place key) is))
-        up.1.0, placed key keys small up.1.1)))
+    (λ is. (
+      up.0,
+      (
+        from_placed (place first) key keys (omega (arith, ltb-true (place first) (place key) is))
+            up.1.0,
+        placed key keys small up.1.1,
+      ),
+    ))
     (λ is. let le = ltb-false (place first) (place key) is in
     (small, ((omega (arith, le), from_low (place key) (place first) keys (omega (arith, le)) up.1.0), up)))
 
@@ -66,7 +72,7 @@ filtered p [] up = tt
 filtered p (key ∷ keys) up =
     let rest = filtered p keys up.1.1 in
     cond_both (p key) (key ∷ filter p keys) (filter p keys) AreInOrder
-        (λ _. (up.0, (from_filter (place key) p keys up.1.0, rest))) (λ _. rest)
+    (λ _. (up.0, (from_filter (place key) p keys up.1.0, rest))) (λ _. rest)
 
 -- ---- keys that are kept in order
 
@@ -76,18 +82,23 @@ from_counted q s r (kept ∷ keys) above =
     let counted : List KeptKey = filter (λ (k : KeptKey). counts s r k) keys in
     let rest = from_counted q s r keys (λ j d lt. above (suc j) d (omega (arith, lt))) in
     cond_both (counts s r kept) (kept ∷ counted) counted
-        (λ (l : List KeptKey). AreFrom q (map key_of l)) (λ _. (above 0 kept (omega arith), rest)) (λ _. rest)
+    (λ (l : List KeptKey). AreFrom q (map key_of l)) (λ _. (above 0 kept (omega arith), rest)) (λ _. rest)
 
 counted_up : (s : Bool) (r t : ℕ) (keys : List KeptKey) → AreAscending keys → AreUpTo t keys → AreInOrder (counted_keys s r keys)
 counted_up s r t [] up small = tt
 counted_up s r t (kept ∷ keys) up small =
     let counted : List KeptKey = filter (λ (k : KeptKey). counts s r k) keys in
     let rest = counted_up s r t keys (λ i j d lt within.
-        up (suc i) (suc j) d (omega (arith, lt)) (omega (arith, within))) (λ j d lt.
-        small (suc j) d (omega (arith, lt))) in
-    cond_both (counts s r kept) (kept ∷ counted) counted (λ (l : List KeptKey). AreInOrder (map key_of l)) (λ _.
-    ((small 0 kept (omega arith)).1, (from_counted (rank kept) s r keys
-        (λ j d lt. omega (arith, up 0 (suc j) d (omega arith) (omega (arith, lt)))), rest))) (λ _. rest)
+    up (suc i) (suc j) d (omega (arith, lt)) (omega (arith, within))) (λ j d lt.
+    small (suc j) d (omega (arith, lt))) in
+    cond_both (counts s r kept) (kept ∷ counted) counted (λ (l : List KeptKey). AreInOrder (map key_of l)) (λ _. (
+      (small 0 kept (omega arith)).1,
+      (
+        from_counted (rank kept) s r keys
+            (λ j d lt. omega (arith, up 0 (suc j) d (omega arith) (omega (arith, lt)))),
+        rest,
+      ),
+    )) (λ _. rest)
 
 pub sorted_up : (s : Bool) (keys : SortedKeys) → AreInOrder (keys_of s keys)
 sorted_up s keys = counted_up s keys.round keys.round keys.keys.items keys.ascending keys.up_to

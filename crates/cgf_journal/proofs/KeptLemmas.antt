@@ -51,15 +51,19 @@ once_held : (n : NodeId) (x : ℕ) (packet : List ℕ) (held : (HeldKey → Bool
     → held (λ (key : HeldKey). stays_held (Seal n x) key && is_named n.0 x key) ≡ 0 → IsOnceEach held → IsOnceEach (held_behind (Hold n x packet) held)
 once_held n x packet held fewer gone once m y =
     cond_both (is_named m y (record { node = n; number = x })) 1 0
-        (λ k. held (λ (key : HeldKey). stays_held (Seal n x) key && is_named m y key) + (k + 0) ≤ 1)
+    (λ k. held (λ (key : HeldKey). stays_held (Seal n x) key && is_named m y key) + (k + 0) ≤ 1)
     (λ is. let parts = and_parts (m == n.0) (y == x) is in
     let same : held (λ (key : HeldKey). stays_held (Seal n x) key && is_named m y key) ≡ held (λ (key : HeldKey).
-        stays_held (Seal n x) key && is_named n.0 x key) =
+    stays_held (Seal n x) key && is_named n.0 x key) =
     λ i. held (λ (key : HeldKey). stays_held (Seal n x) key && is_named (eqb-true m n.0 parts.0 i)
-        (eqb-true y x parts.1 i) key) in
+    (eqb-true y x parts.1 i) key) in
     omega (arith, gone, same))
-    (λ isnt. omega (arith, once m y, fewer (λ (key : HeldKey). stays_held (Seal n x) key) (λ (key : HeldKey).
-        is_named m y key)))
+    (λ isnt. omega (
+      arith,
+      once m y,
+      fewer (λ (key : HeldKey). stays_held (Seal n x) key) (λ (key : HeldKey).
+          is_named m y key),
+    ))
 
 held_fewer : (firm : Bool) (early late : SortedKeys) (q p : HeldKey → Bool) → held_in firm early late (λ (key : HeldKey). q key && p key) ≤ held_in firm early late p
 held_fewer firm early late q p = omega (arith, passing_both_le q p (keys_of firm early), passing_both_le q p (keys_of firm late))

@@ -35,7 +35,7 @@ all_kept p s r [] pass = refl
 all_kept p s r (kept ∷ keys) pass =
     let rest = all_kept p s r keys (λ j d lt. pass (suc j) d (omega (arith, lt))) in
     cond_both (counts s r kept) (kept ∷ kept_by s r keys) (kept_by s r keys)
-        (λ (l : List KeptKey). filter p (map key_of l) ≡ map key_of l)
+    (λ (l : List KeptKey). filter p (map key_of l) ≡ map key_of l)
     (λ _. rw (pass 0 kept (omega arith)) (ap (λ (l : List HeldKey). key_of kept ∷ l) rest)) (λ _. rest)
 
 -- what follows of one key more in front
@@ -61,9 +61,9 @@ pub length-key_in_order : (key : HeldKey) (keys : List HeldKey) → length (key_
 length-key_in_order key [] = refl
 length-key_in_order key (first ∷ keys) =
     cond_both (nat_lt (rank_of first.node.0 first.number) (rank_of key.node.0 key.number)) (first ∷ key_in_order key
-        keys) (key ∷ first ∷ keys)
+    keys) (key ∷ first ∷ keys)
     (λ (l : List HeldKey). length l ≡ length (first ∷ keys) + 1) (λ _.
-        omega (arith, length-key_in_order key keys)) (λ _. omega arith)
+    omega (arith, length-key_in_order key keys)) (λ _. omega arith)
 
 -- in front of keys that come later
 in_front : (key : HeldKey) (s : Bool) (r : ℕ) (keys : List KeptKey) → Later keys 0 (rank_of key.node.0 key.number)
@@ -71,9 +71,9 @@ in_front : (key : HeldKey) (s : Bool) (r : ℕ) (keys : List KeptKey) → Later 
 in_front key s r [] later = refl
 in_front key s r (kept ∷ keys) later =
     cond_both (counts s r kept) (kept ∷ kept_by s r keys) (kept_by s r keys)
-        (λ (l : List KeptKey). key_in_order key (map key_of l) ≡ key ∷ map key_of l)
+    (λ (l : List KeptKey). key_in_order key (map key_of l) ≡ key ∷ map key_of l)
     (λ _. rw (le-ltb (rank kept) (rank_of key.node.0 key.number)
-        (omega (arith, later 0 kept (omega arith) (omega arith)))) refl)
+    (omega (arith, later 0 kept (omega arith) (omega arith)))) refl)
     (λ _. in_front key s r keys (λ j d le lt. later (suc j) d (omega arith) (omega (arith, lt))))
 
 -- ---- one key changed
@@ -93,14 +93,14 @@ pub live-changed : (n : NodeId) (x r : ℕ) (keys : List KeptKey) (at : ℕ) (no
 live-changed n x r [] at now inside same named before later = absurd (omega (arith, inside))
 live-changed n x r (kept ∷ keys) zero now inside same named before later =
     let front = in_front (record { node = n; number = x }) false r keys
-        (λ j d le lt. later (suc j) d (omega arith) (omega (arith, lt))) in
+    (λ j d le lt. later (suc j) d (omega arith) (omega (arith, lt))) in
     let rest = others_stay n x false r keys (λ j d lt e.
-        omega (arith, later (suc j) d (omega arith) (omega (arith, lt)), e)) in
+    omega (arith, later (suc j) d (omega arith) (omega (arith, lt)), e)) in
     let dropped : filter (λ (key : HeldKey). stays n x key) (counted_keys false r (kept ∷ keys)) ≡ counted_keys false r
-        keys =
+    keys =
     cond_both kept.is_held (kept ∷ kept_by false r keys) (kept_by false r keys)
     (λ (l : List KeptKey). filter (λ (key : HeldKey). stays n x key) (map key_of l) ≡ counted_keys false r keys) (λ _.
-        rw (named kept) rest) (λ _. rest) in
+    rw (named kept) rest) (λ _. rest) in
     elim (cases_Bool now.is_held) [
       | inl is ↦ rw is ((λ i. same i ∷ counted_keys false r keys) ∙ sym front
           ∙ ap (λ (l : List HeldKey). key_in_order (record { node = n; number = x }) l) (sym dropped))
@@ -110,12 +110,12 @@ live-changed n x r (kept ∷ keys) (suc at) now inside same named before later =
     let low = before 0 kept (omega arith) in
     let other = other_stays kept n x (λ e. omega (arith, low, e)) in
     let rest = live-changed n x r keys at now (omega (arith, inside)) same
-        (λ d. named d) (λ j d lt. before (suc j) d (omega (arith, lt)))
+    (λ d. named d) (λ j d lt. before (suc j) d (omega (arith, lt)))
     (λ j d le lt. later (suc j) d (omega (arith, le)) (omega (arith, lt))) in
     elim (cases_Bool kept.is_held) [
       | inl is ↦ rw is (ap (λ (l : List HeldKey). key_of kept ∷ l) rest
           ∙ sym (with_change-cons now.is_held n x (key_of kept) (counted_keys false r keys) other
-              (lt-ltb (rank kept) (rank_of n.0 x) low)))
+          (lt-ltb (rank kept) (rank_of n.0 x) low)))
       | inr isnt ↦ rw isnt rest
     ]
 
@@ -130,7 +130,7 @@ firm-changed r (kept ∷ keys) zero now inside same count =
     ]
 firm-changed r (kept ∷ keys) (suc at) now inside same count =
     counted-cons true r kept (slice_set keys at now) keys
-        (firm-changed r keys at now (omega (arith, inside)) (λ d. same d) (λ d. count d))
+    (firm-changed r keys at now (omega (arith, inside)) (λ d. same d) (λ d. count d))
 
 pub count-changed : (held : Bool) (r : ℕ) (kept : KeptKey) → counts true r (changed_key held r kept) ≡ counts true r kept
 count-changed held r kept = rw (eq-eqb r r refl) refl
@@ -163,7 +163,7 @@ live-inserted key r [] (suc at) now inside same held before later = absurd (omeg
 live-inserted key r (kept ∷ keys) (suc at) now inside same held before later =
     let low = lt-ltb (rank kept) (rank_of key.node.0 key.number) (before 0 kept (omega arith)) in
     let rest = live-inserted key r keys at now (omega (arith, inside)) same held
-        (λ j d lt. before (suc j) d (omega (arith, lt)))
+    (λ j d lt. before (suc j) d (omega (arith, lt)))
     (λ j d le lt. later (suc j) d (omega (arith, le)) (omega (arith, lt))) in
     elim (cases_Bool kept.is_held) [
       | inl is ↦ rw (is, low) (ap (λ (l : List HeldKey). key_of kept ∷ l) rest)
@@ -194,7 +194,7 @@ counted-settled s q firm r [] = refl
 counted-settled s q firm r (kept ∷ keys) =
     let same : counts s q (settled_key firm r kept) ≡ counts firm r kept =
     cond_both (s && (0 == q)) (counts firm r kept) (counts firm r kept)
-        (λ (b : Bool). b ≡ counts firm r kept) (λ _. refl) (λ _. refl) in
+    (λ (b : Bool). b ≡ counts firm r kept) (λ _. refl) (λ _. refl) in
     let rest = counted-settled s q firm r keys in
     elim (cases_Bool (counts firm r kept)) [
       | inl is ↦ rw (same, is) (ap (λ (l : List HeldKey). key_of kept ∷ l) rest)
@@ -211,7 +211,7 @@ held_kept p r [] pass = refl
 held_kept p r (kept ∷ keys) pass =
     let rest = held_kept p r keys (λ j d lt. pass (suc j) d (omega (arith, lt))) in
     cond_both kept.is_held (kept ∷ kept_by false r keys) (kept_by false r keys)
-        (λ (l : List KeptKey). filter p (map key_of l) ≡ map key_of l)
+    (λ (l : List KeptKey). filter p (map key_of l) ≡ map key_of l)
     (λ is. rw (pass 0 kept (omega arith) is) (ap (λ (l : List HeldKey). key_of kept ∷ l) rest)) (λ _. rest)
 
 -- a key that a test fails, let go
@@ -221,7 +221,7 @@ let_go p r [] at now inside free fails = absurd (omega (arith, inside))
 let_go p r (kept ∷ keys) zero now inside free fails =
     rw free (cond_both kept.is_held (kept ∷ kept_by false r keys) (kept_by false r keys)
     (λ (l : List KeptKey). filter p (counted_keys false r keys) ≡ filter p (map key_of l)) (λ _.
-        rw (fails kept) refl) (λ _. refl))
+    rw (fails kept) refl) (λ _. refl))
 let_go p r (kept ∷ keys) (suc at) now inside free fails =
     let rest = let_go p r keys at now (omega (arith, inside)) free (λ d. fails d) in
     elim (cases_Bool kept.is_held) [

@@ -220,19 +220,25 @@ passing-merged p s r =
     (λ a ks first second apart. sym (add-zero (passing p (counted_keys s r (a ∷ ks)))))
     (λ a b ks ls lt rest first second apart.
     let before = rest (each-tail P a ks first) second
-        (λ i j d low within. apart (suc i) j d (omega (arith, low)) within) in
+    (λ i j d low within. apart (suc i) j d (omega (arith, low)) within) in
     omega (arith, before, amount-cons p s r a (merged r ks (b ∷ ls)), amount-cons p s r a ks))
     (λ a b ks ls lt rest first second apart.
     let before = rest first (each-tail P b ls second)
-        (λ i j d low within. apart i (suc j) d low (omega (arith, within))) in
+    (λ i j d low within. apart i (suc j) d low (omega (arith, within))) in
     omega (arith, before, amount-cons p s r b (merged r (a ∷ ks) ls), amount-cons p s r b ls))
     (λ a b ks ls same rest first second apart.
     let before = rest (each-tail P a ks first) (each-tail P b ls second)
     (λ i j d low within. apart (suc i) (suc j) d (omega (arith, low)) (omega (arith, within))) in
     let key = same_key a b (first 0 a (omega arith)) (second 0 b (omega arith)) same in
     let both = weight-joined p s r a b key (apart 0 0 a (omega arith) (omega arith) same) in
-    omega (arith, before, both, amount-cons p s r (joined_key r a b) (merged r ks ls), amount-cons p s r a ks,
-        amount-cons p s r b ls))
+    omega (
+      arith,
+      before,
+      both,
+      amount-cons p s r (joined_key r a b) (merged r ks ls),
+      amount-cons p s r a ks,
+      amount-cons p s r b ls,
+    ))
 
 -- ---- keys of another round
 

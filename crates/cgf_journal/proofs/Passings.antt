@@ -21,9 +21,9 @@ pub passing_in_order : (p : HeldKey → Bool) (key : HeldKey) (keys : List HeldK
 passing_in_order p key [] = omega arith
 passing_in_order p key (first ∷ keys) =
     cond_both (nat_lt (rank_of first.node.0 first.number) (rank_of key.node.0 key.number)) (first ∷ key_in_order key
-        keys) (key ∷ first ∷ keys)
+    keys) (key ∷ first ∷ keys)
     (λ (l : List HeldKey). passing p l ≡ passing p (first ∷ keys) + cond (p key) 1 0) (λ _.
-        omega (arith, passing_in_order p key keys)) (λ _. omega arith)
+    omega (arith, passing_in_order p key keys)) (λ _. omega arith)
 
 pub passing_all_in_order : (p : HeldKey → Bool) (more keys : List HeldKey) → passing p (keys_in_order more keys) ≡ passing p keys + passing p more
 passing_all_in_order p [] keys = omega arith
@@ -42,7 +42,7 @@ pub passing_le : (p : HeldKey → Bool) (keys : List HeldKey) → passing p keys
 passing_le p [] = omega arith
 passing_le p (key ∷ keys) =
     cond_both (p key) 1 0 (λ n. n + passing p keys ≤ length (key ∷ keys)) (λ _. omega (arith, passing_le p keys)) (λ _.
-        omega (arith, passing_le p keys))
+    omega (arith, passing_le p keys))
 
 and_true : (b : Bool) → b ≡ (b && true)
 and_true true = refl

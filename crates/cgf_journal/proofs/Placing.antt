@@ -153,7 +153,7 @@ found_cons gate batch batches content later k place found =
           omega (arith, le, length-places_from (gate + 5) (entries_of batch)) in
           found_later gate batch batches k (k - length here) place is
           (later (k - length here) place (sym (get_right here rest (k - length here))
-              ∙ ap (slice_get (here ++ rest)) past ∙ found))
+          ∙ ap (slice_get (here ++ rest)) past ∙ found))
     ]
 
 -- the k-th place is that of the k-th entry

@@ -30,7 +30,7 @@ removed : (n : NodeId) (x : ℕ) (s : Bool) (r : ℕ) (keys : List KeptKey) (at 
 removed n x s r [] at inside named before later d = absurd (omega (arith, inside))
 removed n x s r (kept ∷ keys) zero inside named before later d =
     let rest = others_stay n x s r keys (λ j d lt e.
-        omega (arith, later (suc j) d (omega arith) (omega (arith, lt)), e)) in
+    omega (arith, later (suc j) d (omega arith) (omega (arith, lt)), e)) in
     elim (cases_Bool (counts s r kept)) [
       | inl is ↦ rw (is, named kept) (omega (arith, ap (λ (l : List HeldKey). length l) rest))
       | inr isnt ↦ rw isnt (omega (arith, ap (λ (l : List HeldKey). length l) rest))
@@ -38,7 +38,7 @@ removed n x s r (kept ∷ keys) zero inside named before later d =
 removed n x s r (kept ∷ keys) (suc at) inside named before later d =
     let low = before 0 kept (omega arith) in
     let rest = removed n x s r keys at (omega (arith, inside)) (λ e. named e) (λ j e lt.
-        before (suc j) e (omega (arith, lt)))
+    before (suc j) e (omega (arith, lt)))
     (λ j e le lt. later (suc j) e (omega (arith, le)) (omega (arith, lt))) d in
     elim (cases_Bool (counts s r kept)) [
       | inl is ↦ rw (is, other_stays kept n x (λ e. omega (arith, low, e))) (omega (arith, rest))
@@ -66,8 +66,11 @@ none_below y le = refl
 
 pub one_below : (bound : ℕ) (xs : List ℕ) (x : ℕ) → AreBelow bound xs → bound ≤ x → AreBelow (x + 1) (xs ++ x ∷ [])
 one_below bound xs x below le y past =
-    list_any-append (λ (z : ℕ). z == y) xs (x ∷ []) ∙ rw (below y (omega (arith, le, past)), ne_eqb x y (λ e.
-        omega (arith, past, e))) refl
+    list_any-append (λ (z : ℕ). z == y) xs (x ∷ []) ∙ rw (
+      below y (omega (arith, le, past)),
+      ne_eqb x y (λ e.
+          omega (arith, past, e)),
+    ) refl
 
 -- a test that drops only what another keeps drops as many after it
 drops_as_many : (p q : HeldKey → Bool) → ((key : HeldKey) → p key ≡ false → q key ≡ true) → (keys : List HeldKey)

@@ -102,9 +102,9 @@ module _ {A : Type 0} {tells : Ghosts A} (trail : Trail A tells) where
   pub entries_firm : waiting_octets trail ≡ 0 → entries trail ≡ firm_entries trail
   entries_firm none =
       cond_both (is_closed trail) (firm_entries trail) (firm_entries trail ++ waiting trail)
-          (λ (h : List HistoryEntry). h ≡ firm_entries trail) (λ _. refl)
+      (λ (h : List HistoryEntry). h ≡ firm_entries trail) (λ _. refl)
       (λ _. ap (λ (h : List HistoryEntry). firm_entries trail ++ h) (waiting-none none)
-          ∙ append-nil (firm_entries trail))
+      ∙ append-nil (firm_entries trail))
 
   -- as the trail counts them
   pub firm_count : Told tells → trail.firm ≡ length (firm_entries trail)
@@ -118,7 +118,7 @@ module _ {A : Type 0} {tells : Ghosts A} (trail : Trail A tells) where
   pub length_firm : waiting_octets trail ≡ 0 → length_of trail ≡ trail.firm
   length_firm none =
       cond_both (is_closed trail) trail.firm (length trail.places.items) (λ n. n ≡ trail.firm) (λ _. refl) (λ _.
-          omega (arith, places_count, ap length (waiting-none none)))
+      omega (arith, places_count, ap length (waiting-none none)))
 
   pub count : Told tells → length_of trail ≡ length (entries trail)
   count told = by_closed (is_closed trail)

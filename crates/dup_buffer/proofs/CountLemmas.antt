@@ -19,7 +19,7 @@ pub none_of_none : (p : HeldCopy → Bool) (xs : List HeldCopy) → count_by p x
 none_of_none p [] e = refl
 none_of_none p (x ∷ xs) e =
     cond_both (p x) (Some x) (find p xs) (λ (o : Option HeldCopy). o ≡ None) (λ q.
-        absurd (omega (arith, e, count_by-pass p x xs true q)))
+    absurd (omega (arith, e, count_by-pass p x xs true q)))
     (λ q. none_of_none p xs (omega (arith, e, count_by-pass p x xs false q)))
 
 pub none_if_none : (p : HeldCopy → Bool) (xs : List HeldCopy) → find p xs ≡ None → count_by p xs ≡ 0
@@ -126,7 +126,7 @@ held_all [] e = refl
 held_all (x ∷ xs) e =
     cond_both x.held (x ∷ held_in xs) (held_in xs) (λ (l : List HeldCopy). l ≡ x ∷ xs)
     (λ h. ap (λ (l : List HeldCopy). x ∷ l) (held_all xs
-        (omega (arith, e, sum_by-cons (λ c. if not c.held then 1 else 0) x xs))))
+    (omega (arith, e, sum_by-cons (λ c. if not c.held then 1 else 0) x xs))))
     (λ h. absurd (omega (arith, e, count_by-pass (λ c. not c.held) x xs true (ap not h))))
 
 pub held_are : (xs : List HeldCopy) → AreHeld (held_in xs)
@@ -134,4 +134,4 @@ held_are [] = refl
 held_are (x ∷ xs) =
     cond_both x.held (x ∷ held_in xs) (held_in xs) AreHeld
     (λ h. omega (arith, count_by-pass (λ c. not c.held) x (held_in xs) false (ap not h), held_are xs)) (λ h.
-        held_are xs)
+    held_are xs)

@@ -25,7 +25,7 @@ none_held p (x ∷ xs) e =
       | inr isnt ↦
           let rest = none_held p xs (rw isnt at e) in
           cond_both x.held (x ∷ held_in xs) (held_in xs)
-              (λ (l : List HeldCopy). find p l ≡ None) (λ _. rw isnt rest) (λ _. rest)
+          (λ (l : List HeldCopy). find p l ≡ None) (λ _. rw isnt rest) (λ _. rest)
     ]
 
 pub held_found : (n k : ℕ) (copies : List HeldCopy) (at : ℕ) (d : HeldCopy) → IsFound copies at n k
@@ -61,9 +61,14 @@ pub count-filter : (p q : HeldCopy → Bool) (xs : List HeldCopy) → count_by p
 count-filter p q [] = refl
 count-filter p q (x ∷ xs) =
     cond_both (q x) (x ∷ filter q xs) (filter q xs)
-        (λ (l : List HeldCopy). count_by p l ≡ count_by (λ y. q y && p y) (x ∷ xs))
-    (λ e. omega (arith, count-filter p q xs, sum_by-cons (λ c.
-        if p c then 1 else 0) x (filter q xs), count_by-pass (λ y. q y && p y) x xs (p x) (rw e refl)))
+    (λ (l : List HeldCopy). count_by p l ≡ count_by (λ y. q y && p y) (x ∷ xs))
+    (λ e. omega (
+      arith,
+      count-filter p q xs,
+      sum_by-cons (λ c.
+          if p c then 1 else 0) x (filter q xs),
+      count_by-pass (λ y. q y && p y) x xs (p x) (rw e refl),
+    ))
     (λ e. omega (arith, count-filter p q xs, count_by-pass (λ y. q y && p y) x xs false (rw e refl)))
 
 pub mark_same : (copies : List HeldCopy) (at : ℕ) (y d : HeldCopy) → at < length copies → (slice_index_or copies at d).held ≡ true → y.held ≡ false

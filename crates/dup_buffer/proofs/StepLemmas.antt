@@ -36,8 +36,12 @@ found_kept p kept late e =
 
 pub few_held : (kept late : List HeldCopy) → length (all_held kept late) ≤ length kept + length late
 few_held kept late =
-    omega (arith, length-append (held_in kept) late,
-        length-filter (λ (c : HeldCopy). c.held) kept, count_by-le-length (λ (c : HeldCopy). c.held) kept)
+    omega (
+      arith,
+      length-append (held_in kept) late,
+      length-filter (λ (c : HeldCopy). c.held) kept,
+      count_by-le-length (λ (c : HeldCopy). c.held) kept,
+    )
 
 pub none_same : (p : HeldCopy → Bool) (xs ys : List HeldCopy) → HaveSame xs ys → find p xs ≡ None → find p ys ≡ None
 none_same p xs ys same none = none_of_none p ys (omega (arith, same p, none_if_none p xs none))

@@ -36,13 +36,13 @@ none_in_front (Some x) b e = absurd (cc)
 find-other : (p : HeldCopy → Bool) (xs ys : List HeldCopy) (one : HeldCopy) → p one ≡ false → find p (xs ++ one ∷ ys) ≡ find p (xs ++ ys)
 find-other p xs ys one fails =
     find-append p xs (one ∷ ys) ∙ ap (λ (b : Bool).
-        option_or (find p xs) (cond b (Some one) (find p ys))) fails ∙ sym (find-append p xs ys)
+    option_or (find p xs) (cond b (Some one) (find p ys))) fails ∙ sym (find-append p xs ys)
 
 pub find-one : (p : HeldCopy → Bool) (xs ys : List HeldCopy) (one : HeldCopy) → p one ≡ true → find p (xs ++ ys) ≡ None → find p (xs ++ one ∷ ys) ≡ Some one
 find-one p xs ys one passes none =
     find-append p xs (one ∷ ys)
     ∙ ap (λ (o : Option HeldCopy). option_or o (cond (p one) (Some one) (find p ys)))
-        (none_in_front (find p xs) (find p ys) (sym (find-append p xs ys) ∙ none))
+    (none_in_front (find p xs) (find p ys) (sym (find-append p xs ys) ∙ none))
     ∙ ap (λ (b : Bool). cond b (Some one) (find p ys)) passes
 
 -- ---- one copy more

@@ -42,7 +42,7 @@ module _ {A : Type 0} (tells : Ghosts A) (laws : AreaLaws tells) (j : Journal A 
       let h = header (tells.size j.area) j.address j.generation in
       subst (λ n. content_at behind n j.gate ≡ Some (n + 5, length batch)) (sym at)
       (content_found h (length-header (tells.size j.area) j.address j.generation) j.gate (tells.octets j.area) some
-          batch more (inside tells laws j told)
+      batch more (inside tells laws j told)
       ((now tells laws j told).listed ∙ ap (λ (bs : List (List ℕ)). drop 1 h ++ spelled bs) is)
       (small_among (batches_below j.gate (tells.octets j.area)) some batch more is (j.sound.small told)) behind (subst (λ n. IsBehind (tells.octets j.area) n behind) at reads))
 

@@ -68,7 +68,7 @@ module _ (gate : ℕ) (octets : List ℕ) (inside : gate + 1 ≤ length octets) 
   before_written from =
       at_front gate (gate + 1) open_gate (overwritten octets (gate + 1) from) octets (omega arith)
       (ap (λ (l : List ℕ). take (gate + 1) l) (append_assoc (take (gate + 1) octets) from
-          (drop (gate + 1 + length from) octets))
+      (drop (gate + 1 + length from) octets))
       ∙ take_at (take (gate + 1) octets) _ (gate + 1) (length-take-le (gate + 1) octets inside))
 
   behind_written : (framed : List ℕ) (outcome : Outcome3)
@@ -105,7 +105,7 @@ module _ (gate : ℕ) (octets : List ℕ) (inside : gate + 1 ≤ length octets) 
     shut_behind : (framed : List ℕ) (o : Outcome3) → gate_at (written_as o (old o) (gate + 1) framed) gate ≢ open_gate
     shut_behind framed o e =
         shut (sym (behind_written framed o) ∙ ap (λ (l : List ℕ).
-            gate_at (written_as o l (gate + 1) framed) gate) (sym (same o)) ∙ e)
+        gate_at (written_as o l (gate + 1) framed) gate) (sym (same o)) ∙ e)
 
     -- the gate stays closed where the writing of the frame ended
     frame_ended : (framed : List ℕ) (ending : Ending) → is_ended ending ≡ true
@@ -152,8 +152,8 @@ module _ (old : Prospect) (gate : ℕ) (framed octets : List ℕ) (inside : gate
         opened = λ o.
             ap (λ (l : List ℕ). gate_at l gate == open_gate) (two.leaves o)
             ∙ gate_ended gate (overwritten octets (gate + 1) framed) fits
-                mid.leaves (λ e. shut (sym (before_written gate octets inside framed) ∙ e)) staged
-                (ending_of (course_of mid)) o
+            mid.leaves (λ e. shut (sym (before_written gate octets inside framed) ∙ e)) staged
+            (ending_of (course_of mid)) o
             ∙ ap (λ e. batch_stands BothRan e o) second
             ∙ ap (λ e. batch_stands e (ending_of (after_put (course_of old))) o) (sym both);
       }

@@ -108,7 +108,7 @@ module _ {A : Type 0} (g : Ghosts A) (laws : AreaLaws g) (j : Journal A g) where
     below_is : Told g → batches_below gate (g.octets new) ≡ some
     below_is told =
         listed_below (header_of j) head_long gate (g.octets new) some
-            (leaves told (g.octets new) (laws.holds new)).listed (small told)
+        (leaves told (g.octets new) (laws.holds new)).listed (small told)
 
     sound_over : 32 ≤ gate → gate + 1 ≤ g.size j.area → torn_length ≤ longest_batch → torn_length ≤ length buffer - 4
         → (is_torn ≡ true → gate + torn_length + 6 ≤ g.size j.area) → (front ≡ Founding → is_torn ≡ false)
@@ -128,7 +128,7 @@ module _ {A : Type 0} (g : Ghosts A) (laws : AreaLaws g) (j : Journal A g) where
           let P : List ℕ → List (List ℕ) → Type 0 =
           λ h bs. Content h front is_torn bs (take torn_length (drop 4 buffer)) gate c in
           subst (λ (h : List ℕ). P h (batches_below gate (g.octets new))) (ap (λ n.
-              header n j.address j.generation) (sym size))
+          header n j.address j.generation) (sym size))
           (subst (λ (bs : List (List ℕ)). P (header_of j) bs) (sym (below_is told)) (leaves told c left));
       durable = durable;
     }
@@ -154,7 +154,7 @@ module _ {A : Type 0} (g : Ghosts A) (laws : AreaLaws g) (j : Journal A g) where
   module _ (new : A) (size : g.size new ≡ g.size j.area) (same : IsTrue g.tells_octets → g.octets new ≡ g.octets j.area)
       (durable : IsTrue g.tells_crash → Only (g.octets new) (g.may_leave new)) (first octet : ℕ)
       (seen : IsTrue g.tells_octets → (first ≡ get_or (g.octets j.area) 0 0) ×
-          (octet ≡ gate_at (g.octets j.area) j.gate)) where
+      (octet ≡ gate_at (g.octets j.area) j.gate)) where
     abbrev reopened : List (List ℕ)
     reopened = with_last (j.is_torn && (octet == open_gate))
 
@@ -169,7 +169,7 @@ module _ {A : Type 0} (g : Ghosts A) (laws : AreaLaws g) (j : Journal A g) where
         (after_first (header_of j) (first-header (g.size j.area) j.address j.generation) j.front reopened last moved
         (g.octets j.area) first (seen told.0).0
         (subst (λ n. Content (header_of j) j.front false reopened last (gate_after j.is_torn j.gate n octet)
-            (g.octets j.area))
+        (g.octets j.area))
         length-last
         (after_gate (header_of j) head_long j.front below last last j.gate j.sound.low (g.octets j.area) j.is_torn octet
         (fits_left told (g.octets j.area) (laws.holds j.area)) (seen told.0).1 (now told))))
@@ -180,16 +180,16 @@ module _ {A : Type 0} (g : Ghosts A) (laws : AreaLaws g) (j : Journal A g) where
     pub reopened_batches : Told g → batches_below moved (g.octets new) ≡ reopened
     reopened_batches told =
         below_is new size j.buffer.items moved j.torn_length false (front_after j.front first) reopened small_after
-            reopened_content told
+        reopened_content told
 
     pub reopened_sound : IsSound g new j.buffer.items moved j.torn_length false (front_after j.front first)
         j.address j.generation
     reopened_sound =
         let gates = place_after j.is_torn j.gate j.torn_length octet
-            (g.size j.area) j.sound.low (omega (arith, j.sound.high))
+        (g.size j.area) j.sound.low (omega (arith, j.sound.high))
         (λ e. omega (arith, j.sound.torn_fits e)) in
         sound_over new size j.buffer.items moved j.torn_length false (front_after j.front first) reopened small_after
-            reopened_content
+        reopened_content
         gates.0 (omega (arith, gates.1)) j.sound.torn_size j.sound.torn_held
         (λ e. absurd (other_bool (sym e))) (λ e. refl) (λ told yes. durable told.1)
 
@@ -206,19 +206,19 @@ module _ {A : Type 0} (g : Ghosts A) (laws : AreaLaws g) (j : Journal A g) where
   unfolding batches
   place_told told =
       place_is (header_of j) head_long j.gate (g.octets j.area) below j.sound.low (omega (arith, inside told))
-          (now told).listed
+      (now told).listed
 
   -- what a crash leaves of it, by the gate that it leaves
   pub keeps_by_gate : Told g → (c : List ℕ) → g.may_leave j.area c
       →
-          Keeps (front_of j) (header_of j) (if j.is_torn && (gate_at c j.gate == open_gate) then batches j ++ torn j
-          ∷ [] else batches j) c
+      Keeps (front_of j) (header_of j) (if j.is_torn && (gate_at c j.gate == open_gate) then batches j ++ torn j
+      ∷ [] else batches j) c
   unfolding batches torn
   keeps_by_gate told c left =
       let octet = gate_at c j.gate in
       let stands = j.is_torn && (octet == open_gate) in
       let gates = place_after j.is_torn j.gate (length last) octet (length c) j.sound.low (inside_left told c left)
-          (fits_left told c left) in
+      (fits_left told c left) in
       content_keeps (header_of j) head_long j.front (with_last stands) (gate_after j.is_torn j.gate (length last) octet)
       gates.0 (small_with told stands) [] c gates.1
       (after_gate (header_of j) head_long j.front below last [] j.gate j.sound.low c j.is_torn octet
@@ -291,7 +291,7 @@ module _ {A : Type 0} (g : Ghosts A) (laws : AreaLaws g) (j : Journal A g) where
           → Content (header_of j) j.front true below batch j.gate c
       still_adding told c step =
           adding (header_of j) j.front below j.gate j.sound.low batch framed last (g.octets j.area) c is (now_of told)
-              step
+          step
 
       fits_adding : Told g → (c : List ℕ) → IsAdding j.gate framed (g.octets j.area) c →
           j.gate + 5 + length batch < length c
@@ -305,8 +305,8 @@ module _ {A : Type 0} (g : Ghosts A) (laws : AreaLaws g) (j : Journal A g) where
 
         stood : Told g → (c : List ℕ) → g.may_leave new c
             →
-                Content (header_of j) j.front false more (take (length batch) (drop 4 later))
-                (j.gate + 5 + length batch) c
+            Content (header_of j) j.front false more (take (length batch) (drop 4 later))
+            (j.gate + 5 + length batch) c
         stood told c left =
             let step : IsAdding j.gate framed (g.octets j.area) (added j.gate framed (g.octets j.area)) =
             is_adding j.gate framed (g.octets j.area)
@@ -315,7 +315,7 @@ module _ {A : Type 0} (g : Ghosts A) (laws : AreaLaws g) (j : Journal A g) where
             Content (header_of j) j.front false more (take (length batch) (drop 4 later)) (j.gate + 5 + length batch) o)
             (sym (durable told.1 c left ∙ octets_are told.0))
             (taken_in (header_of j) j.front below j.gate j.sound.low head_long batch
-                (take (length batch) (drop 4 later))
+            (take (length batch) (drop 4 later))
             (added j.gate framed (g.octets j.area)) (fits_adding told (added j.gate framed (g.octets j.area)) step)
             (still_adding told (added j.gate framed (g.octets j.area)) step)
             (added_open j.gate framed (g.octets j.area) (omega (arith, inside told))))
@@ -332,7 +332,7 @@ module _ {A : Type 0} (g : Ghosts A) (laws : AreaLaws g) (j : Journal A g) where
         grown_sound =
             sound_whole new size later (j.gate + 5 + length batch) (length batch) j.front more small_more stood
             (omega (arith, j.sound.low)) (omega (arith, j.sound.high, fits)) short
-                (omega (arith, long)) (λ told yes. durable told.1)
+            (omega (arith, long)) (λ told yes. durable told.1)
 
       -- where it may stand
       module _ (leaves : Told g → gate_at (g.octets j.area) j.gate ≢ open_gate
@@ -370,7 +370,7 @@ module _ {A : Type 0} (g : Ghosts A) (laws : AreaLaws g) (j : Journal A g) where
           → Content (header_of j) Founding false below last j.gate c
       founding_content told c torn =
           founding (header_of j) j.front below j.gate j.sound.low last (g.octets j.area) c (inside told) (now_of told)
-              torn
+          torn
 
       founding_left : Told g → (c : List ℕ) → g.may_leave new c →
           Content (header_of j) Founding false below last j.gate c
@@ -399,9 +399,9 @@ module _ {A : Type 0} (g : Ghosts A) (laws : AreaLaws g) (j : Journal A g) where
             Content (header_of j) Founded false below last j.gate c
         founded_left told c left =
             after_first (header_of j) (first-header (g.size j.area) j.address j.generation) Founding below last j.gate c
-                67
+            67
             (sym (ap (λ (o : List ℕ). get_or o 0 0) (durable told.1 c left ∙ octets_are told.0))) (founding_left told c
-                left)
+            left)
 
         pub founded_sound : IsSound g new j.buffer.items j.gate j.torn_length j.is_torn Founded j.address j.generation
         founded_sound =

@@ -91,7 +91,7 @@ module _ (header : List ℕ) (long : length header ≡ 32) (front : Front) (batc
       → Keeps front header batches c
   content_keeps before c inside content =
       keeps header long place c batches low inside small front
-          content.listed content.founded content.drafted (content.shut refl)
+      content.listed content.founded content.drafted (content.shut refl)
 
 -- what a crash leaves of a journal, whether a batch may stand or not
 module _ (header : List ℕ) (long : length header ≡ 32) (front : Front) (batches : List (List ℕ)) (place : ℕ)
@@ -127,7 +127,7 @@ after_gate header long front batches batch before place low octets false octet i
 after_gate header long front batches batch before place low octets true octet inside is content =
     let P : Bool → Type 0 = λ b.
     Content header front false (if b then batches ++ batch ∷ [] else batches) before
-        (if b then place + 5 + length batch else place) octets in
+    (if b then place + 5 + length batch else place) octets in
     ⊎_elim (λ yes. subst P (sym yes.0)
     (taken_in header front batches place low long batch before octets (inside refl) content (sym is ∙ yes.1)))
     (λ no. subst P (sym no.0)

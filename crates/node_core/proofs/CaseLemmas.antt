@@ -20,7 +20,7 @@ module _ (P : PacketCopy → Type 0) where
       P (copy_hearing port gateway cause numbers copy)
   either_hears port gateway cause numbers copy there elsewhere =
       cond_both (copy.gateway == gateway) (copy_hearing_own port cause numbers copy) copy P
-          (λ _. there) (λ _. elsewhere)
+      (λ _. there) (λ _. elsewhere)
 
 module _ (P : PacketState → Type 0) where
   pub either_sent : (sending : Sending) (packet : PacketState) →
@@ -28,7 +28,7 @@ module _ (P : PacketState → Type 0) where
       P (packet_after sending packet)
   either_sent sending packet its another =
       cond_both (is_of packet.number sending) (record packet { copies = copies_after sending packet.copies }) packet P
-          (λ _. its) (λ _. another)
+      (λ _. its) (λ _. another)
 
   pub either_open : (f : PacketState → PacketState) (packet : PacketState) → P packet →
       (is_done packet.copies ≡ false → P (f packet)) → P (while_open f packet)
@@ -51,7 +51,7 @@ pub hearing_puts : (port : Port) (gateway cause : ℕ) (numbers : List ℕ) (cop
     StaysPut copy (copy_hearing port gateway cause numbers copy)
 hearing_puts port gateway cause numbers copy =
     either_hears (StaysPut copy) port gateway cause numbers copy
-        (record { gateway = refl; number = refl; is_plain = refl })
+    (record { gateway = refl; number = refl; is_plain = refl })
     (record { gateway = refl; number = refl; is_plain = refl })
 
 -- ---- at one place or elsewhere

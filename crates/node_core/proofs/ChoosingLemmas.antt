@@ -69,7 +69,7 @@ all_names favourite up peers [] = tt
 all_names favourite up peers (packet ∷ packets) =
     each_append (NamesOne (packet ∷ packets)) _ _
     (each_weaker (Names packet.copies packet.number) (NamesOne (packet ∷ packets)) (names_here packet packets) _
-        (due_names favourite up peers packet))
+    (due_names favourite up peers packet))
     (each_weaker (NamesOne packets) (NamesOne (packet ∷ packets)) (names_later packet packets) _
     (all_names favourite up (all_drawn (due_for favourite up peers packet) peers) packets))
 

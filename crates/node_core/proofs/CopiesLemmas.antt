@@ -80,4 +80,4 @@ pub failure_keeps : (port : Port) (gateway : ℕ) (numbers : List ℕ) (copy : P
     copy_hearing port gateway SYSTEM_FAILURE numbers copy ≡ copy
 failure_keeps port gateway numbers copy =
     either_hears (λ (c : PacketCopy). c ≡ copy) port gateway SYSTEM_FAILURE numbers copy
-        (failure_keeps_own port numbers copy) refl
+    (failure_keeps_own port numbers copy) refl

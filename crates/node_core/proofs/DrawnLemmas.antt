@@ -88,7 +88,7 @@ tick_draws favourite most up paths peers packets few within kept bounded =
     let bounded_there : Bounded most probed packets =
     λ gateway below. omega (arith, bounded gateway (omega (arith, below, alike.size)), alike.numbers gateway) in
     each_append (DrawsNext peers) (probes paths peers) (due_for_all favourite up probed packets)
-        (probes_each (DrawsNext peers) (λ gateway path. tt) 0 paths peers)
+    (probes_each (DrawsNext peers) (λ gateway path. tt) 0 paths peers)
     (each_weaker (DrawsNext probed) (DrawsNext peers) (draws_before peers probed on) (due_for_all favourite up probed packets)
     (all_due_draws favourite up most probed packets few (omega (arith, within, alike.size)) (all_kept_on peers probed packets on kept) bounded_there))
 

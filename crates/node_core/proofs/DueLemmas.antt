@@ -41,7 +41,7 @@ pub record EachMay (P : Sending → Type 0) (number : ℕ) (peers : List Peer) (
   pub commanded : (order : Order) (copy : PacketCopy) (drawn : ℕ) (is_new : Bool) →
       (is_new ≡ true → drawn ≡ next_number peers copy.gateway) →
       (order ≡ Release → IsChoice copies copy.gateway copy.number) →
-          P (send.Command number copy.gateway copy.number drawn order is_new)
+      P (send.Command number copy.gateway copy.number drawn order is_new)
 
 module _ (P : Sending → Type 0) (number : ℕ) (peers : List Peer) (copies : List PacketCopy)
     (may : EachMay P number peers copies) where
@@ -74,7 +74,7 @@ module _ (P : Sending → Type 0) (number : ℕ) (peers : List Peer) (copies : L
   others_settle choice [] = tt
   others_settle choice (copy ∷ duplicates) =
       each_append P _ _ (cond_both (copy.gateway == choice.gateway) [] (settling peers number copy) Each
-          (λ _. tt) (λ _. settling_each copy.verdict copy))
+      (λ _. tt) (λ _. settling_each copy.verdict copy))
       (others_settle choice duplicates)
 
   copy_each : (favourite : ℕ) (up is_plain : Bool) → Each (copy_to favourite up peers number is_plain)
@@ -92,7 +92,7 @@ module _ (P : Sending → Type 0) (number : ℕ) (peers : List Peer) (copies : L
   releasing_each plain duplicates None whole sealed is = all_settle duplicates
   releasing_each plain duplicates (Some choice) whole sealed is =
       each_append P _ _ (command_each Release choice
-          (λ _. choice_of plain duplicates choice whole sealed is)) (others_settle choice duplicates)
+      (λ _. choice_of plain duplicates choice whole sealed is)) (others_settle choice duplicates)
 
   verdict_each : (verdict : Verdict) (favourite : ℕ) (up : Bool) (plain : PacketCopy) (duplicates : List PacketCopy) →
       copies ≡ plain ∷ duplicates →
@@ -100,7 +100,7 @@ module _ (P : Sending → Type 0) (number : ℕ) (peers : List Peer) (copies : L
   verdict_each Unknown favourite up plain duplicates whole is =
       let there : Option PacketCopy = find (λ (copy : PacketCopy). copy.gateway == favourite) (plain ∷ duplicates) in
       cond_both (list_any (λ (copy : PacketCopy). is_held copy.verdict) duplicates)
-          (test_of number plain ∷ []) (repeating there favourite up peers number) Each
+      (test_of number plain ∷ []) (repeating there favourite up peers number) Each
       (λ _. (may.tested plain, tt)) (λ _. repeating_each there favourite up)
   verdict_each Sealed favourite up plain duplicates whole is =
       releasing_each plain duplicates (chosen duplicates) whole is refl
@@ -116,7 +116,7 @@ pub due_each : (P : Sending → Type 0) (favourite : ℕ) (up : Bool) (peers : L
     EachMay P packet.number peers packet.copies → AllByRecursion P (due_for favourite up peers packet)
 due_each P favourite up peers packet may =
     cond_both (is_done packet.copies) [] (due_by_copies favourite up peers
-        packet.number packet.copies) (λ (sendings : List Sending). AllByRecursion P sendings)
+    packet.number packet.copies) (λ (sendings : List Sending). AllByRecursion P sendings)
     (λ _. tt) (λ _. copies_each P packet.number peers packet.copies may favourite up packet.copies refl)
 
 -- the same of the Node Alive Requests

@@ -172,8 +172,11 @@ all_ready peers copies placed room =
       found = is.found;
       place = is.place;
       same = refl;
-      room = λ fresh. room copy.gateway is.place (omega (arith, weight_fresh 2 copy.gateway copies copy
-          is.found fresh));
+      room = λ fresh. room copy.gateway is.place (omega (
+        arith,
+        weight_fresh 2 copy.gateway copies copy
+            is.found fresh,
+      ));
     })
     copies (all_there peers copies placed.apart placed.places)
 

@@ -66,8 +66,14 @@ copy_on one two three first second = record {
 
 commanded_grows : (gateway : ℕ) (command : Command) (copy : PacketCopy) → CopyGrows copy (commanded gateway command copy)
 commanded_grows gateway command copy = either_commanded (CopyGrows copy) gateway command copy
-    (record { gateway = refl; number = refl; is_plain = refl; verdict = λ known.
-        refl; command = one_more copy.command }) (same_copy copy)
+    (record {
+      gateway = refl;
+      number = refl;
+      is_plain = refl;
+      verdict = λ known.
+          refl;
+      command = one_more copy.command;
+    }) (same_copy copy)
   where
     one_more : (before : Option Command) → CommandGrows before (option_or before (Some command))
     one_more None = tt

@@ -98,7 +98,7 @@ plain_map f puts (copy ∷ copies) plain = (
 pub kept_map : (peers later : List Peer) → GoOn peers later → (f : PacketCopy → PacketCopy) →
     ((copy : PacketCopy) → StaysPut copy (f copy)) →
     ((copy : PacketCopy) → IsBelow peers copy → IsBelow later (f copy)) → (copies : List PacketCopy) →
-        IsKept peers copies → IsKept later (map f copies)
+    IsKept peers copies → IsKept later (map f copies)
 kept_map peers later on f puts below copies kept = record {
   placed = record {
     apart = apart_map f puts copies kept.placed.apart;
@@ -180,7 +180,7 @@ kept_commanded gateway order peers copies within kept =
     let next : next_number later gateway ≡ suc (next_number peers gateway) = next_drawn gateway (next_number peers gateway) peers within in
     let command : Command = command_with order (next_number peers gateway) in
     kept_map peers later on (commanded gateway command) (commanded_puts gateway command)
-        (commanded_below gateway command peers later on next refl) copies kept
+    (commanded_below gateway command peers later on next refl) copies kept
 
 -- ---- a response
 
@@ -188,7 +188,7 @@ hearing_below : (peers : List Peer) (port : Port) (gateway cause : ℕ) (numbers
     IsBelow peers (copy_hearing port gateway cause numbers copy)
 hearing_below peers port gateway cause numbers copy below =
     either_hears (IsBelow peers) port gateway cause numbers copy
-        (record { number = below.number; command = command_at copy.command below.command }) below
+    (record { number = below.number; command = command_at copy.command below.command }) below
   where
     command_at : (command : Option Command) → CommandBelow copy.number (next_number peers copy.gateway) command →
         CommandBelow copy.number (next_number peers copy.gateway) (option_map (command_hearing cause numbers) command)
@@ -199,7 +199,7 @@ pub kept_hearing : (peers : List Peer) (port : Port) (gateway cause : ℕ) (numb
     IsKept peers (map (copy_hearing port gateway cause numbers) copies)
 kept_hearing peers port gateway cause numbers copies kept =
     kept_map peers peers (record { size = refl; numbers = λ place. omega arith })
-        (copy_hearing port gateway cause numbers) (hearing_puts port gateway cause numbers)
+    (copy_hearing port gateway cause numbers) (hearing_puts port gateway cause numbers)
     (hearing_below peers port gateway cause numbers) copies kept
 
 -- ---- a move

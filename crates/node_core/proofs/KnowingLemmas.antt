@@ -293,10 +293,10 @@ heard_known : (port : Port) (place : ℕ) (saying : Saying) (log : List LogEntry
 heard_known port place (Responds cause numbers) log known = response_known port place cause numbers log (packets_of log) known
 heard_known port place saying log known =
     all_same log (Heard port place saying ∷ log) (λ gateway number.
-        cond_both (gateway == place) [] [] (λ (new : List Response).
-        responses_to gateway number log ++ new ≡ responses_to gateway number log)
+    cond_both (gateway == place) [] [] (λ (new : List Response).
+    responses_to gateway number log ++ new ≡ responses_to gateway number log)
     (λ _. append-nil (responses_to gateway number log)) (λ _. append-nil (responses_to gateway number log)))
-        (packets_of log) known
+    (packets_of log) known
 
 -- ---- a call
 
@@ -314,18 +314,18 @@ module _ (setup : NodeSetup) (log : List LogEntry) (known : AllKnown log (packet
       AllKnown (logged (call_entries node call) log) (packets_of (logged (call_entries node call) log))
   known_call draw kept =
       after_call setup log (λ (entries : List LogEntry). AllKnown entries (packets_of entries)) (record {
-    is = known;
-    submits = λ form none fewer. each_push (OpenKnown (Submitted form ∷ log)) (packets_of log) _
-        (all_same log (Submitted form ∷ log) (λ place number. refl) (packets_of log) known) (λ open_yet. tt);
-    ticks = ticks;
-    hears = λ port gateway saying. heard_known port gateway saying log known;
-    appoints = λ to port gateway saying below.
-        let heard : List LogEntry = Heard port gateway saying ∷ log in
-        all_same heard (Appointed to ∷ heard) (λ place number.
+        is = known;
+        submits = λ form none fewer. each_push (OpenKnown (Submitted form ∷ log)) (packets_of log) _
+            (all_same log (Submitted form ∷ log) (λ place number. refl) (packets_of log) known) (λ open_yet. tt);
+        ticks = ticks;
+        hears = λ port gateway saying. heard_known port gateway saying log known;
+        appoints = λ to port gateway saying below.
+            let heard : List LogEntry = Heard port gateway saying ∷ log in
+            all_same heard (Appointed to ∷ heard) (λ place number.
             refl) (packets_of heard) (heard_known port gateway saying log known);
-    halts = tt;
-    begins = tt;
-  })
+        halts = tt;
+        begins = tt;
+      })
     where
       ticks : (to : Option ℕ) → Within (length (peers_of setup.gateways log)) to →
           AllKnown (logged (appointing to ++ Ticked (due_now (befallen (appointing to) node)) ∷ []) log)
@@ -333,7 +333,7 @@ module _ (setup : NodeSetup) (log : List LogEntry) (known : AllKnown log (packet
       ticks None within = ticked_known _ log (peers_of setup.gateways log) (packets_of log) (draw None within) kept known
       ticks (Some gateway) within =
           ticked_known _ (Appointed gateway ∷ log) (peers_of setup.gateways log) (packets_of log)
-              (draw (Some gateway) within) kept
+          (draw (Some gateway) within) kept
           (all_same log (Appointed gateway ∷ log) (λ place number. refl) (packets_of log) known)
 
 -- ---- all calls

@@ -44,9 +44,9 @@ number_keeps : (gateway number : ℕ) (is_new : Bool) (peers : List Peer) →
     peers_anew (if is_new then number_drawn gateway number peers else peers) ≡ peers_anew peers
 number_keeps gateway number is_new peers =
     cond_both is_new (number_drawn gateway number peers) peers
-        (λ (after : List Peer). peers_anew after ≡ peers_anew peers)
+    (λ (after : List Peer). peers_anew after ≡ peers_anew peers)
     (λ _. place_keeps peers gateway (λ peer. record peer { next = min (suc number) end_of_numbers }) (λ peer.
-        refl)) (λ _. refl)
+    refl)) (λ _. refl)
 
 drawn_keeps : (sending : Sending) (peers : List Peer) → peers_anew (drawn sending peers) ≡ peers_anew peers
 drawn_keeps (send.Probe gateway number) peers = place_keeps peers gateway (λ peer. record peer { path = (number + 1) % 65536 }) (λ peer. refl)
@@ -172,7 +172,7 @@ submit_follow : (node : NodeValue) (fault : Option SubmitFault) (form : PacketFo
     CanFollowAll (submit_entries node fault form) log
 submit_follow node None form log =
     cond_both (nat_lt node.submissions most_submissions) (Submitted form ∷ []) []
-        (λ (entries : List LogEntry). CanFollowAll entries log) (λ _. (tt, tt)) (λ _. tt)
+    (λ (entries : List LogEntry). CanFollowAll entries log) (λ _. (tt, tt)) (λ _. tt)
 submit_follow node (Some fault) form log = tt
 
 running_follow : (node : NodeValue) (call : NodeCall) (log : List LogEntry) → CanFollowAll (entries_running node call) log
@@ -190,7 +190,7 @@ halted_follow _ log has = tt
 call_follow : (node : NodeValue) (call : NodeCall) (log : List LogEntry) → has_entries log ≡ true → CanFollowAll (call_entries node call) log
 call_follow node call log has =
     cond_both node.is_running (entries_running node call) (entries_halted call)
-        (λ (entries : List LogEntry). CanFollowAll entries log)
+    (λ (entries : List LogEntry). CanFollowAll entries log)
     (λ _. running_follow node call log) (λ _. halted_follow call log has)
 
 pub call_goes_on : (setup : NodeSetup) (call : NodeCall) (calls : List NodeCall) →

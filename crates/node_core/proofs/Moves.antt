@@ -149,7 +149,7 @@ find_commanded gateway other command (copy ∷ copies) apart =
     elim (eqb_tells copy.gateway gateway) [
       | inl is ↦ rw (is.0, ne_eqb copy.gateway other (λ same. apart (sym is.1 ∙ same))) rest
       | inr isnt ↦ rw isnt.0 (ap (λ (found : Option PacketCopy).
-            if copy.gateway == other then Some copy else found) rest)
+          if copy.gateway == other then Some copy else found) rest)
     ]
 
 pub find_map : (test : PacketCopy → Bool) (f : PacketCopy → PacketCopy) →
@@ -168,6 +168,6 @@ find_passes test [] copy found = absurd (cc)
 find_passes test (first ∷ copies) copy found =
     elim (cases_Bool (test first)) [
       | inl passes ↦ let at : Some first ≡ Some copy = rw passes at found in let same : first
-            ≡ copy = cc in ap test (sym same) ∙ passes
+          ≡ copy = cc in ap test (sym same) ∙ passes
       | inr fails ↦ find_passes test copies copy (rw fails at found)
     ]

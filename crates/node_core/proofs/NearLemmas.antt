@@ -56,8 +56,11 @@ weights_few gateway (packet ∷ packets) = omega (arith, weights_few gateway pac
 pub opens_moved : {peers : List Peer} {move : Move} {packets after : List PacketState} → One peers move packets after → opens after ≤ opens packets
 unfolding opens
 opens_moved {peers} {move} (here {packet} {packets} open_yet is) =
-    omega (arith, ap (λ (b : Bool). weight_unless b 1) open_yet,
-        unless_least (is_done (copies_moved peers move packet.copies)) 1)
+    omega (
+      arith,
+      ap (λ (b : Bool). weight_unless b 1) open_yet,
+      unless_least (is_done (copies_moved peers move packet.copies)) 1,
+    )
 opens_moved (beyond one) = omega (arith, opens_moved one)
 
 pub opens_pushed : (packets : List PacketState) (number : ℕ) → opens (packets ++ new_packet number ∷ []) ≡ opens packets + 1
@@ -70,11 +73,17 @@ pub opens_heard : (port : Port) (gateway cause : ℕ) (numbers : List ℕ) (pack
 unfolding opens
 opens_heard port gateway cause numbers [] = omega arith
 opens_heard port gateway cause numbers (packet ∷ packets) =
-    omega (arith, opens_heard port gateway cause numbers packets,
-    either_open (λ (p : PacketState). weight_unless (is_done p.copies) 1 ≤ weight_unless (is_done packet.copies) 1)
-    (packet_hearing port gateway cause numbers) packet (omega arith)
-    (λ open_yet. omega (arith, ap (λ (b : Bool). weight_unless b 1) open_yet,
-        unless_least (is_done (packet_hearing port gateway cause numbers packet).copies) 1)))
+    omega (
+      arith,
+      opens_heard port gateway cause numbers packets,
+      either_open (λ (p : PacketState). weight_unless (is_done p.copies) 1 ≤ weight_unless (is_done packet.copies) 1)
+          (packet_hearing port gateway cause numbers) packet (omega arith)
+          (λ open_yet. omega (
+            arith,
+            ap (λ (b : Bool). weight_unless b 1) open_yet,
+            unless_least (is_done (packet_hearing port gateway cause numbers packet).copies) 1,
+          )),
+    )
 
 -- ---- open numbers
 
@@ -122,7 +131,7 @@ near_heard port heard_gateway cause numbers most gateway packets near =
     one : (packet : PacketState) → NearIn most gateway packet → NearIn most gateway (while_open (packet_hearing port heard_gateway cause numbers) packet)
     one packet is = either_open (NearIn most gateway) (packet_hearing port heard_gateway cause numbers) packet is
         (λ e open_yet. each_map (IsNear most gateway) (IsNear most gateway)
-            (copy_hearing port heard_gateway cause numbers) hears packet.copies (is e))
+        (copy_hearing port heard_gateway cause numbers) hears packet.copies (is e))
 
 -- ---- a packet that is submitted
 
@@ -145,7 +154,7 @@ window : (gateway next : ℕ) (packets : List PacketState) → out_at gateway ne
 window gateway next packets none =
     elim (cases_Bool (nat_le 16384 (next - oldest_number gateway next packets))) [
       | inl out ↦ let some : Some (NumbersOut gateway (oldest_number gateway next packets) next)
-            ≡ None = rw out at none in absurd (cc)
+          ≡ None = rw out at none in absurd (cc)
       | inr fits ↦ leb-false _ _ fits
     ]
 
@@ -201,9 +210,12 @@ near_after peers move packets after kept one is = record {
       let before : ℕ = next_number peers gateway + weights gateway packets in
       let less : most ≤ before =
       at_or_apart (λ (g : ℕ). next_number (peers_moved move peers) g + weights g after
-          ≤ next_number peers g + weights g packets) (place move) gateway
-      (omega (arith, next_drawn (place move) (next_number peers (place move)) peers (one_within one),
-          weights_moved one))
+      ≤ next_number peers g + weights g packets) (place move) gateway
+      (omega (
+        arith,
+        next_drawn (place move) (next_number peers (place move)) peers (one_within one),
+        weights_moved one,
+      ))
       (λ apart. omega (
         arith,
         next_drawn_other (place move) (next_number peers (place move)) gateway peers apart,
@@ -227,8 +239,13 @@ near_pushed peers packets number kept unrefused is = record {
       let inside : next - oldest < 16384 = window gateway next packets none_out in
       let most : ℕ = next + weights gateway (packets ++ new_packet number ∷ []) in
       let few : weights gateway (packets ++ new_packet number ∷ []) ≤ 128 =
-      omega (arith, weights-push 2 gateway packets number, weights_few gateway packets, opens_are packets,
-          unrefused.few) in
+      omega (
+        arith,
+        weights-push 2 gateway packets number,
+        weights_few gateway packets,
+        opens_are packets,
+        unrefused.few,
+      ) in
       let above = each_open (λ (n : ℕ). oldest ≤ n) gateway packets (each_least next (flat_map (unsettled_at gateway) packets)) in
       each_push (NearIn most gateway) packets (new_packet number)
       (each_weaker (λ (packet : PacketState). is_done packet.copies ≡ false →

@@ -50,7 +50,7 @@ later-others : (number favourite : ℕ) (up : Bool) (before : ℕ) (peers : List
 later-others number favourite up before peers [] numbered below = tt
 later-others number favourite up before peers (packet ∷ packets) numbered below =
     each_append (IsOfAnother number) _ _ (due-others number favourite up peers packet
-        (ne_eqb packet.number number (λ e. omega (arith, e, numbered.0, below))))
+    (ne_eqb packet.number number (λ e. omega (arith, e, numbered.0, below))))
     (later-others number favourite up (suc before) (all_drawn (due_for favourite up peers packet) peers) packets numbered.1 (omega (arith, below)))
 
 -- ---- all packets
@@ -98,7 +98,7 @@ module _ (favourite : ℕ) (up : Bool) where
       map (while_open (packet_after_all (probes paths gateways ++ due_for_all favourite up peers packets))) packets ≡ planned favourite up peers packets
   planned_after_probes before paths gateways peers packets numbered =
       planned_is_map before peers packets (probes paths gateways) numbered
-          (λ n below. probes_each (IsOfAnother n) (λ gateway path. refl) 0 paths gateways)
+      (λ n below. probes_each (IsOfAnother n) (λ gateway path. refl) 0 paths gateways)
 
 length-planned : (favourite : ℕ) (up : Bool) (peers : List Peer) (packets : List PacketState) → length (planned favourite up peers packets) ≡ length packets
 length-planned favourite up peers [] = refl

@@ -113,7 +113,7 @@ Within size to = IfSome to (λ gateway. gateway < size)
 next_within : (size gateway : ℕ) → Within size (next_place size gateway)
 next_within size gateway =
     cond_both (nat_lt 1 size) (Some ((gateway + 1) % size)) None (Within size)
-        (λ e. let more : 1 < size = ltb-true _ _ e in omega arith) (λ _. tt)
+    (λ e. let more : 1 < size = ltb-true _ _ e in omega arith) (λ _. tt)
 
 place_within : (peers : List Peer) (ip : ℕ) → Within (length peers) (place_of peers ip)
 place_within peers ip = by (place_of peers ip) refl
@@ -125,7 +125,7 @@ place_within peers ip = by (place_of peers ip) refl
 at_within : (peers : List Peer) (octets : List ℕ) → Within (length peers) (place_at peers octets)
 at_within peers octets =
     cond_both (length octets == 4) (place_of peers (big_number 4 octets)) None (Within (length peers))
-        (λ _. place_within peers (big_number 4 octets)) (λ _. tt)
+    (λ _. place_within peers (big_number 4 octets)) (λ _. tt)
 
 redirected_within : (peers : List Peer) (gateway : ℕ) (to : Option (List ℕ)) → Within (length peers) (redirected peers gateway to)
 redirected_within peers gateway to = either (another gateway (option_and_then (place_at peers) to)) (other _ (there to))
@@ -145,17 +145,17 @@ redirected_within peers gateway to = either (another gateway (option_and_then (p
 pub tick_within : (node : NodeValue) → Within (length node.gateways) (moved_at_tick node)
 tick_within node =
     cond_both (is_silent node) (next_place (length node.gateways) node.favourite_place) None
-        (Within (length node.gateways))
+    (Within (length node.gateways))
     (λ _. next_within (length node.gateways) node.favourite_place) (λ _. tt)
 
 moved_within : (node : NodeValue) (port : Port) (gateway : ℕ) (saying : Saying) → Within (length node.gateways) (moved_by node port gateway saying)
 moved_within node port gateway (Redirects to) =
     cond_both (gateway == node.favourite_place) (redirected node.gateways gateway to) None
-        (Within (length node.gateways))
+    (Within (length node.gateways))
     (λ _. redirected_within node.gateways gateway to) (λ _. tt)
 moved_within node port gateway (Responds cause numbers) =
     cond_both ((gateway == node.favourite_place) && is_refusal port cause) (next_place (length node.gateways) gateway)
-        None (Within (length node.gateways))
+    None (Within (length node.gateways))
     (λ _. next_within (length node.gateways) gateway) (λ _. tt)
 moved_within node port gateway _ = tt
 
@@ -222,7 +222,7 @@ module _ (setup : NodeSetup) (log : List LogEntry) where
     pub after_call : (call : NodeCall) → Q (logged (call_entries now call) log)
     after_call call =
         cond_both now.is_running (entries_running now call) (entries_halted call)
-            (λ (entries : List LogEntry). Q (logged entries log))
+        (λ (entries : List LogEntry). Q (logged entries log))
         (λ _. after_running call) (λ _. after_halted call)
 
 -- ---- one more entry
@@ -375,7 +375,7 @@ module _ (setup : NodeSetup) (some : 1 ≤ length setup.gateways) (Q : List Peer
     hears = λ port gateway saying. is_heard port gateway saying log is;
     appoints = λ to port gateway saying below.
         is_appointed to (Heard port gateway saying ∷ log) (omega (arith, is.size, below)) (is_heard port gateway saying
-            log is);
+        log is);
     halts = halted log is.few;
     begins = began log is.few;
   }) call

@@ -177,7 +177,7 @@ module _ (peers : List Peer) (plain : PacketCopy) (duplicates : List PacketCopy)
           let is_so : is_chosen one.copy ≡ true = ap is_chosen (sym same) ∙ find_passes is_chosen duplicates copy e in
           let is_not : is_chosen one.copy ≡ false =
           ap (λ (c : Option Command). option_map_or (λ (command : Command). is_release command.order) c false)
-              one.fresh in
+          one.fresh in
           absurd (cc)
 
   only : (copies : List PacketCopy) → AllByRecursion (IsThere peers (plain ∷ duplicates)) copies → NoneChosen copies →
@@ -187,7 +187,7 @@ module _ (peers : List Peer) (plain : PacketCopy) (duplicates : List PacketCopy)
     λ is_so. elim (eqb_tells copy.gateway gateway) [
       | inl is ↦ at_gateway copy are.0 is.1
       | inr isnt ↦ let chosen_so : is_chosen copy ≡ true = rw isnt.0 at is_so in
-            absurd (false≢true (sym none.0 ∙ chosen_so))
+          absurd (false≢true (sym none.0 ∙ chosen_so))
     ],
     only copies are.1 none.1,
   )
@@ -201,7 +201,7 @@ module _ (peers : List Peer) (plain : PacketCopy) (duplicates : List PacketCopy)
   plain_stays : after_release plain ≡ plain
   plain_stays = elim (eqb_tells plain.gateway gateway) [
     | inl is ↦ absurd (chosen_is (λ (other : PacketCopy).
-          plain.gateway ≢ other.gateway) duplicates one.copy choice_is placed.apart.0 (is.1 ∙ sym place_is))
+        plain.gateway ≢ other.gateway) duplicates one.copy choice_is placed.apart.0 (is.1 ∙ sym place_is))
     | inr isnt ↦ rw isnt.0 refl
   ]
 
@@ -248,9 +248,9 @@ all_chosen = record {
       each_map (λ (packet : PacketState). Chosen packet.copies) (λ (packet : PacketState). Chosen packet.copies)
       (while_open (packet_hearing port gateway cause numbers))
       (λ packet was. either_open (λ (p : PacketState).
-          Chosen p.copies) (packet_hearing port gateway cause numbers) packet was
+      Chosen p.copies) (packet_hearing port gateway cause numbers) packet was
       (λ _. chosen_map (copy_hearing port gateway cause numbers) (hearing_keeps port gateway cause numbers)
-          packet.copies was)) packets is;
+      packet.copies was)) packets is;
 }
 
 -- ---- the choice
@@ -264,7 +264,7 @@ released_is_choice packet is = All-from_recursion (λ copy. is_chosen copy ≡ t
     one_choice plain duplicates whole one copy first is_so =
         choice_of plain duplicates copy whole one.sealed
         (ap (λ (found : Option PacketCopy). option_or found (find (λ (c : PacketCopy). is_held c.verdict) duplicates))
-            (first is_so))
+        (first is_so))
 
     others : (plain : PacketCopy) (duplicates : List PacketCopy) → packet.copies ≡ plain ∷ duplicates → NoneChosen duplicates ⊎ OneChosen plain duplicates →
         AllByRecursion (λ copy. is_chosen copy ≡ true → IsChoice packet.copies copy.gateway copy.number) duplicates

@@ -106,7 +106,7 @@ module _ (before favourite : ℕ) (up : Bool) (paths : PathsOfNode) (peers : Lis
       subst (λ (ps : List PacketState). AllByRecursion (IsSent ps) (due_by favourite up paths peers packets)) (sym is_planned)
       (each_append (IsSent (planned favourite up probed packets)) (probes paths peers) (due_for_all favourite up probed packets)
       (probes_each (IsSent (planned favourite up probed packets))
-          (λ gateway path. tt) 0 paths peers) (planned_sent favourite up probed packets ready))
+      (λ gateway path. tt) 0 paths peers) (planned_sent favourite up probed packets ready))
 
 -- ---- a call
 
@@ -145,7 +145,7 @@ module _ (setup : NodeSetup) (log : List LogEntry) (before : ℕ) (numbered : Ar
           each_map (λ (packet : PacketState). Waits packet.copies) (λ (packet : PacketState). Waits packet.copies)
           (while_open (packet_hearing port gateway cause numbers))
           (λ packet waits. either_open (λ (p : PacketState).
-              Waits p.copies) (packet_hearing port gateway cause numbers) packet waits
+          Waits p.copies) (packet_hearing port gateway cause numbers) packet waits
           (λ _. waits_hearing port gateway cause numbers packet.copies waits)) (packets_of log) waits_were
       heard port gateway _ = waits_were
 

@@ -96,13 +96,13 @@ module _ (entries : List LogEntry) where
   commanded_rests order number gateway copy rests = either_commanded (RestsOn entries) gateway _ copy (record {
     verdict = λ known. let is : IsTold entries copy = rests.verdict known in
         record {
-      port = is.port;
-      cause = is.cause;
-      numbers = is.numbers;
-      heard = is.heard;
-      named = is.named;
-      tells = is.tells;
-    };
+          port = is.port;
+          cause = is.cause;
+          numbers = is.numbers;
+          heard = is.heard;
+          named = is.named;
+          tells = is.tells;
+        };
     command = command_at copy.command rests.command;
   }) rests
     where

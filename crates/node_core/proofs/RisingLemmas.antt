@@ -60,6 +60,6 @@ pub next_goes_on : (setup : NodeSetup) (calls : List NodeCall) (gateway : ℕ) �
 next_goes_on setup calls gateway some =
     cond_both (reached setup calls).is_running (tick_entries (reached setup calls)) []
     (λ (entries : List LogEntry). next_number (reached setup calls).gateways gateway
-        ≤ next_number (peers_of setup.gateways (logged entries (log_of setup calls))) gateway)
+    ≤ next_number (peers_of setup.gateways (logged entries (log_of setup calls))) gateway)
     (λ _. (goes_on_new setup some calls (moved_at_tick (reached setup calls))
-        (tick_within (reached setup calls))).numbers gateway) (λ _. omega arith)
+    (tick_within (reached setup calls))).numbers gateway) (λ _. omega arith)

@@ -41,7 +41,7 @@ map_same : (gateway : ℕ) (command : Command) (copies : List PacketCopy) → Al
 map_same gateway command [] apart = refl
 map_same gateway command (copy ∷ copies) apart =
     rw (ne_eqb copy.gateway gateway (λ e. apart.0 (sym e))) (ap (λ (cs : List PacketCopy).
-        copy ∷ cs) (map_same gateway command copies apart.1))
+    copy ∷ cs) (map_same gateway command copies apart.1))
 
 command_uses : (gateway number : ℕ) (command : Command) (copies : List PacketCopy) (copy : PacketCopy) → AreApart copies → find_at gateway copies ≡ Some copy →
     copy.command ≡ None →
@@ -85,7 +85,7 @@ command_uses_other gateway other number command (copy ∷ copies) apart =
       | inl is ↦
           let elsewhere : copy.gateway ≢ other = λ e. apart (sym is.1 ∙ e) in
           rw is.0 (there_uses other number (with_command command copy) elsewhere
-              ∙ sym (there_uses other number copy elsewhere))
+          ∙ sym (there_uses other number copy elsewhere))
       | inr isnt ↦ rw isnt.0 refl
     ]
 
@@ -128,9 +128,9 @@ module _ (port : Port) (heard_gateway cause : ℕ) (numbers : List ℕ) (gateway
   copy_heard : (copy : PacketCopy) → uses_by_copy gateway number (copy_hearing port heard_gateway cause numbers copy) ≡ uses_by_copy gateway number copy
   copy_heard copy =
       either_hears (λ (c : PacketCopy). uses_by_copy gateway number c ≡ uses_by_copy gateway number copy) port
-          heard_gateway cause numbers copy
+      heard_gateway cause numbers copy
       (ap (λ (n : ℕ). if copy.gateway == gateway then use_of number copy.number + n else 0)
-          (command_heard copy.command)) refl
+      (command_heard copy.command)) refl
     where
       command_heard : (command : Option Command) → uses_by_command number (option_map (command_hearing cause numbers) command) ≡ uses_by_command number command
       command_heard None = refl
@@ -143,10 +143,13 @@ module _ (port : Port) (heard_gateway cause : ℕ) (numbers : List ℕ) (gateway
   uses_heard : (packets : List PacketState) →
       uses gateway number (map (while_open (packet_hearing port heard_gateway cause numbers)) packets) ≡ uses gateway number packets
   uses_heard [] = refl
-  uses_heard (packet ∷ packets) = omega (arith, uses_heard packets,
-      either_open (λ (p : PacketState). uses_by_copies gateway number p.copies ≡ uses_by_copies gateway number
-          packet.copies)
-      (packet_hearing port heard_gateway cause numbers) packet refl (λ _. copies_heard packet.copies))
+  uses_heard (packet ∷ packets) = omega (
+    arith,
+    uses_heard packets,
+    either_open (λ (p : PacketState). uses_by_copies gateway number p.copies ≡ uses_by_copies gateway number
+        packet.copies)
+        (packet_hearing port heard_gateway cause numbers) packet refl (λ _. copies_heard packet.copies),
+  )
 
 -- ---- one use each
 
@@ -163,7 +166,7 @@ OneUses peers packets = (gateway number : ℕ) → gateway < length peers → On
 same_uses : {peers other : List Peer} {packets after : List PacketState} {gateway number : ℕ} →
     OneUse peers packets gateway number →
     next_number other gateway ≡ next_number peers gateway → uses gateway number after ≡ uses gateway number packets
-        → OneUse other after gateway number
+    → OneUse other after gateway number
 same_uses was next many = record {
   first = omega (arith, was.first, next);
   before = λ low. many ∙ was.before low;
@@ -175,9 +178,9 @@ one_moved : (peers : List Peer) (move : Move) (packets after : List PacketState)
     OneUses peers packets → OneUses (peers_moved move peers) after
 one_moved peers move packets after kept one is gateway number below =
     at_or_apart (λ (g : ℕ). OneUse peers packets g number → OneUse (peers_moved move peers) after g number) (place move)
-        gateway there
+    gateway there
     (λ apart was. same_uses was (next_drawn_other (place move) (next_number peers (place move)) gateway peers apart)
-        (uses_moved_other gateway number apart one))
+    (uses_moved_other gateway number apart one))
     (is gateway number (omega (arith, below, length_drawn (place move) (next_number peers (place move)) peers)))
   where
     there : OneUse peers packets (place move) number → OneUse (peers_moved move peers) after (place move) number

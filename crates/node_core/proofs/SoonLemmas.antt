@@ -84,7 +84,7 @@ module _ (gateway number : ℕ) where
       AnyIn (IsAt gateway number) (map f copies) → AnyIn (IsAt gateway number) copies
   in_mapped f puts =
       any_mapped (IsAt gateway number) (IsAt gateway number) f
-          (λ copy is. (sym (puts copy).gateway ∙ is.0, sym (puts copy).number ∙ is.1))
+      (λ copy is. (sym (puts copy).gateway ∙ is.0, sym (puts copy).number ∙ is.1))
 
   in_moved : (move : Move) (peers : List Peer) (copies : List PacketCopy) → AnyIn (IsAt gateway number) copies →
       AnyIn (IsAt gateway number) (copies_moved peers move copies)
@@ -144,7 +144,7 @@ module _ (port : Port) (heard cause : ℕ) (numbers : List ℕ) (gateway number 
   has_unheard = any_mapped (SentIn gateway number) (SentIn gateway number)
       (while_open (packet_hearing port heard cause numbers)) (λ packet.
       either_open (λ (p : PacketState). SentIn gateway number p → SentIn gateway number packet)
-          (packet_hearing port heard cause numbers) packet (λ was. was)
+      (packet_hearing port heard cause numbers) packet (λ was. was)
       (λ _. in_mapped gateway number _ (hearing_puts port heard cause numbers) packet.copies))
 
 -- ---- open packets with a copy for which nothing was sent yet
@@ -164,8 +164,11 @@ lones_few gateway (packet ∷ packets) = omega (arith, lones_few gateway packets
 lones_commanded : {peers : List Peer} {gateway : ℕ} {order : Order} {packets after : List PacketState} → One peers (Commanding gateway order) packets after →
     suc (lones gateway after) ≤ lones gateway packets
 lones_commanded {peers} {gateway} {order} one =
-    omega (arith, weights_less 0 gateway 1 (λ copies is.
-        omega (arith, weight_commanded 0 gateway order peers copies is.1)) one)
+    omega (
+      arith,
+      weights_less 0 gateway 1 (λ copies is.
+          omega (arith, weight_commanded 0 gateway order peers copies is.1)) one,
+    )
 
 -- ---- the law
 
@@ -199,11 +202,11 @@ soon_moved : (peers : List Peer) (move : Move) (packets after : List PacketState
     number < next_number peers gateway → SoonAt peers packets gateway number → SoonAt (peers_moved move peers) after gateway number
 soon_moved peers move packets after gateway number one =
     at_or_apart (λ (g : ℕ). number < next_number peers g → SoonAt peers packets g number
-        → SoonAt (peers_moved move peers) after g number) (place move) gateway
+    → SoonAt (peers_moved move peers) after g number) (place move) gateway
     (soon_there peers move packets after number one)
     (λ apart below. soon_on peers (peers_moved move peers) packets after gateway number
     (next_drawn_other (place move) (next_number peers (place move)) gateway peers apart)
-        (weights_moved_other 0 gateway apart one)
+    (weights_moved_other 0 gateway apart one)
     (λ later has. has_moved gateway later one has))
 
 all_soon_moved : (peers : List Peer) (move : Move) (packets after : List PacketState) → AllKept peers packets → One peers move packets after →
@@ -254,8 +257,8 @@ all_soon = record {
     copies = λ gateway number below has. soon_on peers peers packets (packets ++ new_packet new ∷ []) gateway number
         refl (omega (arith, weights-push 0 gateway packets new))
         (λ later has. any_push (SentIn gateway later) packets _ has)
-            (is.copies gateway number below (elim (any_pushed (SentIn gateway number) packets _ has)
-            [ inl was ↦ was | inr none ↦ absurd none ]));
+        (is.copies gateway number below (elim (any_pushed (SentIn gateway number) packets _ has)
+        [ inl was ↦ was | inr none ↦ absurd none ]));
   };
   moved = all_soon_moved;
   heard = λ peers packets port heard cause numbers kept is. record {
@@ -263,10 +266,10 @@ all_soon = record {
     first = is.first;
     base = λ gateway below. soon_on peers peers packets (map (while_open (packet_hearing port heard cause numbers)) packets) gateway 65535 refl
         (weights_heard 0 port heard cause numbers gateway packets)
-            (λ later has. has_heard port heard cause numbers gateway later packets has) (is.base gateway below);
+        (λ later has. has_heard port heard cause numbers gateway later packets has) (is.base gateway below);
     copies = λ gateway number below has. soon_on peers peers packets (map (while_open (packet_hearing port heard cause numbers)) packets) gateway number refl
         (weights_heard 0 port heard cause numbers gateway packets)
-            (λ later has. has_heard port heard cause numbers gateway later packets has)
+        (λ later has. has_heard port heard cause numbers gateway later packets has)
         (is.copies gateway number below (has_unheard port heard cause numbers gateway number packets has));
   };
 }
@@ -292,7 +295,7 @@ comes_soon setup calls gateway number some within which =
     soon (inr has) law size = law.copies gateway number size
         (any_at (SentIn gateway number) (reached setup calls).packets has.packet
         (any_at (IsAt gateway number) has.packet.copies has.copy (has.gateway_is, has.number_is) has.sent.0 has.sent.1
-            has.sent.2) has.kept.0 has.kept.1 has.kept.2)
+        has.sent.2) has.kept.0 has.kept.1 has.kept.2)
 
     told : SoonAt (reached setup calls).gateways (reached setup calls).packets gateway number → ComesSoon (reached setup calls) gateway number
     told (inl bound) = inl (omega (arith, bound))

@@ -36,7 +36,7 @@ any_grows (copy ∷ copies) [] grows is = absurd grows
 any_grows (copy ∷ copies) (first ∷ after) grows is =
     elim (or_cases (is_chosen copy) (list_any is_chosen copies) is) [
       | inl one ↦ or_left (is_chosen first) (list_any is_chosen after)
-            (chosen_on copy.command first.command grows.0.command one)
+          (chosen_on copy.command first.command grows.0.command one)
       | inr later ↦ or_right (is_chosen first) (list_any is_chosen after) (any_grows copies after grows.1 later)
     ]
   where
@@ -78,7 +78,7 @@ pub waits_hearing : (port : Port) (gateway cause : ℕ) (numbers : List ℕ) (co
 waits_hearing port gateway cause numbers [] waits = tt
 waits_hearing port gateway cause numbers (plain ∷ duplicates) waits = λ waiting. elim (waits (before waiting)) [
   | inl none_yet ↦ inl (each_map (λ (c : PacketCopy). c.command ≡ None) (λ (c : PacketCopy).
-        c.command ≡ None) (copy_hearing port gateway cause numbers) fresh duplicates none_yet)
+      c.command ≡ None) (copy_hearing port gateway cause numbers) fresh duplicates none_yet)
   | inr any ↦ inr (any_same duplicates ∙ any)
 ]
   where
@@ -120,10 +120,10 @@ waits_released : (plain : PacketCopy) (duplicates after : List PacketCopy) (gate
 waits_released plain duplicates [] gateway number drawn apart grows of is = absurd grows
 waits_released plain duplicates (first ∷ later) gateway number drawn apart grows of is =
     λ waiting. inr (elim (in_cons first of.copy later of.among) [
-  | inl same ↦ absurd (apart (sym grows.0.gateway ∙ ap (λ (c : PacketCopy). c.gateway) same ∙ of.gateway_is))
-  | inr there ↦ list_any_at is_chosen later there.0 of.copy there.1 (ap is_chosen
-        there.2 ∙ released_is_chosen of.copy drawn is)
-])
+      | inl same ↦ absurd (apart (sym grows.0.gateway ∙ ap (λ (c : PacketCopy). c.gateway) same ∙ of.gateway_is))
+      | inr there ↦ list_any_at is_chosen later there.0 of.copy there.1 (ap is_chosen
+          there.2 ∙ released_is_chosen of.copy drawn is)
+    ])
 
 -- where neither a duplicate was chosen nor one is held nothing is drawn
 none_held : (copies : List PacketCopy) → chosen copies ≡ None → AllByRecursion (λ (copy : PacketCopy). is_held copy.verdict ≡ false) copies
@@ -139,7 +139,7 @@ push_waits : (plain : PacketCopy) (duplicates : List PacketCopy) (copy : PacketC
 push_waits plain duplicates copy fresh waits = λ waiting. elim (waits waiting) [
   | inl none_yet ↦ inl (each_push (λ (c : PacketCopy). c.command ≡ None) duplicates copy none_yet fresh)
   | inr any ↦ inr (any_grows duplicates (duplicates ++ copy ∷ []) (extends_push CopyGrows same_copy duplicates
-        (copy ∷ [])) any)
+      (copy ∷ [])) any)
 ]
 
 module _ (number favourite : ℕ) (up : Bool) (peers : List Peer) where
@@ -218,7 +218,7 @@ module _ (number favourite : ℕ) (up : Bool) (peers : List Peer) where
           let there = in_found is_chosen duplicates copy e in
           waits_grown plain duplicates _ (after_all_grows (releasing (Some choice) peers number duplicates) (packet_with number (plain ∷ duplicates)))
           (list_any_at is_chosen duplicates there.0 copy
-              there.1 (ap is_chosen there.2 ∙ find_passes is_chosen duplicates copy e))
+          there.1 (ap is_chosen there.2 ∙ find_passes is_chosen duplicates copy e))
       by None e = fresh_waits plain duplicates apart sealed chosen_was waits choice is (fresh e (waits (ap is_waiting sealed)))
 
   due_waits : (copies : List PacketCopy) → AreApart copies → Chosen copies → Waits copies → Waits (after copies (due_by_copies favourite up peers number copies))

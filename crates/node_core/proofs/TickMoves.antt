@@ -40,7 +40,7 @@ module _ (gateway number : ℕ) (order : Order) where
   answered_same : (copy : PacketCopy) → is_answered (after_command copy) ≡ is_answered copy
   answered_same copy =
       either_commanded (λ (c : PacketCopy). is_answered c ≡ is_answered copy) gateway (command_with order number) copy
-          (at copy.command) refl
+      (at copy.command) refl
     where
       at : (command : Option Command) →
           option_map_or (λ (c : Command). c.is_answered) (option_or command (Some (command_with order number))) false
@@ -55,7 +55,7 @@ module _ (gateway number : ℕ) (order : Order) where
   released_same : (copy : PacketCopy) → is_released (after_command copy) ≡ is_released copy
   released_same copy =
       either_commanded (λ (c : PacketCopy). is_released c ≡ is_released copy) gateway (command_with order number) copy
-          (at copy.command) refl
+      (at copy.command) refl
     where
       at : (command : Option Command) →
           (option_map_or (λ (c : Command). is_release c.order) (option_or command (Some (command_with order number))) false

@@ -73,8 +73,17 @@ module _ (number favourite : ℕ) (up : Bool) (peers : List Peer) where
   copy_sent : (alive : Bool) (copies : List PacketCopy) (is_plain : Bool) → Sents number copies (copy_to favourite alive peers number is_plain)
   copy_sent false copies is_plain = none
   copy_sent true copies is_plain =
-      more (own_number number) (refl, record { copy = _; among = Contains-push copies _; gateway_is = refl; number_is =
-          refl }, refl) none
+      more (own_number number) (
+        refl,
+        record {
+          copy = _;
+          among = Contains-push copies _;
+          gateway_is = refl;
+          number_is =
+              refl;
+        },
+        refl,
+      ) none
 
   asking_sent : (plain : PacketCopy) (duplicates : List PacketCopy) → Sents number (plain ∷ duplicates) (asking favourite up peers number plain duplicates)
   asking_sent plain duplicates = by (list_any (λ copy. is_held copy.verdict) duplicates)
@@ -82,8 +91,17 @@ module _ (number favourite : ℕ) (up : Bool) (peers : List Peer) where
       repeats : (there : Option PacketCopy) → find (λ (copy : PacketCopy). copy.gateway == favourite) (plain ∷ duplicates) ≡ there →
           Sents number (plain ∷ duplicates) (repeating there favourite up peers number)
       repeats (Some copy) e =
-          more (own_number number) (refl, record { copy = copy; among = in_found (λ (c : PacketCopy).
-          c.gateway == favourite) (plain ∷ duplicates) copy e; gateway_is = refl; number_is = refl }, refl) none
+          more (own_number number) (
+            refl,
+            record {
+              copy = copy;
+              among = in_found (λ (c : PacketCopy).
+                  c.gateway == favourite) (plain ∷ duplicates) copy e;
+              gateway_is = refl;
+              number_is = refl;
+            },
+            refl,
+          ) none
       repeats None e = copy_sent up (plain ∷ duplicates) false
 
       by : (held : Bool) → Sents number (plain ∷ duplicates)
@@ -99,7 +117,7 @@ module _ (number favourite : ℕ) (up : Bool) (peers : List Peer) where
       Sents number (plain ∷ duplicates) (flat_map (settling peers number) duplicates)
   all_sent plain duplicates apart none_yet =
       all_settle number peers duplicates (plain ∷ duplicates) apart (duplicates_in plain duplicates)
-          (each_weaker (λ (copy : PacketCopy).
+      (each_weaker (λ (copy : PacketCopy).
       is_chosen copy ≡ false) (HasOrder Cancel) cancel_of duplicates none_yet)
 
   pub releasing_sent : (plain : PacketCopy) (duplicates : List PacketCopy) → AreApart duplicates → plain.verdict ≡ Sealed → Chosen (plain ∷ duplicates) → Waits (plain ∷ duplicates) →

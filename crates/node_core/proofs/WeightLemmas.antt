@@ -62,13 +62,13 @@ find_pushed : (gateway : ℕ) (copies : List PacketCopy) (copy : PacketCopy) →
     find_at gateway (copies ++ copy ∷ []) ≡ Some copy
 find_pushed gateway copies copy none same =
     find-append (λ (c : PacketCopy). c.gateway == gateway) copies
-        (copy ∷ []) ∙ rw (none, eq-eqb copy.gateway gateway same) refl
+    (copy ∷ []) ∙ rw (none, eq-eqb copy.gateway gateway same) refl
 
 pub find_pushed_other : (gateway : ℕ) (copies : List PacketCopy) (copy : PacketCopy) → copy.gateway ≢ gateway →
     find_at gateway (copies ++ copy ∷ []) ≡ find_at gateway copies
 find_pushed_other gateway copies copy apart =
     find-append (λ (c : PacketCopy). c.gateway == gateway) copies (copy ∷ []) ∙ rw (ne_eqb copy.gateway gateway apart)
-        (by (find_at gateway copies))
+    (by (find_at gateway copies))
   where
     by : (there : Option PacketCopy) → option_or there None ≡ there
     by None = refl
@@ -94,7 +94,7 @@ find_moved_other (Commanding there order) peers copies gateway apart =
 pub weight_commanded : (none gateway : ℕ) (order : Order) (peers : List Peer) (copies : List PacketCopy) →
     CommandsOne copies gateway order →
     suc (weight_by none (find_at gateway (copies_moved peers (Commanding gateway order) copies)))
-        ≤ weight_by none (find_at gateway copies)
+    ≤ weight_by none (find_at gateway copies)
 weight_commanded none gateway order peers copies one =
     let command : Command = command_with order (next_number peers gateway) in
     omega (
@@ -107,8 +107,12 @@ weight_commanded none gateway order peers copies one =
 weight_moved : (move : Move) (peers : List Peer) (copies : List PacketCopy) → IsMove peers copies move →
     suc (weight (place move) (copies_moved peers move copies)) ≤ weight (place move) copies
 weight_moved (Copying gateway) peers copies is =
-    omega (arith, ap (weight_by 2) is.1, ap (weight_by 2)
-        (find_pushed gateway copies (new_copy gateway (next_number peers gateway) (are_none copies)) is.1 refl))
+    omega (
+      arith,
+      ap (weight_by 2) is.1,
+      ap (weight_by 2)
+          (find_pushed gateway copies (new_copy gateway (next_number peers gateway) (are_none copies)) is.1 refl),
+    )
 weight_moved (Commanding gateway order) peers copies is = weight_commanded 2 gateway order peers copies is.1
 
 pub unless_least : (done : Bool) (n : ℕ) → weight_unless done n ≤ n
@@ -130,11 +134,14 @@ weighs_less none gateway less packet after open_yet is =
 pub weights_less : (none gateway less : ℕ) {peers : List Peer} {move : Move} {packets after : List PacketState} →
     ((copies : List PacketCopy) → IsMove peers copies move →
     less + weight_by none (find_at gateway (copies_moved peers move copies)) ≤ weight_by none (find_at gateway copies))
-        →
+    →
     One peers move packets after → less + weights_by none gateway after ≤ weights_by none gateway packets
 weights_less none gateway less {peers} {move} step (here {packet} {packets} open_yet is) =
-    omega (arith, weighs_less none gateway less packet
-        (record packet { copies = copies_moved peers move packet.copies }) open_yet (step packet.copies is))
+    omega (
+      arith,
+      weighs_less none gateway less packet
+          (record packet { copies = copies_moved peers move packet.copies }) open_yet (step packet.copies is),
+    )
 weights_less none gateway less step (beyond one) = omega (arith, weights_less none gateway less step one)
 
 pub weights_moved : {peers : List Peer} {move : Move} {packets after : List PacketState} → One peers move packets after →
@@ -146,8 +153,11 @@ pub weights_moved_other : (none : ℕ) {peers : List Peer} {move : Move} {packet
     → place move ≢ gateway →
     One peers move packets after → weights_by none gateway after ≤ weights_by none gateway packets
 weights_moved_other none {peers} {move} gateway apart one =
-    omega (arith, weights_less none gateway 0 (λ copies is.
-        omega (arith, ap (weight_by none) (find_moved_other move peers copies gateway apart))) one)
+    omega (
+      arith,
+      weights_less none gateway 0 (λ copies is.
+          omega (arith, ap (weight_by none) (find_moved_other move peers copies gateway apart))) one,
+    )
 
 -- ---- the next numbers and what is left of them stay below a bound
 
@@ -168,8 +178,12 @@ pub bounded_moved : {most : ℕ} {peers : List Peer} {move : Move} {packets afte
 bounded_moved {most} {peers} {move} {packets} {after} one bounded gateway below =
     let within : gateway < length peers = omega (arith, below, length_drawn (place move) (next_number peers (place move)) peers) in
     at_or_apart (λ (g : ℕ). next_number (peers_moved move peers) g + weights g after ≤ most) (place move) gateway
-    (omega (arith, next_drawn (place move) (next_number peers (place move)) peers (one_within one), weights_moved one,
-        bounded (place move) (one_within one)))
+    (omega (
+      arith,
+      next_drawn (place move) (next_number peers (place move)) peers (one_within one),
+      weights_moved one,
+      bounded (place move) (one_within one),
+    ))
     (λ apart. omega (
       arith,
       next_drawn_other (place move) (next_number peers (place move)) gateway peers apart,
@@ -187,14 +201,14 @@ bounded_after (onward move one rest) bounded = bounded_after rest (bounded_moved
 pub weights_heard : (none : ℕ) (port : Port) (heard cause : ℕ) (numbers : List ℕ) (gateway : ℕ)
     (packets : List PacketState) →
     weights_by none gateway (map (while_open (packet_hearing port heard cause numbers)) packets)
-        ≤ weights_by none gateway packets
+    ≤ weights_by none gateway packets
 weights_heard none port heard cause numbers gateway [] = omega arith
 weights_heard none port heard cause numbers gateway (packet ∷ packets) =
     let here = either_open (λ (p : PacketState). packet_weight none gateway p ≤ packet_weight none gateway packet)
     (packet_hearing port heard cause numbers) packet (omega arith) (λ open_yet. omega (
       arith,
       weighs_less none gateway 0 packet (packet_hearing port heard cause numbers packet) open_yet
-      (omega (arith, ap (weight_by none) found, by (find_at gateway packet.copies))),
+          (omega (arith, ap (weight_by none) found, by (find_at gateway packet.copies))),
     )) in
     omega (arith, weights_heard none port heard cause numbers gateway packets, here)
   where

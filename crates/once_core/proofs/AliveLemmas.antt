@@ -110,7 +110,6 @@ map_alive paths f keeps packets all q is =
     let there = of_map f packets q is in
     subst (λ (p : PacketState). CopiesAlive paths p.copies) there.2 (keeps there.0 (all there.0 there.1))
 
-
 -- the same where one that is done stays as it is
 open_alive : (paths : PathsOfNode) (f : PacketState → PacketState) → ((p : PacketState) → CopiesAlive paths p.copies → CopiesAlive paths (f p).copies)
     → (p : PacketState) → CopiesAlive paths p.copies → CopiesAlive paths (while_open f p).copies

@@ -145,7 +145,7 @@ states_as start other [] = if_both (λ (ps : List PacketState). [] ≡ ps) (othe
 states_as start other (z ∷ zs) =
     let rest = filter (λ (p : Followed). p.start == start) (map (followed_one other) zs) in
     by_bool (λ (b : Bool). map (λ (p : Followed). p.state) (if b then followed_one other z ∷ rest else rest)
-        ≡ (if b then z.0 ∷ map (λ (y : PacketState × PacketForm). y.0) zs else [])) (other == start)
+    ≡ (if b then z.0 ∷ map (λ (y : PacketState × PacketForm). y.0) zs else [])) (other == start)
     (λ e. ap (λ (ps : List PacketState). z.0 ∷ ps) (states_as start other zs ∙ cond-true (other == start) _ _ e))
     (λ e. states_as start other zs ∙ cond-false (other == start) _ _ e)
 

@@ -165,8 +165,12 @@ module _ (known : ℕ → ℕ) (gateways : ℕ) (m : world.Message) (log : List 
     message_life (EchoResponse counter) w fits = quiet_heard (Path (EchoTold said.path counter)) None refl
     message_life NodeAliveResponse w fits = heard_life (Path (AliveTold said.path)) None
         (λ gateway is. ⊎_elim
-        (λ same. subst (λ (q : ℕ). starts_in log ≤ known q) (sym same) (omega (arith, start, told
-        (ap (λ (o : Option ℕ). option_map_or (λ k. k == NODE_ALIVE_RESPONSE) o false) (type_of m.octets said.path NodeAliveResponse w.is)))))
+        (λ same. subst (λ (q : ℕ). starts_in log ≤ known q) (sym same) (omega (
+          arith,
+          start,
+          told
+              (ap (λ (o : Option ℕ). option_map_or (λ k. k == NODE_ALIVE_RESPONSE) o false) (type_of m.octets said.path NodeAliveResponse w.is)),
+        )))
         (life gateway)
         (told_cases (paths_of 1 log) m.gateway said.path gateway is))
         [] refl

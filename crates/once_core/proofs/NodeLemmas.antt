@@ -75,10 +75,13 @@ module _ (setup : NodeSetup) (calls : List NodeCall) (some : 1 ≤ length setup.
   one_role roles singles gateway number = ⊎_elim
       (λ inside. by_number (roles gateway number inside) (cases_lt number 65536) (cases_lt number (next_number (reached setup calls).gateways gateway)))
       (λ outside.
-      omega (arith, none_by_packets gateway number (reached setup calls).packets (λ packet kept copy among same.
-      let single = All-contains (IsSingle (reached setup calls).gateways) (reached setup calls).packets packet singles kept in
-      let rising : IsRising (reached setup calls).gateways copy = All-contains (IsRising (reached setup calls).gateways) packet.copies copy single.rising among in
-      absurd (omega (arith, rising.place, same, outside, as_many setup.gateways (log_of setup calls))))))
+      omega (
+        arith,
+        none_by_packets gateway number (reached setup calls).packets (λ packet kept copy among same.
+            let single = All-contains (IsSingle (reached setup calls).gateways) (reached setup calls).packets packet singles kept in
+            let rising : IsRising (reached setup calls).gateways copy = All-contains (IsRising (reached setup calls).gateways) packet.copies copy single.rising among in
+            absurd (omega (arith, rising.place, same, outside, as_many setup.gateways (log_of setup calls)))),
+      ))
       (cases_lt gateway (length setup.gateways))
     where
       by_number : HasOneRole (reached setup calls) gateway number → (number < 65536) ⊎ (65536 ≤ number)

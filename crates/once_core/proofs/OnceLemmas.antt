@@ -105,9 +105,10 @@ module _ {scene : Scene} (holds : SceneHolds scene) (node : ℕ) {start : ℕ} {
           let sent = sent_copy packet copy true so_far.0 is (asked_here copy.gateway copy.number at.epoch (Sends true so_far.0) copy.number at.begun so_far.2) in
           (sent.0, times ∙ so_far.1 ∙ ap (within index) (sym sent.1))
       by state.Released so_far =
-          let sent = sent_copy packet copy false so_far.0 is (asked_here copy.gateway copy.number at.epoch (Sends false so_far.0) copy.number at.begun so_far.2) in
-          (released_copy packet copy so_far.3 is (asked_here copy.gateway copy.number at.epoch (Orders order.Release copy.number) so_far.3 at.begun so_far.4),
-          times ∙ so_far.1 ∙ ap (within index) (sym sent.1))
+          let sent = sent_copy packet copy false so_far.0 is (asked_here copy.gateway copy.number at.epoch (Sends false so_far.0) copy.number at.begun so_far.2) in (
+            released_copy packet copy so_far.3 is (asked_here copy.gateway copy.number at.epoch (Orders order.Release copy.number) so_far.3 at.begun so_far.4),
+            times ∙ so_far.1 ∙ ap (within index) (sym sent.1),
+          )
       by state.Held so_far = times ∙ so_far.1
       by _ so_far = times ∙ so_far
 

@@ -82,20 +82,30 @@ pub sum_one : (w : PacketCopy → ℕ) (copies : List PacketCopy) → ((copy : P
     → ((gateway number : ℕ) → uses_by_copies gateway number copies ≤ 1) → sum_by w copies ≤ 1
 sum_one w [] each same once = omega arith
 sum_one w (first ∷ copies) each same once = ⊎_elim
-    (λ zero_first. omega (arith, sum_by-cons w first copies, zero_first, sum_one w copies (λ copy later. each copy (in_tail first copy copies later))
-    (λ a b in_a in_b. same a b (in_tail first a copies in_a) (in_tail first b copies in_b)) (λ gateway number. omega (arith, once gateway number))))
-    (λ some_first. omega (arith, sum_by-cons w first copies, each first (in_head first copies), sum_none w copies (λ copy later. ⊎_elim
-    (λ none. none)
-    (λ some.
-    let e : first ≡ copy = same first copy (in_head first copies) (in_tail first copy copies later) (omega (arith, some_first)) (omega (arith, some)) in
-    absurd (omega (
+    (λ zero_first. omega (
       arith,
-      own_use first.gateway first.number first refl refl,
-      among_copies first.gateway first.number copies copy later,
-      ap (uses_by_copy first.gateway first.number) e,
-      once first.gateway first.number,
-    )))
-    (eq-zero-or-pos (w copy)))))
+      sum_by-cons w first copies,
+      zero_first,
+      sum_one w copies (λ copy later. each copy (in_tail first copy copies later))
+          (λ a b in_a in_b. same a b (in_tail first a copies in_a) (in_tail first b copies in_b)) (λ gateway number. omega (arith, once gateway number)),
+    ))
+    (λ some_first. omega (
+      arith,
+      sum_by-cons w first copies,
+      each first (in_head first copies),
+      sum_none w copies (λ copy later. ⊎_elim
+          (λ none. none)
+          (λ some.
+          let e : first ≡ copy = same first copy (in_head first copies) (in_tail first copy copies later) (omega (arith, some_first)) (omega (arith, some)) in
+          absurd (omega (
+            arith,
+            own_use first.gateway first.number first refl refl,
+            among_copies first.gateway first.number copies copy later,
+            ap (uses_by_copy first.gateway first.number) e,
+            once first.gateway first.number,
+          )))
+          (eq-zero-or-pos (w copy))),
+    ))
     (eq-zero-or-pos (w first))
 
 -- a copy of a packet
@@ -107,9 +117,11 @@ pub same_user : (gateway number : ℕ) (packets : List PacketState) → uses gat
     → 1 ≤ uses_by_copy gateway number a → 1 ≤ uses_by_copy gateway number b → (p ≡ q) × (a ≡ b)
 same_user gateway number packets one p q a b is_a is_b use_a use_b =
     let packet : p ≡ q = one_counts (λ (r : PacketState). uses_by_copies gateway number r.copies) packets (omega (arith, packets_sum gateway number packets, one)) p q is_a.kept is_b.kept
-    (omega (arith, among_copies gateway number p.copies a is_a.among, use_a)) (omega (arith, among_copies gateway number q.copies b is_b.among, use_b)) in
-    (packet, one_counts (uses_by_copy gateway number) p.copies (omega (arith, copies_sum gateway number p.copies, among_packets gateway number packets p is_a.kept, one)) a b is_a.among
-        (subst (λ (r : PacketState). Contains r.copies b) (sym packet) is_b.among) use_a use_b)
+    (omega (arith, among_copies gateway number p.copies a is_a.among, use_a)) (omega (arith, among_copies gateway number q.copies b is_b.among, use_b)) in (
+      packet,
+      one_counts (uses_by_copy gateway number) p.copies (omega (arith, copies_sum gateway number p.copies, among_packets gateway number packets p is_a.kept, one)) a b is_a.among
+          (subst (λ (r : PacketState). Contains r.copies b) (sym packet) is_b.among) use_a use_b,
+    )
 
 -- no number is that of a copy and of its release or cancel
 pub not_both : (gateway number : ℕ) (packets : List PacketState) → uses gateway number packets ≤ 1 → (p q : PacketState) (a b : PacketCopy) (command : Command)

@@ -202,8 +202,8 @@ module _ {F L : Type 0} (files : shelves.Ghosts F) (tells : paths.Ghosts L) (tol
     reply_at k size faults legal y job d r = (
       r.peer,
       says_later size (legal.known y) (λ (f : HasFailedSince k).
-      let follows : Follows told (facts_of f.0.left) now = All-contains (λ (u : KeptTurn). Follows told (facts_of u.left) now) k.turns f.0 legal.turns f.1 in
-      omega (arith, faults, follows.faults, f.2)) r.says,
+          let follows : Follows told (facts_of f.0.left) now = All-contains (λ (u : KeptTurn). Follows told (facts_of u.left) now) k.turns f.0 legal.turns f.1 in
+          omega (arith, faults, follows.faults, f.2)) r.says,
     )
 
     replies_at : (n : ℕ) (desk : Desk L) → HasWorked tells told at (began_at start n) desk → All (IsHeardJob heard) (hand_at desk).taken

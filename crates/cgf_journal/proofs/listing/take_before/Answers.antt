@@ -31,10 +31,10 @@ returns-clause-taken g c =
     let some = c.requires.taken.some in
     let at = c.requires.taken.taken_in.gate_is in
     taken_next (AreListedBefore g.A.Area.tells_octets o
-        c.args.end) (IsJudged g.J.Judge c.args.size c.take_fit.new.judge) c.args.size c.args.gate some
-        c.read_before.new.into c.take_fit.result c.take_fit.new.self.places c.take_fit.new.self.tally
-        c.take_fit.ensures.next (c.take_fit.ensures.taken some
-        c.requires.taken.taken_in c.requires.taken.judged) (next g c)
+    c.args.end) (IsJudged g.J.Judge c.args.size c.take_fit.new.judge) c.args.size c.args.gate some
+    c.read_before.new.into c.take_fit.result c.take_fit.new.self.places c.take_fit.new.self.tally
+    c.take_fit.ensures.next (c.take_fit.ensures.taken some
+    c.requires.taken.taken_in c.requires.taken.judged) (next g c)
 
 pub returns-clause-breaks : goal.returns-clause-breaks
 returns-clause-breaks g c = λ all listed stop stops.

@@ -33,8 +33,8 @@ next g c all listed =
     (λ batch rest is place size.
     whole_read batch c.read.new.into (length (take c.in-Some.length c.deref_mut.result.now)) (c.in-Some.place - (end_of some + 5)) (room ∙ size) (omega (arith, place, at))
     (c.in-Ok-read.ensures.content listed.told some batch rest
-        (c.batch.ensures.kept.same.batches ∙ listed.same ∙ is) (omega (arith, place, at))
-        (omega (arith, place, at, room, size))))
+    (c.batch.ensures.kept.same.batches ∙ listed.same ∙ is) (omega (arith, place, at))
+    (omega (arith, place, at, room, size))))
 
 pub returns-clause-taken : goal.returns-clause-taken
 returns-clause-taken g c =
@@ -42,9 +42,9 @@ returns-clause-taken g c =
     let some = c.requires.taken.some in
     let at = c.requires.taken.taken_in.gate_is in
     taken_next (AreListed g.A.Area (batches j)) (IsJudged g.J.Judge c.args.size c.take_fit.new.judge) c.args.size
-        c.args.gate some c.read.new.into c.take_fit.result c.take_fit.new.self.places c.take_fit.new.self.tally
-        c.take_fit.ensures.next (c.take_fit.ensures.taken some
-        c.requires.taken.taken_in c.requires.taken.judged) (next g c)
+    c.args.gate some c.read.new.into c.take_fit.result c.take_fit.new.self.places c.take_fit.new.self.tally
+    c.take_fit.ensures.next (c.take_fit.ensures.taken some
+    c.requires.taken.taken_in c.requires.taken.judged) (next g c)
 
 pub returns-clause-breaks : goal.returns-clause-breaks
 returns-clause-breaks g c = λ told stop stops.

@@ -33,7 +33,7 @@ here c =
 pub returns-clause-order : goal.returns-clause-order
 returns-clause-order c =
     from-set 0 c.args.copies.now.items c.in-Ok.at c.taken.result c.copy_at-copy.result c.requires
-        (c.taken.ensures.rank ∙ ap (λ (k : HeldCopy). rank k) (here c)) (found c).inside
+    (c.taken.ensures.rank ∙ ap (λ (k : HeldCopy). rank k) (here c)) (found c).inside
 
 pub returns-clause-named : goal.returns-clause-named
 returns-clause-named c =
@@ -42,7 +42,7 @@ returns-clause-named c =
 pub returns-clause-same : goal.returns-clause-same
 returns-clause-same c p =
     mark_same c.args.copies.now.items c.in-Ok.at c.taken.result c.copy_at-copy.result (found c).inside
-        (ap (λ (k : HeldCopy). k.held) (sym (here c))
-        ∙ not-false c.copy_at-copy.result.held c.if-not-copy.false) c.taken.ensures.taken p
+    (ap (λ (k : HeldCopy). k.held) (sym (here c))
+    ∙ not-false c.copy_at-copy.result.held c.if-not-copy.false) c.taken.ensures.taken p
     ∙ ap (λ (k : HeldCopy). count_by p (k ∷ held_in (slice_set c.args.copies.now.items c.in-Ok.at c.taken.result)))
-        (sym (here c))
+    (sym (here c))

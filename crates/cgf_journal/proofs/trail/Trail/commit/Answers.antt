@@ -59,7 +59,7 @@ invariant_of-self-in-Ok g c =
     let some : t.waiting.octets ≢ [] = λ e. not_none t.waiting.octets c.octets.result.now c.octets.ensures (sym c.is_empty.ensures ∙ c.if-is_empty.false) e in
     let counted : length t.places.items ≡ c.len-self.result = sym (search rules) in
     let is = settled_sound t.journal t.size t.waiting t.places.items t.firm t.tally t.sound j
-        (ap is_founded c.append.ensures.stays.front ∙ t.sound.founded) c.append.ensures.stays.size
+    (ap is_founded c.append.ensures.stays.front ∙ t.sound.founded) c.append.ensures.stays.size
     (c.in-Ok.ensures.ok.end ∙ ap (λ (l : List ℕ). journal.end t.journal + 5 + length l) c.octets-2.ensures) c.in-Ok.ensures.ok.settled.place
     (λ told. c.in-Ok.ensures.ok.batches told ∙ ap (λ (l : List ℕ). journal.batches t.journal ++ l ∷ []) c.octets-2.ensures) some c.in-Ok.ensures.ok.ready in
     record {

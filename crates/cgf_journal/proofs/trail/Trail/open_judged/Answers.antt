@@ -35,12 +35,12 @@ module _ {A : Type 0} (tells : Ghosts A) (area : A) (address generation : ℕ)
       Starts asked (tells.octets area) → ⊥
   stands_unlike =
       stands_not_starts fits asked (length-header (tells.size area) address generation)
-          (first-header (tells.size area) address generation) (tells.octets area)
+      (first-header (tells.size area) address generation) (tells.octets area)
 
   unfit_unlike : (at : ℕ) → IsUnfitTo fits asked (tells.octets area) at → Starts asked (tells.octets area) → ⊥
   unfit_unlike =
       unfit_not_starts fits asked (length-header (tells.size area) address generation)
-          (first-header (tells.size area) address generation) (tells.octets area)
+      (first-header (tells.size area) address generation) (tells.octets area)
 
 -- an area that is foreign doesn't start
 no_start : (header : List ℕ) → length header ≡ 32 → get_or header 0 0 ≡ 67 → (octets : List ℕ) (at : ℕ) → IsForeign header octets at → Starts header octets → ⊥
@@ -90,7 +90,7 @@ returns-in-Ok-open-clause-reads g c = λ told history stands.
     let j = c.in-Ok-open.journal in
     let unlike = stands_unlike g.A.Area a c.args.address c.args.generation g.J.Judge.fits history stands in
     let list = in_batches c.entries_are_read_back.ensures (header (g.A.Area.size a)
-        c.args.address c.args.generation) (g.A.Area.octets a) history stands.stands in
+    c.args.address c.args.generation) (g.A.Area.octets a) history stands.stands in
     record {
       listed = listed_is c.over.result (entries_in (gates.batches j)) history (c.over.ensures.entries told)
           (ap entries_in (c.in-Ok-open.ensures.ok.reads told list.batches list.stands) ∙ sym list.history);
@@ -188,12 +188,12 @@ returns-in-Err-NotOurs-default-clause-foreign g c = λ told at foreign.
     record {
       place = fault_is g.J.Judge.fits h (length-header (g.A.Area.size a) c.args.address c.args.generation)
           (first-header (g.A.Area.size a) c.args.address c.args.generation) (g.A.Area.octets a)
-              c.fault_before-fault.result
+          c.fault_before-fault.result
           ((returns-in-Err-NotOurs-default-clause-err g c).place told) at foreign;
       moments =
           follow g.A.Area a c.in-Err-NotOurs-default.area c.fault_before-fault.new.area (g.A.Area.may_leave a)
           (c.in-Err-NotOurs-default.ensures.any_moment.unmade told
-              (unfit_unlike g.A.Area a c.args.address c.args.generation g.J.Judge.fits at foreign))
+          (unfit_unlike g.A.Area a c.args.address c.args.generation g.J.Judge.fits at foreign))
           c.fault_before-fault.ensures.kept.leaves;
     }
 
@@ -229,8 +229,12 @@ returns-in-Err-Device-default-clause-reads g c = λ told history stands.
 pub returns-clause-reads : goal.returns-clause-reads
 returns-clause-reads g c = λ told history stands.
     let unlike = stands_unlike g.A.Area c.args.area c.args.address c.args.generation g.J.Judge.fits history stands in
-    record { listed = tt; moments = c.in-Err-NoMemory-default.ensures.any_moment.unmade told unlike; calls = λ tells.
-        tt }
+    record {
+      listed = tt;
+      moments = c.in-Err-NoMemory-default.ensures.any_moment.unmade told unlike;
+      calls = λ tells.
+          tt;
+    }
 
 pub returns-in-Err-NotOurs-default-clause-reads : goal.returns-in-Err-NotOurs-default-clause-reads
 returns-in-Err-NotOurs-default-clause-reads g c = λ told history stands.
@@ -239,7 +243,7 @@ returns-in-Err-NotOurs-default-clause-reads g c = λ told history stands.
       listed = tt;
       moments =
           follow g.A.Area c.args.area c.in-Err-NotOurs-default.area c.fault_before-fault.new.area
-              (g.A.Area.may_leave c.args.area)
+          (g.A.Area.may_leave c.args.area)
           (c.in-Err-NotOurs-default.ensures.any_moment.unmade told unlike) c.fault_before-fault.ensures.kept.leaves;
       calls = λ tells. tt;
     }

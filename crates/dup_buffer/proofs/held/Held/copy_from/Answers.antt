@@ -23,20 +23,19 @@ same : (c : goal.After-self-1) →
     ≡ all_held c.other.inside.kept.items c.other.inside.late.items
 same c =
     copied_same c.other.inside.kept.items c.other.inside.late.items c.deref.result.now c.deref-2.result.now
-        c.copy_held.new.copies.items c.copy_held-2.new.copies.items
+    c.copy_held.new.copies.items c.copy_held-2.new.copies.items
     c.other.invariant.0.held c.deref.ensures.value c.deref-2.ensures.value c.copy_held.ensures.items
-        c.copy_held-2.ensures.items
+    c.copy_held-2.ensures.items
 
 room : (c : goal.After-self-1) → length (all_held c.other.inside.kept.items c.other.inside.late.items)
     ≤ length (all_held c.self.inside.kept.items c.self.inside.late.items) + (vec_capacity c.self.inside.kept -
-        c.self.inside.count)
+    c.self.inside.count)
 room c = rw (← c.self.view_is, ← c.other.view_is) at c.requires
 
 pub invariant_of-self : goal.invariant_of-self
 invariant_of-self c =
     let kept = c.other.inside.kept.items in
-    let late = c.other.inside.late.items in
-    (
+    let late = c.other.inside.late.items in (
       rw (c.copy_held.ensures.items, c.copy_held-2.ensures.items, c.deref.ensures.value, c.deref-2.ensures.value) (copied_stored kept late c.other.invariant.0),
       omega (arith, c.other.invariant.1, ap (λ (l : List HeldCopy). length l) (same c)),
       c.other.invariant.2,
@@ -51,5 +50,13 @@ returns-clause-copies c =
 pub returns-clause-spare : goal.returns-clause-spare
 returns-clause-spare c =
     rw (← c.self.view_is)
-    (omega (arith, room c, ap (λ (l : List HeldCopy).
-        length l) (same c), c.other.invariant.1, c.copy_held.ensures.capacity, c.self.invariant.1, c.self.invariant.3))
+    (omega (
+      arith,
+      room c,
+      ap (λ (l : List HeldCopy).
+          length l) (same c),
+      c.other.invariant.1,
+      c.copy_held.ensures.capacity,
+      c.self.invariant.1,
+      c.self.invariant.3,
+    ))

@@ -12,13 +12,20 @@ gone : (c : goal.After-self-1) →
     ≡ length (all_held c.self.inside.kept.items c.self.inside.late.items)
 gone c =
     gone_count c.args.node.0 c.self.inside.kept.items c.self.inside.late.items c.drop_copies.new.copies.items
-        c.drop_copies-2.new.copies.items c.self.invariant.0.held
+    c.drop_copies-2.new.copies.items c.self.invariant.0.held
     c.drop_copies.ensures.items c.drop_copies-2.ensures.items
 
 pub overflow_sub-result : goal.overflow_sub-result
 overflow_sub-result c =
-    omega (arith, gone c, c.self.invariant.1, c.len.ensures, c.len-2.ensures, c.drop_copies.new.copies.ok.0,
-        c.drop_copies-2.new.copies.ok.0)
+    omega (
+      arith,
+      gone c,
+      c.self.invariant.1,
+      c.len.ensures,
+      c.len-2.ensures,
+      c.drop_copies.new.copies.ok.0,
+      c.drop_copies-2.new.copies.ok.0,
+    )
 
 pub invariant_of-self : goal.invariant_of-self
 invariant_of-self c =
@@ -27,20 +34,52 @@ invariant_of-self c =
     let count = c.self.invariant.1 in (
       rw (c.drop_copies.ensures.items, c.drop_copies-2.ensures.items) (left_stored c.args.node.0 kept late c.self.invariant.0),
       rw (c.drop_copies.ensures.items, c.drop_copies-2.ensures.items)
-          (omega (arith, gone c, left_count c.args.node.0 kept late
-          c.self.invariant.0.held, left_length c.args.node.0 kept late,
-          c.len.ensures, c.len-2.ensures, c.drop_copies.new.copies.ok.0, c.drop_copies-2.new.copies.ok.0)),
-      omega (arith, gone c, count, c.self.invariant.2, c.len.ensures, c.len-2.ensures, c.drop_copies.new.copies.ok.0,
-          c.drop_copies-2.new.copies.ok.0),
-      omega (arith, gone c, count, c.self.invariant.3, c.drop_copies.ensures.capacity, c.len.ensures, c.len-2.ensures,
-          c.drop_copies.new.copies.ok.0, c.drop_copies-2.new.copies.ok.0),
+          (omega (
+            arith,
+            gone c,
+            left_count c.args.node.0 kept late
+                c.self.invariant.0.held,
+            left_length c.args.node.0 kept late,
+            c.len.ensures,
+            c.len-2.ensures,
+            c.drop_copies.new.copies.ok.0,
+            c.drop_copies-2.new.copies.ok.0,
+          )),
+      omega (
+        arith,
+        gone c,
+        count,
+        c.self.invariant.2,
+        c.len.ensures,
+        c.len-2.ensures,
+        c.drop_copies.new.copies.ok.0,
+        c.drop_copies-2.new.copies.ok.0,
+      ),
+      omega (
+        arith,
+        gone c,
+        count,
+        c.self.invariant.3,
+        c.drop_copies.ensures.capacity,
+        c.len.ensures,
+        c.len-2.ensures,
+        c.drop_copies.new.copies.ok.0,
+        c.drop_copies-2.new.copies.ok.0,
+      ),
       omega (arith, c.self.invariant.4, c.drop_copies-2.ensures.capacity),
     )
 
 pub returns-clause-value : goal.returns-clause-value
 returns-clause-value c =
-    rw (← c.self.view_is) (omega (arith, gone c, c.self.invariant.1, c.len.ensures, c.len-2.ensures,
-        c.drop_copies.new.copies.ok.0, c.drop_copies-2.new.copies.ok.0))
+    rw (← c.self.view_is) (omega (
+      arith,
+      gone c,
+      c.self.invariant.1,
+      c.len.ensures,
+      c.len-2.ensures,
+      c.drop_copies.new.copies.ok.0,
+      c.drop_copies-2.new.copies.ok.0,
+    ))
 
 pub returns-clause-others : goal.returns-clause-others
 returns-clause-others c =
@@ -49,5 +88,14 @@ returns-clause-others c =
 
 pub returns-clause-spare : goal.returns-clause-spare
 returns-clause-spare c =
-    rw (← c.self.view_is) (omega (arith, gone c, c.self.invariant.1, c.drop_copies.ensures.capacity, c.self.invariant.3,
-        c.len.ensures, c.len-2.ensures, c.drop_copies.new.copies.ok.0, c.drop_copies-2.new.copies.ok.0))
+    rw (← c.self.view_is) (omega (
+      arith,
+      gone c,
+      c.self.invariant.1,
+      c.drop_copies.ensures.capacity,
+      c.self.invariant.3,
+      c.len.ensures,
+      c.len-2.ensures,
+      c.drop_copies.new.copies.ok.0,
+      c.drop_copies-2.new.copies.ok.0,
+    ))

@@ -15,19 +15,22 @@ invariant_of-self g c =
       sound =
           subst (λ n. IsSound g.A.Area c.see.new.area j.buffer.items n j.torn_length false c.next_front-self.result j.address j.generation) (sym c.next_gate-self.ensures)
           (subst (λ f. IsSound g.A.Area c.see.new.area j.buffer.items
-              (gate_after j.is_torn j.gate j.torn_length c.in-Ok.ends.gate) j.torn_length false f
-              j.address j.generation) (sym c.next_front-self.ensures) (reopened_sound g.A.Area c.area_laws.ensures j
-              c.see.new.area c.see.ensures.size c.in-Ok.ensures.octets c.in-Ok.ensures.durable c.in-Ok.ends.first
-              c.in-Ok.ends.gate c.in-Ok.ensures.seen));
+          (gate_after j.is_torn j.gate j.torn_length c.in-Ok.ends.gate) j.torn_length false f
+          j.address j.generation) (sym c.next_front-self.ensures) (reopened_sound g.A.Area c.area_laws.ensures j
+          c.see.new.area c.see.ensures.size c.in-Ok.ensures.octets c.in-Ok.ensures.durable c.in-Ok.ends.first
+          c.in-Ok.ends.gate c.in-Ok.ensures.seen));
       room = omega (arith, j.room, c.see.ensures.size);
     }
 
 pub invariant_of-self-in-Err : goal.invariant_of-self-in-Err
 invariant_of-self-in-Err g c =
     let j = c.args.self.now in
-    record { sound = kept_sound g.A.Area c.area_laws.ensures j
-        c.see.new.area c.see.ensures.size c.see.ensures.any_moment.now; room =
-        omega (arith, j.room, c.see.ensures.size) }
+    record {
+      sound = kept_sound g.A.Area c.area_laws.ensures j
+          c.see.new.area c.see.ensures.size c.see.ensures.any_moment.now;
+      room =
+          omega (arith, j.room, c.see.ensures.size);
+    }
 
 pub returns-in-Ok-clause-ok : goal.returns-in-Ok-clause-ok
 unfolding batches torn torn_stands
@@ -41,21 +44,21 @@ returns-in-Ok-clause-ok g c =
       batches = λ told.
           ap (λ n. batches_below n (g.A.Area.octets c.see.new.area)) c.next_gate-self.ensures
           ∙ reopened_batches g.A.Area c.area_laws.ensures j
-              c.see.new.area c.see.ensures.size c.in-Ok.ensures.octets c.in-Ok.ensures.durable c.in-Ok.ends.first
-              c.in-Ok.ends.gate c.in-Ok.ensures.seen told
+          c.see.new.area c.see.ensures.size c.in-Ok.ensures.octets c.in-Ok.ensures.durable c.in-Ok.ends.first
+          c.in-Ok.ends.gate c.in-Ok.ensures.seen told
           ∙ ap (λ o. if j.is_torn && (o == open_gate) then batches_below j.gate (g.A.Area.octets j.area) ++ take j.torn_length (drop 4 j.buffer.items) ∷ [] else batches_below j.gate (g.A.Area.octets j.area)) (c.in-Ok.ensures.seen told.0).1;
       place = λ told.
           c.next_gate-self.ensures
           ∙ gate_moves j.is_torn j.gate j.torn_length c.in-Ok.ends.gate
           ∙ ap (λ o. if j.is_torn && (o == open_gate) then j.gate + 5 + j.torn_length else j.gate) (c.in-Ok.ensures.seen told.0).1
           ∙ ap (λ n. if j.is_torn && (gate_at (g.A.Area.octets j.area) j.gate == open_gate) then j.gate + 5 + n else
-              j.gate) (sym (length-last g.A.Area c.area_laws.ensures j));
+          j.gate) (sym (length-last g.A.Area c.area_laws.ensures j));
       end =
           let moves = j.is_torn && (c.in-Ok.ends.gate == open_gate) in
           subst (λ n. (n ≡ j.gate) ⊎ (n ≡ j.gate + 5 + length (take j.torn_length (drop 4 j.buffer.items)))) (sym (c.next_gate-self.ensures ∙ gate_moves j.is_torn j.gate j.torn_length c.in-Ok.ends.gate))
           (subst (λ n. ((if moves then j.gate + 5 + j.torn_length else j.gate) ≡ j.gate) ⊎
-              ((if moves then j.gate + 5 + j.torn_length else j.gate) ≡ j.gate + 5 + n))
-              (sym (length-last g.A.Area c.area_laws.ensures j))
+          ((if moves then j.gate + 5 + j.torn_length else j.gate) ≡ j.gate + 5 + n))
+          (sym (length-last g.A.Area c.area_laws.ensures j))
           (moves_or_stays moves j.gate j.torn_length));
     }
 
