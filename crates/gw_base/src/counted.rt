@@ -15,7 +15,7 @@ pub trait Counted {
     /// What the value stands for.
     ghost facts: { Self → Facts };
 
-    /// A length that never falls, and is at most that of the firm part.
+    /// A length that never falls, and is at most that of the firm part. It may stand still while that part grows.
     fn length(&self) -> u64
         ensures length { result ≡ (facts self.now).length }
         ensures sound { AreSound told (facts self.now) };

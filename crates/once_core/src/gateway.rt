@@ -1,5 +1,5 @@
 // A gateway of a world, as plain lists.
-ghost use Rattle.std.specs.Prelude.{◌≡◌, [], ◌∷◌, ◌||◌, false, true, IfOk, OnOk};
+ghost use Rattle.std.specs.Prelude.{◌≡◌, [], ◌||◌, false, true, IfOk, OnOk};
 ghost use Rattle.gateway_answer.specs.Value.{is_batch_full};
 ghost use Rattle.once_core.specs.HistoryKept.{is_kept_act};
 
