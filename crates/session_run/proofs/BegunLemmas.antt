@@ -64,6 +64,7 @@ module _ {L : Type 0} (tells : paths.Ghosts L) (told : Bool) (at : Addr) (start 
     replies = λ y. none_sent (hand_at desk).taken (known_at desk) (link_at tells desk).sent new.sent;
     link = record { address = new.at; turns = new.turns; received = new.received };
     cause = λ is. absurd (cc (sym fresh.runs ∙ is));
+    calm = λ none. new.faults;
     no_clock = λ is. cc (sym fresh.runs ∙ is);
   }
 

@@ -1,6 +1,6 @@
 -- What a gateway hands back that served, or that had no memory to.
 use Rattle.std.proofs.Common.{◌≡◌, inl, inr, ℕ, Bool, true, false, if◌then◌else◌, List, [], ◌∷◌, ◌++◌, length, Option, None, Some, refl, sym, ap, subst, ◌∙◌, arith}
-use Rattle.std.specs.Prelude.{All, IfSome, slice_index_or}
+use Rattle.std.specs.Prelude.{All, IfSome, slice_index_or, ⊤}
 use Rattle.std.specs.Option.{option_or}
 use Rattle.std.proofs.lemmas.List.{append-nil}
 use Rattle.std.proofs.lemmas.List.Elements.{All-cons, All-head, All-nil, All-tail}
@@ -8,7 +8,6 @@ use Rattle.cdr_shelf.specs.declared.shelf.Shelf as shelves
 use Rattle.file_writer.specs.declared.writer.Writer.{Writer}
 use Rattle.gateway_answer.specs.Value.{BookValue, history_of, torn_of}
 use Rattle.gw_base.specs.Facts.{Facts, joined}
-use Rattle.gw_base.specs.Faults.{Rose}
 use Rattle.gw_base.specs.Owes.{Begins}
 use Rattle.gw_base.specs.declared.address.Addr.{Addr}
 use Rattle.gw_base.specs.declared.history.HistoryEntry.{HistoryEntry}
@@ -26,8 +25,8 @@ use Rattle.turn_cell.specs.declared.cell.TurnCell.{TurnCell}
 use Rattle.session_run.specs.Desks.{HasWorked, HearsNothing, began_at}
 use Rattle.session_run.specs.Ending.{AreAllSettled, ArePassesFor, AreSettledWith, known_among, links_of}
 use Rattle.session_run.specs.History.{GoesOn, GoesOnUntil, InTurn, IsCalledFor, IsJobOf, IsReply, IsReplyTo, those_of}
-use Rattle.session_run.specs.Reception.{CountsTurns, HasDispatched, IfTurns}
-use Rattle.session_run.specs.Running.{AnyOf, AreFiveOf, AreNewAt, AreReplies, HasFailed, HasStopCause, HaveReplied, sent_by, turns_by}
+use Rattle.session_run.specs.Reception.{CountsTurns, HasDispatched, IfTurns, TellsOfClock, link_of}
+use Rattle.session_run.specs.Running.{AnyOf, AreFiveOf, AreNewAt, AreReplies, HasFailed, HasStopCause, HaveReplied, NoneFailed, sent_by, turns_by}
 use Rattle.session_run.specs.Team.{AreDesksOf, HaveServed, Pair, TeamWorksOn, stop_among}
 use Rattle.session_run.specs.declared.desk.Desk.{Desk}
 use Rattle.session_run.specs.declared.reception.Reception.{Reception}
@@ -36,6 +35,8 @@ use Rattle.session_run.specs.declared.stop.Stop.{Stop}
 use Rattle.session_run.specs.declared.stop.Stop.TheVariants as stop
 use Rattle.session_run.specs.declared.until.Until.{Until}
 use Rattle.session_run.specs.declared.until.Until.TheVariants as until
+use Rattle.session_run.proofs.ReceptionLemmas.{never_by_clock}
+use Rattle.session_run.proofs.StopLemmas.{none_of}
 
 module _ {F L : Type 0} (files : shelves.Ghosts F) (tells : paths.Ghosts L) (told : Bool) (at : Addr) (start : Facts) (writer : Writer F files) where
   -- what all have done they have done still
@@ -79,9 +80,32 @@ module _ {F L : Type 0} (files : shelves.Ghosts F) (tells : paths.Ghosts L) (tol
         taken none None (Some x) ra rb = absurd (cc (sym (ap (λ (a : Option Stop). option_or a (stop_among team)) ra ∙ rb) ∙ none))
         taken none (Some x) b ra rb = absurd (cc (sym (ap (λ (a : Option Stop). option_or a (stop_among team)) ra) ∙ none))
 
-    module _ (clock clock' : ℕ) (by_clock : r.stop ≡ Some stop.Clock → Rose clock clock') where
+    module _ (clock clock' : ℕ) (by_clock : TellsOfClock clock clock' r.stop)
+        (still : r.stop ≡ None → (link_of tells r).faults ≡ 0) where
+      -- where nothing stopped any of them, nothing failed
+      calm : option_or r.stop (stop_among team) ≡ None → (clock' ≡ clock) × NoneFailed tells links
+      calm none =
+          let a = team.first.0 in
+          let b = team.first.1 in
+          let c = team.second.0 in
+          let d = team.second.1 in
+          let Still : L → Type 0 = λ link. (tells.state link).faults ≡ 0 in
+          let all = none_of r.stop (stop_among team) none in
+          let abcd = none_of (option_or (option_or a.stop b.stop) c.stop) d.stop all.1 in
+          let abc = none_of (option_or a.stop b.stop) c.stop abcd.0 in
+          let ab = none_of a.stop b.stop abc.0 in (
+            by_clock.1 (never_by_clock r.stop all.0),
+            All-cons Still r.link (a.link ∷ b.link ∷ c.link ∷ d.link ∷ []) (still all.0)
+                (All-cons Still a.link (b.link ∷ c.link ∷ d.link ∷ []) (s.one.calm ab.0)
+                (All-cons Still b.link (c.link ∷ d.link ∷ []) (s.two.calm ab.1)
+                (All-cons Still c.link (d.link ∷ []) (s.three.calm abc.1)
+                (All-cons Still d.link [] (s.four.calm abcd.1) (All-nil Still))))),
+          )
+
+      -- what stopped one of them, if anything did
       abbrev Caused : Option Stop → Type 0
-      Caused result = HasStopCause tells clock clock' links result
+      Caused None = ⊤
+      Caused (Some why) = HasStopCause tells clock clock' links (Some why)
 
       by_desk : (began : _) (desk : Desk L) → HasWorked tells told at began desk → (HasFailed tells desk.link → AnyOf (HasFailed tells) links)
           → Caused desk.stop
@@ -95,15 +119,17 @@ module _ {F L : Type 0} (files : shelves.Ghosts F) (tells : paths.Ghosts L) (tol
 
       by_reception : (s : Option Stop) → r.stop ≡ s → Caused s
       by_reception (Some stop.Link) is = inl (s.dispatched.cause is)
-      by_reception (Some stop.Clock) is = by_clock is
+      by_reception (Some stop.Clock) is = by_clock.0 is
       by_reception _ is = tt
 
       or_other : (a b : Option Stop) → Caused a → Caused b → Caused (option_or a b)
       or_other None b ca cb = cb
       or_other (Some x) b ca cb = ca
 
-      pub has_cause : (result : Option Stop) → result ≡ option_or r.stop (stop_among team) → Caused result
-      has_cause result is = subst Caused (sym is)
+      pub has_cause : (result : Option Stop) → result ≡ option_or r.stop (stop_among team)
+          → HasStopCause tells clock clock' links result
+      has_cause None is = calm (sym is)
+      has_cause (Some why) is = subst Caused (sym is)
           (or_other r.stop (stop_among team) (by_reception r.stop refl)
           (or_other (option_or (option_or team.first.0.stop team.first.1.stop) team.second.0.stop) team.second.1.stop
           (or_other (option_or team.first.0.stop team.first.1.stop) team.second.0.stop

@@ -76,7 +76,8 @@ pub fn run<
     ensures writer { KeepsWriter F.Shelf (tells_lists A.Area) (value_of result.gateway.book).firm gateway.writer
         result.gateway.writer }
     ensures clock { C.faults clock.old ≤ C.faults clock.new }
-    // What stopped it is a fault of a link that is handed back, or of the clock, or want of memory.
+    // What stopped it is a fault of a link that is handed back, or of the clock, or want of memory. Where nothing did,
+    // neither a link nor the clock failed.
     ensures cause { HasStopCause L.Link (C.faults clock.old) (C.faults clock.new) result.gateway.links.items
         result.stop }
 {

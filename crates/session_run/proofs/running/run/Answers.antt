@@ -122,6 +122,8 @@ returns-in-Ok-new g c =
     let ended : HasEnded (tells_lists g.A.Area) start now team =
     subst (λ (b : Book _ g.A.Area). HasEnded (tells_lists g.A.Area) (facts_of b) now team) made.ensures.cell.1 c.end.ensures.ended in
     let last = c.end.result.last in
+    let begins_new = receiver_new g.F.Shelf g.L.Link w.address made.passes.items w.links.items (pops_in hall.pops)
+    w.writer seats c.seat-seats.ensures.seated c.requires.links.new in
     record {
       history = subst (λ (l : List _). WhereTold (tells_lists g.A.Area) (GoesOnUntil (heard_by g.L.Link l) start now last)) (sym c.end.ensures.links)
           (run_goes_on g.F.Shelf g.L.Link (tells_lists g.A.Area) w.address start now w.writer r team s ended c.end.ensures.settled
@@ -135,8 +137,7 @@ returns-in-Ok-new g c =
           (turns_taken g.F.Shelf g.L.Link (tells_lists g.A.Area) w.address start w.writer r team s c.args.until
           (counted g.L.Link w.address seats.reception r c.args.until c.requires.few
           (subst (λ (k : ℕ). IfTurns c.args.until (λ n. k ≡ n)) (sym c.seat-seats.ensures.reception.1) c.turns_in-turns.ensures)
-          c.seat-seats.ensures.reception.2 (receiver_new g.F.Shelf g.L.Link w.address made.passes.items w.links.items (pops_in hall.pops) w.writer seats
-          c.seat-seats.ensures.seated c.requires.links.new) c.serve-served.ensures.turns)
+          c.seat-seats.ensures.reception.2 begins_new c.serve-served.ensures.turns)
           c.end.result.stop c.end.ensures.stop c.serve-served.ensures.over);
       writer = subst (λ (x : Writer _ g.F.Shelf). KeepsWriter g.F.Shelf (tells_lists g.A.Area) now.firm w.writer x) (sym c.end.ensures.writer.0)
           (run_writer g.F.Shelf g.L.Link (tells_lists g.A.Area) w.address start now w.writer r team s ended c.end.ensures.settled c.filed_records_stay.ensures.items);
@@ -144,5 +145,6 @@ returns-in-Ok-new g c =
       cause = subst (λ (l : List _). HasStopCause g.L.Link (g.C.Clock.faults c.args.clock.now) (g.C.Clock.faults c.serve-served.new.clock) l c.end.result.stop)
           (sym c.end.ensures.links)
           (has_cause g.F.Shelf g.L.Link (tells_lists g.A.Area) w.address start w.writer r team s (g.C.Clock.faults c.args.clock.now)
-          (g.C.Clock.faults c.serve-served.new.clock) c.serve-served.ensures.cause c.end.result.stop c.end.ensures.stop);
+          (g.C.Clock.faults c.serve-served.new.clock) c.serve-served.ensures.cause
+          (λ none. c.serve-served.ensures.calm none ∙ begins_new.faults) c.end.result.stop c.end.ensures.stop);
     }
