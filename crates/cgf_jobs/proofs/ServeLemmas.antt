@@ -18,11 +18,11 @@ use Rattle.world_script.specs.declared.line.Line.{Line}
 use Rattle.cgf_jobs.specs.Ending.{HasCause}
 use Rattle.cgf_jobs.specs.Job.{Job}
 use Rattle.cgf_jobs.specs.Kinds.{of_line}
+use Rattle.cgf_jobs.specs.Linked.{TakesAllTurns}
 use Rattle.cgf_jobs.specs.Run.{IsRead, TakesUpTo, may_have_written}
 use Rattle.cgf_jobs.specs.ServeEnds.{EndsBy, IsCalm, IsGatewayEnd, IsRefusedAt, ServedBy, Serves, may_have_opened}
 use Rattle.cgf_jobs.specs.ServeSteps.{AreOf, CausesRead, IsSetBy, RefusesAsForeign, RefusesSettings, RefusesText, StopsServing, WritesLine}
 use Rattle.cgf_jobs.specs.Served.{HasServed, LosesNothing, SettlesStill, header_for, served_line}
-use Rattle.cgf_jobs.specs.Serving.{address_in}
 use Rattle.cgf_jobs.specs.Shelved.{KeepsShelf}
 use Rattle.cgf_jobs.specs.declared.input_kind.InputKind.{InputKind}
 use Rattle.cgf_jobs.specs.declared.serve.FileSettings.{FileSettings}
@@ -282,7 +282,7 @@ module _ {A F : Type 0} (tells : areas.Ghosts A) (files : shelves.Ghosts F) (of 
       (set : IsSetBy text by) (writes : WritesLine line job.before job.after job.written_before job.written_after ended)
       (serves_so : Told tells → (setup : Setup) → AreOf setup by → IfOk result (λ y. (history : List HistoryEntry)
       × HasServed tells files of setup area area' shelf shelf' links links' history × (octets y ≡ served_line history)))
-      (turns_so : OnOk result (links'.turns (address_in of) ≡ links.turns (address_in of) + of.turns))
+      (turns_so : OnOk result (TakesAllTurns of links links' clock clock'))
       (foreign_so : Told tells → RefusesAsForeign tells of area result) where
     abbrev Grown : Setup → X → Type 0
     Grown setup y = (history : List HistoryEntry)
@@ -291,8 +291,8 @@ module _ {A F : Type 0} (tells : areas.Ghosts A) (files : shelves.Ghosts F) (of 
     serves : Told tells → (setup : Setup) → AreOf setup by → Grown setup x
     serves told setup are = subst (λ (r : Result X Status). IfOk r (λ y. Grown setup y)) is_ok (serves_so told setup are)
 
-    turns : links'.turns (address_in of) ≡ links.turns (address_in of) + of.turns
-    turns = subst (λ (r : Result X Status). OnOk r (links'.turns (address_in of) ≡ links.turns (address_in of) + of.turns)) is_ok turns_so
+    turns : TakesAllTurns of links links' clock clock'
+    turns = subst (λ (r : Result X Status). OnOk r (TakesAllTurns of links links' clock clock')) is_ok turns_so
 
     foreign : Told tells → RefusesAsForeign tells of area (Ok x)
     foreign told = subst (λ (r : Result X Status). RefusesAsForeign tells of area r) is_ok (foreign_so told)

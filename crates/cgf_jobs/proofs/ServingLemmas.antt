@@ -20,7 +20,7 @@ use Rattle.session_run.specs.Desks.{HearsNothing}
 use Rattle.session_run.specs.Filing.{KeepsWriter}
 use Rattle.session_run.specs.History.{GoesOnUntil, IsHeard, IsReply}
 use Rattle.session_run.specs.Links.{GivesBack, HasMade, IsIdleAt, received_with, sent_with, turns_with}
-use Rattle.session_run.specs.Running.{AnyOf, AreFiveOf, HasFailed, HasStopCause, HaveReplied, StaysAs, heard_by, sent_by, turns_by}
+use Rattle.session_run.specs.Running.{AnyOf, AreFiveOf, HasFailed, HasStopCause, HaveReplied, NoneFailed, StaysAs, heard_by, sent_by, turns_by}
 use Rattle.session_run.specs.declared.stop.Stop.{Stop}
 use Rattle.session_run.specs.declared.stop.Stop.TheVariants as stop
 use Rattle.cgf_jobs.specs.ServeSteps.{HasServedAt}
@@ -78,6 +78,7 @@ module _ {A F L : Type 0} (tells : areas.Ghosts A) (files : shelves.Ghosts F) (l
     later = (let a = has.later in let b = gave.later in omega (arith, a, b), omega arith);
     link = λ is. rose_in_all made (Some why) has gave (has.cause is);
     time = λ is. absurd (has.no_clock is);
+    time_stood = λ none. refl;
   }
     where
       has : HasMade links (address_in of) old mid made (Some why)
@@ -144,6 +145,7 @@ module _ {A F L : Type 0} (tells : areas.Ghosts A) (files : shelves.Ghosts F) (l
     later = (let a = has.later in let b = gave.later in omega (arith, a, b), ran.later);
     link = λ is. rose_before old.faults mid.faults new.faults has.later (gave.failed (stopped is));
     time = λ is. subst (λ (s : Option Stop). HasStopCause links clock clock' (link ∷ others) s) is ran.cause;
+    time_stood = λ none. (calm none).0;
   }
     where
       heard : Option (List Datagram)
@@ -174,3 +176,7 @@ module _ {A F L : Type 0} (tells : areas.Ghosts A) (files : shelves.Ghosts F) (l
 
       stopped : stops ≡ Some stop.Link → AnyOf (HasFailed links) (link ∷ others)
       stopped is = subst (λ (s : Option Stop). HasStopCause links clock clock' (link ∷ others) s) is ran.cause
+
+      -- where nothing stopped it, nothing failed
+      calm : stops ≡ None → (clock' ≡ clock) × NoneFailed links (link ∷ others)
+      calm none = subst (λ (s : Option Stop). HasStopCause links clock clock' (link ∷ others) s) none ran.cause

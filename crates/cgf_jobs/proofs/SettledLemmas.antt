@@ -1,5 +1,5 @@
 -- How a gateway that was to serve ends: it wasn't opened, or it was settled.
-use Rattle.std.proofs.Common.{◌≡◌, ◌⊎◌, ⊎_elim, inl, inr, ℕ, ◌≤◌, true, false, List, [], ◌++◌, Result, Ok, Err, IfErr, IfOk, refl, sym, ap, subst, ◌∙◌, arith}
+use Rattle.std.proofs.Common.{◌≡◌, ◌⊎◌, ⊎_elim, inl, inr, ℕ, ◌≤◌, true, false, List, [], ◌++◌, Result, Ok, Err, IfErr, IfOk, OnOk, refl, sym, ap, subst, ◌∙◌, arith}
 use Rattle.std.specs.Prelude.{IsTrue}
 use Rattle.area_disk.specs.AreaLaws.{AreaLaws}
 use Rattle.area_disk.specs.Disk.{Rose}
@@ -27,6 +27,7 @@ use Rattle.net_link.specs.Making.{LinksState}
 use Rattle.node_session.specs.Settling.{IsSettled}
 use Rattle.replay_gateway.specs.AtRest.{AreShut}
 use Rattle.replay_gateway.specs.Setup.{Setup}
+use Rattle.cgf_jobs.specs.Linked.{TakesAllTurns}
 use Rattle.cgf_jobs.specs.ServeSteps.{HasLine, HasNoLine, HasServedAt, HasSettledAll, NeverFalls, RefusesAsForeign, StopsServing, status_by}
 use Rattle.cgf_jobs.specs.Served.{GoesOnIn, HasFirstFiles, HasServed, HoldsHistory, LeavesClosed, LosesNothing, SettlesStill, files_at, header_for, moment_of, served_line}
 use Rattle.cgf_jobs.specs.Shelved.{IsFiledIn, KeepsShelf}
@@ -166,6 +167,15 @@ module _ {A F : Type 0} (tells : areas.Ghosts A) (files : shelves.Ghosts F) (of 
 
   pub settled_stops : IfErr result (StopsServing tells files of area (area_of book'') shelf (shelf_of writer'') links links' clock clock')
   settled_stops = by_err result settles.err
+
+  took_all : (r : Result X Status) → IfOk r (λ x. HasLine tells files service book' book'' writer'' (octets x))
+      → OnOk r (TakesAllTurns of links links' clock clock')
+  took_all (Ok x) has = record { turns = serves.turns has.runs; time = serves.time_stood has.runs }
+  took_all (Err ended) has = tt
+
+  -- a gateway that has a line took all its turns
+  pub turns_as : OnOk result (TakesAllTurns of links links' clock clock')
+  turns_as = took_all result settles.ok
 
   -- of the area and the shelf as they were handed back
   pub stops_as : (area'' : A) (shelf'' : F) → area'' ≡ area_of book'' → shelf'' ≡ shelf_of writer''

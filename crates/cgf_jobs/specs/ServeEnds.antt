@@ -18,9 +18,9 @@ use Rattle.world_script.specs.declared.line.Line.{Line}
 use Rattle.cgf_jobs.specs.Ending.{HasCause}
 use Rattle.cgf_jobs.specs.Job.{Job}
 use Rattle.cgf_jobs.specs.Kinds.{of_line}
+use Rattle.cgf_jobs.specs.Linked.{TakesAllTurns}
 use Rattle.cgf_jobs.specs.Run.{IsRead, TakesUpTo}
 use Rattle.cgf_jobs.specs.Served.{HasServed, LosesNothing, SettlesStill, header_for, served_line}
-use Rattle.cgf_jobs.specs.Serving.{address_in}
 use Rattle.cgf_jobs.specs.Shelved.{KeepsShelf}
 use Rattle.cgf_jobs.specs.declared.input_kind.InputKind.{InputKind}
 use Rattle.cgf_jobs.specs.declared.serving.Serving.{Serving}
@@ -103,10 +103,10 @@ module _ {A F : Type 0} (tells : areas.Ghosts A) (files : shelves.Ghosts F) (of 
   pub record Serves (played : Option Played) : Type 0 where
     -- At `Done` the gateway took so many turns of its link, and the counts of its history are written, and nothing else.
     pub done : ended ≡ status.Done → ServedBy (λ line. Appends job.before job.after line)
-        × (links'.turns (address_in of) ≡ links.turns (address_in of) + of.turns)
+        × TakesAllTurns of links links' clock clock'
     -- At `Write` it did too, and a front of these is written.
     pub front : ended ≡ status.Write → ServedBy (λ line. AppendsFront job.before job.after line)
-        × (links'.turns (address_in of) ≡ links.turns (address_in of) + of.turns)
+        × TakesAllTurns of links links' clock clock'
     -- However it ends, nothing is lost of the history that its area held, nor of what it answered.
     pub keeps : LosesNothing tells of area area' links links'
     -- So it is of the files, by the settings that are read: the shelf has the first ones of a history that goes on.
