@@ -78,6 +78,7 @@ module _ {A F L : Type 0} (tells : areas.Ghosts A) (files : shelves.Ghosts F) (l
     later = (let a = has.later in let b = gave.later in omega (arith, a, b), omega arith);
     link = λ is. rose_in_all made (Some why) has gave (has.cause is);
     time = λ is. absurd (has.no_clock is);
+    link_stood = λ none. absurd (some_stop why none);
     time_stood = λ none. refl;
   }
     where
@@ -121,11 +122,14 @@ module _ {A F L : Type 0} (tells : areas.Ghosts A) (files : shelves.Ghosts F) (l
     pub cause : HasStopCause links clock clock' back stops
 
   pub served : SentBehind → HeardInTurn → ReplyLater → (book book' : Book A tells) (writer writer' : Writer F files) (clock clock' : ℕ) (made back : List L) (stops : Option Stop)
-      (last : Option Moment) (made_stops : Option Stop) → HasMade links (address_in of) old mid made made_stops → HasRun book book' writer writer' clock clock' back stops last
+      (last : Option Moment) (made_stops : Option Stop) → HasMade links (address_in of) old mid made made_stops
+      → made_stops ≡ None → HasRun book book' writer writer' clock clock' back stops last
       → GivesBack links (address_in of) mid new back → old.turns (address_in of) < 2 ^ 63 → of.turns ≤ 2 ^ 40
       → HasServedAt tells files of book book' writer writer' old new clock clock' (record { last = last; stop = stops })
-  served sends hears replies book book' writer writer' clock clock' made [] stops last made_stops has ran gave few short = absurd ran.five
-  served sends hears replies book book' writer writer' clock clock' made (link ∷ others) stops last made_stops has ran gave few short = record {
+  served sends hears replies book book' writer writer' clock clock' made [] stops last made_stops has all_made ran gave
+      few short = absurd ran.five
+  served sends hears replies book book' writer writer' clock clock' made (link ∷ others) stops last made_stops has
+      all_made ran gave few short = record {
     goes_on = λ told. goes_on_there hears (received_with links (mid.received (address_in of)) others) heard there gave.received more
         (facts_of book) (facts_of book') last (ran.history told);
     replies = λ told. record {
@@ -145,6 +149,7 @@ module _ {A F L : Type 0} (tells : areas.Ghosts A) (files : shelves.Ghosts F) (l
     later = (let a = has.later in let b = gave.later in omega (arith, a, b), ran.later);
     link = λ is. rose_before old.faults mid.faults new.faults has.later (gave.failed (stopped is));
     time = λ is. subst (λ (s : Option Stop). HasStopCause links clock clock' (link ∷ others) s) is ran.cause;
+    link_stood = λ none. gave.calm (calm none).1 ∙ has.calm all_made;
     time_stood = λ none. (calm none).0;
   }
     where

@@ -170,7 +170,11 @@ module _ {A F : Type 0} (tells : areas.Ghosts A) (files : shelves.Ghosts F) (of 
 
   took_all : (r : Result X Status) → IfOk r (λ x. HasLine tells files service book' book'' writer'' (octets x))
       → OnOk r (TakesAllTurns of links links' clock clock')
-  took_all (Ok x) has = record { turns = serves.turns has.runs; time = serves.time_stood has.runs }
+  took_all (Ok x) has = record {
+    turns = serves.turns has.runs;
+    link = serves.link_stood has.runs;
+    time = serves.time_stood has.runs;
+  }
   took_all (Err ended) has = tt
 
   -- a gateway that has a line took all its turns

@@ -99,6 +99,7 @@ module _ {A F : Type 0} (tells : areas.Ghosts A) (files : shelves.Ghosts F) wher
     pub later : (links.faults ≤ links'.faults) × (clock ≤ clock')
     pub link : service.stop ≡ Some stop.Link → Rose links.faults links'.faults
     pub time : service.stop ≡ Some stop.Clock → Rose clock clock'
+    pub link_stood : service.stop ≡ None → links'.faults ≡ links.faults
     pub time_stood : service.stop ≡ None → clock' ≡ clock
 
   -- A gateway was settled behind its service, and the line is that of its history: all of it is firm, and its writer has

@@ -1,3 +1,4 @@
+use Rattle.std.proofs.Common.{rules}
 use Rattle.cgf_jobs.specs.Serving.{address_in}
 use Rattle.cgf_jobs.proofs.ServingLemmas.{served, unserved}
 use Rattle.cgf_jobs.proofs.settling.serve_at.Goals as goal
@@ -9,7 +10,7 @@ returns-in-Some g c =
 pub returns : goal.returns
 returns g c =
     served _ _ _ _ _ _ _ c.what_links_sent.ensures c.what_is_in_turn_stays_so.ensures.heard c.what_is_in_turn_stays_so.ensures.replies
-    _ _ _ _ _ _ _ _ _ _ _ c.make_links-made.ensures.made
+    _ _ _ _ _ _ _ _ _ _ _ c.make_links-made.ensures.made (search rules)
     (record {
       history = c.run-gateway.ensures.history;
       replies = c.run-gateway.ensures.replies;
