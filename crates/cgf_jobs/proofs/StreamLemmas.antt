@@ -34,7 +34,11 @@ module _ {A : Type 0} (tells : areas.Ghosts A) where
       start = omega (arith, begun.start, begun.came, ap (λ (s : Stream). length s.octets) begun.deframer_is);
       within = omega (arith, begun.came);
     };
-    answers = λ told. (record { tried = []; octets_are = refl; sent_are = refl; cuts = inl (omega arith) }, refl);
+    answers = λ told. (
+      record { tried = []; octets_are = refl; sent_are = refl; cuts = inl (omega arith) },
+      refl,
+      begun.last,
+    );
     stays = record { size = refl; header = refl; open_time = refl };
     cuts = record { later = omega arith; cuts = inl (omega arith) };
   }

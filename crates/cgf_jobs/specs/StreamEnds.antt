@@ -25,10 +25,10 @@ use Rattle.file_writer.specs.Streams.{Settings}
 use Rattle.cgf_jobs.specs.Ending.{HasCause}
 use Rattle.cgf_jobs.specs.Job.{Job}
 use Rattle.cgf_jobs.specs.Kinds.{of_frame}
-use Rattle.cgf_jobs.specs.Replies.{Tried, after_all, message_of, replies, sent_for, sent_for_all}
+use Rattle.cgf_jobs.specs.Replies.{Tried, after_all, last_moment, message_of, replies, sent_for, sent_for_all}
 use Rattle.cgf_jobs.specs.Run.{TakesUpTo, is_reported}
 use Rattle.cgf_jobs.specs.ServeEnds.{IsGatewayEnd, may_have_opened}
-use Rattle.cgf_jobs.specs.Served.{HasAllFiles, HasFirstFiles, HoldsHistory}
+use Rattle.cgf_jobs.specs.Served.{HasAllFiles, HasFirstFiles, HoldsHistory, moment_of}
 use Rattle.cgf_jobs.specs.declared.input_kind.InputKind.TheVariants as input
 use Rattle.cgf_jobs.specs.declared.serving.Serving.{Serving}
 use Rattle.cgf_jobs.specs.declared.status.Status.{Status}
@@ -121,13 +121,14 @@ module _ {A F : Type 0} (tells : areas.Ghosts A) (files : shelves.Ghosts F) (of 
   abbrev pub octets_sent : HasAnswered → List ℕ
   octets_sent s = sent_for_all (tells.size area) of.node (opening s.start) s.tried
 
-  -- The gateway was closed behind them: torn entries were taken in or dropped, and a Close was made where one was due. The
-  -- area handed back stands for that history, now and after any crash. Its files have all records, and none is open.
+  -- The gateway was closed behind them: torn entries were taken in or dropped, and a Close was made where one was due,
+  -- at the moment of the last message, and at 0 where none was answered. The area handed back stands for that history,
+  -- now and after any crash. Its files have all records, and none is open.
   pub record HasClosedBehind (s : HasAnswered) (history : List HistoryEntry) : Type 0 where
     pub last : Fortune
-    pub now : ℕ
     pub mended : (after_commit last (value_left s)).is_broken ≡ false
-    pub history_is : history ≡ closed_behind (after_commit last (value_left s)).firm now no_caller
+    pub history_is : history
+        ≡ closed_behind (after_commit last (value_left s)).firm (moment_of (last_moment s.tried)) no_caller
     pub stands : StandsFitFor (header_at tells area of.ip) (tells.octets area') history
     pub crash : (c : List ℕ) → tells.may_leave area' c → StandsFitFor (header_at tells area of.ip) c history
     pub shut : AreShut (items_of history)
