@@ -1,5 +1,5 @@
 -- A piece of a stream is taken in, up to the end of a message or whole.
-use Rattle.std.proofs.Common.{◌≡◌, ℕ, ◌+◌, ◌-◌, ◌<◌, ◌≤◌, ◌⊎◌, inl, inr, Bool, true, false, if◌then◌else◌, List, [], ◌∷◌, ◌++◌, length, length-append, map, take, drop, Option, Some, None, Ok, Err, refl, sym, ap, subst, ◌∙◌, append_assoc, append-nil, arith}
+use Rattle.std.proofs.Common.{◌≡◌, ◌≢◌, ℕ, ◌+◌, ◌-◌, ◌<◌, ◌≤◌, ◌⊎◌, inl, inr, Bool, true, false, if◌then◌else◌, List, [], ◌∷◌, ◌++◌, length, length-append, map, take, drop, Option, Some, None, Ok, Err, refl, sym, ap, subst, ◌∙◌, append_assoc, append-nil, arith}
 use Rattle.std.proofs.Math.Seq.{take-add, take-length}
 use Rattle.std.proofs.lemmas.List.{length-take, take-append-drop}
 use Rattle.std.specs.Prelude.{IsSome}
@@ -273,26 +273,37 @@ module _ {A : Type 0} (tells : areas.Ghosts A) where
           kept ∙ (goes.answers told).2,
         )
 
-        gone_before : value_of n.book ≡ value_of o.book → n.last ≡ o.last → HasGoneTo tells opened (given ++ piece) sent n
-        gone_before same kept = record {
-          messages = messages;
-          unanswered = frames (rest_of given ++ piece);
-          frames_are = frames_cut given piece ∙ ap (λ (l : List (List ℕ)). l ++ frames (rest_of given ++ piece)) frames_before;
-          answers = answers_before same kept;
-          stays = all_stays;
-          cuts = all_cuts;
-        }
+        -- the whole messages that came behind it in the piece
+        abbrev behind : List (List ℕ)
+        behind = frames (rest_of (given ++ take used piece) ++ drop used piece)
+
+        frames_on : frames (given ++ piece) ≡ (messages ++ d.octets ∷ []) ++ behind
+        frames_on = ap (λ (l : List ℕ). frames l) (ap (λ (l : List ℕ). given ++ l) (sym (take-append-drop used piece))
+            ∙ sym (append_assoc given (take used piece) (drop used piece)))
+            ∙ frames_cut (given ++ take used piece) (drop used piece)
+            ∙ ap (λ (l : List (List ℕ)). l ++ behind) frames_with
+
+        gone_before : value_of n.book ≡ value_of o.book → n.last ≡ o.last
+            → (s : HasGoneTo tells opened (given ++ piece) sent n) × (s.unanswered ≢ [])
+        gone_before same kept = (
+          record {
+            messages = messages;
+            unanswered = d.octets ∷ behind;
+            frames_are = frames_on ∙ append_assoc messages (d.octets ∷ []) behind;
+            answers = answers_before same kept;
+            stays = all_stays;
+            cuts = all_cuts;
+          },
+          λ none. cc none,
+        )
 
         -- it was, and its reply is cut
         abbrev gone_with : (more : List ℕ) → (Told tells → Answers tells o.node d.octets o.book n.book n.last more)
             → HasGoneTo tells opened (given ++ piece) (sent ++ more) n
         gone_with more one = record {
           messages = messages ++ d.octets ∷ [];
-          unanswered = frames (rest_of (given ++ take used piece) ++ drop used piece);
-          frames_are = ap (λ (l : List ℕ). frames l) (ap (λ (l : List ℕ). given ++ l) (sym (take-append-drop used piece))
-              ∙ sym (append_assoc given (take used piece) (drop used piece)))
-              ∙ frames_cut (given ++ take used piece) (drop used piece)
-              ∙ ap (λ (l : List (List ℕ)). l ++ frames (rest_of (given ++ take used piece) ++ drop used piece)) frames_with;
+          unanswered = behind;
+          frames_are = frames_on;
           answers = with_one more one;
           stays = all_stays;
           cuts = all_cuts;
@@ -315,7 +326,8 @@ module _ {A : Type 0} (tells : areas.Ghosts A) where
 
         pub stops_whole : (before after : Option (List ℕ)) (ended : Status) → StopsAtMessage tells (pushed o d used) n before after ended
             → StopsIn tells opened (given ++ piece) sent n before after ended
-        stops_whole before after status.Link same = (gone_before (ap (λ (b : Book A tells). value_of b) same.1) same.2, same.0)
+        stops_whole before after status.Link same =
+            let gone = gone_before (ap (λ (b : Book A tells). value_of b) same.1) same.2 in (gone.0, gone.1, same.0)
         stops_whole before after status.Write stops = (
           stops.0,
           gone_with stops.0 stops.1,

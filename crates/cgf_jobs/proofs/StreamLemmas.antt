@@ -127,7 +127,7 @@ module _ {A : Type 0} (tells : areas.Ghosts A) (opened : Book A tells) (given se
     bounded = bounded;
     sent = sent;
     ok = λ is. absurd (cc);
-    err = ((all_gone tells opened given sent c goes).0, refl);
+    err = ((all_gone tells opened given sent c goes).0, refl, refl);
     refused = λ place kind is. absurd (cc);
     front = λ is. absurd (cc);
     cut = λ is. absurd (cc);
@@ -155,7 +155,7 @@ module _ {A : Type 0} (tells : areas.Ghosts A) (opened : Book A tells) (given se
     bounded = bounded;
     sent = sent;
     ok = λ is. absurd (cc);
-    err = ((all_gone tells opened given sent c goes).0, refl);
+    err = ((all_gone tells opened given sent c goes).0, refl, refl);
     refused = λ place kind is. (
       (all_gone tells opened given sent c goes).0,
       refl,
@@ -175,7 +175,7 @@ module _ {A : Type 0} (tells : areas.Ghosts A) (opened : Book A tells) (given se
     bounded = bounded;
     sent = sent;
     ok = λ is. absurd (cc);
-    err = ((all_gone tells opened given sent c goes).0, refl);
+    err = ((all_gone tells opened given sent c goes).0, refl, refl);
     refused = λ place kind is. (
       (all_gone tells opened given sent c goes).0,
       refl,
@@ -197,7 +197,7 @@ served_stop tells opened text sent c left rest before now after (status.Input pl
   bounded = short;
   sent = sent;
   ok = λ is. absurd (cc);
-  err = (stops.0, refl);
+  err = (stops.0, refl, stops.1);
   refused = λ at why is. (
     stops.0,
     stops.1,
@@ -218,7 +218,7 @@ served_stop tells opened text sent c left rest before now after status.Write con
   bounded = short;
   sent = sent ++ stops.0;
   ok = λ is. absurd (cc);
-  err = (stops.1, refl);
+  err = (stops.1, refl, tt);
   refused = λ at why is. absurd (cc);
   front = λ is. front_two before now after sent stops.0 written stops.2;
   cut = λ is. record {
@@ -238,10 +238,10 @@ served_stop tells opened text sent c left rest before now after status.Link cons
   bounded = short;
   sent = sent;
   ok = λ is. absurd (cc);
-  err = (stops.0, refl);
+  err = (stops.0, refl, stops.1);
   refused = λ at why is. absurd (cc);
   front = λ is. absurd (cc);
   cut = λ is. absurd (cc);
-  whole = λ no. subst (λ (o : Option (List ℕ)). Appends before o sent) (sym stops.1) written;
+  whole = λ no. subst (λ (o : Option (List ℕ)). Appends before o sent) (sym stops.2) written;
 }
 served_stop tells opened text sent c left rest before now after _ consumed short written stops = absurd stops

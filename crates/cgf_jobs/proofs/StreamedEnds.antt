@@ -370,6 +370,7 @@ module _ {A F : Type 0} (tells : areas.Ghosts A) (files : shelves.Ghosts F) (of 
       front = λ told is. absurd (cc is);
       first = λ told no. inr (
         answered tells files of job area area' shelf shelf' clock clock' book c open_time sized opens node later text sent consumed told gone status.Done,
+        refl,
         written_all tells files of job area area' shelf shelf' clock clock' book c open_time sized opens node later text sent consumed told gone status.Done written,
         kept later keeps closes text sent consumed told gone status.Done,
       );
@@ -390,6 +391,7 @@ module _ {A F : Type 0} (tells : areas.Ghosts A) (files : shelves.Ghosts F) (of 
       front = λ told is. absurd (cc is);
       first = λ told no. inr (
         answered tells files of job area area' shelf shelf' clock clock' book c open_time sized opens node later text sent consumed told gone status.Memory,
+        refl,
         written_all tells files of job area area' shelf shelf' clock clock' book c open_time sized opens node later text sent consumed told gone status.Memory written,
         kept later keeps closes text sent consumed told gone status.Memory,
       );
@@ -410,6 +412,7 @@ module _ {A F : Type 0} (tells : areas.Ghosts A) (files : shelves.Ghosts F) (of 
       front = λ told is. absurd (cc is);
       first = λ told no. inr (
         answered tells files of job area area' shelf shelf' clock clock' book c open_time sized opens node later text sent consumed told gone (status.Store fault.Device),
+        refl,
         written_all tells files of job area area' shelf shelf' clock clock' book c open_time sized opens node later text sent consumed told gone (status.Store fault.Device) written,
         kept later keeps closes text sent consumed told gone (status.Store fault.Device),
       );
@@ -445,6 +448,7 @@ module _ {A F : Type 0} (tells : areas.Ghosts A) (files : shelves.Ghosts F) (of 
       first = λ told no. inr (
         answered tells files of job area area' shelf shelf' clock clock' book c open_time sized opens node later served.text served.sent served.consumed told
             served.err.0 (status.Input place kind),
+        served.err.2,
         written_all tells files of job area area' shelf shelf' clock clock' book c open_time sized opens node later served.text served.sent served.consumed told
             served.err.0 (status.Input place kind) (served.whole no),
         kept later keeps closes served.text served.sent served.consumed told served.err.0 (status.Input place kind),
@@ -468,6 +472,7 @@ module _ {A F : Type 0} (tells : areas.Ghosts A) (files : shelves.Ghosts F) (of 
       first = λ told no. inr (
         answered tells files of job area area' shelf shelf' clock clock' book c open_time sized opens node later served.text served.sent served.consumed told
             served.err.0 status.Read,
+        served.err.2,
         written_all tells files of job area area' shelf shelf' clock clock' book c open_time sized opens node later served.text served.sent served.consumed told
             served.err.0 status.Read (served.whole no),
         kept later keeps closes served.text served.sent served.consumed told served.err.0 status.Read,
@@ -517,6 +522,7 @@ module _ {A F : Type 0} (tells : areas.Ghosts A) (files : shelves.Ghosts F) (of 
       first = λ told no. inr (
         answered tells files of job area area' shelf shelf' clock clock' book c open_time sized opens node later served.text served.sent served.consumed told
             served.err.0 status.Link,
+        served.err.2,
         written_all tells files of job area area' shelf shelf' clock clock' book c open_time sized opens node later served.text served.sent served.consumed told
             served.err.0 status.Link (served.whole no),
         kept later keeps closes served.text served.sent served.consumed told served.err.0 status.Link,

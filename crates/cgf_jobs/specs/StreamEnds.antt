@@ -1,5 +1,5 @@
 -- How `stream` ends, and why, and what it leaves.
-use Rattle.std.specs.Prelude.{◌≡◌, ◌≢◌, ◌⊎◌, ℕ, ◌+◌, ◌-◌, ◌≤◌, ◌^◌, nat_lt, Bool, true, false, if◌then◌else◌, IsTrue, List, [], ◌∷◌, ◌++◌, length, map, take, Option, Some, None}
+use Rattle.std.specs.Prelude.{◌≡◌, ◌≢◌, ◌⊎◌, ℕ, ◌+◌, ◌-◌, ◌≤◌, ◌^◌, nat_lt, Bool, true, false, if◌then◌else◌, IsTrue, List, [], ◌∷◌, ◌++◌, length, map, take, Option, Some, None, ⊤}
 use Rattle.std.specs.Io.KnownBytes.{Appends, Consumes, IsAtEnd}
 use Rattle.area_disk.specs.Disk as disk
 use Rattle.area_disk.specs.declared.area.Area as areas
@@ -71,6 +71,13 @@ pub record IsStreamRead (left rest : Option (List ℕ)) (text : List ℕ) : Type
   pub consumed : Consumes left rest text
   pub bounded : length text ≤ most_stream
   pub whole : first_fault (rest_of text) ≡ None → (length text ≡ most_stream) ⊎ IsAtEnd rest
+
+-- Which whole messages of what was read aren't answered where a stream ends so: at `Link` that for which the clock was
+-- asked, and all behind it; at `Write` those behind the one whose reply was cut; at every other end none.
+abbrev pub LeavesUnanswered : Status → List (List ℕ) → Type 0
+LeavesUnanswered status.Link unanswered = unanswered ≢ []
+LeavesUnanswered status.Write unanswered = ⊤
+LeavesUnanswered _ unanswered = unanswered ≡ []
 
 -- the header of the journal of a gateway at this address
 abbrev pub header_at : {A : Type 0} (tells : areas.Ghosts A) → A → ℕ → List ℕ
@@ -207,12 +214,13 @@ module _ {A F : Type 0} (tells : areas.Ghosts A) (files : shelves.Ghosts F) (of 
     pub decided : is_reported ended ≡ true →
         (text : List ℕ) × IsStreamRead job.left job.rest text × (ended ≡ stream_end text)
     -- At `Write` a front of the replies is written, which ends in that to the last message that was answered; at every
-    -- other end whole ones of the first messages, and nothing else; or the gateway wasn't opened. However it ends,
-    -- nothing is lost of what was answered, and the gateway settles.
+    -- other end whole ones, of all messages of what was read, at `Link` of the first ones, and nothing else; or the
+    -- gateway wasn't opened. However it ends, nothing is lost of what was answered, and the gateway settles.
     pub front : Told tells → ended ≡ status.Write →
         (s : HasAnswered) × AppendsFront job.before job.after (octets_sent s) × IsCutInLast s × KeepsAnswers s
     pub first : Told tells → ended ≢ status.Write →
-        IsUnopened ⊎ ((s : HasAnswered) × Appends job.before job.after (octets_sent s) × KeepsAnswers s)
+        IsUnopened ⊎ ((s : HasAnswered) × LeavesUnanswered ended s.unanswered
+        × Appends job.before job.after (octets_sent s) × KeepsAnswers s)
     -- At `Memory`, and at `Store` without a place, nothing was read, or the stream had ended well.
     pub behind : (ended ≡ status.Memory) ⊎ (ended ≡ status.Store fault.Device) →
         (job.rest ≡ job.left) ⊎ ((text : List ℕ) × IsStreamRead job.left job.rest text × (stream_end text ≡ status.Done))

@@ -26,7 +26,7 @@ use Rattle.node_session.specs.Settling.{HasTakenAll, IsSettled}
 use Rattle.node_session.specs.Writing.{HoldsFilesOf, KeepsFiles}
 use Rattle.cgf_jobs.specs.Replies.{Tried, after_all, after_message, last_moment, sent_for, sent_for_all}
 use Rattle.cgf_jobs.specs.Served.{HasFirstFiles, moment_of}
-use Rattle.cgf_jobs.specs.StreamEnds.{IsStreamRead, most_stream, stream_end}
+use Rattle.cgf_jobs.specs.StreamEnds.{IsStreamRead, LeavesUnanswered, most_stream, stream_end}
 use Rattle.cgf_jobs.specs.declared.connection.Connection.{Connection}
 use Rattle.cgf_jobs.specs.declared.input_kind.InputKind.{InputKind}
 use Rattle.cgf_jobs.specs.declared.status.Status.{Status}
@@ -156,7 +156,8 @@ module _ {A : Type 0} (tells : areas.Ghosts A) where
   StopsIn opened given sent c before after status.Write =
       (more : List ℕ) × (s : HasGoneTo opened given (sent ++ more) c) × AppendsFront before after more
       × ((told : Told tells) → IsLastOf c.node opened (s.answers told).0.tried sent more)
-  StopsIn opened given sent c before after status.Link = HasGoneTo opened given sent c × (after ≡ before)
+  StopsIn opened given sent c before after status.Link =
+      (s : HasGoneTo opened given sent c) × (s.unanswered ≢ []) × (after ≡ before)
   StopsIn opened given sent c before after _ = ⊥
 
   -- The reply to the last message was cut: those to the others were written, and a front of it.
@@ -179,7 +180,8 @@ module _ {A : Type 0} (tells : areas.Ghosts A) where
     pub sent : List ℕ
     pub ok : result ≡ Ok tt → IsGoingOn opened text sent c × (stream_end text ≡ status.Done)
         × IsStreamRead left rest text × Appends before after sent
-    pub err : IfErr result (λ ended. HasGoneTo opened text sent c × (ends_serving ended ≡ true))
+    pub err : IfErr result (λ ended. (s : HasGoneTo opened text sent c) × (ends_serving ended ≡ true)
+        × LeavesUnanswered ended s.unanswered)
     pub refused : IfErr result (λ ended. (place : ℕ) (kind : InputKind) → ended ≡ status.Input place kind →
         (s : HasGoneTo opened text sent c) × (s.unanswered ≡ []) × (stream_end text ≡ ended) × IsStreamRead left rest text)
     pub front : IfErr result (λ ended. ended ≡ status.Write → AppendsFront before after sent)
