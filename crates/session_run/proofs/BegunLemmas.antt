@@ -86,6 +86,7 @@ counts_begun : {L : Type 0} (tells : paths.Ghosts L) (at : Addr) (reception : Re
     → IsNewAt at (link_of tells reception) → CountsTurns tells n reception
 counts_begun tells at reception n few left over new = record {
   few = few;
+  most = let a = new.turns in omega (arith, a, left);
   turns = λ none. let a = new.turns in omega (arith, a, left);
   over = λ is. absurd (cc (sym over ∙ is));
 }

@@ -1,5 +1,5 @@
 -- What a gateway hands back that served, or that had no memory to.
-use Rattle.std.proofs.Common.{◌≡◌, inl, inr, ℕ, Bool, true, false, if◌then◌else◌, List, [], ◌∷◌, ◌++◌, length, Option, None, Some, refl, sym, ap, subst, ◌∙◌, arith}
+use Rattle.std.proofs.Common.{◌≡◌, ◌≤◌, inl, inr, ℕ, Bool, true, false, if◌then◌else◌, List, [], ◌∷◌, ◌++◌, length, Option, None, Some, refl, sym, ap, subst, ◌∙◌, arith}
 use Rattle.std.specs.Prelude.{All, IfSome, slice_index_or, ⊤}
 use Rattle.std.specs.Option.{option_or}
 use Rattle.std.proofs.lemmas.List.{append-nil}
@@ -26,7 +26,7 @@ use Rattle.session_run.specs.Desks.{HasWorked, HearsNothing, began_at}
 use Rattle.session_run.specs.Ending.{AreAllSettled, ArePassesFor, AreSettledWith, known_among, links_of}
 use Rattle.session_run.specs.History.{GoesOn, GoesOnUntil, InTurn, IsCalledFor, IsJobOf, IsReply, IsReplyTo, those_of}
 use Rattle.session_run.specs.Reception.{CountsTurns, HasDispatched, IfTurns, TellsOfClock, link_of}
-use Rattle.session_run.specs.Running.{AnyOf, AreFiveOf, AreNewAt, AreReplies, HasFailed, HasStopCause, HaveReplied, NoneFailed, sent_by, turns_by}
+use Rattle.session_run.specs.Running.{AnyOf, AreFiveOf, AreNewAt, AreReplies, HasFailed, HasStopCause, HaveReplied, NoneFailed, TakesAtMost, sent_by, turns_by}
 use Rattle.session_run.specs.Team.{AreDesksOf, HaveServed, Pair, TeamWorksOn, stop_among}
 use Rattle.session_run.specs.declared.desk.Desk.{Desk}
 use Rattle.session_run.specs.declared.reception.Reception.{Reception}
@@ -70,9 +70,13 @@ module _ {F L : Type 0} (files : shelves.Ghosts F) (tells : paths.Ghosts L) (tol
     -- the turns that were to be taken were taken, unless something stopped it
     pub turns_taken : (ends : Until) → IfTurns ends (λ n. CountsTurns tells n r) → (result : Option Stop)
         → result ≡ option_or r.stop (stop_among team) → (r.stop ≡ None → stop_among team ≡ None → r.is_over ≡ true)
-        → IfTurns ends (λ n. result ≡ None → turns_by tells links ≡ n)
+        → IfTurns ends (TakesAtMost tells links result)
     turns_taken (until.QuietAfter count all) counts result is over = tt
-    turns_taken (until.Turns n) counts result is over = λ none. taken (sym is ∙ none) r.stop (stop_among team) refl refl
+    turns_taken (until.Turns n) counts result is over =
+        (
+          let most = counts.most in omega (arith, most),
+          λ none. taken (sym is ∙ none) r.stop (stop_among team) refl refl,
+        )
       where
         taken : option_or r.stop (stop_among team) ≡ None → (a b : Option Stop) → r.stop ≡ a → stop_among team ≡ b → turns_by tells links ≡ n
         taken none None None ra rb =
@@ -234,9 +238,15 @@ module _ {L : Type 0} (tells : paths.Ghosts L) (at : Addr) where
         hear_nothing others (All-tail IsNew link others are.new),
       )
 
--- who had no memory isn't one whom nothing stopped
-pub never_served : (stopped : Option Stop) → stopped ≡ Some stop.NoMemory → (n m : ℕ) → stopped ≡ None → n ≡ m
-never_served stopped is n m none = absurd (cc (sym is ∙ none))
+-- who had no memory took no turn, and isn't one whom nothing stopped
+pub never_served : {L : Type 0} (tells : paths.Ghosts L) (at : Addr) (all links : List L) → AreNewAt tells at all
+    → links ≡ all → (stopped : Option Stop) → stopped ≡ Some stop.NoMemory → (n : ℕ) → TakesAtMost tells links stopped n
+never_served {L = L} tells at all links new same stopped is n =
+    subst (λ (l : List L). TakesAtMost tells l stopped n) (sym same) (few all new, λ none. absurd (cc (sym is ∙ none)))
+  where
+    few : (l : List L) → AreNewAt tells at l → turns_by tells l ≤ n
+    few [] are = omega arith
+    few (link ∷ others) are = let first = (are.new 0 link (omega arith)).turns in omega (arith, first)
 
 -- ---- how what served is taken apart
 

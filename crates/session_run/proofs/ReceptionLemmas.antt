@@ -1,5 +1,5 @@
 -- What who receives has done behind one more step of its dispatcher.
-use Rattle.std.proofs.Common.{◌≡◌, ◌≢◌, Bool, false, true, inl, ℕ, zero, suc, ◌+◌, ◌-◌, ◌<◌, List, [], ◌∷◌, ◌++◌, length, replicate, Option, None, Some, refl, sym, ap, subst, ◌∙◌, arith}
+use Rattle.std.proofs.Common.{◌≡◌, ◌≢◌, Bool, false, true, inl, ℕ, zero, suc, ◌+◌, ◌-◌, ◌<◌, ◌≤◌, List, [], ◌∷◌, ◌++◌, length, replicate, Option, None, Some, refl, sym, ap, subst, ◌∙◌, arith}
 use Rattle.std.specs.Prelude.{IfSome}
 use Rattle.std.proofs.lemmas.Bool.{true≢false}
 use Rattle.gw_base.specs.Faults.{Rose, next_count}
@@ -139,6 +139,14 @@ module _ (inboxes : List Inbox) (old new : Dispatcher) (link_old link_new : Link
   turn_on dispatched.NoMemory t other = ap (λ (l : LinkState). l.turns) t.0.1
   turn_on _ t other = ap (λ (l : LinkState). l.turns) t.made.is
 
+  -- one turn at most was taken
+  pub most_on : (d : Dispatched) → Told d → link_new.turns ≤ link_old.turns + 1
+  most_on dispatched.Link t = let same = ap (λ (l : LinkState). l.turns) t.0.rest in omega (arith, same)
+  most_on dispatched.Quiet t = let next = ap (λ (l : LinkState). l.turns) t.0 in omega (arith, next)
+  most_on dispatched.Clock t = let next = ap (λ (l : LinkState). l.turns) t.0.1 in omega (arith, next)
+  most_on dispatched.NoMemory t = let next = ap (λ (l : LinkState). l.turns) t.0.1 in omega (arith, next)
+  most_on _ t = let next = ap (λ (l : LinkState). l.turns) t.made.is in omega (arith, next)
+
   -- the link has failed no more often unless it failed in this step
   pub calm_on : (d : Dispatched) → Told d → (d ≡ dispatched.Link → ⊥) → link_new.faults ≡ link_old.faults
   calm_on dispatched.Quiet t other = ap (λ (l : LinkState). l.faults) t.0
@@ -200,6 +208,7 @@ module _ {L : Type 0} (tells : paths.Ghosts L) (inboxes : List Inbox) (old new :
   turn_taken is_quiet tells_quiet = record {
     turns = λ none. turn_on inboxes old.dispatcher new.dispatcher (link_of tells old) (link_of tells new) clock clock' d told
         (not_link d (sym stops ∙ none));
+    most = most_on inboxes old.dispatcher new.dispatcher (link_of tells old) (link_of tells new) clock clock' d told;
     quiet = λ is. quiet_on inboxes old.dispatcher new.dispatcher (link_of tells old) (link_of tells new) clock clock' d told
         (sym tells_quiet ∙ is);
     heard = λ is none. heard_on inboxes old.dispatcher new.dispatcher (link_of tells old) (link_of tells new) clock clock' d told
@@ -235,9 +244,11 @@ clock_still stops a b none same = (λ is. absurd (never_by_clock stops none is),
 -- one turn less is left of those that are counted
 pub counts_on : {L : Type 0} (tells : paths.Ghosts L) (n : ℕ) (old new : Reception L) → CountsTurns tells n old → old.stop ≡ None → 0 < old.left
     → new.left ≡ old.left - 1 → new.is_over ≡ old.is_over
-    → (new.stop ≡ None → turns_of tells new ≡ next_count (turns_of tells old)) → CountsTurns tells n new
-counts_on tells n old new c runs some left over turned = record {
+    → (new.stop ≡ None → turns_of tells new ≡ next_count (turns_of tells old))
+    → turns_of tells new ≤ turns_of tells old + 1 → CountsTurns tells n new
+counts_on tells n old new c runs some left over turned at_most = record {
   few = c.few;
+  most = let a = c.most in omega (arith, a, at_most, some, left);
   turns = λ none. let a = c.turns runs in let b = turned none in let few = c.few in omega (arith, a, b, few, some, left);
   over = λ is. let z = c.over (sym over ∙ is) in absurd (omega (arith, z, some));
 }
@@ -251,4 +262,4 @@ module _ {L : Type 0} (tells : paths.Ghosts L) where
   -- it is over once no turn is left
   pub counts_over : (n : ℕ) (r : Reception L) (is_over : Bool) → (is_over ≡ true → r.left ≡ 0) → CountsTurns tells n r
       → CountsTurns tells n (record r { is_over = is_over })
-  counts_over n r is_over over c = record { few = c.few; turns = c.turns; over = over }
+  counts_over n r is_over over c = record { few = c.few; most = c.most; turns = c.turns; over = over }

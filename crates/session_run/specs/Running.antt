@@ -52,6 +52,10 @@ module _ {L : Type 0} (tells : Ghosts L) where
   turns_by [] = 0
   turns_by (link ∷ links) = (tells.state link).turns
 
+  -- the first link took no more turns than so many, and unless something stopped it all of them
+  abbrev pub TakesAtMost : List L → Option Stop → ℕ → Type 0
+  TakesAtMost links stops n = (turns_by links ≤ n) × (stops ≡ None → turns_by links ≡ n)
+
   -- five links of the address: the first has sent nothing, and the others have taken no turn and heard nothing
   abbrev pub AreFiveOf : Addr → List L → Type 0
   AreFiveOf at [] = ⊥

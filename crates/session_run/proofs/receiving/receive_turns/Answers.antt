@@ -7,6 +7,7 @@ pub returns-then-is_some-clause-turns : goal.returns-then-is_some-clause-turns
 returns-then-is_some-clause-turns g c = λ n counts.
     counts_on g.L.Link n c.loop-reception.reception c.step-is_quiet.new.self (c.loop-reception.invariant.turns n counts)
     c.loop-reception.invariant.runs (search rules) c.step-is_quiet.ensures.rest.0 c.step-is_quiet.ensures.rest.1 c.step-is_quiet.ensures.turn.turns
+    c.step-is_quiet.ensures.turn.most
 
 pub returns-then-is_some-clause-cause : goal.returns-then-is_some-clause-cause
 returns-then-is_some-clause-cause g c =
@@ -25,7 +26,9 @@ loop-reception-preserved g c =
       dispatched = λ at h. c.step-is_quiet.ensures.dispatched at (dispatched_with g.L.Link at r _ r.is_over (c.loop-reception.invariant.dispatched at h));
       turns = λ n counts.
           counts_on g.L.Link n r c.step-is_quiet.new.self (c.loop-reception.invariant.turns n counts)
-          c.loop-reception.invariant.runs (search rules) c.step-is_quiet.ensures.rest.0 c.step-is_quiet.ensures.rest.1 c.step-is_quiet.ensures.turn.turns;
+          c.loop-reception.invariant.runs (search rules) c.step-is_quiet.ensures.rest.0 c.step-is_quiet.ensures.rest.1
+          c.step-is_quiet.ensures.turn.turns
+          c.step-is_quiet.ensures.turn.most;
       clock = clock_stands _ _ _ _ runs c.loop-reception.invariant.clock c.step-is_quiet.ensures.cause;
       calm = c.step-is_quiet.ensures.turn.calm runs ∙ c.loop-reception.invariant.calm;
     }
