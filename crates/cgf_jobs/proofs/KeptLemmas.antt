@@ -19,6 +19,7 @@ use Rattle.net_link.specs.Datagrams.{Datagram}
 use Rattle.net_link.specs.Making.{GrowsBy, LinksState}
 use Rattle.replay_gateway.specs.Setup.{Setup}
 use Rattle.session_run.specs.History.{IsReply}
+use Rattle.cgf_jobs.specs.Linked.{UsesLinks}
 use Rattle.cgf_jobs.specs.ServeSteps.{HasServedAt}
 use Rattle.cgf_jobs.specs.Served.{GoesOnIn, HasFirstFiles, HasReplied, LosesNothing, files_at, header_for}
 use Rattle.cgf_jobs.specs.Serving.{address_in}
@@ -54,6 +55,15 @@ module _ {A : Type 0} (tells : areas.Ghosts A) (of : Serving) (area area' : A) (
       in_turn = none_in_turn (tells.size area) start (tells.faults area) (tells.faults area') (links.received (address_in of)) (Some []) refl;
     };
   }
+
+-- links that nobody used
+pub unused : (of : Serving) (links : LinksState) → UsesLinks of links links
+unused of links = record {
+  most = omega arith;
+  others_turns = λ a other. refl;
+  others_received = λ a other list is. is;
+  others_sent = λ a other list is. is;
+}
 
 -- an area that is as it was has lost nothing
 pub untouched_keeps : {A : Type 0} (tells : areas.Ghosts A) (of : Serving) (area : A) (links : LinksState)

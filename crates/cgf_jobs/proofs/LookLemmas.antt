@@ -69,4 +69,5 @@ module _ {A F : Type 0} (tells : areas.Ghosts A) (files : shelves.Ghosts F) (of 
       link = falls.link;
       time = falls.time;
       size = falls.size;
+      uses = falls.uses;
     }

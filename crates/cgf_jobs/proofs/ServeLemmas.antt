@@ -18,7 +18,7 @@ use Rattle.world_script.specs.declared.line.Line.{Line}
 use Rattle.cgf_jobs.specs.Ending.{HasCause}
 use Rattle.cgf_jobs.specs.Job.{Job}
 use Rattle.cgf_jobs.specs.Kinds.{of_line}
-use Rattle.cgf_jobs.specs.Linked.{TakesAllTurns}
+use Rattle.cgf_jobs.specs.Linked.{TakesAllTurns, UsesLinks}
 use Rattle.cgf_jobs.specs.Run.{IsRead, TakesUpTo, may_have_written}
 use Rattle.cgf_jobs.specs.ServeEnds.{EndsBy, IsCalm, IsGatewayEnd, IsRefusedAt, ServedBy, Serves, may_have_opened}
 use Rattle.cgf_jobs.specs.ServeSteps.{AreOf, CausesRead, IsSetBy, RefusesAsForeign, RefusesSettings, RefusesText, StopsServing, WritesLine}
@@ -124,9 +124,9 @@ module _ {A F : Type 0} (tells : areas.Ghosts A) (files : shelves.Ghosts F) (of 
   pub refused_serves : {X : Type 0} (ended : Status) → RefusesSettings job.left job.rest ended
       → CausesRead {X = X} job.read_before job.read_after (Err ended) → TakesUpTo (most_text + 1) job.left job.rest
       → job.written_after ≡ job.written_before → LosesNothing tells of area area' links links'
-      → ((setup : Setup) → KeepsShelf tells files of setup area area' shelf shelf')
+      → ((setup : Setup) → KeepsShelf tells files of setup area area' shelf shelf') → UsesLinks of links links'
       → Serves tells files of job area area' shelf shelf' links links' clock clock' ended None
-  refused_serves ended refuses causes bound same keeps filed =
+  refused_serves ended refuses causes bound same keeps filed uses =
       let r = refuses_by job ended refuses causes in
       record {
         done = λ is. absurd (subst (Refuses job) is r);
@@ -140,6 +140,7 @@ module _ {A F : Type 0} (tells : areas.Ghosts A) (files : shelves.Ghosts F) (of 
         foreign = λ at is. absurd (subst (Refuses job) is r);
         link = λ is. absurd (subst (Refuses job) is r);
         closed = λ is. absurd (subst (Refuses job) is r);
+        uses = uses;
         cause = refused_cause ended r same;
         known = refused_known ended r;
         bound = bound;
@@ -211,10 +212,10 @@ module _ {A F : Type 0} (tells : areas.Ghosts A) (files : shelves.Ghosts F) (of 
       → (Told tells → RefusesAsForeign tells of area result) → Ours → Others
       → job.read_after ≡ job.read_before → TakesUpTo (most_text + 1) job.left job.rest → job.written_after ≡ job.written_before
       → LosesNothing tells of area area' links links' → ((setup : Setup) → AreOf setup by → KeepsShelf tells files of
-      setup area area' shelf shelf')
+      setup area area' shelf shelf') → UsesLinks of links links'
       → Serves tells files of job area area' shelf shelf' links links' clock clock' ended None
   stopped_serves {X = X} result ended text by read set is_err stops settles foreign_so ours others unread bound same
-      keeps filed = record {
+      keeps filed uses = record {
         done = λ is. absurd (subst (λ (e : Status). Stops e) is s);
         front = λ is. absurd (subst (λ (e : Status). Stops e) is s);
         keeps = keeps;
@@ -225,6 +226,7 @@ module _ {A F : Type 0} (tells : areas.Ghosts A) (files : shelves.Ghosts F) (of 
         foreign = λ at is. subst (λ (e : Status). Stops e) is s;
         link = λ is. subst (λ (e : Status). Stops e) is s;
         closed = λ is. settles (is_err ∙ ap (λ (e : Status). Err e) is);
+        uses = uses;
         cause = stopped_cause ended s unread same;
         known = stopped_known ended s;
         bound = bound;
@@ -321,9 +323,9 @@ module _ {A F : Type 0} (tells : areas.Ghosts A) (files : shelves.Ghosts F) (of 
 
     pub written_serves : job.read_after ≡ job.read_before → TakesUpTo (most_text + 1) job.left job.rest
         → LosesNothing tells of area area' links links' → ((setup : Setup) → AreOf setup by → KeepsShelf tells files of
-        setup area area' shelf shelf')
+        setup area area' shelf shelf') → UsesLinks of links links'
         → Serves tells files of job area area' shelf shelf' links links' clock clock' ended None
-    written_serves unread bound keeps filed =
+    written_serves unread bound keeps filed uses =
         let w = writes_by job line ended writes in
         record {
           done = λ is. (served_by (λ l. Appends job.before job.after l) (subst (Writes job line) is w).0, turns);
@@ -337,6 +339,7 @@ module _ {A F : Type 0} (tells : areas.Ghosts A) (files : shelves.Ghosts F) (of 
           foreign = λ at is. absurd (subst (Writes job line) is w);
           link = λ is. absurd (subst (Writes job line) is w);
           closed = λ is. absurd (subst (Writes job line) is w);
+          uses = uses;
           cause = written_cause line ended w unread;
           known = written_known line ended w;
           bound = bound;

@@ -149,6 +149,7 @@ module _ {A F : Type 0} (tells : areas.Ghosts A) (files : shelves.Ghosts F) (of 
     link = serves.later.0;
     time = serves.later.1;
     size = settles.stays.0.size ∙ serves.stays.size ∙ sized;
+    uses = serves.uses;
   }
 
   stops : (ended : Status) → HasNoLine tells files service book' book'' writer' writer'' ended

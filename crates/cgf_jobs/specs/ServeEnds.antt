@@ -18,7 +18,7 @@ use Rattle.world_script.specs.declared.line.Line.{Line}
 use Rattle.cgf_jobs.specs.Ending.{HasCause}
 use Rattle.cgf_jobs.specs.Job.{Job}
 use Rattle.cgf_jobs.specs.Kinds.{of_line}
-use Rattle.cgf_jobs.specs.Linked.{TakesAllTurns}
+use Rattle.cgf_jobs.specs.Linked.{TakesAllTurns, UsesLinks}
 use Rattle.cgf_jobs.specs.Run.{IsRead, TakesUpTo}
 use Rattle.cgf_jobs.specs.Served.{HasServed, LosesNothing, SettlesStill, header_for, served_line}
 use Rattle.cgf_jobs.specs.Shelved.{KeepsShelf}
@@ -131,6 +131,8 @@ module _ {A F : Type 0} (tells : areas.Ghosts A) (files : shelves.Ghosts F) (of 
     -- area's device failed.
     pub link : ended ≡ status.Link → Rose links.faults links'.faults ⊎ Rose clock clock'
     pub closed : ended ≡ status.Link → SettlesStill tells of area area' links links'
+    -- However it ends, it takes no more turns than were asked for, at its own address alone.
+    pub uses : UsesLinks of links links'
     -- At `Read` the source failed, at `Write` the sink, and at no other end did these.
     pub cause : HasCause ended job.read_before job.read_after job.written_before job.written_after
     -- It ends in one of these ways, takes no octet of settings past the first 16,777,217, and hands no network back.

@@ -30,6 +30,7 @@ use Rattle.world_script.specs.Script.{Refusal, most_text, script_in}
 use Rattle.world_script.specs.declared.kind.ScriptKind.TheVariants as kind
 use Rattle.world_script.specs.declared.line.Line.{Line}
 use Rattle.cgf_jobs.specs.Kinds.{of_line}
+use Rattle.cgf_jobs.specs.Linked.{UsesLinks}
 use Rattle.cgf_jobs.specs.Run.{IsRead}
 use Rattle.cgf_jobs.specs.Served.{HasReplied, header_for, moment_of, served_line}
 use Rattle.cgf_jobs.specs.Serving.{address_in}
@@ -96,6 +97,7 @@ module _ {A F : Type 0} (tells : areas.Ghosts A) (files : shelves.Ghosts F) wher
     pub stays : StaysAs (facts_of book) (facts_of book')
     pub kept : KeepsWriter files (tells_lists tells) (value_of book').firm writer writer'
     pub turns : service.stop ≡ None → links'.turns (address_in of) ≡ links.turns (address_in of) + of.turns
+    pub uses : UsesLinks of links links'
     pub later : (links.faults ≤ links'.faults) × (clock ≤ clock')
     pub link : service.stop ≡ Some stop.Link → Rose links.faults links'.faults
     pub time : service.stop ≡ Some stop.Clock → Rose clock clock'
@@ -144,13 +146,14 @@ module _ {A F : Type 0} (tells : areas.Ghosts A) (files : shelves.Ghosts F) (of 
   StopsServing status.Memory = ⊤
   StopsServing _ = ⊥
 
-  -- no count falls, and the area keeps its length
+  -- no count falls, the area keeps its length, and no more turns are taken than were asked for
   pub record NeverFalls : Type 0 where
     pub device : tells.faults area ≤ tells.faults area'
     pub shelf_too : files.faults shelf ≤ files.faults shelf'
     pub link : links.faults ≤ links'.faults
     pub time : clock ≤ clock'
     pub size : tells.size area' ≡ tells.size area
+    pub uses : UsesLinks of links links'
 
 -- an area that is another's is refused at its place, unless its device fails or memory runs out
 abbrev pub RefusesAsForeign : {A X : Type 0} (tells : areas.Ghosts A) → Serving → A → Result X Status → Type 0

@@ -5,7 +5,9 @@ use Rattle.cgf_jobs.proofs.settling.serve_at.Goals as goal
 
 pub returns-in-Some : goal.returns-in-Some
 returns-in-Some g c =
-    unserved _ _ _ _ _ _ _ c.what_links_sent.ensures _ _ _ _ _ _ c.in-Some.is c.requires.broken c.length-length.ensures.sound c.make_links-made.ensures.made c.give_back.ensures
+    unserved _ _ _ _ _ _ _ c.what_links_sent.ensures _ _ _ _ _ _ c.in-Some.is c.requires.broken
+    (c.requires.turns (address_in c.args.serving)) c.length-length.ensures.sound c.make_links-made.ensures.made
+    c.give_back.ensures
 
 pub returns : goal.returns
 returns g c =
