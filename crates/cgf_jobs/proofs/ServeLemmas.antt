@@ -22,7 +22,7 @@ use Rattle.cgf_jobs.specs.Linked.{TakesAllTurns, UsesLinks}
 use Rattle.cgf_jobs.specs.Run.{IsRead, TakesUpTo, may_have_written}
 use Rattle.cgf_jobs.specs.ServeEnds.{EndsBy, IsCalm, IsGatewayEnd, IsRefusedAt, ServedBy, Serves, may_have_opened}
 use Rattle.cgf_jobs.specs.ServeSteps.{AreOf, CausesRead, IsSetBy, RefusesAsForeign, RefusesSettings, RefusesText, StopsServing, WritesLine}
-use Rattle.cgf_jobs.specs.Served.{HasServed, LosesNothing, SettlesStill, header_for, served_line}
+use Rattle.cgf_jobs.specs.Served.{HasServed, LosesNothing, SettlesStill, header_at, served_line}
 use Rattle.cgf_jobs.specs.Shelved.{KeepsShelf}
 use Rattle.cgf_jobs.specs.declared.input_kind.InputKind.{InputKind}
 use Rattle.cgf_jobs.specs.declared.serve.FileSettings.{FileSettings}
@@ -165,19 +165,19 @@ module _ {A F : Type 0} (tells : areas.Ghosts A) (files : shelves.Ghosts F) (of 
 
   -- an area that is found isn't another's
   abbrev Ours : Type 0
-  Ours = (octets : List ℕ) (h : List HistoryEntry) (at : ℕ) → StandsFitFor (header_for tells area of) octets h
-      → ¬ (IsNotOurs (header_for tells area of) octets at)
+  Ours = (octets : List ℕ) (h : List HistoryEntry) (at : ℕ) → StandsFitFor (header_at tells area of.ip) octets h
+      → ¬ (IsNotOurs (header_at tells area of.ip) octets at)
 
   abbrev Others : Type 0
-  Others = (octets : List ℕ) (at : ℕ) → IsNotOurs (header_for tells area of) octets at → ¬ (Starts (header_for tells area of) octets)
+  Others = (octets : List ℕ) (at : ℕ) → IsNotOurs (header_at tells area of.ip) octets at → ¬ (Starts (header_at tells area of.ip) octets)
 
-  found_ours : Ours → Others → (h : List HistoryEntry) (at : ℕ) → StandsOrStarts (header_for tells area of) (tells.octets area) h
-      → IsNotOurs (header_for tells area of) (tells.octets area) at → ⊥
+  found_ours : Ours → Others → (h : List HistoryEntry) (at : ℕ) → StandsOrStarts (header_at tells area of.ip) (tells.octets area) h
+      → IsNotOurs (header_at tells area of.ip) (tells.octets area) at → ⊥
   found_ours ours others h at (inl stands) foreign = ours (tells.octets area) h at stands foreign
   found_ours ours others h at (inr starts) foreign = others (tells.octets area) at foreign starts.0
 
   stopped_calmly : Ours → Others → (ended : Status) → Stops ended → IsCalm tells files of job area area' shelf shelf' links links' clock clock' ended → Told tells
-      → (h : List HistoryEntry) → StandsOrStarts (header_for tells area of) (tells.octets area) h → (ended ≡ status.Memory) ⊎ (ended ≡ status.Done)
+      → (h : List HistoryEntry) → StandsOrStarts (header_at tells area of.ip) (tells.octets area) h → (ended ≡ status.Memory) ⊎ (ended ≡ status.Done)
   stopped_calmly ours others status.Link s calm told h stands = absurd (⊎_elim (λ r. calm.link r) (λ r. calm.time r) s)
   stopped_calmly ours others (status.Store fault.Device) s calm told h stands = absurd (⊎_elim (λ r. calm.device r) (λ r. calm.shelf_runs r) s)
   stopped_calmly ours others (status.Store (fault.NotOurs at)) s calm told h stands = absurd
@@ -308,7 +308,7 @@ module _ {A F : Type 0} (tells : areas.Ghosts A) (files : shelves.Ghosts F) (of 
       served = λ told. (let found = serves told (setup_of set.0) set.2 in (found.0, found.1, subst wrote (is_line ∙ found.2) all));
     }
 
-    not_foreign : Told tells → (at : ℕ) → IsNotOurs (header_for tells area of) (tells.octets area) at → ⊥
+    not_foreign : Told tells → (at : ℕ) → IsNotOurs (header_at tells area of.ip) (tells.octets area) at → ⊥
     not_foreign told at not_ours = none_of (foreign told at not_ours)
       where
         is_ok_of : Result X Status → Bool

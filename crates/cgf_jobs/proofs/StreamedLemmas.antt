@@ -35,8 +35,8 @@ use Rattle.node_session.specs.Writing as writing
 use Rattle.replay_gateway.specs.AtRest.{AreShut}
 use Rattle.cgf_jobs.specs.Job.{Job}
 use Rattle.cgf_jobs.specs.Replies.{Tried, after_all, after_message, sent_for, sent_for_all}
-use Rattle.cgf_jobs.specs.Served.{HasAllFiles, HasFirstFiles, moment_of}
-use Rattle.cgf_jobs.specs.StreamEnds.{HasAnswered, HasAnsweredAll, HasClosedBehind, HasSettledBehind, IsCutInLast, IsStreamRead, KeepsAnswers, StandsBehind, header_at, octets_sent, stream_end, stream_settings}
+use Rattle.cgf_jobs.specs.Served.{HasAllFiles, HasFirstFiles, header_at, moment_of}
+use Rattle.cgf_jobs.specs.StreamEnds.{HasAnswered, HasAnsweredAll, HasClosedBehind, HasSettledBehind, IsCutInLast, IsStreamRead, KeepsAnswers, StandsBehind, octets_sent, stream_end, stream_settings}
 use Rattle.cgf_jobs.specs.StreamSteps.{AnswersAll, HasClosed, HasEnded, HasGoneTo, HasSettledStream, IsLastOf, LeavesBehind, SettlesAs}
 use Rattle.cgf_jobs.specs.declared.connection.Connection.{Connection}
 use Rattle.cgf_jobs.specs.declared.status.Status.{Status}

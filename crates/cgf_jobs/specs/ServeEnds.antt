@@ -20,7 +20,7 @@ use Rattle.cgf_jobs.specs.Job.{Job}
 use Rattle.cgf_jobs.specs.Kinds.{of_line}
 use Rattle.cgf_jobs.specs.Linked.{TakesAllTurns, UsesLinks}
 use Rattle.cgf_jobs.specs.Run.{IsRead, TakesUpTo}
-use Rattle.cgf_jobs.specs.Served.{HasServed, LosesNothing, SettlesStill, header_for, served_line}
+use Rattle.cgf_jobs.specs.Served.{HasServed, LosesNothing, SettlesStill, header_at, served_line}
 use Rattle.cgf_jobs.specs.Shelved.{KeepsShelf}
 use Rattle.cgf_jobs.specs.declared.input_kind.InputKind.{InputKind}
 use Rattle.cgf_jobs.specs.declared.serving.Serving.{Serving}
@@ -94,9 +94,9 @@ module _ {A F : Type 0} (tells : areas.Ghosts A) (files : shelves.Ghosts F) (of 
   EndsBy (Err refusal) =
       (ended ≡ status.Memory) ⊎ (ended ≡ status.Input refusal.place (of_line refusal.kind))
   EndsBy (Ok lines) =
-      ((h : List HistoryEntry) → StandsOrStarts (header_for tells area of) (tells.octets area) h →
+      ((h : List HistoryEntry) → StandsOrStarts (header_at tells area of.ip) (tells.octets area) h →
       (ended ≡ status.Memory) ⊎ (ended ≡ status.Done))
-      × ((at : ℕ) → IsNotOurs (header_for tells area of) (tells.octets area) at →
+      × ((at : ℕ) → IsNotOurs (header_at tells area of.ip) (tells.octets area) at →
       (ended ≡ status.Memory) ⊎ (ended ≡ status.Store (fault.NotOurs at)))
 
   -- What a gateway that serves does, as a whole.
@@ -126,7 +126,7 @@ module _ {A F : Type 0} (tells : areas.Ghosts A) (files : shelves.Ghosts F) (of 
         disk.Rose (tells.faults area) (tells.faults area') ⊎ disk.Rose (files.faults shelf) (files.faults shelf')
     pub foreign : (at : ℕ) → ended ≡ status.Store (fault.NotOurs at) → Keeps links links'
         × (links'.faults ≡ links.faults) × (clock' ≡ clock) × (files.files shelf' ≡ files.files shelf) × (Told tells →
-        IsNotOurs (header_for tells area of) (tells.octets area) at × (tells.octets area' ≡ tells.octets area))
+        IsNotOurs (header_at tells area of.ip) (tells.octets area) at × (tells.octets area' ≡ tells.octets area))
     -- At `Link` a link failed, or the clock. The area was the gateway's own, and it settled all the same, unless the
     -- area's device failed.
     pub link : ended ≡ status.Link → Rose links.faults links'.faults ⊎ Rose clock clock'

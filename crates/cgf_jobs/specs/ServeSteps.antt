@@ -32,7 +32,7 @@ use Rattle.world_script.specs.declared.line.Line.{Line}
 use Rattle.cgf_jobs.specs.Kinds.{of_line}
 use Rattle.cgf_jobs.specs.Linked.{UsesLinks}
 use Rattle.cgf_jobs.specs.Run.{IsRead}
-use Rattle.cgf_jobs.specs.Served.{HasReplied, header_for, moment_of, served_line}
+use Rattle.cgf_jobs.specs.Served.{HasReplied, header_at, moment_of, served_line}
 use Rattle.cgf_jobs.specs.Serving.{address_in}
 use Rattle.cgf_jobs.specs.declared.serve.FileSettings.{FileSettings}
 use Rattle.cgf_jobs.specs.declared.serving.Serving.{Serving}
@@ -141,7 +141,7 @@ module _ {A F : Type 0} (tells : areas.Ghosts A) (files : shelves.Ghosts F) (of 
       disk.Rose (tells.faults area) (tells.faults area') ⊎ disk.Rose (files.faults shelf) (files.faults shelf')
   StopsServing (status.Store (fault.NotOurs at)) = Keeps links links' × (links'.faults ≡ links.faults)
       × (clock' ≡ clock) × (files.files shelf' ≡ files.files shelf) × (Told tells →
-      IsNotOurs (header_for tells area of) (tells.octets area) at × (tells.octets area' ≡ tells.octets area))
+      IsNotOurs (header_at tells area of.ip) (tells.octets area) at × (tells.octets area' ≡ tells.octets area))
   StopsServing status.Link = Rose links.faults links'.faults ⊎ Rose clock clock'
   StopsServing status.Memory = ⊤
   StopsServing _ = ⊥
@@ -157,6 +157,6 @@ module _ {A F : Type 0} (tells : areas.Ghosts A) (files : shelves.Ghosts F) (of 
 
 -- an area that is another's is refused at its place, unless its device fails or memory runs out
 abbrev pub RefusesAsForeign : {A X : Type 0} (tells : areas.Ghosts A) → Serving → A → Result X Status → Type 0
-RefusesAsForeign tells of area result = (at : ℕ) → IsNotOurs (header_for tells area of) (tells.octets area) at
+RefusesAsForeign tells of area result = (at : ℕ) → IsNotOurs (header_at tells area of.ip) (tells.octets area) at
     → (result ≡ Err (status.Store (fault.NotOurs at)))
     ⊎ ((result ≡ Err (status.Store fault.Device)) ⊎ (result ≡ Err status.Memory))

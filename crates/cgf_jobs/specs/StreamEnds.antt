@@ -4,7 +4,6 @@ use Rattle.std.specs.Io.KnownBytes.{Appends, Consumes, IsAtEnd}
 use Rattle.area_disk.specs.Disk as disk
 use Rattle.area_disk.specs.declared.area.Area as areas
 use Rattle.cdr_shelf.specs.declared.shelf.Shelf as shelves
-use Rattle.gate_journal.specs.Format.{header}
 use Rattle.gate_journal.specs.Moments.{Told}
 use Rattle.gateway_answer.specs.Answered.{no_caller}
 use Rattle.gateway_answer.specs.FitHistory.{StandsFitFor}
@@ -28,7 +27,7 @@ use Rattle.cgf_jobs.specs.Kinds.{of_frame}
 use Rattle.cgf_jobs.specs.Replies.{Tried, after_all, last_moment, message_of, replies, sent_for, sent_for_all}
 use Rattle.cgf_jobs.specs.Run.{TakesUpTo, is_reported}
 use Rattle.cgf_jobs.specs.ServeEnds.{IsGatewayEnd, may_have_opened}
-use Rattle.cgf_jobs.specs.Served.{HasAllFiles, HasFirstFiles, HoldsHistory, moment_of}
+use Rattle.cgf_jobs.specs.Served.{HasAllFiles, HasFirstFiles, HoldsHistory, header_at, moment_of}
 use Rattle.cgf_jobs.specs.declared.input_kind.InputKind.TheVariants as input
 use Rattle.cgf_jobs.specs.declared.serving.Serving.{Serving}
 use Rattle.cgf_jobs.specs.declared.status.Status.{Status}
@@ -78,10 +77,6 @@ abbrev pub LeavesUnanswered : Status → List (List ℕ) → Type 0
 LeavesUnanswered status.Link unanswered = unanswered ≢ []
 LeavesUnanswered status.Write unanswered = ⊤
 LeavesUnanswered _ unanswered = unanswered ≡ []
-
--- the header of the journal of a gateway at this address
-abbrev pub header_at : {A : Type 0} (tells : areas.Ghosts A) → A → ℕ → List ℕ
-header_at tells area ip = header (tells.size area) ip 0
 
 -- the settings of its files: the defaults
 abbrev pub stream_settings : ℕ → Settings

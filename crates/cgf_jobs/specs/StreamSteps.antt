@@ -172,7 +172,7 @@ module _ {A : Type 0} (tells : areas.Ghosts A) where
     pub written : Appends before after (earlier ++ take count more)
 
   -- How the serving of a stream ended, of which this was left and is left now.
-  pub record HasServed (opened : Book A tells) (c : Connection A tells) (left rest before after : Option (List ℕ))
+  pub record HasServedStream (opened : Book A tells) (c : Connection A tells) (left rest before after : Option (List ℕ))
       (result : Result Unit Status) : Type 0 where
     pub text : List ℕ
     pub consumed : Consumes left rest text
