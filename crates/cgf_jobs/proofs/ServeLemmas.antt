@@ -179,9 +179,10 @@ module _ {A F : Type 0} (tells : areas.Ghosts A) (files : shelves.Ghosts F) (of 
   stopped_calmly : Ours → Others → (ended : Status) → Stops ended → IsCalm tells files of job area area' shelf shelf' links links' clock clock' ended → Told tells
       → (h : List HistoryEntry) → StandsOrStarts (header_at tells area of.ip) (tells.octets area) h → (ended ≡ status.Memory) ⊎ (ended ≡ status.Done)
   stopped_calmly ours others status.Link s calm told h stands = absurd (⊎_elim (λ r. calm.link r) (λ r. calm.time r) s)
-  stopped_calmly ours others (status.Store fault.Device) s calm told h stands = absurd (⊎_elim (λ r. calm.device r) (λ r. calm.shelf_runs r) s)
+  stopped_calmly ours others (status.Store fault.Device) s calm told h stands =
+      absurd (⊎_elim (λ r. calm.device r) (λ r. calm.shelf_runs r) s.1)
   stopped_calmly ours others (status.Store (fault.NotOurs at)) s calm told h stands = absurd
-      (found_ours ours others h at stands (s.4 told).0)
+      (found_ours ours others h at stands (s.3 told).0)
   stopped_calmly ours others status.Memory s calm told h stands = inl refl
   stopped_calmly ours others _ s calm told h stands = absurd s
 
@@ -252,7 +253,8 @@ module _ {A F : Type 0} (tells : areas.Ghosts A) (files : shelves.Ghosts F) (of 
           ⊎ (◌≡◌ {A = Result X Status} (Err ended) (Err (status.Store fault.Device)) ⊎ ◌≡◌ {A = Result X Status} (Err ended) (Err status.Memory))
           → (ended ≡ status.Memory) ⊎ (ended ≡ status.Store (fault.NotOurs at))
       by_foreign calm at (inl e) = inr (ap ended_in e)
-      by_foreign calm at (inr (inl e)) = absurd (⊎_elim (λ r. calm.device r) (λ r. calm.shelf_runs r) (subst (λ (e : Status). Stops e) (ap ended_in e) s))
+      by_foreign calm at (inr (inl e)) = absurd (⊎_elim (λ r. calm.device r) (λ r. calm.shelf_runs r)
+          (subst (λ (e : Status). Stops e) (ap ended_in e) s).1)
       by_foreign calm at (inr (inr e)) = inl (ap ended_in e)
 
   -- ---- the gateway has a line

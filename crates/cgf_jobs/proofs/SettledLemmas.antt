@@ -52,11 +52,10 @@ module _ {A F : Type 0} (tells : areas.Ghosts A) (files : shelves.Ghosts F) (of 
     where
       by_fault : (w : BookFault) → IsRefused tells area (header_at tells area of.ip) (w, area')
           → StopsServing tells files of area area' shelf shelf links links clock clock (status_by w)
-      by_fault of_book.Device refused = inl (refused.cause refl)
+      by_fault of_book.Device refused = ((refl, refl), inl (refused.cause refl))
       by_fault (of_book.NotOurs at) refused = (
         record { made = λ a is. is; turns = λ a. refl; received = λ a. refl; sent = λ a. refl },
-        refl,
-        refl,
+        (refl, refl),
         refl,
         λ told. (refused.place told at refl, refused.unwritten told (λ is. cc is)),
       )
@@ -155,9 +154,14 @@ module _ {A F : Type 0} (tells : areas.Ghosts A) (files : shelves.Ghosts F) (of 
   stops : (ended : Status) → HasNoLine tells files service book' book'' writer' writer'' ended
       → StopsServing tells files of area (area_of book'') shelf (shelf_of writer'') links links' clock clock' ended
   stops status.Link none = ⊎_elim (λ is. inl (serves.link is)) (λ is. inr (serves.time is)) none
-  stops (status.Store fault.Device) none = ⊎_elim
-      (λ (r : Rose (tells.faults (area_of book')) (tells.faults (area_of book''))). inl (let a = device in omega (arith, a, r)))
-      (λ (r : Rose (files.faults (shelf_of writer')) (files.faults (shelf_of writer''))). inr (let a = shelf_up in omega (arith, a, r))) none
+  stops (status.Store fault.Device) none = (
+    (serves.link_stood none.0, serves.time_stood none.0),
+    ⊎_elim
+        (λ (r : Rose (tells.faults (area_of book')) (tells.faults (area_of book''))). inl
+        (let a = device in omega (arith, a, r)))
+        (λ (r : Rose (files.faults (shelf_of writer')) (files.faults (shelf_of writer''))). inr
+        (let a = shelf_up in omega (arith, a, r))) none.1,
+  )
   stops status.Memory none = tt
   stops _ none = absurd none
 

@@ -20,3 +20,7 @@ pub record TakesAllTurns (of : Serving) (links links' : LinksState) (clock clock
   pub turns : links'.turns (address_in of) ≡ links.turns (address_in of) + of.turns
   pub link : links'.faults ≡ links.faults
   pub time : clock' ≡ clock
+
+-- Neither a link failed nor the clock.
+abbrev pub StandStill : LinksState → LinksState → ℕ → ℕ → Type 0
+StandStill links links' clock clock' = (links'.faults ≡ links.faults) × (clock' ≡ clock)

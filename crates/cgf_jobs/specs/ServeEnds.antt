@@ -18,7 +18,7 @@ use Rattle.world_script.specs.declared.line.Line.{Line}
 use Rattle.cgf_jobs.specs.Ending.{HasCause}
 use Rattle.cgf_jobs.specs.Job.{Job}
 use Rattle.cgf_jobs.specs.Kinds.{of_line}
-use Rattle.cgf_jobs.specs.Linked.{TakesAllTurns, UsesLinks}
+use Rattle.cgf_jobs.specs.Linked.{StandStill, TakesAllTurns, UsesLinks}
 use Rattle.cgf_jobs.specs.Run.{IsRead, TakesUpTo}
 use Rattle.cgf_jobs.specs.Served.{HasServed, LosesNothing, SettlesStill, header_at, served_line}
 use Rattle.cgf_jobs.specs.Shelved.{KeepsShelf}
@@ -120,12 +120,12 @@ module _ {A F : Type 0} (tells : areas.Ghosts A) (files : shelves.Ghosts F) (of 
     pub accepted : (ended ≡ status.Link) ⊎ ((why : StoreFault) × (ended ≡ status.Store why)) →
         (text : List ℕ) × IsRead (most_text + 1) job.left job.rest text
         × ((lines : List Line) × (script_in kind.Serve text ≡ Ok lines))
-    -- At `Store` a device failed; or the area is another's, at the place that shows it. Then it stays as it was, as the
-    -- files and the links do, and the clock didn't fail.
-    pub device : ended ≡ status.Store fault.Device →
-        disk.Rose (tells.faults area) (tells.faults area') ⊎ disk.Rose (files.faults shelf) (files.faults shelf')
+    -- At `Store` a device failed, and neither a link nor the clock; or the area is another's, at the place that shows
+    -- it. Then it stays as it was, as the files and the links do, and the clock didn't fail.
+    pub device : ended ≡ status.Store fault.Device → StandStill links links' clock clock'
+        × (disk.Rose (tells.faults area) (tells.faults area') ⊎ disk.Rose (files.faults shelf) (files.faults shelf'))
     pub foreign : (at : ℕ) → ended ≡ status.Store (fault.NotOurs at) → Keeps links links'
-        × (links'.faults ≡ links.faults) × (clock' ≡ clock) × (files.files shelf' ≡ files.files shelf) × (Told tells →
+        × StandStill links links' clock clock' × (files.files shelf' ≡ files.files shelf) × (Told tells →
         IsNotOurs (header_at tells area of.ip) (tells.octets area) at × (tells.octets area' ≡ tells.octets area))
     -- At `Link` a link failed, or the clock. The area was the gateway's own, and it settled all the same, unless the
     -- area's device failed.

@@ -30,7 +30,7 @@ use Rattle.world_script.specs.Script.{Refusal, most_text, script_in}
 use Rattle.world_script.specs.declared.kind.ScriptKind.TheVariants as kind
 use Rattle.world_script.specs.declared.line.Line.{Line}
 use Rattle.cgf_jobs.specs.Kinds.{of_line}
-use Rattle.cgf_jobs.specs.Linked.{UsesLinks}
+use Rattle.cgf_jobs.specs.Linked.{StandStill, UsesLinks}
 use Rattle.cgf_jobs.specs.Run.{IsRead}
 use Rattle.cgf_jobs.specs.Served.{HasReplied, header_at, moment_of, served_line}
 use Rattle.cgf_jobs.specs.Serving.{address_in}
@@ -117,9 +117,9 @@ module _ {A F : Type 0} (tells : areas.Ghosts A) (files : shelves.Ghosts F) wher
   abbrev pub HasNoLine : Service → Book A tells → Book A tells → Writer F files → Writer F files → Status → Type 0
   HasNoLine service book book' writer writer' status.Link =
       (service.stop ≡ Some stop.Link) ⊎ (service.stop ≡ Some stop.Clock)
-  HasNoLine service book book' writer writer' (status.Store fault.Device) =
-      disk.Rose (tells.faults (area_of book)) (tells.faults (area_of book'))
-      ⊎ disk.Rose (files.faults (shelf_of writer)) (files.faults (shelf_of writer'))
+  HasNoLine service book book' writer writer' (status.Store fault.Device) = (service.stop ≡ None)
+      × (disk.Rose (tells.faults (area_of book)) (tells.faults (area_of book'))
+      ⊎ disk.Rose (files.faults (shelf_of writer)) (files.faults (shelf_of writer')))
   HasNoLine service book book' writer writer' status.Memory = ⊤
   HasNoLine service book book' writer writer' _ = ⊥
 
@@ -137,10 +137,10 @@ module _ {A F : Type 0} (tells : areas.Ghosts A) (files : shelves.Ghosts F) wher
 module _ {A F : Type 0} (tells : areas.Ghosts A) (files : shelves.Ghosts F) (of : Serving) (area area' : A)
     (shelf shelf' : F) (links links' : LinksState) (clock clock' : ℕ) where
   abbrev pub StopsServing : Status → Type 0
-  StopsServing (status.Store fault.Device) =
-      disk.Rose (tells.faults area) (tells.faults area') ⊎ disk.Rose (files.faults shelf) (files.faults shelf')
-  StopsServing (status.Store (fault.NotOurs at)) = Keeps links links' × (links'.faults ≡ links.faults)
-      × (clock' ≡ clock) × (files.files shelf' ≡ files.files shelf) × (Told tells →
+  StopsServing (status.Store fault.Device) = StandStill links links' clock clock'
+      × (disk.Rose (tells.faults area) (tells.faults area') ⊎ disk.Rose (files.faults shelf) (files.faults shelf'))
+  StopsServing (status.Store (fault.NotOurs at)) = Keeps links links' × StandStill links links' clock clock'
+      × (files.files shelf' ≡ files.files shelf) × (Told tells →
       IsNotOurs (header_at tells area of.ip) (tells.octets area) at × (tells.octets area' ≡ tells.octets area))
   StopsServing status.Link = Rose links.faults links'.faults ⊎ Rose clock clock'
   StopsServing status.Memory = ⊤
