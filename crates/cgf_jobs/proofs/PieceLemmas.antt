@@ -268,10 +268,10 @@ module _ {A : Type 0} (tells : areas.Ghosts A) where
         unfolding later_answers
         answers_before same kept told = subst (λ (a : Addr). AllAnswered a opened messages sent n.book n.last)
             (sym node) (
-          later_answers o.node opened messages sent (tells.faults (area_of o.book)) (tells.faults (area_of n.book)) cuts.later (goes.answers told).0,
-          same ∙ (goes.answers told).1,
-          kept ∙ (goes.answers told).2,
-        )
+              later_answers o.node opened messages sent (tells.faults (area_of o.book)) (tells.faults (area_of n.book)) cuts.later (goes.answers told).0,
+              same ∙ (goes.answers told).1,
+              kept ∙ (goes.answers told).2,
+            )
 
         -- the whole messages that came behind it in the piece
         abbrev behind : List (List ℕ)

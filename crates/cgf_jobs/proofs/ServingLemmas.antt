@@ -161,30 +161,30 @@ module _ {A F L : Type 0} (tells : areas.Ghosts A) (files : shelves.Ghosts F) (l
       few short = absurd ran.five
   served sends hears replies book book' writer writer' clock clock' made (link ∷ others) stops last made_stops has
       all_made ran gave few short = record {
-    goes_on = λ told. goes_on_there hears (received_with links (mid.received (address_in of)) others) heard there gave.received more
-        (facts_of book) (facts_of book') last (ran.history told);
-    replies = λ told. record {
-      sent = sent_by links (link ∷ others);
-      is_sent = sent_grows links sends (old.sent (address_in of)) (mid.sent (address_in of)) (new.sent (address_in of)) (link ∷ others)
-          (has.keeps.sent (address_in of)) gave.sent;
-      each = all_sent links (Fits there) (link ∷ others)
-          (All-weaker (λ (l : L). IfSome (links.state l).sent (λ list. All (Fits heard) list)) (λ (l : L). IfSome (links.state l).sent (λ list. All (Fits there) list))
-          (λ (l : L) all. told_weaker (Fits heard) (Fits there) reply_is_there (links.state l).sent all) (link ∷ others) (ran.replies told).each);
-      in_turn = replies (size_of book) (value_of book').firm (value_of book').firm (tells.faults (area_of book)) (tells.faults (area_of book'))
-          (tells.faults (area_of book)) (tells.faults (area_of book')) (received_with links (mid.received (address_in of)) others) heard there
-          (sent_by links (link ∷ others)) (begins_self (value_of book').firm) (λ rose. rose) gave.received (ran.replies told).in_turn;
-    };
-    stays = ran.stays;
-    kept = ran.kept;
-    turns = λ none. gave.turns ∙ ap (λ (n : ℕ). added n (links.state link).turns) others_none
-        ∙ exact (ran.turns.1 none);
-    uses = used made (link ∷ others) made_stops has gave (at_most ran.turns.0);
-    later = (let a = has.later in let b = gave.later in omega (arith, a, b), ran.later);
-    link = λ is. rose_before old.faults mid.faults new.faults has.later (gave.failed (stopped is));
-    time = λ is. subst (λ (s : Option Stop). HasStopCause links clock clock' (link ∷ others) s) is ran.cause;
-    link_stood = λ none. gave.calm (calm none).1 ∙ has.calm all_made;
-    time_stood = λ none. (calm none).0;
-  }
+        goes_on = λ told. goes_on_there hears (received_with links (mid.received (address_in of)) others) heard there gave.received more
+            (facts_of book) (facts_of book') last (ran.history told);
+        replies = λ told. record {
+          sent = sent_by links (link ∷ others);
+          is_sent = sent_grows links sends (old.sent (address_in of)) (mid.sent (address_in of)) (new.sent (address_in of)) (link ∷ others)
+              (has.keeps.sent (address_in of)) gave.sent;
+          each = all_sent links (Fits there) (link ∷ others)
+              (All-weaker (λ (l : L). IfSome (links.state l).sent (λ list. All (Fits heard) list)) (λ (l : L). IfSome (links.state l).sent (λ list. All (Fits there) list))
+              (λ (l : L) all. told_weaker (Fits heard) (Fits there) reply_is_there (links.state l).sent all) (link ∷ others) (ran.replies told).each);
+          in_turn = replies (size_of book) (value_of book').firm (value_of book').firm (tells.faults (area_of book)) (tells.faults (area_of book'))
+              (tells.faults (area_of book)) (tells.faults (area_of book')) (received_with links (mid.received (address_in of)) others) heard there
+              (sent_by links (link ∷ others)) (begins_self (value_of book').firm) (λ rose. rose) gave.received (ran.replies told).in_turn;
+        };
+        stays = ran.stays;
+        kept = ran.kept;
+        turns = λ none. gave.turns ∙ ap (λ (n : ℕ). added n (links.state link).turns) others_none
+            ∙ exact (ran.turns.1 none);
+        uses = used made (link ∷ others) made_stops has gave (at_most ran.turns.0);
+        later = (let a = has.later in let b = gave.later in omega (arith, a, b), ran.later);
+        link = λ is. rose_before old.faults mid.faults new.faults has.later (gave.failed (stopped is));
+        time = λ is. subst (λ (s : Option Stop). HasStopCause links clock clock' (link ∷ others) s) is ran.cause;
+        link_stood = λ none. gave.calm (calm none).1 ∙ has.calm all_made;
+        time_stood = λ none. (calm none).0;
+      }
     where
       heard : Option (List Datagram)
       heard = (links.state link).received
@@ -215,7 +215,7 @@ module _ {A F L : Type 0} (tells : areas.Ghosts A) (files : shelves.Ghosts F) (l
       at_most : (links.state link).turns ≤ of.turns → new.turns (address_in of) ≤ old.turns (address_in of) + of.turns
       at_most le =
           let sum : new.turns (address_in of)
-              ≡ added (turns_with links (mid.turns (address_in of)) others) (links.state link).turns = gave.turns in
+          ≡ added (turns_with links (mid.turns (address_in of)) others) (links.state link).turns = gave.turns in
           omega (arith, sum, others_none, le)
 
       stopped : stops ≡ Some stop.Link → AnyOf (HasFailed links) (link ∷ others)

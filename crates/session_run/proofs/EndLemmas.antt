@@ -72,11 +72,10 @@ module _ {F L : Type 0} (files : shelves.Ghosts F) (tells : paths.Ghosts L) (tol
         → result ≡ option_or r.stop (stop_among team) → (r.stop ≡ None → stop_among team ≡ None → r.is_over ≡ true)
         → IfTurns ends (TakesAtMost tells links result)
     turns_taken (until.QuietAfter count all) counts result is over = tt
-    turns_taken (until.Turns n) counts result is over =
-        (
-          let most = counts.most in omega (arith, most),
-          λ none. taken (sym is ∙ none) r.stop (stop_among team) refl refl,
-        )
+    turns_taken (until.Turns n) counts result is over = (
+      let most = counts.most in omega (arith, most),
+      λ none. taken (sym is ∙ none) r.stop (stop_among team) refl refl,
+    )
       where
         taken : option_or r.stop (stop_among team) ≡ None → (a b : Option Stop) → r.stop ≡ a → stop_among team ≡ b → turns_by tells links ≡ n
         taken none None None ra rb =
