@@ -1,10 +1,9 @@
 // How many records a gateway's history has filed.
-ghost use Rattle.std.specs.Prelude.{◌≡◌, ◌≤◌, Err, IfOk};
-ghost use Rattle.area_disk.specs.Disk.{Rose};
+ghost use Rattle.std.specs.Prelude.{◌≡◌, IfOk};
 ghost use Rattle.gate_journal.specs.Moments.{Told};
-ghost use Rattle.gateway_book.specs.Book.{area_of, value_of};
+ghost use Rattle.gateway_book.specs.Book.{value_of};
 ghost use Rattle.gateway_answer.specs.Items.{items_of};
-ghost use Rattle.gateway_book.specs.Read.{IsUnchanged};
+ghost use Rattle.gateway_book.specs.Read.{HasReadCause, IsUnchanged};
 ghost use Rattle.replay_gateway.specs.Tally.{part_count};
 
 use crate::gateway_report::record_count;
@@ -19,12 +18,12 @@ const PIECE: u32 = 4096;
 /// A history has no more items than the longest area has octets.
 const MOST_ITEMS: u64 = 268_435_456;
 
-/// How many records a gateway's history has filed.
+/// How many records the firm entries of a gateway's history have filed. It reads the area, and ends at the first read
+/// that fails. After `Device`, for which the count of the device's faults rose, or `NoMemory` the book is as before.
 pub fn count_records<A: Area>(alloc: Global, book: &mut Book<A>) -> Result<usize, ItemsFault>
     ensures records { Told A.Area → IfOk result (λ n. n ≡ part_count (items_of (value_of book.old).firm)) }
-    ensures device { result ≡ Err ItemsFault.Device →
-        Rose (A.faults (area_of book.old)) (A.faults (area_of book.new)) }
-    ensures same { IsUnchanged book.old book.new × (A.faults (area_of book.old) ≤ A.faults (area_of book.new)) }
+    ensures cause { HasReadCause book.old book.new result }
+    ensures same { IsUnchanged book.old book.new }
 {
     a_book_is_within_the_limits::<A>();
     let mut from = 0u64;
