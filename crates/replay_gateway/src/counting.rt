@@ -19,7 +19,8 @@ const PIECE: u32 = 4096;
 /// A history has no more items than the longest area has octets.
 const MOST_ITEMS: u64 = 268_435_456;
 
-/// How many records a gateway's history has filed.
+/// How many records the firm entries of a book have filed. It reads the area, and leaves the book as it was.
+/// `Device`: a read failed. `NoMemory`: there was no memory for the items.
 pub fn count_records<A: Area>(alloc: Global, book: &mut Book<A>) -> Result<usize, ItemsFault>
     ensures records { Told A.Area → IfOk result (λ n. n ≡ part_count (items_of (value_of book.old).firm)) }
     ensures device { result ≡ Err ItemsFault.Device →

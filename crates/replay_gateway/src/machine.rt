@@ -66,7 +66,8 @@ pub struct Machine {
 }
 
 impl Machine {
-    /// A gateway that is opened on an empty area, whose Start is firm. `NoMemory`: there was no memory for it.
+    /// A gateway in this place, from 0, that is opened on an empty area, whose Start is firm. `NoMemory`: there was no
+    /// memory for it.
     pub fn new(
         alloc: Global,
         place: u8,
@@ -132,7 +133,7 @@ impl Machine {
         }
     }
 
-    /// Arms this for the calls of its shelf.
+    /// Arms this for the calls of its shelf, of one that is up.
     pub fn arm_shelf(&mut self, plan: Plan)
         ensures { (setup : SetupValue) (place : ℕ) (g : Gateway) (m : MachineValue) (armed : Armed) →
             ArmsAs armed plan → g.is_down ≡ false →
