@@ -56,7 +56,7 @@ pub struct Sent {
 #[derive(Drop)]
 pub struct Machine {
     pub(crate) setup: Setup,
-    /// Where it is; it is always somewhere.
+    /// Where it is: somewhere, between calls that are asked as their clauses suppose.
     pub(crate) site: Option<Site>,
     pub(crate) files: Files,
     /// The answers that wait for entries to be firm.
@@ -119,7 +119,7 @@ impl Machine {
         }
     }
 
-    /// Arms this for the calls of its area, where it is up.
+    /// Arms this for the calls of its area, of one that is up.
     pub fn arm(&mut self, plan: Plan)
         ensures { (setup : SetupValue) (place : ℕ) (g : Gateway) (m : MachineValue) (armed : Armed) →
             ArmsAs armed plan →
@@ -156,7 +156,7 @@ impl Machine {
         self.arm_shelf(calm(alloc));
     }
 
-    /// Stops it between two calls, where it is up: it keeps what is firm.
+    /// Stops it between two calls, of one that is up: it keeps what is firm.
     pub fn stop(&mut self, alloc: Global)
         ensures { (setup : SetupValue) (place : ℕ) (g : Gateway) (m : MachineValue) →
             MachineStands setup place g m self.old →
@@ -194,7 +194,7 @@ impl Machine {
         self.files.end(alloc);
     }
 
-    /// Opens it again, where it is down. `NoMemory`: there was no memory for that.
+    /// Opens it again, of one that is down. `NoMemory`: there was no memory for that, and it is down still.
     pub fn open(&mut self, alloc: Global) -> Result<(), NoMemory>
         ensures { (setup : SetupValue) (place : ℕ) (g : Gateway) (m : MachineValue) →
             MachineStands setup place g m self.old →
