@@ -47,7 +47,8 @@ tells_a_fault (Drops Device) = true
 tells_a_fault (Replies number (TransferResponse cause responded) act) = cause == SYSTEM_FAILURE
 tells_a_fault _ = false
 
--- whatever act a request calls for, there is room for it: for the one that would be recorded if there were room for each
+-- whatever act a request calls for, there is room for it: for the one that would be recorded if there were room for
+-- each
 abbrev pub HasRoomFor : Observed → Addr → PreparedValue → (HistoryAct → Bool) → Type 0
 HasRoomFor o from datagram room = (a : HistoryAct) → act_given (answer_within o from datagram (λ b. true)) ≡ Some a → room a ≡ true
 

@@ -10,8 +10,8 @@ use Rattle.gw_base.specs.declared.history.HistoryEntry.{HistoryEntry}
 use Rattle.gateway_answer.specs.Answered.{entry_by, no_caller, room_for}
 
 -- The firm part of the history; the entries behind it, which wait for a commit, or, of a broken book, are torn: nobody
--- knows whether the journal will be found to hold them; how many commits and openings again have failed; and whether the
--- book is broken, as it is from a commit that fails to an opening again that doesn't.
+-- knows whether the journal will be found to hold them; how many commits and openings again have failed; and whether
+-- the book is broken, as it is from a commit that fails to an opening again that doesn't.
 pub record BookValue : Type 0 where
   pub firm : List HistoryEntry
   pub rest : List HistoryEntry

@@ -8,18 +8,21 @@ pub enum Case<'a> {
     Drop(Why),
     /// A message of another version of GTP', which Version Not Supported answers.
     OtherVersion {
+        /// Its sequence number.
         number: u16,
     },
     /// A Data Record Transfer Request that can't be read, or has a record that can't be decoded.
     Refused {
         /// The cause that answers it: 177, 193, 201 or 202.
         cause: u8,
+        /// Its sequence number.
         number: u16,
     },
     /// A message of path management.
     Path(PathEvent),
     /// A Data Record Transfer Request.
     Request {
+        /// Its sequence number.
         number: u16,
         /// What is asked.
         body: Transfer<'a>,

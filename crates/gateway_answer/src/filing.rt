@@ -24,6 +24,7 @@ pub struct FiledRecord {
     pub kind: CdrKind,
     /// The tag of the record, where its data record format is BER.
     pub tag: Option<Tag>,
+    /// Its octets, as the packet has them.
     pub octets: Octets,
     /// The moment of the entry that filed it.
     pub moment: Moment,
@@ -241,7 +242,8 @@ fn filed_record(
     })
 }
 
-/// The tag in front of a record of a packet with this data record format, where that is BER.
+/// The tag in front of a record of a packet with this data record format, where that is BER; none where it isn't, or
+/// where no tag stands there. It takes no memory.
 pub fn record_tag(format: u8, octets: &[u8]) -> Option<Tag>
     ensures { result ≡ record_tag format octets.now }
 {

@@ -118,8 +118,8 @@ pub fn filed_records_stay()
     ensures items { (h g : List HistoryEntry) → items_of (h ++ g) ≡ items_of h ++ along items_by h g }
 {}
 
-/// A history makes no more items than its entries cost of a journal. So one that stands in an area makes no more than the
-/// area has octets behind its header.
+/// A history makes no more items than its entries cost of a journal. So one that stands in an area makes no more than
+/// the area has octets behind its header.
 pub fn items_are_fewer_than_octets()
     ensures costs { (h : List HistoryEntry) → length (items_of h) ≤ costs_of h }
     ensures stands { (header octets : List ℕ) (h : List HistoryEntry) → StandsFitFor header octets h →

@@ -2,7 +2,8 @@
 //! entries are fit to stand in that. No call here reads or writes a journal.
 //!
 //! The model is the history itself: a list of entries. The contract is that of `answer_by`: whatever tells it of a
-//! history what `Observe` asks, it answers by the definition (`specs/Answer.antt`).
+//! history what `Observe` asks, it answers by the definition (`specs/Answer.antt`). A book is what calls it. `answer`,
+//! `has_room`, `costs_of` and `filed` scan a whole history: they are for worlds that run, and for tests.
 //!
 //!     let prepared = prepare(octets);
 //!     let decision = answer_by(&seen, from, prepared.case(), &mut scratch);

@@ -34,7 +34,7 @@ pub struct Scratch {
 impl Scratch {
     ghost use Rattle.gateway_answer.specs.Scratches.{IsEmpty};
 
-    /// Empty lists, which take the memory for all that they will hold.
+    /// Empty lists, which take the memory for all that they will hold. `NoMemory`: there was none for that.
     pub fn new(alloc: Global) -> Result<Scratch, NoMemory>
         ensures { IfOk result IsEmpty }
     {

@@ -43,8 +43,8 @@ abbrev pub cause_of : MessageValue → Option ℕ
 cause_of (TransferResponse cause responded) = Some cause
 cause_of _ = None
 
--- what the caller is told of an answer: its octets and their cause, the length of the history that they rest on, and how many commits
--- and openings again have failed
+-- what the caller is told of an answer: its octets and their cause, the length of the history that they rest on, and
+-- how many commits and openings again have failed
 abbrev pub outcome_at : BookValue → Decided → Outcome
 outcome_at after (Silent why) = outcome.Drop why
 outcome_at after (Says octets act) =

@@ -67,8 +67,8 @@ module _ {A : Type 0} {tells : Ghosts A} (old new : Book A tells) where
   AsPlanned AsksCommit = CommitsAsPlanned
   AsPlanned AsksReopening = ReopensAsPlanned
 
--- What the area of a book stands for that is handed back: after a crash, of a book that goes on and of any, after a stop,
--- and by a read. All entries are fit.
+-- What the area of a book stands for that is handed back: after a crash, of a book that goes on and of any, after a
+-- stop, and by a read. All entries are fit.
 pub record LeavesFit {A : Type 0} {tells : Ghosts A} (book : Book A tells) : Type 0 where
   pub whole : Told tells → is_closed book.trail ≡ false → (c : List ℕ) → tells.may_leave (area_of book) c → StandsFitFor (header_of book) c (value_of book).firm
   pub any : Told tells → (c : List ℕ) → tells.may_leave (area_of book) c →

@@ -21,8 +21,8 @@ pub record ReadCause {R : Type 0} (before now : ℕ) (result : Result R ItemsFau
   pub still : result ≢ Err Device → now ≡ before
   pub later : before ≤ now
 
--- A trail was read, or not even that, and is as before. That what a crash leaves stays where nothing is done is a law of
--- each area.
+-- A trail was read, or not even that, and is as before. That what a crash leaves stays where nothing is done is a law
+-- of each area.
 pub record IsRead {A : Type 0} {tells : Ghosts A} (old new : Trail A tells) : Type 0 where
   pub kept : IsKept old new
   pub torn_stands : trail.torn_stands new ≡ trail.torn_stands old

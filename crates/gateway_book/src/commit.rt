@@ -102,7 +102,7 @@ impl<A: Area> Book<A> {
         Settled::Firm
     }
 
-    /// How much the book has recorded and holds.
+    /// How much the book has recorded and holds. Of a broken book the firm part counts. It reads nothing.
     pub fn counts(&self) -> Counts
         ensures told { Told A.Area → result ≡ counts_of (value_of self.now) (A.size (area_of self.now)) }
         ensures counted { AreCounted self.now result }

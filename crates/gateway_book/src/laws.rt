@@ -49,8 +49,8 @@ pub fn only_a_broken_gateway_tells_a_fault()
         tells_a_fault (given_at ready from (prepared_of octets) size) ≡ true → ready.is_broken ≡ true }
 {}
 
-/// The firm entries of a book make no more items than its area, which is no longer than one may be, has octets behind the
-/// header; and its history knows no more nodes than a gateway may.
+/// The firm entries of a book make no more items than its area, which is no longer than one may be, has octets behind
+/// the header; and its history knows no more nodes than a gateway may.
 pub fn a_book_is_within_the_limits<A: Area>()
     ensures short { (book : Book A A.Area) → size_of book ≤ most_octets }
     ensures items { Told A.Area → (book : Book A A.Area) →
@@ -89,8 +89,8 @@ pub fn a_gateway_goes_as_armed<A: Area>()
 {}
 
 /// What each call of a book does, as its own clauses say it, is a turn of a value that many use: what it owes then, and
-/// which entries it added behind which. A call that had no memory left the book ready. A book that was made ready stands
-/// for the list behind which entries are added; one that is broken then adds none.
+/// which entries it added behind which. A call that had no memory left the book ready. A book that was made ready
+/// stands for the list behind which entries are added; one that is broken then adds none.
 pub fn a_turn_owes<A: Area>()
     ensures ready { (old new : Book A A.Area) (session : Option ℕ) → Stays old new → HasCause old new →
         (Told A.Area → value_of new ≡ readied (fortune_of old new) (value_of old)) → IsTurn old new session [] }

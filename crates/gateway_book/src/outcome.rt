@@ -4,7 +4,7 @@ use gw_base::Short;
 /// What a gateway is set up with.
 #[derive(Clone, Copy)]
 pub struct Setup {
-    /// Its IPv4 address.
+    /// Its IPv4 address, the first octet highest.
     pub address: u32,
     /// For how many seconds a file may stay open before a Tick closes it.
     pub open_time: u64,
@@ -93,7 +93,7 @@ pub struct Broken {
 pub enum ItemsFault {
     /// The device failed.
     Device,
-    /// There was no memory.
+    /// There was no memory; or the area, which then doesn't tell what it was given, gave octets that spell no entry.
     NoMemory,
 }
 

@@ -41,8 +41,8 @@ pub record AreBlank (places : ℕ) (pairs : List WindowPair) : Type 0 where
   pub count : length pairs ≡ places
   pub blank : (firm : Bool) (k : ℕ) → seen_at firm pairs k ≡ nothing_seen
 
--- There are 64 of them, of which those behind the nodes of the firm side know no firm number, and those behind all nodes
--- none.
+-- There are 64 of them, of which those behind the nodes of the firm side know no firm number, and those behind all
+-- nodes none.
 pub record AreBeside (firm nodes : ℕ) (pairs : List WindowPair) : Type 0 where
   pub count : length pairs ≡ 64
   pub firm_behind : (k : ℕ) → firm ≤ k → seen_at true pairs k ≡ nothing_seen

@@ -26,7 +26,8 @@ const MOST_COPIES: u64 = 65_536;
 
 /// What a gateway keeps of its history, so that it answers without reading it: of each known node the Path that opened
 /// its present epoch and a window of its numbers, the held copies, and some counts. It has a firm side, which follows
-/// the firm entries, and a live side, which follows these with those that wait for a commit or are torn.
+/// the firm entries, and a live side, which follows these with those that wait for a commit or are torn. A look-up asks
+/// the firm side where `firm` is true, and else the live side.
 ///
 /// All its memory is taken as it is made. A look-up takes a time that grows with the known nodes, of which there are 64
 /// at most, and with the logarithm of the number of held copies, but where a window says that the number is held.
@@ -42,7 +43,7 @@ pub struct Index {
 impl Index {
     ghost use Rattle.gateway_index.specs.Index.{Follows, MayCome, MayGrow, Stepped, observed_by, side_of};
 
-    /// The index of no entry.
+    /// The index of no entry. `NoMemory`: there was no memory for all that it will keep.
     pub fn new(alloc: Global) -> Result<Index, NoMemory>
         ensures { IfOk result (λ index. (firm : Bool) → Follows firm index []) }
     {
@@ -206,9 +207,9 @@ impl Index {
         self.step(entry);
     }
 
-    /// Makes both sides what one of them is: the live side, where the entries that waited are firm, or else the firm
-    /// side, where they are dropped. It takes no memory, and a time that grows with the nodes of which something
-    /// changed, and with the held copies where one came or went.
+    /// Makes both sides what one of them is: by `false` the live side, where the entries that waited are firm, and by
+    /// `true` the firm side, where they are dropped. It takes no memory, and a time that grows with the nodes of which
+    /// something changed, and with the held copies where one came or went.
     pub fn keep(&mut self, firm: bool)
         ensures sides { (side : Bool) → side_of side self.new ≡ side_of firm self.old }
         ensures follows { (side : Bool) (h : List HistoryEntry) → Follows firm self.old h → Follows side self.new h }

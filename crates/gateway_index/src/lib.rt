@@ -2,7 +2,8 @@
 //! present epoch and a window of its numbers, the copies that are held, and some counts.
 //!
 //! The model is `Side` of `specs/Sides.antt`: an index has a firm side and a live side. The contract is that of
-//! `Index`: each side follows a history, entry by entry, and tells of it what `laws` say.
+//! `Index`: each side follows a history, entry by entry, and tells of it what `laws` say. Whoever asks says by `true`
+//! that the firm side is meant, and by `false` the live side.
 //!
 //!     let mut index = Index::new(alloc)?;
 //!     index.note(&entry);

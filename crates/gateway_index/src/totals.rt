@@ -4,7 +4,7 @@ ghost use Rattle.gateway_index.specs.Sides.{no_totals, totals_after};
 
 use gw_base::{Act, Entry, Moment};
 
-/// What an index keeps of all entries together.
+/// What an index keeps of all entries together. Both counts stand still at 2^64 - 1.
 #[derive(Clone, Copy)]
 pub struct Totals {
     /// How often the gateway began to run.
@@ -13,6 +13,7 @@ pub struct Totals {
     pub stranded: u64,
     /// The moment of the last entry.
     pub moment: Moment,
+    /// Whether a File or a Release stands after the last Close.
     pub is_close_due: bool,
     /// The moment of the last Tick after the last Close.
     pub last_tick: Option<Moment>,

@@ -28,7 +28,7 @@ pub enum Wrote {
     All,
     /// The shelf failed, and the writer has to recover.
     Failed,
-    /// The shelf stopped, and the gateway with it.
+    /// The shelf stopped, and runs again. The gateway is up still: who asked for the write stops it.
     Stopped,
 }
 

@@ -24,17 +24,21 @@ use std::alloc::Global;
 /// How many streams a gateway has.
 const STREAMS: u8 = 16;
 
-/// What a gateway counts: its entries, its records, and the counts of its book.
+/// What a gateway counts.
 #[derive(Clone, Copy)]
 pub struct Tally {
+    /// The entries of its history.
     pub entries: u64,
+    /// The records that its firm entries file.
     pub records: usize,
+    /// The counts of its book. One that is down is opened for them, so that their `entries` and `free` may have a Start
+    /// more. A clause tells `held` and `stranded` alone.
     pub counts: Counts,
 }
 
 impl Machine {
-    /// Appends the lines of a gateway, which is in this place: of its sealed files, and of its counts. One that is down is
-    /// opened for this alone, and its area is left as it was. `NoMemory`: a part of them may have been appended.
+    /// Appends the lines of a gateway, which is in this place: of its sealed files, and of its counts. One that is down
+    /// is opened for this alone, and its area is left as it was. `NoMemory`: a part of them may have been appended.
     pub fn report(&mut self, alloc: Global, place: u8, out: &mut Octets) -> Result<(), NoMemory>
         ensures { (setup : Setup) (g : Gateway) (m : MachineValue) →
             MachineStands setup place g m self.old → OnOk result

@@ -42,8 +42,8 @@ pub fn a_script_is_short()
         script_in of text ≡ Ok lines → length lines ≤ most_text }
 {}
 
-/// What is reported of a gateway that has written all are the files that all its items make, and its counts. Once its area
-/// and its shelf are handed out it is at rest.
+/// What is reported of a gateway that has written all are the files that all its items make, and its counts. Once its
+/// area and its shelf are handed out it is at rest.
 pub fn a_gateway_that_wrote_all_rests()
     ensures reports { (setup : Setup) (place : ℕ) (g : Gateway) (m : Machine) →
         IsAllWritten (files_in setup place) g m →

@@ -56,7 +56,7 @@ pub struct Sent {
 #[derive(Drop)]
 pub struct Machine {
     pub(crate) setup: Setup,
-    /// Where it is; it is always somewhere.
+    /// Where it is: somewhere, between calls that are asked as their clauses suppose.
     pub(crate) site: Option<Site>,
     pub(crate) files: Files,
     /// The answers that wait for entries to be firm.
@@ -66,7 +66,8 @@ pub struct Machine {
 }
 
 impl Machine {
-    /// A gateway that is opened on an empty area, whose Start is firm. `NoMemory`: there was no memory for it.
+    /// A gateway in this place, from 0, that is opened on an empty area, whose Start is firm. `NoMemory`: there was no
+    /// memory for it.
     pub fn new(
         alloc: Global,
         place: u8,
@@ -118,7 +119,7 @@ impl Machine {
         }
     }
 
-    /// Arms this for the calls of its area, where it is up.
+    /// Arms this for the calls of its area, of one that is up.
     pub fn arm(&mut self, plan: Plan)
         ensures { (setup : SetupValue) (place : ℕ) (g : Gateway) (m : MachineValue) (armed : Armed) →
             ArmsAs armed plan →
@@ -132,7 +133,7 @@ impl Machine {
         }
     }
 
-    /// Arms this for the calls of its shelf.
+    /// Arms this for the calls of its shelf, of one that is up.
     pub fn arm_shelf(&mut self, plan: Plan)
         ensures { (setup : SetupValue) (place : ℕ) (g : Gateway) (m : MachineValue) (armed : Armed) →
             ArmsAs armed plan → g.is_down ≡ false →
@@ -155,7 +156,7 @@ impl Machine {
         self.arm_shelf(calm(alloc));
     }
 
-    /// Stops it between two calls, where it is up: it keeps what is firm.
+    /// Stops it between two calls, of one that is up: it keeps what is firm.
     pub fn stop(&mut self, alloc: Global)
         ensures { (setup : SetupValue) (place : ℕ) (g : Gateway) (m : MachineValue) →
             MachineStands setup place g m self.old →
@@ -193,7 +194,7 @@ impl Machine {
         self.files.end(alloc);
     }
 
-    /// Opens it again, where it is down. `NoMemory`: there was no memory for that.
+    /// Opens it again, of one that is down. `NoMemory`: there was no memory for that, and it is down still.
     pub fn open(&mut self, alloc: Global) -> Result<(), NoMemory>
         ensures { (setup : SetupValue) (place : ℕ) (g : Gateway) (m : MachineValue) →
             MachineStands setup place g m self.old →

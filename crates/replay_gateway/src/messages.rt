@@ -19,14 +19,19 @@ use node_core::Port;
 use once_core::{Message, node_id};
 use std::alloc::Global;
 
-/// What an answer has of the message that it answers.
+/// What an answer has of the message that it answers: its ends and its number.
 #[derive(Clone, Copy)]
 pub struct Ends {
+    /// Whether the message that is answered goes to the gateway.
     pub to_gateway: bool,
+    /// The gateway and the node, counted from 0.
     pub gateway: u8,
     pub node: u8,
+    /// The port of the node.
     pub port: Port,
+    /// How many starts the node had made.
     pub start: u8,
+    /// The whole number of the message.
     pub number: u64,
 }
 

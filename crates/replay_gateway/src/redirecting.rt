@@ -22,8 +22,8 @@ use std::alloc::Global;
 const MOST_NODES: usize = 64;
 
 impl Machine {
-    /// Asks all nodes that it has a path to to send elsewhere, for this cause, and to the gateway in the place `to` where
-    /// one is named; it is in `place` itself. `NoMemory`: there was no memory for the messages.
+    /// Asks all nodes that it has a path to to send elsewhere, for this cause, and to the gateway in the place `to`
+    /// where one is named; it is in `place` itself, and up. `NoMemory`: there was no memory for the messages.
     pub fn redirect(
         &mut self,
         alloc: Global,

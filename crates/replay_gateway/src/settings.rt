@@ -16,7 +16,9 @@ use world_script::{Line, Script};
 /// How many gateways and nodes there are, how long each journal is, and what decides the files, but for the rules.
 #[derive(Clone, Copy)]
 pub struct Settings {
+    /// How many gateways there are, at least 1.
     pub gateways: u8,
+    /// How many nodes there are.
     pub nodes: u8,
     /// The length of a journal's area in octets, from 100 to 268,435,456.
     pub size: u64,
@@ -104,7 +106,7 @@ fn offset(minutes: i16) -> Offset16
     offset
 }
 
-/// The rules among the lines of a script.
+/// The rules among the lines of a script, in their order. `NoMemory`: there was no memory for them.
 pub fn rules_of(alloc: Global, script: &Script) -> Result<Rules, NoMemory>
     ensures { IfOk result (λ rules. rules ≡ (setup_of script.now.lines).rules) }
 {

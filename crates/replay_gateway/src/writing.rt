@@ -36,8 +36,8 @@ pub(crate) fn what_was_written_stays()
 }
 
 impl Machine {
-    /// Gives the writer the items of the firm entries that it doesn't have yet, where it is up. Where its shelf stops it
-    /// is up still. `NoMemory`: there was no memory for that, and a part may be written.
+    /// Gives the writer the items of the firm entries that it doesn't have yet, of one that is up. It is up still where
+    /// its shelf stopped. `NoMemory`: there was no memory for that, and a part may be written.
     pub fn write(&mut self, alloc: Global) -> Result<Wrote, NoMemory>
         ensures { (setup : Setup) (place : ℕ) (g : Gateway) (m : MachineValue) →
             MachineStands setup place g m self.old → g.is_down ≡ false →
