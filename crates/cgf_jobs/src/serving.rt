@@ -13,8 +13,9 @@ use world_script::ipv4;
 /// how many octets its journal's area has.
 #[derive(Clone, Copy)]
 pub struct Serving {
-    /// The address that its links are made at.
+    /// The IPv4 address that its links are made at.
     pub ip: u32,
+    /// The port there.
     pub port: u16,
     /// From 1 to 1,099,511,627,776.
     pub turns: u64,

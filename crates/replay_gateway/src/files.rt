@@ -108,7 +108,8 @@ impl Files {
         }
     }
 
-    /// It begins the items of a gateway anew, and takes all that its site tells.
+    /// A writer that has to recover does so, and takes all items of a site's gateway, from the first. After `Failed`,
+    /// `Stopped` and `NoMemory` it has to recover again.
     pub fn begin(&mut self, alloc: Global, site: &mut Site) -> Result<Wrote, NoMemory>
         requires taken { self.old.taken ≡ None }
         ensures { (setup : Setup) (place : ℕ) (g : Gateway) (m : Machine) (settings : Settings) (f : Filing) →
