@@ -2,7 +2,7 @@
 ghost use Rattle.std.specs.Prelude.{◌≡◌, ◌≤◌, ◌∷◌, ℕ, [], false, IfSome, List, map, string_bytes};
 ghost use Rattle.gate_journal.specs.Format.{fewest_octets, most_octets};
 ghost use Rattle.world_script.specs.Values.{number_between};
-ghost use Rattle.cgf_jobs.specs.Serving.{IsServingWithin, places_of, places_seen, serving_by, serving_of};
+ghost use Rattle.cgf_jobs.specs.Serving.{IsServingWithin, serve_places_of, serve_places_seen, serving_by, serving_of};
 ghost use Rattle.cgf_jobs.specs.Words.{is_option};
 
 use crate::words::is_option;
@@ -26,7 +26,7 @@ pub struct Serving {
 /// The outside of `serve`: the length of the area of its journal, the path of the area's file, and that of the folder of
 /// its files.
 #[derive(Clone, Copy)]
-pub struct Places<'a> {
+pub struct ServePlaces<'a> {
     /// From 100 to 268,435,456.
     pub length: u64,
     /// A file that is made where there is none.
@@ -63,15 +63,15 @@ impl Serving {
 }
 
 /// The outside of `serve`, for whoever makes it: there exactly where the words are those of `serve`.
-pub fn serve_places(words: &[String]) -> Option<Places<'_>>
-    ensures seen { places_seen result ≡ places_of (map string_bytes words.now) }
+pub fn serve_places(words: &[String]) -> Option<ServePlaces<'_>>
+    ensures seen { serve_places_seen result ≡ serve_places_of (map string_bytes words.now) }
     ensures within { IfSome result (λ places. (fewest_octets ≤ places.length) × (places.length ≤ most_octets)) }
 {
     let [_, _, _, _, _, area, folder, ..] = words else {
         return None;
     };
     let serving = Serving::of(words)?;
-    Some(Places {
+    Some(ServePlaces {
         length: serving.length,
         area: area.as_str(),
         folder: folder.as_str(),

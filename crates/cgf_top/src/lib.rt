@@ -31,10 +31,10 @@ use crate::looping::{loop_back, looping_of};
 use crate::watch::Nobody;
 use area_disk::Area;
 use cdr_shelf::Shelf;
-use cgf_jobs::{GatewayEnd, JobEnd, do_job, serve_gateway, stream_gateway};
+use cgf_jobs::{GatewayEnd, JobEnd, Serving, Streaming, do_job, serve_gateway, stream_gateway};
 pub use cgf_jobs::{
-    InputKind, NodeTurn, Places, Played, Serving, Status, StoreFault, StreamPlaces, Streaming,
-    Watch, serve_places, stream_places, tcp_address,
+    InputKind, NodeTurn, Played, ServePlaces, Status, StoreFault, StreamPlaces, Watch,
+    serve_places, stream_places, tcp_address,
 };
 use gw_base::{Sink, Source};
 pub use loop_run::Looped;
