@@ -9,7 +9,7 @@ ghost use Rattle.gw_base.specs.declared.item.Item.{Item as ItemValue};
 
 use crate::plans::calm;
 use crate::site::Site;
-use crate::writing::tell_all;
+use crate::writing::give_all;
 use area_disk::Plan;
 use area_disk::laws::{arms_fail, arms_nothing, arms_stop};
 use cdr_shelf::MemoryShelf;
@@ -127,7 +127,7 @@ impl Files {
             // No read is planned to fail.
             Err(fault) => return self.broken(alloc, fault),
         }
-        match tell_all(alloc, site, &mut self.writer)? {
+        match give_all(alloc, site, &mut self.writer)? {
             Ok(taken) => {
                 self.taken = Some(taken);
                 Ok(Wrote::All)
