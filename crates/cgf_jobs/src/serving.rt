@@ -7,7 +7,7 @@ ghost use Rattle.cgf_jobs.specs.Words.{is_option};
 
 use crate::words::is_option;
 use route_filter::number;
-use world_script::ipv4;
+use world_script::{ipv4, number_between};
 
 /// The numbers of `serve IP PORT TURNS LENGTH AREA FOLDER`: where a gateway serves, for how many turns of its link, and
 /// how many octets its journal's area has.
@@ -112,7 +112,7 @@ fn by_numbers(ip: &[u8], port: &[u8], turns: &[u8], length: &[u8]) -> Option<Ser
     Some(Serving {
         ip: ipv4(ip)?,
         port: number(port, 65_535)? as u16,
-        turns: number_between(turns, 1, MOST_TURNS)?,
+        turns: number_between(1, MOST_TURNS, turns)?,
         length: length_of_area(length)?,
     })
 }
@@ -122,14 +122,5 @@ pub(crate) fn length_of_area(word: &[u8]) -> Option<u64>
     ensures said { result ≡ number_between fewest_octets most_octets word.now }
     ensures within { IfSome result (λ n. (fewest_octets ≤ n) × (n ≤ most_octets)) }
 {
-    number_between(word, FEWEST_OCTETS, MOST_OCTETS)
-}
-
-/// The number that a word says in decimal, from `least` to `most`.
-pub fn number_between(word: &[u8], least: u64, most: u64) -> Option<u64>
-    ensures said { result ≡ number_between least most word.now }
-    ensures within { IfSome result (λ n. (least ≤ n) × (n ≤ most)) }
-{
-    let number = number(word, most)?;
-    if number < least { None } else { Some(number) }
+    number_between(FEWEST_OCTETS, MOST_OCTETS, word)
 }

@@ -7,7 +7,7 @@ ghost use Rattle.cgf_top.specs.Looping.{looping_by, looping_of};
 ghost use Rattle.cgf_jobs.specs.Run.{may_have_written};
 
 use crate::watch::LoopWatch;
-use cgf_jobs::{Status, Watch, number_between, write_all};
+use cgf_jobs::{Status, Watch, write_all};
 use gw_base::{NoMemory, Sink};
 use loop_run::{GatewaySum, LoopEnd, LoopSetup, Looped, NodeSum, run_loop_watched};
 use net_link::Links;
@@ -15,6 +15,7 @@ use std::alloc::Global;
 use std::sync::Wait;
 use std::thread::Threads;
 use std::time::Clock;
+use world_script::number_between;
 
 /// The loop that the words ask for, where they are those of `loopback`.
 pub(crate) fn looping_of(words: &[String]) -> Option<LoopSetup>
@@ -58,10 +59,10 @@ fn by_numbers(gateways: &[u8], nodes: &[u8], packets: &[u8], turns: &[u8]) -> Op
     ensures within { IfSome result IsLoop }
 {
     Some(LoopSetup {
-        gateways: number_between(gateways, 1, 4)? as u8,
-        nodes: number_between(nodes, 1, 8)? as u8,
-        packets: number_between(packets, 1, 1_000)? as u32,
-        turns: number_between(turns, 1, 10_000_000)?,
+        gateways: number_between(1, 4, gateways)? as u8,
+        nodes: number_between(1, 8, nodes)? as u8,
+        packets: number_between(1, 1_000, packets)? as u32,
+        turns: number_between(1, 10_000_000, turns)?,
     })
 }
 
