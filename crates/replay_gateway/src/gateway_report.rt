@@ -1,5 +1,5 @@
 // The report of a gateway.
-ghost use Rattle.std.specs.Prelude.{◌≡◌, ◌<◌, ◌++◌, ℕ, IfOk, List, OnOk, count_by, false, length, take, true};
+ghost use Rattle.std.specs.Prelude.{◌≡◌, ◌+◌, ◌<◌, ◌^◌, ◌++◌, ℕ, IfOk, List, OnOk, count_by, false, length, take, true};
 ghost use Rattle.std.specs.List.{flat_map};
 ghost use Rattle.file_writer.specs.Files.{stream_files};
 ghost use Rattle.file_writer.specs.Streams.{stream_count};
@@ -50,10 +50,11 @@ impl Machine {
         print_counts(
             alloc,
             out,
-            place,
+            usize::from(place),
             tally.entries,
             tally.records,
-            tally.counts,
+            tally.counts.held,
+            tally.counts.stranded,
         )
     }
 
@@ -175,8 +176,9 @@ fn print_file(
     Ok(())
 }
 
-/// The name of a file.
-fn print_name(out: &mut Octets, name: FileName) -> Result<(), NoMemory>
+/// Appends the name of a file: its stream in two digits, and its number in ten. `NoMemory`: a part of it may have been
+/// appended.
+pub fn print_name(out: &mut Octets, name: FileName) -> Result<(), NoMemory>
     ensures { OnOk result (out.new ≡ out.old ++ file_name name) }
 {
     print_digits(out, 2, u32::from(name.stream))?;
@@ -212,20 +214,21 @@ pub fn record_count(items: &[Item]) -> usize
     records
 }
 
-/// The line of a gateway's counts.
-fn print_counts(
+/// Appends the line of what the gateway in this place counts, from 0: its entries, the records that they file, and the
+/// copies that are held and stranded. `NoMemory`: a part of it may have been appended.
+pub fn print_counts(
     alloc: Global,
     out: &mut Octets,
-    place: u8,
+    place: usize,
     entries: u64,
     records: usize,
-    counts: Counts,
+    held: u64,
+    stranded: u64,
 ) -> Result<(), NoMemory>
-    ensures { OnOk result (out.new ≡ out.old
-        ++ counts_text place entries records counts.held counts.stranded) }
+    requires { place + 1 < 2 ^ 64 }
+    ensures { OnOk result (out.new ≡ out.old ++ counts_text place entries records held stranded) }
 {
-    let number = u64::from(place) + 1;
-    let (held, stranded) = (counts.held, counts.stranded);
+    let number = place + 1;
     let line = format!(in alloc;
         "gateway {number} entries {entries} records {records} held {held} stranded {stranded}\n"
     )?;

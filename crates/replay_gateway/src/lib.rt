@@ -31,7 +31,7 @@ mod writing;
 pub use calls::GatewayCall;
 pub use counting::count_records;
 pub use files::Wrote;
-pub use gateway_report::{Tally, record_count};
+pub use gateway_report::{Tally, print_counts, print_name, record_count};
 pub use machine::{Came, Machine, Sent};
 pub use messages::Ends;
 pub use plans::{failing, stopping};
