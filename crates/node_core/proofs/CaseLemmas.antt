@@ -1,5 +1,7 @@
 -- What holds of both ends of a choice holds of what is chosen: a copy at the gateway or elsewhere, a packet that is open or done.
-use Rattle.std.proofs.Common.{◌≡◌, ℕ, ◌==◌, false, List, refl, ◌≢◌, inl, inr, subst}
+use Rattle.std.proofs.Common.{◌≡◌, ℕ, ◌==◌, Bool, false, List, [], ◌∷◌, Option, Some, None, option_map, refl, ◌≢◌, inl, inr, subst}
+use Rattle.std.specs.List.{Contains}
+use Rattle.std.specs.Option.{IfSome, option_map_or, option_or}
 use Rattle.std.proofs.lemmas.Bool.{cond_both}
 use Rattle.std.proofs.lemmas.Bool.Decides.{eqb_tells}
 use Rattle.node_core.specs.declared.copy.Command.{Command}
@@ -7,7 +9,8 @@ use Rattle.node_core.specs.declared.copy.PacketCopy.{PacketCopy}
 use Rattle.node_core.specs.declared.port.Port.{Port}
 use Rattle.node_core.specs.declared.sending.Sending.{Sending}
 use Rattle.node_core.specs.Copies.{copy_hearing, copy_hearing_own}
-use Rattle.node_core.specs.Packets.{PacketState, commanded, copies_after, is_done, is_of, packet_after, while_open, with_command}
+use Rattle.node_core.specs.Packets.{PacketState, commanded, copies_after, is_done, is_of, packet_after, packet_after_all, while_open, with_command}
+use Rattle.node_core.proofs.ListLemmas.{contains_more, in_head}
 
 module _ (P : PacketCopy → Type 0) where
   pub either_commanded : (gateway : ℕ) (command : Command) (copy : PacketCopy) → P (with_command command copy) →
@@ -33,6 +36,38 @@ module _ (P : PacketState → Type 0) where
   pub either_open : (f : PacketState → PacketState) (packet : PacketState) → P packet →
       (is_done packet.copies ≡ false → P (f packet)) → P (while_open f packet)
   either_open f packet done open_yet = cond_both (is_done packet.copies) packet (f packet) P (λ _. done) open_yet
+
+-- what each sending leaves of the copies all of them leave
+pub after_all_keeps : (P : List PacketCopy → Type 0) (sendings : List Sending) →
+    ((sending : Sending) → Contains sendings sending → (copies : List PacketCopy) → P copies → P (copies_after sending copies)) →
+    (packet : PacketState) → P packet.copies → P (packet_after_all sendings packet).copies
+after_all_keeps P [] keeps packet is = is
+after_all_keeps P (sending ∷ sendings) keeps packet is =
+    after_all_keeps P sendings (λ later there. keeps later (contains_more sendings sending later there))
+    (packet_after sending packet)
+    (either_sent (λ (p : PacketState). P p.copies) sending packet
+    (keeps sending (in_head sending sendings) packet.copies is) is)
+
+-- ---- an option that is filled, or changed
+
+pub if_or : {A : Type 0} (P : A → Type 0) (o other : Option A) → IfSome o P → IfSome other P → IfSome (option_or o other) P
+if_or P None other was new = new
+if_or P (Some x) other was new = was
+
+pub if_mapped : {A : Type 0} (P : A → Type 0) (f : A → A) (o : Option A) → IfSome o (λ x. P (f x)) → IfSome (option_map f o) P
+if_mapped P f None was = tt
+if_mapped P f (Some x) was = was
+
+-- a test of what is in it
+pub else_fails : {A : Type 0} (test : A → Bool) (o : Option A) (x : A) → test x ≡ false →
+    option_map_or test (option_or o (Some x)) false ≡ option_map_or test o false
+else_fails test None x fails = fails
+else_fails test (Some y) x fails = refl
+
+pub mapped_passes : {A : Type 0} (test : A → Bool) (f : A → A) (o : Option A) →
+    option_map_or test (option_map f o) false ≡ option_map_or (λ (x : A). test (f x)) o false
+mapped_passes test f None = refl
+mapped_passes test f (Some x) = refl
 
 -- ---- what leaves each copy where it is
 

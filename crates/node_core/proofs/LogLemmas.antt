@@ -1,14 +1,11 @@
 -- One more entry of the log makes of a node what befalls it.
-use Rattle.std.proofs.Common.{◌≡◌, ℕ, zero, suc, min, ◌+◌, ◌%◌, ◌==◌, nat_lt, Bool, true, false, IsTrue, if◌then◌else◌, List, [], ◌∷◌, ◌++◌, length, map, Option, Some, None, refl, sym, ap, ◌∙◌, arith}
+use Rattle.std.proofs.Common.{◌≡◌, ℕ, suc, min, ◌+◌, ◌%◌, ◌==◌, Bool, true, false, IsTrue, if◌then◌else◌, List, [], ◌∷◌, ◌++◌, length, map, Option, Some, None, refl, sym, ap, ◌∙◌, arith}
 use Rattle.std.proofs.lemmas.List.{length-map}
 use Rattle.std.proofs.lemmas.Bool.{cond_both}
-use Rattle.std.specs.Prelude.{slice_get, slice_set}
 use Rattle.gw_base.specs.declared.address.Addr.{Addr}
 use Rattle.path_mgmt.specs.NodePath.{PathsOfNode, node_after, node_anew}
 use Rattle.path_mgmt.specs.declared.event.PathEvent.{PathEvent}
 use Rattle.path_mgmt.specs.declared.event.PathEvent.TheVariants.{EchoAsked}
-use Rattle.gtpp_message.specs.Packet.{PacketForm}
-use Rattle.node_core.specs.declared.fault.SubmitFault.{SubmitFault}
 use Rattle.node_core.specs.declared.peer.Peer.{Peer}
 use Rattle.node_core.specs.declared.port.Port.{Port}
 use Rattle.node_core.specs.declared.sending.Sending.{Sending}
@@ -16,40 +13,24 @@ use Rattle.node_core.specs.declared.sending.Sending.TheVariants as send
 use Rattle.node_core.specs.Log.{LogEntry, Began, Halted, Submitted, Appointed, Ticked, Heard, NodeSetup, Saying, Path, counter_of, favourite, has_entries, paths_hearing, paths_of, peers_of, quiet_ticks, restarted}
 use Rattle.node_core.specs.Hearing.{Dropped, Says, Taken, entries_from, heard_entries, taken, taken_entries}
 use Rattle.node_core.specs.Moving.{appointing, moved_at_tick, moved_by}
-use Rattle.node_core.specs.Peers.{all_drawn, at_place, drawn, end_of_numbers, number_drawn, peer_anew, place_of}
-use Rattle.node_core.specs.Reached.{NodeCall, Submit, Tick, Hear, Halt, Start, call_entries, entries_halted, entries_running, log_of, most_submissions, reached, submit_entries}
-use Rattle.node_core.specs.Submitting.{refusal}
+use Rattle.node_core.specs.Peers.{all_drawn, drawn, end_of_numbers, number_drawn, peer_anew, place_of}
+use Rattle.node_core.specs.Reached.{NodeCall, call_entries, log_of, reached}
 use Rattle.node_core.specs.Ticks.{due, tick_entries}
 use Rattle.node_core.specs.Value.{IsNode, NodeValue, CanFollow, CanFollowAll, befallen, befell, logged, most_quiet, node_of, peers_anew}
+use Rattle.node_core.proofs.Moves.{place_keeps}
 
 -- ---- the gateways' addresses stay
-
-set_keeps : (peers : List Peer) (i : ℕ) (peer other : Peer) → slice_get peers i ≡ Some peer → other.address ≡ peer.address →
-    peers_anew (slice_set peers i other) ≡ peers_anew peers
-set_keeps [] i peer other is same = refl
-set_keeps (first ∷ peers) zero peer other is same =
-    let at : first ≡ peer = cc in
-    ap (λ (a : Addr). peer_anew a ∷ peers_anew peers) (same ∙ ap (λ (p : Peer). p.address) (sym at))
-set_keeps (first ∷ peers) (suc i) peer other is same = ap (λ (ps : List Peer). peer_anew first.address ∷ ps) (set_keeps peers i peer other is same)
-
-place_keeps : (peers : List Peer) (i : ℕ) (f : Peer → Peer) → ((peer : Peer) → (f peer).address ≡ peer.address) →
-    peers_anew (at_place i f peers) ≡ peers_anew peers
-place_keeps peers i f keeps = by (slice_get peers i) refl
-  where
-    by : (there : Option Peer) → slice_get peers i ≡ there → peers_anew (at_place i f peers) ≡ peers_anew peers
-    by None e = rw e refl
-    by (Some peer) e = rw e (set_keeps peers i peer (f peer) e (keeps peer))
 
 number_keeps : (gateway number : ℕ) (is_new : Bool) (peers : List Peer) →
     peers_anew (if is_new then number_drawn gateway number peers else peers) ≡ peers_anew peers
 number_keeps gateway number is_new peers =
-    cond_both is_new (number_drawn gateway number peers) peers
-    (λ (after : List Peer). peers_anew after ≡ peers_anew peers)
-    (λ _. place_keeps peers gateway (λ peer. record peer { next = min (suc number) end_of_numbers }) (λ peer.
-    refl)) (λ _. refl)
+    cond_both is_new (number_drawn gateway number peers) peers (λ (after : List Peer). peers_anew after ≡ peers_anew peers)
+    (λ _. place_keeps (λ (peer : Peer). peer_anew peer.address)
+    (λ (peer : Peer). record peer { next = min (suc number) end_of_numbers }) (λ peer. refl) gateway peers) (λ _. refl)
 
 drawn_keeps : (sending : Sending) (peers : List Peer) → peers_anew (drawn sending peers) ≡ peers_anew peers
-drawn_keeps (send.Probe gateway number) peers = place_keeps peers gateway (λ peer. record peer { path = (number + 1) % 65536 }) (λ peer. refl)
+drawn_keeps (send.Probe gateway number) peers = place_keeps (λ (peer : Peer). peer_anew peer.address)
+    (λ (peer : Peer). record peer { path = (number + 1) % 65536 }) (λ peer. refl) gateway peers
 drawn_keeps (send.Data packet gateway number is_plain is_new) peers = number_keeps gateway number is_new peers
 drawn_keeps (send.Test packet gateway number) peers = refl
 drawn_keeps (send.Command packet gateway named number order is_new) peers = number_keeps gateway number is_new peers
@@ -168,33 +149,13 @@ log_begun setup [] = refl
 log_begun setup (call ∷ calls) =
     logged_has (call_entries (node_of setup (log_of setup calls)) call) (log_of setup calls) (log_begun setup calls)
 
-submit_follow : (node : NodeValue) (fault : Option SubmitFault) (form : PacketForm) (log : List LogEntry) →
-    CanFollowAll (submit_entries node fault form) log
-submit_follow node None form log =
-    cond_both (nat_lt node.submissions most_submissions) (Submitted form ∷ []) []
-    (λ (entries : List LogEntry). CanFollowAll entries log) (λ _. (tt, tt)) (λ _. tt)
-submit_follow node (Some fault) form log = tt
-
-running_follow : (node : NodeValue) (call : NodeCall) (log : List LogEntry) → CanFollowAll (entries_running node call) log
-running_follow node (Submit form) log = submit_follow node (refusal node form) form log
-running_follow node Tick log = tick_follow node log
-running_follow node (Hear port from octets) log = heard_follow node log port from octets
-running_follow node Halt log = (tt, tt)
-running_follow node Start log = tt
-
-halted_follow : (call : NodeCall) (log : List LogEntry) → has_entries log ≡ true → CanFollowAll (entries_halted call) log
-halted_follow Halt log has = (tt, tt)
-halted_follow Start log has = (has, tt)
-halted_follow _ log has = tt
-
-call_follow : (node : NodeValue) (call : NodeCall) (log : List LogEntry) → has_entries log ≡ true → CanFollowAll (call_entries node call) log
-call_follow node call log has =
-    cond_both node.is_running (entries_running node call) (entries_halted call)
-    (λ (entries : List LogEntry). CanFollowAll entries log)
-    (λ _. running_follow node call log) (λ _. halted_follow call log has)
+any_follow : (entries log : List LogEntry) → has_entries log ≡ true → CanFollowAll entries log
+any_follow [] log has = tt
+any_follow (Began ∷ entries) log has = (has, any_follow entries (Began ∷ log) refl)
+any_follow (entry ∷ entries) log has = (tt, any_follow entries (entry ∷ log) refl)
 
 pub call_goes_on : (setup : NodeSetup) (call : NodeCall) (calls : List NodeCall) →
     reached setup (call ∷ calls) ≡ befallen (call_entries (reached setup calls) call) (reached setup calls)
 call_goes_on setup call calls =
     entries_befall setup (call_entries (reached setup calls) call) (log_of setup calls)
-    (call_follow (reached setup calls) call (log_of setup calls) (log_begun setup calls))
+    (any_follow (call_entries (reached setup calls) call) (log_of setup calls) (log_begun setup calls))

@@ -1,6 +1,6 @@
 -- What is due for a packet is of that packet alone, so each packet changes by what is due for it.
-use Rattle.std.proofs.Common.{◌≡◌, ℕ, zero, suc, ◌+◌, ◌≤◌, ◌<◌, ◌==◌, Bool, true, false, if◌then◌else◌, List, [], ◌∷◌, ◌++◌, length, map, take, drop, refl, sym, ap, subst, ◌∙◌, append_assoc, length-drop, arith}
-use Rattle.std.proofs.lemmas.Bool.{ne_eqb}
+use Rattle.std.proofs.Common.{◌≡◌, ℕ, zero, suc, ◌+◌, ◌≤◌, ◌<◌, ◌==◌, Bool, false, if◌then◌else◌, List, [], ◌∷◌, ◌++◌, length, map, take, drop, refl, sym, ap, subst, ◌∙◌, append_assoc, length-drop, arith, inl, inr}
+use Rattle.std.proofs.lemmas.Bool.{cases_Bool, ne_eqb}
 use Rattle.std.specs.List.{AllByRecursion}
 use Rattle.path_mgmt.specs.NodePath.{PathsOfNode}
 use Rattle.node_core.specs.declared.peer.Peer.{Peer}
@@ -10,10 +10,10 @@ use Rattle.node_core.specs.Peers.{all_drawn}
 use Rattle.node_core.specs.Sendings.{due_for, due_for_all, probes}
 use Rattle.node_core.specs.Sound.{AreNumbered, IsSettled, KeptPackets, planned}
 use Rattle.node_core.specs.Ticks.{due_by}
-use Rattle.node_core.proofs.NumberedLemmas.{after_all-number}
+use Rattle.node_core.proofs.NodeLemmas.{after_all-number}
 use Rattle.node_core.proofs.SettledLemmas.{changed_settled, due_settled}
 use Rattle.node_core.proofs.DueLemmas.{due_each, probes_each}
-use Rattle.node_core.proofs.RestingLemmas.{each_append}
+use Rattle.node_core.proofs.ListLemmas.{each_append}
 
 -- none of the sendings is of the packet with this number
 abbrev pub IsOfAnother : ℕ → Sending → Type 0
@@ -56,21 +56,23 @@ later-others number favourite up before peers (packet ∷ packets) numbered belo
 -- ---- all packets
 
 module _ (favourite : ℕ) (up : Bool) where
-  one_packet : (done : Bool) (peers : List Peer) (packet : PacketState) (sent later : List Sending) → is_done packet.copies ≡ done →
+  one_packet : (peers : List Peer) (packet : PacketState) (sent later : List Sending) →
       AreOfOthers packet.number sent → AreOfOthers packet.number later →
       while_open (packet_after_all (sent ++ (due_for favourite up peers packet ++ later))) packet
       ≡ packet_after_all (due_for favourite up peers packet) packet
-  one_packet true peers packet sent later e before behind = rw e refl
-  one_packet false peers packet sent later e before behind =
+  one_packet peers packet sent later before behind =
       let due : List Sending = due_for favourite up peers packet in
-      let kept : (packet_after_all due packet).number ≡ packet.number = after_all-number due packet in
-      let others : AreOfOthers (packet_after_all due packet).number later = subst (λ (n : ℕ). AreOfOthers n later) (sym kept) behind in
+      let others : AreOfOthers (packet_after_all due packet).number later =
+      subst (λ (n : ℕ). AreOfOthers n later) (sym (after_all-number due packet)) behind in
       let all : packet_after_all (sent ++ (due ++ later)) packet ≡ packet_after_all due packet =
       after_all-append sent (due ++ later) packet
       ∙ ap (packet_after_all (due ++ later)) (others_change_nothing packet sent before)
       ∙ after_all-append due later packet
       ∙ others_change_nothing (packet_after_all due packet) later others in
-      ap (λ (is : Bool). if is then packet else packet_after_all (sent ++ (due ++ later)) packet) e ∙ all
+      elim (cases_Bool (is_done packet.copies)) [
+        | inl done ↦ rw done refl
+        | inr open_yet ↦ ap (λ (is : Bool). if is then packet else packet_after_all (sent ++ (due ++ later)) packet) open_yet ∙ all
+      ]
 
   -- all that a tick sends, behind what is of none of these packets: each packet changes by what is due for it
   pub planned_is_map : (before : ℕ) (peers : List Peer) (packets : List PacketState) (sent : List Sending) → AreNumbered before packets →
@@ -83,7 +85,7 @@ module _ (favourite : ℕ) (up : Bool) where
       let of_later : AreOfOthers packet.number later =
       later-others packet.number favourite up (suc before) (all_drawn due peers) packets numbered.1 (omega (arith, numbered.0)) in
       let head : while_open (packet_after_all (sent ++ (due ++ later))) packet ≡ packet_after_all due packet =
-      one_packet (is_done packet.copies) peers packet sent later refl (low packet.number (omega (arith, numbered.0))) of_later in
+      one_packet peers packet sent later (low packet.number (omega (arith, numbered.0))) of_later in
       let lower : (n : ℕ) → suc before < n → AreOfOthers n (sent ++ due) =
       λ n below. each_append (IsOfAnother n) _ _ (low n (omega (arith, below)))
       (due-others n favourite up peers packet (ne_eqb packet.number n (λ e. omega (arith, e, numbered.0, below)))) in

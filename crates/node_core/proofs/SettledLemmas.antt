@@ -1,8 +1,8 @@
 -- Packets of which those in front are done: what is asked of all can be asked of the rest.
-use Rattle.std.proofs.Common.{◌≡◌, ℕ, zero, suc, ◌+◌, ◌≤◌, ◌<◌, ◌&&◌, not, Bool, true, false, if◌then◌else◌, List, [], ◌∷◌, ◌++◌, length, map, take, drop, set, get_or, Option, None, refl, sym, ap, ◌∙◌, add-one, min, arith, inl, inr}
+use Rattle.std.proofs.Common.{◌≡◌, ℕ, zero, suc, ◌+◌, ◌≤◌, ◌<◌, ◌&&◌, not, Bool, true, false, if◌then◌else◌, List, [], ◌∷◌, ◌++◌, length, map, take, drop, set, get_or, Option, None, refl, sym, ap, subst, ◌∙◌, add-one, min, arith, inl, inr}
 use Rattle.std.specs.List.{count_by, flat_map, list_any}
 use Rattle.std.specs.Option.{option_or}
-use Rattle.std.proofs.lemmas.List.{at_drop_all, at_drop_more, take_more}
+use Rattle.std.proofs.lemmas.List.{at_drop_all, at_drop_more, map-append, take-append-drop, take-map, take_more}
 use Rattle.std.proofs.lemmas.List.Edits.{map_over_more}
 use Rattle.std.proofs.lemmas.List.Sums.{sum_by-cons}
 use Rattle.std.proofs.lemmas.Bool.{and_parts, cases_Bool}
@@ -19,13 +19,10 @@ use Rattle.node_core.specs.Submitting.{least, oldest_number, open_among, unsettl
 
 -- ---- what a done packet adds
 
-count_by-cons : (f : PacketState → Bool) (packet : PacketState) (packets : List PacketState) →
-    count_by f (packet ∷ packets) ≡ (if f packet then 1 else 0) + count_by f packets
-count_by-cons f packet packets = sum_by-cons (λ x. if f x then 1 else 0) packet packets
-
 count_by-pass : (f : PacketState → Bool) (packet : PacketState) (packets : List PacketState) (is : Bool) → f packet ≡ is →
     count_by f (packet ∷ packets) ≡ (if is then 1 else 0) + count_by f packets
-count_by-pass f packet packets is e = count_by-cons f packet packets ∙ ap (λ (b : Bool). (if b then 1 else 0) + count_by f packets) e
+count_by-pass f packet packets is e =
+    sum_by-cons (λ x. if f x then 1 else 0) packet packets ∙ ap (λ (b : Bool). (if b then 1 else 0) + count_by f packets) e
 
 -- a done packet is resolved
 resolved_first : (copies : List PacketCopy) → is_done copies ≡ true → is_resolved copies ≡ true
@@ -34,70 +31,52 @@ resolved_first (plain ∷ duplicates) done = (and_parts (is_resolved (plain ∷ 
 
 -- ---- the packets from the first open one on
 
-open_of : (n : ℕ) (packets : List PacketState) → AllDone (take n packets) → open_among (drop n packets) ≡ open_among packets
-open_of (suc n) (packet ∷ packets) done =
-    open_of n packets done.1
-    ∙ sym (count_by-pass (λ (p : PacketState). not (is_done p.copies)) packet packets false (ap not done.0) ∙ (omega arith))
-open_of _ _ done = refl
+-- what no done packet changes
+settled_is : {B : Type 0} (F : List PacketState → B) →
+    ((packet : PacketState) (packets : List PacketState) → is_done packet.copies ≡ true → F (packet ∷ packets) ≡ F packets) →
+    (kept : KeptPackets) → IsSettled kept → F (drop kept.settled kept.packets) ≡ F kept.packets
+settled_is F step kept settled = by kept.settled kept.packets settled.done
+  where
+    by : (n : ℕ) (packets : List PacketState) → AllDone (take n packets) → F (drop n packets) ≡ F packets
+    by (suc n) (packet ∷ packets) done = by n packets done.1 ∙ sym (step packet packets done.0)
+    by _ _ done = refl
 
 pub open_settled : (kept : KeptPackets) → IsSettled kept → open_among (drop kept.settled kept.packets) ≡ open_among kept.packets
-open_settled kept settled = open_of kept.settled kept.packets settled.done
+open_settled = settled_is open_among (λ packet packets done.
+    count_by-pass (λ (p : PacketState). not (is_done p.copies)) packet packets false (ap not done) ∙ (omega arith))
 
-resolved_of : (n : ℕ) (packets : List PacketState) → n ≤ length packets → AllDone (take n packets) →
-    n + resolved_among (drop n packets) ≡ resolved_among packets
-resolved_of zero packets within done = omega arith
-resolved_of (suc n) [] within done = absurd (omega (arith, within))
-resolved_of (suc n) (packet ∷ packets) within done =
-    omega (
-      arith,
-      resolved_of n packets (omega (arith, within)) done.1,
-      count_by-pass (λ (p : PacketState). is_resolved p.copies) packet packets true (resolved_first packet.copies done.0),
-    )
+-- what each done packet adds to
+counted : (f : PacketState → Bool) → ((packet : PacketState) → is_done packet.copies ≡ true → f packet ≡ true) → (kept : KeptPackets) → IsSettled kept →
+    kept.settled + count_by f (drop kept.settled kept.packets) ≡ count_by f kept.packets
+counted f passes kept settled = by kept.settled kept.packets settled.within settled.done
+  where
+    by : (n : ℕ) (packets : List PacketState) → n ≤ length packets → AllDone (take n packets) → n + count_by f (drop n packets) ≡ count_by f packets
+    by zero packets within done = omega arith
+    by (suc n) [] within done = absurd (omega (arith, within))
+    by (suc n) (packet ∷ packets) within done =
+        omega (arith, by n packets (omega (arith, within)) done.1, count_by-pass f packet packets true (passes packet done.0))
 
 pub resolved_settled : (kept : KeptPackets) → IsSettled kept →
     kept.settled + resolved_among (drop kept.settled kept.packets) ≡ resolved_among kept.packets
-resolved_settled kept settled = resolved_of kept.settled kept.packets settled.within settled.done
-
-done_of : (n : ℕ) (packets : List PacketState) → n ≤ length packets → AllDone (take n packets) →
-    n + done_among (drop n packets) ≡ done_among packets
-done_of zero packets within done = omega arith
-done_of (suc n) [] within done = absurd (omega (arith, within))
-done_of (suc n) (packet ∷ packets) within done =
-    omega (
-      arith,
-      done_of n packets (omega (arith, within)) done.1,
-      count_by-pass (λ (p : PacketState). is_done p.copies) packet packets true done.0,
-    )
+resolved_settled = counted (λ (p : PacketState). is_resolved p.copies) (λ packet. resolved_first packet.copies)
 
 pub done_settled : (kept : KeptPackets) → IsSettled kept →
     kept.settled + done_among (drop kept.settled kept.packets) ≡ done_among kept.packets
-done_settled kept settled = done_of kept.settled kept.packets settled.within settled.done
-
-waits_of : (gateway n : ℕ) (packets : List PacketState) → AllDone (take n packets) →
-    list_any (waits_at gateway) (drop n packets) ≡ list_any (waits_at gateway) packets
-waits_of gateway (suc n) (packet ∷ packets) done =
-    rw done.0 (waits_of gateway n packets done.1)
-waits_of gateway _ _ done = refl
+done_settled = counted (λ (p : PacketState). is_done p.copies) (λ packet done. done)
 
 pub waits_settled : (gateway : ℕ) (kept : KeptPackets) → IsSettled kept →
     list_any (waits_at gateway) (drop kept.settled kept.packets) ≡ list_any (waits_at gateway) kept.packets
-waits_settled gateway kept settled = waits_of gateway kept.settled kept.packets settled.done
+waits_settled gateway = settled_is (list_any (waits_at gateway)) (λ packet packets done. rw done refl)
 
 -- ---- the oldest number
 
-least-append : (number : ℕ) (xs ys : List ℕ) → least number (xs ++ ys) ≡ least (least number xs) ys
+pub least-append : (number : ℕ) (xs ys : List ℕ) → least number (xs ++ ys) ≡ least (least number xs) ys
 least-append number [] ys = refl
 least-append number (x ∷ xs) ys = least-append (min number x) xs ys
 
-oldest_of : (gateway next n : ℕ) (packets : List PacketState) → AllDone (take n packets) →
-    oldest_number gateway next (drop n packets) ≡ oldest_number gateway next packets
-oldest_of gateway next (suc n) (packet ∷ packets) done =
-    rw done.0 (oldest_of gateway next n packets done.1)
-oldest_of gateway next _ _ done = refl
-
 pub oldest_settled : (gateway next : ℕ) (kept : KeptPackets) → IsSettled kept →
     oldest_number gateway next (drop kept.settled kept.packets) ≡ oldest_number gateway next kept.packets
-oldest_settled gateway next kept settled = oldest_of gateway next kept.settled kept.packets settled.done
+oldest_settled gateway next = settled_is (oldest_number gateway next) (λ packet packets done. rw done refl)
 
 pub oldest_more : (gateway next : ℕ) (packets : List PacketState) (i : ℕ) (d : PacketState) → i < length packets →
     oldest_number gateway next (drop i packets)
@@ -144,40 +123,35 @@ module _ (test : List PacketCopy → Bool) (change : PacketState → PacketState
 
 -- ---- what is due
 
-due_of : (favourite : ℕ) (up : Bool) (peers : List Peer) (n : ℕ) (packets : List PacketState) → AllDone (take n packets) →
-    due_for_all favourite up peers (drop n packets) ≡ due_for_all favourite up peers packets
-due_of favourite up peers (suc n) (packet ∷ packets) done = rw done.0 (due_of favourite up peers n packets done.1)
-due_of favourite up peers _ _ done = refl
-
 pub due_settled : (favourite : ℕ) (up : Bool) (peers : List Peer) (kept : KeptPackets) → IsSettled kept →
     due_for_all favourite up peers (drop kept.settled kept.packets) ≡ due_for_all favourite up peers kept.packets
-due_settled favourite up peers kept settled = due_of favourite up peers kept.settled kept.packets settled.done
+due_settled favourite up peers = settled_is (due_for_all favourite up peers) (λ packet packets done. rw done refl)
 
 -- ---- a change while they are open
 
-open_map : (f : PacketState → PacketState) (n : ℕ) (packets : List PacketState) → AllDone (take n packets) →
-    take n packets ++ map (while_open f) (drop n packets) ≡ map (while_open f) packets
-open_map f (suc n) (packet ∷ packets) done =
-    rw done.0 (ap (λ (ps : List PacketState). packet ∷ ps) (open_map f n packets done.1))
-open_map f _ _ done = refl
+front_same : (f : PacketState → PacketState) (n : ℕ) (packets : List PacketState) → AllDone (take n packets) →
+    map (while_open f) (take n packets) ≡ take n packets
+front_same f (suc n) (packet ∷ packets) done = rw done.0 (ap (λ (ps : List PacketState). packet ∷ ps) (front_same f n packets done.1))
+front_same f _ _ done = refl
 
 pub changed_settled : (f : PacketState → PacketState) (kept : KeptPackets) → IsSettled kept →
     take kept.settled kept.packets ++ map (while_open f) (drop kept.settled kept.packets) ≡ map (while_open f) kept.packets
-changed_settled f kept settled = open_map f kept.settled kept.packets settled.done
+changed_settled f kept settled =
+    let n : ℕ = kept.settled in
+    ap (λ (ps : List PacketState). ps ++ map (while_open f) (drop n kept.packets)) (sym (front_same f n kept.packets settled.done))
+    ∙ sym (map-append (while_open f) (take n kept.packets) (drop n kept.packets))
+    ∙ ap (λ (ps : List PacketState). map (while_open f) ps) (take-append-drop n kept.packets)
 
 -- ---- a response heard by all, from the first open packet on
 
 pub changed_front : (f : PacketState → PacketState) (n : ℕ) (packets : List PacketState) → AllDone (take n packets) →
     packets ≡ map (while_open f) (take n packets) ++ drop n packets
-changed_front f (suc n) (packet ∷ packets) done =
-    rw done.0 (ap (λ (ps : List PacketState). packet ∷ ps) (changed_front f n packets done.1))
-changed_front f _ _ done = refl
+changed_front f n packets done =
+    sym (take-append-drop n packets) ∙ ap (λ (ps : List PacketState). ps ++ drop n packets) (sym (front_same f n packets done))
 
 pub done_front : (f : PacketState → PacketState) (n : ℕ) (packets : List PacketState) → AllDone (take n packets) →
     AllDone (take n (map (while_open f) packets))
-done_front f (suc n) (packet ∷ packets) done =
-    (rw (done.0, done.0) refl, done_front f n packets done.1)
-done_front f _ _ done = tt
+done_front f n packets done = subst AllDone (sym (take-map (while_open f) n packets ∙ front_same f n packets done)) done
 
 never_both : (b : Bool) → (not b && b) ≡ false
 never_both true = refl
