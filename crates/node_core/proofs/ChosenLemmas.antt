@@ -1,5 +1,5 @@
--- What was sent for the copies of a packet: a release for the choice alone, where the first copy is sealed; and while the
--- first copy waits, nothing, or a release among it. Each move and each response leaves it so.
+-- What was sent for the copies of a packet: a release for the choice alone, where the first copy is sealed; and while
+-- the first copy waits, nothing, or a release among it. Each move and each response leaves it so.
 use Rattle.std.proofs.Common.{◌≡◌, ◌≢◌, ◌⊎◌, inl, inr, ℕ, ◌==◌, Bool, true, false, if◌then◌else◌, List, [], ◌∷◌, ◌++◌, map, Option, Some, None, option_map, refl, sym, ap, subst, ◌∙◌}
 use Rattle.std.specs.List.{AllByRecursion, Contains, find, list_any}
 use Rattle.std.specs.Option.{IfSome, option_map_or, option_or}
@@ -17,8 +17,7 @@ use Rattle.node_core.specs.declared.port.Port.{Port}
 use Rattle.node_core.specs.Copies.{command_hearing, copy_hearing, first_told, is_chosen, is_held, is_release, names, new_copy, told_if}
 use Rattle.node_core.specs.Packets.{chosen, commanded, with_command}
 use Rattle.node_core.specs.Peers.{next_number}
-use Rattle.node_core.proofs.CaseLemmas.{either_commanded, either_hears, else_fails, mapped_passes}
-use Rattle.node_core.proofs.ListLemmas.{any_map, contains_more, each_contains, each_in, each_map, each_push, each_weaker, find_is, find_map, find_mapped, find_none, find_only, in_cons, in_map, in_none, none_passes, passes_in}
+use Rattle.node_core.proofs.CaseLemmas.{either_commanded, either_hears, else_fails, mapped_passes, any_map, contains_more, each_contains, each_in, each_map, each_push, each_weaker, find_is, find_map, find_mapped, find_none, find_only, in_cons, in_map, in_none, none_passes, passes_in}
 use Rattle.node_core.proofs.Moves.{Commanding, CommandsOne, Copying, IsMove, IsRight, MayCancel, Move, are_none, command_with, copies_moved, find_at, is_waiting, waiting}
 
 -- ---- one copy at each gateway
@@ -59,7 +58,8 @@ found_chosen copies copy found =
 
 -- who is released is the first that is, and the first copy is sealed
 abbrev pub IsFirstChosen : PacketCopy → List PacketCopy → PacketCopy → Type 0
-IsFirstChosen plain duplicates copy = is_chosen copy ≡ true → (plain.verdict ≡ Sealed) × (find is_chosen duplicates ≡ Some copy)
+IsFirstChosen plain duplicates copy = is_chosen copy ≡ true → (plain.verdict ≡ Sealed)
+  × (find is_chosen duplicates ≡ Some copy)
 
 abbrev pub Chosen : List PacketCopy → Type 0
 Chosen [] = Unit {0}
@@ -97,7 +97,8 @@ none_held copies is = by (find is_chosen copies) is
     by (Some copy) is = absurd (cc)
 
 -- what was sent for a duplicate is a cancel, but for the choice of a packet whose first copy is sealed
-pub cancelled : (plain : PacketCopy) (duplicates : List PacketCopy) → Chosen (plain ∷ duplicates) → (copy : PacketCopy) → Contains duplicates copy →
+pub cancelled : (plain : PacketCopy) (duplicates : List PacketCopy) → Chosen (plain ∷ duplicates) →
+    (copy : PacketCopy) → Contains duplicates copy →
     (plain.verdict ≡ Sealed → chosen duplicates ≡ Some copy → ⊥) → HasOrder Cancel copy
 cancelled plain duplicates was copy there other =
     elim (cases_Bool (is_chosen copy)) [
@@ -118,17 +119,20 @@ choice_released plain duplicates was waits sealed choice is = elim (waits (ap is
 ]
   where
     by : (there : Option PacketCopy) → find is_chosen duplicates ≡ there → list_any is_chosen (plain ∷ duplicates) ≡ true → is_chosen choice ≡ true
-    by None e any = absurd (false≢true (sym (or_from (is_chosen plain) _ was.0 (none_passes is_chosen duplicates e)) ∙ any))
+    by None e any = absurd
+      (false≢true (sym (or_from (is_chosen plain) _ was.0 (none_passes is_chosen duplicates e)) ∙ any))
     by (Some copy) e any =
         let both : Some copy ≡ Some choice = sym (found_chosen duplicates copy e) ∙ is in
         let same : copy ≡ choice = cc in
         ap is_chosen (sym same) ∙ (find_is is_chosen duplicates copy e).1
 
 -- who is released or cancelled keeps a release among the copies
-pub may_still : (order : Order) (copies : List PacketCopy) (copy : PacketCopy) → Contains copies copy → IsRight order copies copy →
+pub may_still : (order : Order) (copies : List PacketCopy) (copy : PacketCopy) → Contains copies copy →
+    IsRight order copies copy →
     HasOrder order copy → (copy.command ≡ None → ⊥) → MayCancel copies
 may_still Cancel copies copy there right has sent = right
-may_still Release copies copy there right has sent = λ waits. passes_in is_chosen copies copy there (by copy.command has sent)
+may_still Release copies copy there right has sent = λ waits. passes_in is_chosen copies copy there
+  (by copy.command has sent)
   where
     by : (command : Option Command) → IfSome command (λ (c : Command). c.order ≡ Release) → (command ≡ None → ⊥) →
         option_map_or (λ (c : Command). is_release c.order) command false ≡ true
@@ -228,11 +232,13 @@ module _ (plain : PacketCopy) (duplicates : List PacketCopy) (apart : AreApart (
   chosen_released plain_not = (
     ap is_chosen plain_stays ∙ plain_not,
     each_map (Contains duplicates) (IsFirstChosen (after_release plain) (map after_release duplicates)) after_release
-        (λ copy there is_so. (ap (λ (c : PacketCopy). c.verdict) plain_stays ∙ one.right.0, found copy (only copy there is_so)))
+        (λ copy there is_so.
+          (ap (λ (c : PacketCopy). c.verdict) plain_stays ∙ one.right.0, found copy (only copy there is_so)))
         duplicates (each_in duplicates),
   )
     where
-      found : (copy : PacketCopy) → copy ≡ one.copy → find is_chosen (map after_release duplicates) ≡ Some (after_release copy)
+      found : (copy : PacketCopy) → copy ≡ one.copy →
+        find is_chosen (map after_release duplicates) ≡ Some (after_release copy)
       found copy same =
           find_mapped is_chosen after_release duplicates
           ∙ ap (option_map after_release) (find_only (λ (c : PacketCopy). is_chosen (after_release c)) one.copy
@@ -250,10 +256,12 @@ may_commanded Release copies gateway number one =
     (in_map f copies one.copy (find_is (λ (c : PacketCopy). c.gateway == gateway) copies one.copy one.found).0)
     (released_now copies gateway number one)
 may_commanded Cancel copies gateway number one =
-    λ waits. any_map is_chosen (commanded gateway (command_with Cancel number)) (cancel_keeps gateway number).same copies
+    λ waits. any_map is_chosen (commanded gateway (command_with Cancel number))
+      (cancel_keeps gateway number).same copies
     ∙ one.right (stays copies waits)
   where
-    stays : (copies : List PacketCopy) → waiting (map (commanded gateway (command_with Cancel number)) copies) ≡ true → waiting copies ≡ true
+    stays : (copies : List PacketCopy) → waiting (map (commanded gateway (command_with Cancel number)) copies) ≡ true →
+      waiting copies ≡ true
     stays [] waits = refl
     stays (plain ∷ duplicates) waits =
         either_commanded (λ (c : PacketCopy). is_waiting c.verdict ≡ true → is_waiting plain.verdict ≡ true)
@@ -269,7 +277,8 @@ chosen_moved (Copying gateway) peers (plain ∷ duplicates) apart is was =
           (each_weaker (IsFirstChosen plain duplicates) (IsFirstChosen plain (duplicates ++ copy ∷ []))
           (λ c first is_so. (
             (first is_so).0,
-            find-append is_chosen duplicates (copy ∷ []) ∙ ap (λ (o : Option PacketCopy). option_or o None) (first is_so).1,
+            find-append is_chosen duplicates (copy ∷ []) ∙ ap (λ (o : Option PacketCopy). option_or o None)
+              (first is_so).1,
           )) duplicates was.1)
           (λ is_so. absurd (cc)),
     )
@@ -297,14 +306,16 @@ waits_moved (Commanding gateway order) peers copies is waits =
 
 pub chosen_hearing : (port : Port) (gateway cause : ℕ) (numbers : List ℕ) (copies : List PacketCopy) → Chosen copies →
     Chosen (map (copy_hearing port gateway cause numbers) copies)
-chosen_hearing port gateway cause numbers = chosen_map (copy_hearing port gateway cause numbers) (hearing_keeps port gateway cause numbers)
+chosen_hearing port gateway cause numbers =
+  chosen_map (copy_hearing port gateway cause numbers) (hearing_keeps port gateway cause numbers)
 
 pub waits_hearing : (port : Port) (gateway cause : ℕ) (numbers : List ℕ) (copies : List PacketCopy) → Waits copies →
     Waits (map (copy_hearing port gateway cause numbers) copies)
 waits_hearing port gateway cause numbers copies waits = λ still. elim (waits (before copies still)) [
   | inl none ↦ inl (each_map (λ (c : PacketCopy). c.command ≡ None) (λ (c : PacketCopy). c.command ≡ None)
       (copy_hearing port gateway cause numbers) fresh copies none)
-  | inr any ↦ inr (any_map is_chosen (copy_hearing port gateway cause numbers) (hearing_keeps port gateway cause numbers).same copies ∙ any)
+  | inr any ↦ inr (any_map is_chosen (copy_hearing port gateway cause numbers)
+      (hearing_keeps port gateway cause numbers).same copies ∙ any)
 ]
   where
     first : (one two : Verdict) → is_waiting (first_told one two) ≡ true → is_waiting one ≡ true

@@ -20,7 +20,7 @@ use Rattle.node_core.specs.Peers.{all_drawn, next_number}
 use Rattle.node_core.specs.Sendings.{again, command_by, command_of, command_unless, copy_to, due_by_copies, due_by_verdict, due_for, due_for_all, probe_of, probes_from, releasing, repeating, settling, settling_beside, settling_by, test_of}
 use Rattle.node_core.specs.Ticks.{due, due_now, moved}
 use Rattle.node_core.specs.Value.{NodeValue, befallen}
-use Rattle.node_core.proofs.ListLemmas.{contains_more, each_append, each_contains, in_head}
+use Rattle.node_core.proofs.CaseLemmas.{contains_more, each_append, each_contains, in_head}
 
 pub choice_of : {copies : List PacketCopy} (plain : PacketCopy) (duplicates : List PacketCopy) (copy : PacketCopy) →
     copies ≡ plain ∷ duplicates →
@@ -144,7 +144,8 @@ abbrev Names : List PacketState → Sending → Type 0
 Names packets (send.Command packet gateway named drawn order is_new) = NamesBy packets packet gateway named order
 Names packets _ = Unit {0}
 
-due_names : (packets : List PacketState) (favourite : ℕ) (up : Bool) (peers : List Peer) (packet : PacketState) → Contains packets packet →
+due_names : (packets : List PacketState) (favourite : ℕ) (up : Bool) (peers : List Peer) (packet : PacketState) →
+  Contains packets packet →
     AllByRecursion (Names packets) (due_for favourite up peers packet)
 due_names packets favourite up peers packet there = due_each (Names packets) favourite up peers packet (record {
   copied = λ gateway is_plain. tt;
@@ -169,7 +170,8 @@ all_names packets favourite up peers (packet ∷ those) there =
 
 now_names : (node : NodeValue) → AllByRecursion (Names node.packets) (due_now node)
 now_names node =
-    each_append (Names node.packets) _ _ (probes_each (Names node.packets) (λ gateway path. tt) 0 node.paths node.gateways)
+    each_append (Names node.packets) _ _
+      (probes_each (Names node.packets) (λ gateway path. tt) 0 node.paths node.gateways)
     (all_names node.packets _ _ _ node.packets (λ packet at. at))
 
 pub release_is_of_choice : (node : NodeValue) (packet gateway named number : ℕ) (is_new : Bool) →

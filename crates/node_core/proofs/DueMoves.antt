@@ -1,5 +1,5 @@
--- What is due for a packet makes moves, one for each number that it draws, and is of the packet's copies: each release or
--- cancel is the one that was sent for its copy.
+-- What is due for a packet makes moves, one for each number that it draws, and is of the packet's copies: each release
+-- or cancel is the one that was sent for its copy.
 use Rattle.std.proofs.Common.{◌≡◌, ⊎_elim, ℕ, List, [], ◌∷◌, Option, Some, None, refl, subst, ◌∙◌, ◌≢◌, ◌⊎◌, inl, inr, ◌<◌, ◌≤◌, ◌==◌, Bool, true, false, if◌then◌else◌, ◌++◌, length, map, sym, ap, arith}
 use Rattle.std.specs.List.{Contains, AllByRecursion, flat_map, list_any}
 use Rattle.std.proofs.lemmas.Bool.{cond_both, false≢true}
@@ -21,7 +21,7 @@ use Rattle.node_core.specs.declared.peer.Peer.{Peer}
 use Rattle.node_core.specs.Copies.{is_answered, is_held, new_copy}
 use Rattle.node_core.specs.Peers.{drawn, next_number}
 use Rattle.node_core.specs.Sendings.{asking, command_by, command_of, command_unless, copy_to, due_by_copies, due_by_verdict, releasing, repeating, settling, settling_beside, settling_by, test_of}
-use Rattle.node_core.proofs.ListLemmas.{contains_more, in_cons, in_head, in_none, each_contains, find_is, in_map}
+use Rattle.node_core.proofs.CaseLemmas.{contains_more, in_cons, in_head, in_none, each_contains, find_is, in_map}
 use Rattle.node_core.proofs.ChosenLemmas.{AreApart, HasOrder, cancelled, choice_released, chosen_is, found_at, may_commanded, may_still, none_held, own_number}
 use Rattle.node_core.proofs.KeptLemmas.{IsKept, IsPlaced}
 use Rattle.node_core.proofs.Moves.{Copying, Commanding, CommandsOne, IsMove, IsRight, MayCancel, Move, are_none, command_with, copies_moved, find_at, find_commanded, is_waiting, length_moved, next_elsewhere, peers_moved}
@@ -103,10 +103,12 @@ pub data Step : List Peer → List PacketCopy → List Peer → List PacketCopy 
 pub data Does (number : ℕ) : List Peer → List PacketCopy → List Sending → Type 0 where
   ends : {peers : List Peer} {copies : List PacketCopy} → Does number peers copies []
   sends : {peers : List Peer} {copies : List PacketCopy} {sending : Sending} {sendings : List Sending} → is_of number sending ≡ true →
-      Own number (copies_after sending copies) sending → Step peers copies (drawn sending peers) (copies_after sending copies) →
+      Own number (copies_after sending copies) sending →
+        Step peers copies (drawn sending peers) (copies_after sending copies) →
       Does number (drawn sending peers) (copies_after sending copies) sendings → Does number peers copies (sending ∷ sendings)
 
-abbrev has_copy : (copies : List PacketCopy) (copy : PacketCopy) → Contains copies copy → HasCopyAt copies copy.gateway copy.number
+abbrev has_copy : (copies : List PacketCopy) (copy : PacketCopy) → Contains copies copy →
+  HasCopyAt copies copy.gateway copy.number
 has_copy copies copy among = record { copy = copy; among = among; gateway_is = refl; number_is = refl }
 
 -- ---- what stands before the commands of a tick: the copy as it was, and the next number of its gateway too
@@ -140,9 +142,11 @@ module _ (number : ℕ) (first : List Peer) where
       }
 
   -- a release or a cancel of a copy, and what follows
-  command_goes : (peers : List Peer) (copies : List PacketCopy) (order : Order) (copy : PacketCopy) (sendings : List Sending) →
+  command_goes : (peers : List Peer) (copies : List PacketCopy) (order : Order) (copy : PacketCopy)
+    (sendings : List Sending) →
       IsReady first peers copies copy → IsRight order copies copy → HasOrder order copy →
-      Goes peers copies copy.gateway sendings → Does number peers copies (command_of first number order copy ++ sendings)
+      Goes peers copies copy.gateway sendings →
+        Does number peers copies (command_of first number order copy ++ sendings)
   command_goes peers copies order copy sendings ready right has goes = unless (is_answered copy) refl
     where
       among : Contains copies copy
@@ -172,8 +176,10 @@ module _ (number : ℕ) (first : List Peer) where
           let same : commanded copy.gateway command copy ≡ with_command command copy =
           ap (λ (b : Bool). if b then with_command command copy else copy) (own_number copy.gateway) in
           let there : Contains (map (commanded copy.gateway command) copies) (with_command command copy) =
-          subst (Contains (map (commanded copy.gateway command) copies)) same (in_map (commanded copy.gateway command) copies copy among) in
-          subst (λ (n : ℕ). Does number peers copies (send.Command number copy.gateway copy.number n order true ∷ sendings)) (sym ready.same)
+          subst (Contains (map (commanded copy.gateway command) copies)) same
+            (in_map (commanded copy.gateway command) copies copy among) in
+          subst (λ (n : ℕ). Does number peers copies
+            (send.Command number copy.gateway copy.number n order true ∷ sendings)) (sym ready.same)
           (sends (own_number number)
           (
             refl,
@@ -188,13 +194,17 @@ module _ (number : ℕ) (first : List Peer) where
           ap (λ (o : Option Command). option_map_or (λ (c : Command). c.is_answered) o false) none in absurd (cc))
       unless false e = by copy.command refl
 
-  settling_goes : (peers : List Peer) (copies : List PacketCopy) (verdict : Verdict) (copy : PacketCopy) (sendings : List Sending) →
+  settling_goes : (peers : List Peer) (copies : List PacketCopy) (verdict : Verdict) (copy : PacketCopy)
+    (sendings : List Sending) →
       IsReady first peers copies copy → MayCancel copies → HasOrder Cancel copy →
-      Goes peers copies copy.gateway sendings → Does number peers copies (settling_by verdict first number copy ++ sendings)
+      Goes peers copies copy.gateway sendings →
+        Does number peers copies (settling_by verdict first number copy ++ sendings)
   settling_goes peers copies Unknown copy sendings ready may has goes =
-      sends (own_number number) (refl, has_copy copies copy (find_is (λ (c : PacketCopy). c.gateway == copy.gateway) copies copy ready.found).0)
+      sends (own_number number)
+        (refl, has_copy copies copy (find_is (λ (c : PacketCopy). c.gateway == copy.gateway) copies copy ready.found).0)
       idles (goes peers copies (λ other apart is. is) may)
-  settling_goes peers copies Held copy sendings ready may has goes = command_goes peers copies Cancel copy sendings ready may has goes
+  settling_goes peers copies Held copy sendings ready may has goes =
+    command_goes peers copies Cancel copy sendings ready may has goes
   settling_goes peers copies _ copy sendings ready may has goes = goes peers copies (λ other apart is. is) may
 
   -- each duplicate is let be, or put out of the way
@@ -206,16 +216,19 @@ module _ (number : ℕ) (first : List Peer) where
       StaysReady first gateway peers copies later_peers later → (copy : PacketCopy) → gateway ≢ copy.gateway →
       Settles f peers copies copy → Settles f later_peers later copy
   settles_on f gateway peers copies later_peers later stays copy apart (inl none) = inl none
-  settles_on f gateway peers copies later_peers later stays copy apart (inr is) = inr (is.0, stays copy apart is.1, is.2)
+  settles_on f gateway peers copies later_peers later stays copy apart (inr is) =
+    inr (is.0, stays copy apart is.1, is.2)
 
-  settles : (f : PacketCopy → List Sending) (duplicates : List PacketCopy) → AreApart duplicates → (peers : List Peer) (copies : List PacketCopy) →
+  settles : (f : PacketCopy → List Sending) (duplicates : List PacketCopy) → AreApart duplicates →
+    (peers : List Peer) (copies : List PacketCopy) →
       MayCancel copies → ((copy : PacketCopy) → Contains duplicates copy → Settles f peers copies copy) →
       Does number peers copies (flat_map f duplicates)
   settles f [] apart peers copies may each = ends
   settles f (copy ∷ duplicates) apart peers copies may each =
       elim (each copy (in_head copy duplicates)) [
         | inl none ↦ subst (λ (xs : List Sending). Does number peers copies (xs ++ flat_map f duplicates)) (sym none)
-            (settles f duplicates apart.1 peers copies may (λ other there. each other (contains_more duplicates copy other there)))
+            (settles f duplicates apart.1 peers copies may
+              (λ other there. each other (contains_more duplicates copy other there)))
         | inr is ↦ subst (λ (xs : List Sending). Does number peers copies (xs ++ flat_map f duplicates)) (sym is.0)
             (settling_goes peers copies copy.verdict copy (flat_map f duplicates) is.1 may is.2
             (λ later_peers later stays may_later. settles f duplicates apart.1 later_peers later may_later
@@ -248,7 +261,8 @@ module _ (number favourite : ℕ) (up : Bool) (peers : List Peer) (within : favo
   copy_does false copies is_plain room plain absent = ends
   copy_does true copies is_plain room plain absent =
       let copy : PacketCopy = new_copy favourite (next_number peers favourite) (are_none copies) in
-      subst (λ (b : Bool). Does number peers copies (send.Data number favourite (next_number peers favourite) b true ∷ [])) plain
+      subst (λ (b : Bool). Does number peers copies
+        (send.Data number favourite (next_number peers favourite) b true ∷ [])) plain
       (sends (own_number number) (refl, has_copy (copies ++ copy ∷ []) copy (Contains-push copies copy), refl)
       (moves (Copying favourite) (record {
         within = within;
@@ -259,27 +273,32 @@ module _ (number favourite : ℕ) (up : Bool) (peers : List Peer) (within : favo
   asking_does : (plain : PacketCopy) (duplicates : List PacketCopy) → HasRoom peers (plain ∷ duplicates) → Does number peers (plain ∷ duplicates) (asking favourite up peers number plain duplicates)
   asking_does plain duplicates room =
       cond_both (list_any (λ (copy : PacketCopy). is_held copy.verdict) duplicates) (test_of number plain ∷ [])
-      (repeating (find_at favourite (plain ∷ duplicates)) favourite up peers number) (Does number peers (plain ∷ duplicates))
+      (repeating (find_at favourite (plain ∷ duplicates)) favourite up peers number)
+        (Does number peers (plain ∷ duplicates))
       (λ _. sends (own_number number) (refl, has_copy (plain ∷ duplicates) plain (in_head plain duplicates)) idles ends)
       (λ _. repeats (find_at favourite (plain ∷ duplicates)) refl)
     where
       repeats : (there : Option PacketCopy) → find_at favourite (plain ∷ duplicates) ≡ there →
           Does number peers (plain ∷ duplicates) (repeating there favourite up peers number)
       repeats (Some copy) e = sends (own_number number)
-          (refl, has_copy (plain ∷ duplicates) copy (find_is (λ (c : PacketCopy). c.gateway == favourite) (plain ∷ duplicates) copy e).0, refl) idles ends
+          (refl, has_copy (plain ∷ duplicates) copy
+            (find_is (λ (c : PacketCopy). c.gateway == favourite) (plain ∷ duplicates) copy e).0, refl) idles ends
       repeats None e = copy_does up (plain ∷ duplicates) false room refl e
 
   -- where no duplicate is held there are only tests
-  tests_do : (copies duplicates : List PacketCopy) → ((copy : PacketCopy) → Contains duplicates copy → Contains copies copy) →
+  tests_do : (copies duplicates : List PacketCopy) →
+    ((copy : PacketCopy) → Contains duplicates copy → Contains copies copy) →
       AllByRecursion (λ (copy : PacketCopy). is_held copy.verdict ≡ false) duplicates →
       Does number peers copies (flat_map (settling peers number) duplicates)
   tests_do copies [] there held = ends
   tests_do copies (copy ∷ duplicates) there held =
-      by copy.verdict held.0 (tests_do copies duplicates (λ other at. there other (contains_more duplicates copy other at)) held.1)
+      by copy.verdict held.0
+        (tests_do copies duplicates (λ other at. there other (contains_more duplicates copy other at)) held.1)
     where
       by : (verdict : Verdict) → is_held verdict ≡ false → Does number peers copies (flat_map (settling peers number) duplicates) →
           Does number peers copies (settling_by verdict peers number copy ++ flat_map (settling peers number) duplicates)
-      by Unknown e rest = sends (own_number number) (refl, has_copy copies copy (there copy (in_head copy duplicates))) idles rest
+      by Unknown e rest = sends (own_number number)
+        (refl, has_copy copies copy (there copy (in_head copy duplicates))) idles rest
       by Held e rest = absurd (cc)
       by _ e rest = rest
 
@@ -287,25 +306,29 @@ module _ (number favourite : ℕ) (up : Bool) (peers : List Peer) (within : favo
     ready : (copy : PacketCopy) → Contains duplicates copy → IsReady peers peers (plain ∷ duplicates) copy
     ready copy there = is_ready peers (plain ∷ duplicates) kept room copy (contains_more duplicates plain copy there)
 
-    all_settle : is_waiting plain.verdict ≡ false → Does number peers (plain ∷ duplicates) (flat_map (settling peers number) duplicates)
+    all_settle : is_waiting plain.verdict ≡ false →
+      Does number peers (plain ∷ duplicates) (flat_map (settling peers number) duplicates)
     all_settle settled =
         settles number peers (settling peers number) duplicates kept.apart.1 peers (plain ∷ duplicates)
         (λ waits. absurd (false≢true (sym settled ∙ waits)))
         (λ copy there. inr (
           refl,
           ready copy there,
-          cancelled plain duplicates kept.chosen copy there (λ sealed is. false≢true (sym settled ∙ ap is_waiting sealed)),
+          cancelled plain duplicates kept.chosen copy there
+            (λ sealed is. false≢true (sym settled ∙ ap is_waiting sealed)),
         ))
 
     releasing_does : plain.verdict ≡ Sealed → (choice : Option PacketCopy) → chosen duplicates ≡ choice →
         Does number peers (plain ∷ duplicates) (releasing choice peers number duplicates)
     releasing_does sealed None is =
-        tests_do (plain ∷ duplicates) duplicates (λ copy there. contains_more duplicates plain copy there) (none_held duplicates is)
+        tests_do (plain ∷ duplicates) duplicates (λ copy there. contains_more duplicates plain copy there)
+          (none_held duplicates is)
     releasing_does sealed (Some choice) is =
         command_goes number peers peers (plain ∷ duplicates) Release choice (flat_map (settling_beside choice peers number) duplicates)
         (ready choice (chosen_is duplicates choice is)) (sealed, is)
         (choice_released plain duplicates kept.chosen kept.waits sealed choice is)
-        (λ later_peers later stays may. settles number peers (settling_beside choice peers number) duplicates kept.apart.1 later_peers later may
+        (λ later_peers later stays may. settles number peers
+          (settling_beside choice peers number) duplicates kept.apart.1 later_peers later may
         (λ copy there. elim (eqb_tells copy.gateway choice.gateway) [
           | inl same ↦ inl (rw same.0 refl)
           | inr differs ↦ inr (

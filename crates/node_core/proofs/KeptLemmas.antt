@@ -15,9 +15,8 @@ use Rattle.node_core.specs.Copies.{command_hearing, copy_hearing, new_copy}
 use Rattle.node_core.specs.Packets.{PacketState, commanded}
 use Rattle.node_core.specs.Peers.{next_number}
 use Rattle.node_core.specs.Roles.{IsPlainFirst}
-use Rattle.node_core.proofs.CaseLemmas.{StaysPut, at_or_apart, commanded_puts, either_hears, hearing_puts, if_mapped, if_or}
+use Rattle.node_core.proofs.CaseLemmas.{StaysPut, at_or_apart, commanded_puts, either_hears, hearing_puts, if_mapped, if_or, each_map, each_push, each_weaker, find_none}
 use Rattle.node_core.proofs.ChosenLemmas.{AreApart, Chosen, Waits, chosen_hearing, chosen_moved, waits_hearing, waits_moved}
-use Rattle.node_core.proofs.ListLemmas.{each_map, each_push, each_weaker, find_none}
 use Rattle.node_core.proofs.Moves.{Copying, Commanding, IsMove, Move, Moves, One, are_none, beyond, command_with, copies_moved, find_at, here, length_moved, next_elsewhere, next_is, one_is, onward, peers_moved, place, still}
 
 -- ---- the gateways go on
@@ -26,11 +25,13 @@ pub record GoOn (peers later : List Peer) : Type 0 where
   pub size : length later ≡ length peers
   pub numbers : (gateway : ℕ) → next_number peers gateway ≤ next_number later gateway
 
-pub goes_on : {peers : List Peer} {copies : List PacketCopy} {move : Move} → IsMove peers copies move → GoOn peers (peers_moved move peers)
+pub goes_on : {peers : List Peer} {copies : List PacketCopy} {move : Move} → IsMove peers copies move →
+    GoOn peers (peers_moved move peers)
 goes_on {peers} {copies} {move} is = record {
   size = length_moved move peers;
   numbers = λ gateway. at_or_apart (λ (g : ℕ). next_number peers g ≤ next_number (peers_moved move peers) g)
-      (place move) gateway (omega (arith, next_is is)) (λ apart. omega (arith, next_elsewhere move gateway peers apart));
+      (place move) gateway (omega (arith, next_is is))
+        (λ apart. omega (arith, next_elsewhere move gateway peers apart));
 }
 
 -- ---- what holds of a packet's copies
@@ -172,7 +173,8 @@ kept_moved (Commanding gateway order) peers copies is kept =
 pub all_kept_moved : {peers : List Peer} {move : Move} {packets after : List PacketState} → One peers move packets after → AllKept peers packets →
     AllKept (peers_moved move peers) after
 all_kept_moved {peers} {move} (here {packet} {packets} open_yet is) kept =
-    (kept_moved move peers packet.copies is kept.0, all_kept_on peers (peers_moved move peers) packets (goes_on is) kept.1)
+    (kept_moved move peers packet.copies is kept.0, all_kept_on peers (peers_moved move peers) packets
+      (goes_on is) kept.1)
 all_kept_moved {peers} {move} (beyond {packet} one) kept =
     (kept_on peers (peers_moved move peers) packet.copies (goes_on (one_is one).1) kept.0, all_kept_moved one kept.1)
 

@@ -20,8 +20,7 @@ use Rattle.node_core.specs.Packets.{PacketState, commanded, copies_after, is_res
 use Rattle.node_core.specs.declared.copy.Order.{Order}
 use Rattle.node_core.specs.Resting.{AllRestOn, IsFulfilled, IsTold, RestsOn, since_start}
 use Rattle.node_core.proofs.NodeLemmas.{after_all-number}
-use Rattle.node_core.proofs.CaseLemmas.{after_all_keeps, either_commanded, either_hears, either_open, if_mapped, if_or}
-use Rattle.node_core.proofs.ListLemmas.{contains_more, each_map, each_push, each_weaker}
+use Rattle.node_core.proofs.CaseLemmas.{after_all_keeps, either_commanded, either_hears, either_open, if_mapped, if_or, contains_more, each_map, each_push, each_weaker}
 
 -- ---- longer lists
 
@@ -109,7 +108,8 @@ copies_grow _ copies = same_copies copies
 pub after_all_grows : (sendings : List Sending) (packet : PacketState) → Extends CopyGrows packet.copies (packet_after_all sendings packet).copies
 after_all_grows sendings packet =
     after_all_keeps (Extends CopyGrows packet.copies) sendings
-    (λ sending there copies grows. extends_on CopyGrows copy_on packet.copies copies (copies_after sending copies) grows (copies_grow sending copies))
+    (λ sending there copies grows. extends_on CopyGrows copy_on packet.copies copies (copies_after sending copies) grows
+      (copies_grow sending copies))
     packet (same_copies packet.copies)
 
 -- ---- resolved and done
@@ -234,7 +234,8 @@ module _ (entries : List LogEntry) where
   copies_rest _ copies all = all
 
   open_rests : (f : PacketState → PacketState) → ((packet : PacketState) → Each entries packet → Each entries (f packet)) →
-      (packets : List PacketState) → AllByRecursion (Each entries) packets → AllByRecursion (Each entries) (map (while_open f) packets)
+      (packets : List PacketState) → AllByRecursion (Each entries) packets →
+        AllByRecursion (Each entries) (map (while_open f) packets)
   open_rests f step = each_map (Each entries) (Each entries) (while_open f)
       (λ packet each. either_open (Each entries) f packet each (λ _. step packet each))
 
@@ -296,7 +297,8 @@ module _ (port : Port) (gateway cause : ℕ) (numbers : List ℕ) (since : List 
 saying_rests : (port : Port) (gateway : ℕ) (saying : Saying) (log : List LogEntry) →
     AllByRecursion (Each (Heard port gateway saying ∷ since_start log)) (packets_of log) →
     AllByRecursion (Each (Heard port gateway saying ∷ since_start log)) (packets_of (Heard port gateway saying ∷ log))
-saying_rests port gateway (Responds cause numbers) log all = packets_hear port gateway cause numbers (since_start log) (packets_of log) all
+saying_rests port gateway (Responds cause numbers) log all =
+  packets_hear port gateway cause numbers (since_start log) (packets_of log) all
 saying_rests port gateway _ log all = all
 
 rests : (log : List LogEntry) → AllByRecursion (Each (since_start log)) (packets_of log)

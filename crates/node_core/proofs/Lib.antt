@@ -1,13 +1,10 @@
 pub mod CopiesLemmas
-pub mod LogLemmas
 pub mod NodeLemmas
-pub mod OwnLemmas
 pub mod DraftLemmas
 pub mod PlanLemmas
 pub mod SettledLemmas
 pub mod WorkedLemmas
 pub mod WrittenLemmas
-pub mod ListLemmas
 pub mod CaseLemmas
 pub mod ChosenLemmas
 pub mod DueLemmas

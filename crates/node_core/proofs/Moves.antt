@@ -103,13 +103,15 @@ placed i f [] = refl
 placed zero f (peer ∷ peers) = refl
 placed (suc i) f (peer ∷ peers) = behind (slice_get peers i) ∙ ap (λ (ps : List Peer). peer ∷ ps) (placed i f peers)
   where
-    behind : (there : Option Peer) → option_map_or (λ (p : Peer). slice_set (peer ∷ peers) (suc i) (f p)) there (peer ∷ peers)
+    behind : (there : Option Peer) → option_map_or (λ (p : Peer). slice_set (peer ∷ peers) (suc i) (f p)) there
+      (peer ∷ peers)
         ≡ peer ∷ option_map_or (λ (p : Peer). slice_set peers i (f p)) there peers
     behind None = refl
     behind (Some p) = refl
 
 -- what the change leaves of each stays of all
-pub place_keeps : {B : Type 0} (g : Peer → B) (f : Peer → Peer) → ((peer : Peer) → g (f peer) ≡ g peer) → (i : ℕ) (peers : List Peer) →
+pub place_keeps : {B : Type 0} (g : Peer → B) (f : Peer → Peer) → ((peer : Peer) → g (f peer) ≡ g peer) →
+    (i : ℕ) (peers : List Peer) →
     map g (at_place i f peers) ≡ map g peers
 place_keeps {B} g f same i peers = ap (λ (ps : List Peer). map g ps) (placed i f peers) ∙ by i peers
   where
@@ -125,9 +127,11 @@ length_placed i f peers =
     ∙ ap (λ (ns : List ℕ). length ns) (place_keeps one f (λ peer. refl) i peers) ∙ length-map peers one
 
 -- another's number stays, and all do where the change leaves them
-pub next_placed : (i other : ℕ) (f : Peer → Peer) → (i ≡ other → (peer : Peer) → (f peer).next ≡ peer.next) → (peers : List Peer) →
+pub next_placed : (i other : ℕ) (f : Peer → Peer) → (i ≡ other → (peer : Peer) → (f peer).next ≡ peer.next) →
+    (peers : List Peer) →
     next_number (at_place i f peers) other ≡ next_number peers other
-next_placed i other f same peers = ap (λ (ps : List Peer). next_number ps other) (placed i f peers) ∙ by i other same peers
+next_placed i other f same peers = ap (λ (ps : List Peer). next_number ps other) (placed i f peers)
+  ∙ by i other same peers
   where
     by : (i other : ℕ) → (i ≡ other → (peer : Peer) → (f peer).next ≡ peer.next) → (peers : List Peer) →
         next_number (changed i f peers) other ≡ next_number peers other

@@ -16,9 +16,8 @@ use Rattle.node_core.specs.Packets.{PacketState, commanded, is_done, packet_hear
 use Rattle.node_core.specs.Peers.{next_number}
 use Rattle.node_core.specs.Reached.{NodeCall, reached}
 use Rattle.node_core.specs.Submitting.{least, numbers_at, numbers_out, oldest_number, open_among, out_at, unsettled_at}
-use Rattle.node_core.proofs.CaseLemmas.{commanded_puts, either_hears, either_open}
+use Rattle.node_core.proofs.CaseLemmas.{commanded_puts, either_hears, either_open, each_contains, each_map, each_push, each_weaker}
 use Rattle.node_core.proofs.KeptLemmas.{AllKept}
-use Rattle.node_core.proofs.ListLemmas.{each_contains, each_map, each_push, each_weaker}
 use Rattle.node_core.proofs.Moves.{Commanding, Copying, Move, One, are_none, beyond, command_with, copies_moved, here, length_moved, peers_moved, place}
 use Rattle.node_core.proofs.ReachedLemmas.{Closed, Unrefused, all_closed, all_stand}
 use Rattle.node_core.proofs.SettledLemmas.{least-append}
@@ -122,19 +121,23 @@ module _ (most gateway : ℕ) where
       elim (eqb_tells copy.gateway gateway) [
         | inl is ↦
             let at : most ≤ least (min low copy.number) (numbers_at gateway copies) + 16511 = rw is.0 at near in
-            ((λ same. omega (arith, at, least_most (min low copy.number) (numbers_at gateway copies))), near_copies (min low copy.number) copies at)
+            ((λ same. omega (arith, at, least_most (min low copy.number) (numbers_at gateway copies))),
+              near_copies (min low copy.number) copies at)
         | inr isnt ↦ ((λ same. absurd (isnt.1 same)), near_copies low copies (rw isnt.0 at near))
       ]
 
-  near_packets : (low : ℕ) (packets : List PacketState) → most ≤ oldest_number gateway low packets + 16511 → NearAll most gateway packets
+  near_packets : (low : ℕ) (packets : List PacketState) → most ≤ oldest_number gateway low packets + 16511 →
+    NearAll most gateway packets
   near_packets low [] near = tt
   near_packets low (packet ∷ packets) near =
       let first : ℕ = least low (unsettled_at gateway packet) in
       let later : most ≤ oldest_number gateway first packets + 16511 =
       omega (arith, near, least-append low (unsettled_at gateway packet) (flat_map (unsettled_at gateway) packets)) in
-      let here_is : most ≤ first + 16511 = omega (arith, later, least_most first (flat_map (unsettled_at gateway) packets)) in (
+      let here_is : most ≤ first + 16511 =
+          omega (arith, later, least_most first (flat_map (unsettled_at gateway) packets)) in (
         λ open_yet. near_copies low packet.copies
-            (subst (λ (done : Bool). most ≤ least low (if done then [] else numbers_at gateway packet.copies) + 16511) open_yet here_is),
+            (subst (λ (done : Bool). most ≤ least low (if done then [] else numbers_at gateway packet.copies) + 16511)
+              open_yet here_is),
         near_packets first packets later,
       )
 
@@ -163,7 +166,8 @@ near_pushed peers packets number unrefused is = record {
   few = omega (arith, total_pushed (λ copies. 1) packets number, opens_are packets, unrefused.few);
   near = λ gateway below.
       let next : ℕ = next_number peers gateway in
-      let none_out : out_at gateway next packets ≡ None = out_none 0 peers packets unrefused.near gateway gateway below (omega arith) in
+      let none_out : out_at gateway next packets ≡ None =
+          out_none 0 peers packets unrefused.near gateway gateway below (omega arith) in
       let most : ℕ = next + weights gateway (packets ++ new_packet number ∷ []) in
       each_push (NearIn most gateway) packets (new_packet number)
       (near_packets most gateway next packets (omega (

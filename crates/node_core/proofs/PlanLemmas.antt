@@ -1,5 +1,5 @@
--- A tick, step by step: what is due for the packets, and the Node Alive Requests, from a place on: what is there, and then from
--- the next place on.
+-- A tick, step by step: what is due for the packets, and the Node Alive Requests, from a place on: what is there, and
+-- then from the next place on.
 use Rattle.std.proofs.Common.{◌≡◌, ℕ, suc, ◌+◌, ◌<◌, min, Bool, List, [], ◌∷◌, ◌++◌, length, map, drop, get_or, Option, Some, None, refl, sym, ap, ◌∙◌, append_assoc, add-one, arith}
 use Rattle.std.proofs.lemmas.List.{at_drop_all, at_drop_more}
 use Rattle.std.specs.Option.{option_or}
@@ -16,8 +16,7 @@ use Rattle.node_core.specs.Sound.{planned}
 use Rattle.node_core.specs.Submitting.{numbers_out, out_at}
 use Rattle.node_core.specs.Ticks.{due_by, due_now, tick_entries}
 use Rattle.node_core.specs.Value.{NodeValue, befallen, most_quiet}
-use Rattle.node_core.proofs.LogLemmas.{all_drawn_keeps}
-use Rattle.node_core.proofs.NodeLemmas.{length-anew}
+use Rattle.node_core.proofs.NodeLemmas.{all_drawn_keeps, length-anew}
 
 pub after_more : (sendings : List Sending) (packet : PacketState) (i : ℕ) (d : Sending) → i < length sendings →
     packet_after_all (drop i sendings) packet ≡ packet_after_all (drop (i + 1) sendings) (packet_after (get_or sendings i d) packet)
@@ -125,7 +124,8 @@ out_more gateways packets i d below =
 
 pub out_none : (gateways : List Peer) (packets : List PacketState) → numbers_out (length gateways) (drop (length gateways) gateways) packets ≡ None
 out_none gateways packets =
-    at_drop_all (λ (peers : List Peer). numbers_out (length gateways) peers packets) gateways (length gateways) (omega arith)
+    at_drop_all (λ (peers : List Peer). numbers_out (length gateways) peers packets) gateways (length gateways)
+      (omega arith)
 
 -- ---- the whole tick, once the favourite has moved or not
 
@@ -145,7 +145,8 @@ after_tick node moved = record node {
 tick_is : (node : NodeValue) → befallen (tick_entries node) node ≡ after_tick node (moved_at_tick node)
 tick_is node = by (moved_at_tick node)
   where
-    by : (moved : Option ℕ) → befallen (appointing moved ++ Ticked (due_now (befallen (appointing moved) node)) ∷ []) node ≡ after_tick node moved
+    by : (moved : Option ℕ) → befallen
+      (appointing moved ++ Ticked (due_now (befallen (appointing moved) node)) ∷ []) node ≡ after_tick node moved
     by None = refl
     by (Some gateway) = refl
 

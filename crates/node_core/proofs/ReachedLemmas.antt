@@ -26,9 +26,8 @@ use Rattle.node_core.specs.Sound.{AreNumbered}
 use Rattle.node_core.specs.Submitting.{numbers_out, open_among, refusal}
 use Rattle.node_core.specs.Ticks.{due, due_now, tick_entries}
 use Rattle.node_core.specs.Value.{NodeValue, befallen, logged, node_of}
-use Rattle.node_core.proofs.CaseLemmas.{either_open, if_or}
+use Rattle.node_core.proofs.CaseLemmas.{either_open, if_or, each_map, each_push}
 use Rattle.node_core.proofs.KeptLemmas.{AllKept, GoOn, IsKept, all_kept_after, all_kept_moved, kept_hearing}
-use Rattle.node_core.proofs.ListLemmas.{each_map, each_push}
 use Rattle.node_core.proofs.Moves.{Move, Moves, One, onward, peers_moved, still}
 use Rattle.node_core.proofs.NodeLemmas.{after_all-number, numbered_map, numbered_push, while_open-number}
 use Rattle.node_core.proofs.TickMoves.{Alike, AllDraw, IsTick, a_tick}
@@ -141,7 +140,8 @@ module _ (setup : NodeSetup) where
     bounded = λ gateway below. omega (arith, anew_next setup.gateways gateway);
   }
 
-  halted : 1 ≤ length setup.gateways → (log : List LogEntry) → submitted log ≤ 4611686018427355136 → Stands (Halted ∷ log)
+  halted : 1 ≤ length setup.gateways → (log : List LogEntry) → submitted log ≤ 4611686018427355136 →
+    Stands (Halted ∷ log)
   halted some log few = let is : Stands (Began ∷ log) = began some log few in
       search (is.size, is.place, is.numbered, is.counted, is.few, is.bounded)
 
@@ -166,7 +166,8 @@ module _ (setup : NodeSetup) where
       }
 
   is_appointed : (gateway : ℕ) (log : List LogEntry) → gateway < length (peers_of setup.gateways log) → Stands log → Stands (Appointed gateway ∷ log)
-  is_appointed gateway log below is = let within : gateway < length setup.gateways = omega (arith, below, is.size) in search within
+  is_appointed gateway log below is =
+    let within : gateway < length setup.gateways = omega (arith, below, is.size) in search within
 
   is_heard : (port : Port) (gateway : ℕ) (saying : Saying) (log : List LogEntry) → Stands log → Stands (Heard port gateway saying ∷ log)
   is_heard port heard_gateway (Responds cause numbers) log is =
@@ -178,8 +179,10 @@ module _ (setup : NodeSetup) where
         numbered = numbered_map (while_open hears) (while_open-number hears (λ packet. refl)) is.before (packets_of log) is.numbered;
         counted = omega (arith, is.counted, length-map (packets_of log) (while_open hears));
         kept = each_map (λ (p : PacketState). IsKept (peers_of setup.gateways log) p.copies) (λ (p : PacketState). IsKept (peers_of setup.gateways log) p.copies)
-            (while_open hears) (λ packet kept. either_open (λ (p : PacketState). IsKept (peers_of setup.gateways log) p.copies) hears packet kept
-            (λ _. kept_hearing (peers_of setup.gateways log) port heard_gateway cause numbers packet.copies kept)) (packets_of log) is.kept;
+          (while_open hears) (λ packet kept.
+            either_open (λ (p : PacketState). IsKept (peers_of setup.gateways log) p.copies) hears packet kept
+              (λ _. kept_hearing (peers_of setup.gateways log) port heard_gateway cause numbers packet.copies kept))
+          (packets_of log) is.kept;
         few = is.few;
         bounded = λ gateway below. omega (
           arith,
@@ -190,9 +193,11 @@ module _ (setup : NodeSetup) where
       }
   is_heard port gateway _ log is = search (is.place)
 
-  tick_of : (log : List LogEntry) → Stands log → IsTick (peers_of setup.gateways log) (packets_of log) (due_now (node_of setup log))
+  tick_of : (log : List LogEntry) → Stands log →
+    IsTick (peers_of setup.gateways log) (packets_of log) (due_now (node_of setup log))
   tick_of log is =
-      a_tick (favourite log) (65536 + 2 * length (packets_of log)) is.before (is_alive (node_of setup log).paths (favourite log))
+      a_tick (favourite log) (65536 + 2 * length (packets_of log)) is.before
+        (is_alive (node_of setup log).paths (favourite log))
       (node_of setup log).paths (peers_of setup.gateways log) (packets_of log)
       (omega (arith, is.few, is.counted)) (omega (arith, is.place, is.size)) is.kept is.bounded is.numbered
 
@@ -205,7 +210,8 @@ module _ (setup : NodeSetup) where
       let most : ℕ = 65536 + 2 * length packets in
       let before : Bounded most tick.probed packets =
       λ gateway below. omega (arith, is.bounded gateway (omega (arith, below, tick.alike.size)), tick.alike.numbers gateway) in
-      let bounded : Bounded most (all_drawn sendings (peers_of setup.gateways log)) (map after packets) = bounded_after tick.row before in
+      let bounded : Bounded most (all_drawn sendings (peers_of setup.gateways log)) (map after packets) =
+          bounded_after tick.row before in
       record {
         size = tick.on.size ∙ is.size;
         place = is.place;
@@ -222,19 +228,24 @@ module _ (setup : NodeSetup) where
   pub record Law (Q : List LogEntry → Type 0) : Type 0 where
     pub begins : (log : List LogEntry) → Q (Began ∷ log)
     pub halts : (log : List LogEntry) → Q (Halted ∷ log)
-    pub submits : (log : List LogEntry) (form : PacketForm) → Unrefused (peers_of setup.gateways log) (packets_of log) → Q log → Q (Submitted form ∷ log)
+    pub submits : (log : List LogEntry) (form : PacketForm) → Unrefused (peers_of setup.gateways log) (packets_of log) →
+        Q log → Q (Submitted form ∷ log)
     pub appoints : (log : List LogEntry) (gateway : ℕ) → Q log → Q (Appointed gateway ∷ log)
-    pub ticks : (log : List LogEntry) → Stands log → IsTick (peers_of setup.gateways log) (packets_of log) (due_now (node_of setup log)) →
+    pub ticks : (log : List LogEntry) → Stands log →
+        IsTick (peers_of setup.gateways log) (packets_of log) (due_now (node_of setup log)) →
         Q log → Q (Ticked (due_now (node_of setup log)) ∷ log)
     pub hears : (log : List LogEntry) (port : Port) (gateway : ℕ) (saying : Saying) → Q log → Q (Heard port gateway saying ∷ log)
 
-  of_closed : (Q : List Peer → List PacketState → Type 0) → Closed Q → Law (λ log. Q (peers_of setup.gateways log) (packets_of log))
+  of_closed : (Q : List Peer → List PacketState → Type 0) → Closed Q →
+    Law (λ log. Q (peers_of setup.gateways log) (packets_of log))
   of_closed Q law = record {
     begins = λ log. law.anew setup.gateways;
     halts = λ log. law.anew setup.gateways;
-    submits = λ log form unrefused is. law.pushed (peers_of setup.gateways log) (packets_of log) (suc (submitted log)) unrefused is;
+    submits = λ log form unrefused is. law.pushed (peers_of setup.gateways log) (packets_of log)
+      (suc (submitted log)) unrefused is;
     appoints = λ log gateway is. is;
-    ticks = λ log stands tick is. row tick.row tick.kept (law.alike (peers_of setup.gateways log) tick.probed (packets_of log) tick.alike is);
+    ticks = λ log stands tick is. row tick.row tick.kept
+      (law.alike (peers_of setup.gateways log) tick.probed (packets_of log) tick.alike is);
     hears = hears;
   }
     where
@@ -246,7 +257,8 @@ module _ (setup : NodeSetup) where
 
       hears : (log : List LogEntry) (port : Port) (gateway : ℕ) (saying : Saying) → Q (peers_of setup.gateways log) (packets_of log) →
           Q (peers_of setup.gateways log) (packets_of (Heard port gateway saying ∷ log))
-      hears log port gateway (Responds cause numbers) is = law.heard (peers_of setup.gateways log) (packets_of log) port gateway cause numbers is
+      hears log port gateway (Responds cause numbers) is =
+        law.heard (peers_of setup.gateways log) (packets_of log) port gateway cause numbers is
       hears log port gateway _ is = is
 
   module _ (some : 1 ≤ length setup.gateways) (Q : List LogEntry → Type 0) (law : Law Q) where
@@ -271,7 +283,8 @@ module _ (setup : NodeSetup) where
       after_taken port gateway (Says saying reply) =
           by (moved_by now port gateway saying) (moved_within now port gateway saying)
         where
-          by : (to : Option ℕ) → Within (length now.gateways) to → Both (logged (Heard port gateway saying ∷ appointing to) log)
+          by : (to : Option ℕ) → Within (length now.gateways) to →
+            Both (logged (Heard port gateway saying ∷ appointing to) log)
           by None within = heard log port gateway saying is
           by (Some to) within = appointed (Heard port gateway saying ∷ log) to within (heard log port gateway saying is)
 
@@ -283,7 +296,8 @@ module _ (setup : NodeSetup) where
           by None e =
               cond_both (nat_lt (submitted log) most_submissions) (Submitted form ∷ []) []
               (λ (entries : List LogEntry). Both (logged entries log))
-              (λ fewer. (is_submitted form log (ltb-true _ _ fewer) is.0, law.submits log form (unrefused now form e) is.1)) (λ _. is)
+              (λ fewer. (is_submitted form log (ltb-true _ _ fewer) is.0,
+                law.submits log form (unrefused now form e) is.1)) (λ _. is)
       after_running Tick = by (moved_at_tick now) (tick_within now)
         where
           by : (to : Option ℕ) → Within (length now.gateways) to →
@@ -328,7 +342,8 @@ module _ (setup : NodeSetup) where
 
     pub all_closed : (Q : List Peer → List PacketState → Type 0) → Closed Q → (calls : List NodeCall) →
         Q (reached setup calls).gateways (reached setup calls).packets
-    all_closed Q law calls = (all_hold some (λ log. Q (peers_of setup.gateways log) (packets_of log)) (of_closed Q law) calls).1
+    all_closed Q law calls =
+      (all_hold some (λ log. Q (peers_of setup.gateways log) (packets_of log)) (of_closed Q law) calls).1
 
     -- the next tick
     pub record NextTick (log entries : List LogEntry) (sendings : List Sending) : Type 0 where
@@ -336,7 +351,8 @@ module _ (setup : NodeSetup) where
       pub draws : AllDraw (peers_of setup.gateways log) sendings
       pub sent : AllByRecursion (IsSent (packets_of (logged entries log))) sendings
 
-    pub next_tick : (calls : List NodeCall) → NextTick (log_of setup calls) (tick_entries (reached setup calls)) (due (reached setup calls))
+    pub next_tick : (calls : List NodeCall) → NextTick (log_of setup calls) (tick_entries (reached setup calls))
+        (due (reached setup calls))
     next_tick calls = by (moved_at_tick (reached setup calls)) (tick_within (reached setup calls))
       where
         by : (to : Option ℕ) → Within (length (reached setup calls).gateways) to →

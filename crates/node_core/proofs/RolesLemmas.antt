@@ -14,10 +14,9 @@ use Rattle.node_core.specs.Packets.{PacketState, commanded, packet_hearing, whil
 use Rattle.node_core.specs.Peers.{next_number, peer_anew}
 use Rattle.node_core.specs.Reached.{NodeCall, reached}
 use Rattle.node_core.specs.Roles.{HasOneRole, use_of, uses, uses_by_command, uses_by_copies, uses_by_copy}
-use Rattle.node_core.proofs.CaseLemmas.{at_or_apart, either_hears, either_open}
+use Rattle.node_core.proofs.CaseLemmas.{at_or_apart, either_hears, either_open, each_weaker}
 use Rattle.node_core.proofs.ChosenLemmas.{AreApart}
 use Rattle.node_core.proofs.KeptLemmas.{AllKept}
-use Rattle.node_core.proofs.ListLemmas.{each_weaker}
 use Rattle.node_core.proofs.Moves.{Copying, Commanding, IsMove, Move, One, are_none, beyond, command_with, copies_moved, find_at, here, length_moved, next_elsewhere, next_moved, peers_moved, place}
 use Rattle.node_core.proofs.ReachedLemmas.{Closed, all_closed, all_stand, anew_next}
 use Rattle.node_core.proofs.WeightLemmas.{new_packet}
@@ -47,11 +46,14 @@ command_uses gateway number command (first ∷ copies) copy apart found fresh =
           let same : first ≡ copy = cc in
           let fresh_first : first.command ≡ None = ap (λ (c : PacketCopy). c.command) same ∙ fresh in
           let rest : map (commanded gateway command) copies ≡ copies =
-          map_fixed (commanded gateway command) copies (All-from_recursion (λ (c : PacketCopy). commanded gateway command c ≡ c) copies
-          (each_weaker (λ (c : PacketCopy). first.gateway ≢ c.gateway) (λ (c : PacketCopy). commanded gateway command c ≡ c)
+          map_fixed (commanded gateway command) copies
+            (All-from_recursion (λ (c : PacketCopy). commanded gateway command c ≡ c) copies
+          (each_weaker (λ (c : PacketCopy). first.gateway ≢ c.gateway)
+            (λ (c : PacketCopy). commanded gateway command c ≡ c)
           (λ c differs. rw (ne_eqb c.gateway gateway (λ e. differs (is.1 ∙ sym e))) refl) copies apart.0)) in
           rw (is.0, is.0, fresh_first, rest) (omega arith)
-      | inr isnt ↦ rw (isnt.0, isnt.0) (omega (arith, command_uses gateway number command copies copy apart.1 (rw isnt.0 at found) fresh))
+      | inr isnt ↦ rw (isnt.0, isnt.0)
+          (omega (arith, command_uses gateway number command copies copy apart.1 (rw isnt.0 at found) fresh))
     ]
 
 command_uses_other : (gateway other number : ℕ) (command : Command) (copies : List PacketCopy) → gateway ≢ other →

@@ -13,10 +13,9 @@ use Rattle.node_core.specs.Nearness.{ComesSoon, HasCopy, HasOpenCopy, IsCopyOrBa
 use Rattle.node_core.specs.Packets.{PacketState, packet_hearing, while_open}
 use Rattle.node_core.specs.Peers.{next_number}
 use Rattle.node_core.specs.Reached.{NodeCall, reached}
-use Rattle.node_core.proofs.CaseLemmas.{StaysPut, at_or_apart, commanded_puts, either_open, hearing_puts}
+use Rattle.node_core.proofs.CaseLemmas.{StaysPut, at_or_apart, commanded_puts, either_open, hearing_puts, any_map, each_contains, passes_in}
 use Rattle.node_core.proofs.ChosenLemmas.{own_number}
 use Rattle.node_core.proofs.KeptLemmas.{AllKept, IsBelow, IsKept, goes_on}
-use Rattle.node_core.proofs.ListLemmas.{any_map, each_contains, passes_in}
 use Rattle.node_core.proofs.Moves.{Copying, Commanding, Move, One, are_none, beyond, copies_moved, here, length_moved, next_elsewhere, next_moved, one_is, peers_moved, place}
 use Rattle.node_core.proofs.NearLemmas.{open_near, opens_are}
 use Rattle.node_core.proofs.ReachedLemmas.{Closed, all_closed, all_stand, anew_next}
@@ -84,8 +83,10 @@ module _ (gateway number : ℕ) where
   in_before (Commanding there order) peers copies has = inl (sym (puts_same _ (commanded_puts there _) copies) ∙ has)
 
   has_moved : {peers : List Peer} {move : Move} {packets after : List PacketState} → One peers move packets after → has_in packets ≡ true → has_in after ≡ true
-  has_moved {peers} {move} (here {packet} {packets} open_yet is) has = elim (or_cases (sent_in packet) (has_in packets) has) [
-    | inl its ↦ or_left (list_any is_at (copies_moved peers move packet.copies)) (has_in packets) (in_moved move peers packet.copies its)
+  has_moved {peers} {move} (here {packet} {packets} open_yet is) has =
+    elim (or_cases (sent_in packet) (has_in packets) has) [
+    | inl its ↦ or_left (list_any is_at (copies_moved peers move packet.copies)) (has_in packets)
+        (in_moved move peers packet.copies its)
     | inr later ↦ or_right (list_any is_at (copies_moved peers move packet.copies)) (has_in packets) later
   ]
   has_moved (beyond {packet} {packets} {after} one) has = elim (or_cases (sent_in packet) (has_in packets) has) [
@@ -97,12 +98,14 @@ module _ (gateway number : ℕ) where
       (has_in packets ≡ true) ⊎ ((place move ≡ gateway) × (next_number peers (place move) ≡ number))
   has_before {peers} {move} (here {packet} {packets} open_yet is) has =
       elim (or_cases (list_any is_at (copies_moved peers move packet.copies)) (has_in packets) has) [
-        | inl its ↦ elim (in_before move peers packet.copies its) [ inl was ↦ inl (or_left (sent_in packet) (has_in packets) was) | inr new ↦ inr new ]
+        | inl its ↦ elim (in_before move peers packet.copies its)
+            [ inl was ↦ inl (or_left (sent_in packet) (has_in packets) was) | inr new ↦ inr new ]
         | inr later ↦ inl (or_right (sent_in packet) (has_in packets) later)
       ]
   has_before (beyond {packet} {packets} {after} one) has = elim (or_cases (sent_in packet) (has_in after) has) [
     | inl its ↦ inl (or_left (sent_in packet) (has_in packets) its)
-    | inr later ↦ elim (has_before one later) [ inl was ↦ inl (or_right (sent_in packet) (has_in packets) was) | inr new ↦ inr new ]
+    | inr later ↦ elim (has_before one later)
+        [ inl was ↦ inl (or_right (sent_in packet) (has_in packets) was) | inr new ↦ inr new ]
   ]
 
   has_pushed : (packets : List PacketState) (new : ℕ) → has_in (packets ++ new_packet new ∷ []) ≡ has_in packets
@@ -112,7 +115,8 @@ module _ (gateway number : ℕ) where
       has_in (map (while_open (packet_hearing port heard cause numbers)) packets) ≡ has_in packets
   has_heard port heard cause numbers =
       let hears : PacketState → PacketState = packet_hearing port heard cause numbers in
-      any_map sent_in (while_open hears) (λ packet. either_open (λ (p : PacketState). sent_in p ≡ sent_in packet) hears packet refl
+      any_map sent_in (while_open hears)
+        (λ packet. either_open (λ (p : PacketState). sent_in p ≡ sent_in packet) hears packet refl
       (λ _. puts_same _ (hearing_puts port heard cause numbers) packet.copies))
 
 -- a new copy is there
@@ -120,12 +124,14 @@ new_has : {peers : List Peer} {gateway : ℕ} {packets after : List PacketState}
     has_in gateway (next_number peers gateway) after ≡ true
 new_has {peers} {gateway} (here {packet} {packets} open_yet is) =
     let next : ℕ = next_number peers gateway in
-    or_left (list_any (is_at gateway next) (copies_moved peers (Copying gateway) packet.copies)) (has_in gateway next packets)
+    or_left (list_any (is_at gateway next) (copies_moved peers (Copying gateway) packet.copies))
+      (has_in gateway next packets)
     (list_any-append (is_at gateway next) packet.copies (new_copy gateway next (are_none packet.copies) ∷ [])
     ∙ or_right (list_any (is_at gateway next) packet.copies) _
     (or-false _ ∙ and_from (gateway == gateway) (next == next) (own_number gateway) (own_number next)))
 new_has {peers} {gateway} (beyond {packet} {packets} {after} one) =
-    or_right (sent_in gateway (next_number peers gateway) packet) (has_in gateway (next_number peers gateway) after) (new_has one)
+    or_right (sent_in gateway (next_number peers gateway) packet) (has_in gateway (next_number peers gateway) after)
+      (new_has one)
 
 -- ---- the law
 
@@ -154,14 +160,16 @@ soon_on peers other packets after gateway number next less has (inr at) = inr (a
 soon_same : (peers other : List Peer) (packets after : List PacketState) → length other ≡ length peers →
     ((gateway : ℕ) → next_number other gateway ≡ next_number peers gateway) → opens after ≤ 64 →
     ((gateway : ℕ) → lones gateway after ≤ lones gateway packets) →
-    ((gateway number : ℕ) → has_in gateway number after ≡ has_in gateway number packets) → AllSoon peers packets → AllSoon other after
+    ((gateway number : ℕ) → has_in gateway number after ≡ has_in gateway number packets) → AllSoon peers packets →
+      AllSoon other after
 soon_same peers other packets after size next few less same is = record {
   few = few;
   first = λ gateway below. omega (arith, is.first gateway (omega (arith, below, size)), next gateway);
   base = λ gateway below. soon_on peers other packets after gateway 65535 (next gateway) (less gateway)
       (λ later has. same gateway later ∙ has) (is.base gateway (omega (arith, below, size)));
   copies = λ gateway number below has. soon_on peers other packets after gateway number (next gateway) (less gateway)
-      (λ later has. same gateway later ∙ has) (is.copies gateway number (omega (arith, below, size)) (sym (same gateway number) ∙ has));
+      (λ later has. same gateway later ∙ has)
+        (is.copies gateway number (omega (arith, below, size)) (sym (same gateway number) ∙ has));
 }
 
 soon_there : (peers : List Peer) (move : Move) (packets after : List PacketState) (number : ℕ) → One peers move packets after →
@@ -173,7 +181,8 @@ soon_there peers (Commanding gateway order) packets after number one below (inl 
     inl (omega (
       arith,
       bound,
-      total_moved (left_at 0 gateway) 1 (λ copies is. omega (arith, weight_commanded 0 gateway order peers copies is.fits)) one,
+      total_moved (left_at 0 gateway) 1
+        (λ copies is. omega (arith, weight_commanded 0 gateway order peers copies is.fits)) one,
       next_moved one,
     ))
 
@@ -183,7 +192,8 @@ soon_moved peers move packets after gateway number one =
     at_or_apart (λ (g : ℕ). number < next_number peers g → SoonAt peers packets g number
     → SoonAt (peers_moved move peers) after g number) (place move) gateway
     (soon_there peers move packets after number one)
-    (λ apart below. soon_on peers (peers_moved move peers) packets after gateway number (next_elsewhere move gateway peers apart)
+    (λ apart below. soon_on peers (peers_moved move peers) packets after gateway number
+      (next_elsewhere move gateway peers apart)
     (weights_moved_other 0 gateway apart one) (λ later has. has_moved gateway later one has))
 
 all_soon_moved : (peers : List Peer) (move : Move) (packets after : List PacketState) → AllKept peers packets → One peers move packets after →
@@ -205,7 +215,8 @@ all_soon_moved peers move packets after kept one is = record {
         soon_moved peers move packets after gateway number one (below_has gateway number peers packets kept has) (is.copies gateway number (within gateway below) has)
     by gateway number below (inr new) =
         inl (subst (λ (g : ℕ). next_number (peers_moved move peers) g + lones g after ≤ number + 65) new.0
-        (omega (arith, next_moved one, new.1, weights_few 0 1 (place move) after (omega arith) (omega arith), opens_moved one, is.few)))
+        (omega (arith, next_moved one, new.1, weights_few 0 1 (place move) after (omega arith) (omega arith),
+          opens_moved one, is.few)))
 
 all_soon : Closed AllSoon
 all_soon = record {
@@ -216,10 +227,13 @@ all_soon = record {
     copies = λ gateway number below has. absurd (cc);
   };
   alike = λ peers other packets alike is.
-      soon_same peers other packets packets alike.size alike.numbers is.few (λ gateway. omega arith) (λ gateway number. refl) is;
-  pushed = λ peers packets new unrefused is. soon_same peers peers packets (packets ++ new_packet new ∷ []) refl (λ gateway. refl)
+      soon_same peers other packets packets alike.size alike.numbers is.few (λ gateway. omega arith)
+        (λ gateway number. refl) is;
+  pushed = λ peers packets new unrefused is. soon_same peers peers packets (packets ++ new_packet new ∷ []) refl
+    (λ gateway. refl)
       (omega (arith, total_pushed (λ copies. 1) packets new, opens_are packets, unrefused.few))
-      (λ gateway. omega (arith, total_pushed (left_at 0 gateway) packets new)) (λ gateway number. has_pushed gateway number packets new) is;
+      (λ gateway. omega (arith, total_pushed (left_at 0 gateway) packets new))
+        (λ gateway number. has_pushed gateway number packets new) is;
   moved = all_soon_moved;
   heard = λ peers packets port heard cause numbers is.
       soon_same peers peers packets (map (while_open (packet_hearing port heard cause numbers)) packets) refl (λ gateway. refl)

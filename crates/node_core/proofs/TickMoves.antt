@@ -1,5 +1,5 @@
--- What a tick makes of the packets and of the numbers is a row of moves; each number that it draws is at least the next one
--- of its gateway, and each request is of a copy that the packets have then.
+-- What a tick makes of the packets and of the numbers is a row of moves; each number that it draws is at least the next
+-- one of its gateway, and each request is of a copy that the packets have then.
 use Rattle.std.proofs.Common.{◌≡◌, ℕ, suc, ◌+◌, ◌%◌, ◌<◌, ◌≤◌, ◌&&◌, Bool, true, false, if◌then◌else◌, List, [], ◌∷◌, ◌++◌, length, map, Option, Some, None, refl, sym, ap, subst, ◌∙◌, arith}
 use Rattle.std.proofs.lemmas.Bool.{and_right, cond_both}
 use Rattle.std.specs.List.{AllByRecursion, list_all}
@@ -19,15 +19,14 @@ use Rattle.node_core.specs.Sendings.{due_by_copies, due_for, due_for_all, probe_
 use Rattle.node_core.specs.Sent.{IsSent}
 use Rattle.node_core.specs.Sound.{AreNumbered, planned}
 use Rattle.node_core.specs.Ticks.{due_by}
-use Rattle.node_core.proofs.CaseLemmas.{either_commanded, else_fails}
+use Rattle.node_core.proofs.CaseLemmas.{either_commanded, else_fails, any_map, each_append, each_weaker}
 use Rattle.node_core.proofs.DueLemmas.{due_each, probes_each}
 use Rattle.node_core.proofs.DueMoves.{Does, HasRoom, Step, due_does, ends, idles, moves, sends, Own, own_goes_on, sent_here, sent_later}
 use Rattle.node_core.proofs.KnowledgeLemmas.{after_all_grows}
 use Rattle.node_core.proofs.KeptLemmas.{AllKept, GoOn, IsKept, all_kept_after, all_kept_on, goes_on}
-use Rattle.node_core.proofs.ListLemmas.{any_map, each_append, each_weaker}
 use Rattle.node_core.proofs.Moves.{Copying, Commanding, Move, Moves, are_none, beyond, command_with, copies_moved, here, length_placed, next_placed, one_is, onward, still}
 use Rattle.node_core.proofs.NodeLemmas.{after_all-number}
-use Rattle.node_core.proofs.OwnLemmas.{planned_after_probes}
+use Rattle.node_core.proofs.SettledLemmas.{planned_after_probes}
 use Rattle.node_core.proofs.PlanLemmas.{all_drawn_append}
 use Rattle.node_core.proofs.WeightLemmas.{Bounded, bounded_after, left_at, weight_unless}
 
@@ -70,7 +69,8 @@ module _ (gateway number : ℕ) (order : Order) where
   done_commanded [] = refl
   done_commanded (plain ∷ duplicates) =
       let all : list_all is_settled (map after_command duplicates) ≡ list_all is_settled duplicates =
-      list_all-map is_settled after_command duplicates ∙ (λ i. list_all (λ (c : PacketCopy). settled_same c i) duplicates) in
+      list_all-map is_settled after_command duplicates
+        ∙ (λ i. list_all (λ (c : PacketCopy). settled_same c i) duplicates) in
       rw (verdict_same plain, any_map is_released after_command released_same duplicates, all) refl
 
 open_moved : (move : Move) (peers : List Peer) (copies : List PacketCopy) → is_done copies ≡ false → is_done (copies_moved peers move copies) ≡ false
@@ -82,7 +82,8 @@ open_moved (Commanding gateway order) peers copies open_yet = done_commanded gat
 abbrev packet_with : ℕ → List PacketCopy → PacketState
 packet_with number copies = record { number = number; copies = copies }
 
-step_row : {peers later_peers after_peers : List Peer} {copies later : List PacketCopy} {after : List PacketState} (number : ℕ) (packets : List PacketState) →
+step_row : {peers later_peers after_peers : List Peer} {copies later : List PacketCopy} {after : List PacketState}
+  (number : ℕ) (packets : List PacketState) →
     Step peers copies later_peers later → is_done copies ≡ false →
     (is_done later ≡ false → Moves later_peers (packet_with number later ∷ packets) after_peers after) →
     Moves peers (packet_with number copies ∷ packets) after_peers after
@@ -167,7 +168,8 @@ module _ (favourite : ℕ) (up : Bool) where
       × AllByRecursion (Own packet.number (packet_after_all (due_for favourite up peers packet) packet).copies) (due_for favourite up peers packet)
   one_packet most peers packet packets few within kept bounded =
       cond_both (is_done packet.copies) [] (due_by_copies favourite up peers packet.number packet.copies)
-      (λ (sendings : List Sending). Moves peers (packet ∷ packets) (all_drawn sendings peers) (packet_after_all sendings packet ∷ packets)
+      (λ (sendings : List Sending). Moves peers (packet ∷ packets) (all_drawn sendings peers)
+        (packet_after_all sendings packet ∷ packets)
       × AllByRecursion (Own packet.number (packet_after_all sendings packet).copies) sendings)
       (λ _. (still, tt))
       (λ open_yet. let does = due_does packet.number favourite up peers within packet.copies kept (room open_yet) in
@@ -250,7 +252,8 @@ a_tick favourite most before up paths peers packets few within kept bounded numb
     let probed : List Peer = all_drawn (probes paths peers) peers in
     let due : List Sending = due_for_all favourite up probed packets in
     let alike : Alike peers probed = probes_alike 0 paths peers peers in
-    let on : GoOn peers probed = record { size = alike.size; numbers = λ gateway. omega (arith, alike.numbers gateway) } in
+    let on : GoOn peers probed =
+      record { size = alike.size; numbers = λ gateway. omega (arith, alike.numbers gateway) } in
     let there : AllKept probed packets = all_kept_on peers probed packets on kept in
     let plan = tick_plan favourite up most probed packets few (omega (arith, within, alike.size)) there
     (λ gateway below. omega (arith, bounded gateway (omega (arith, below, alike.size)), alike.numbers gateway)) in
@@ -262,7 +265,8 @@ a_tick favourite most before up paths peers packets few within kept bounded numb
       probed = probed;
       alike = alike;
       kept = there;
-      row = subst (λ (ps : List Peer). Moves probed packets ps (map (while_open (packet_after_all (probes paths peers ++ due))) packets))
+      row = subst (λ (ps : List Peer). Moves probed packets ps
+        (map (while_open (packet_after_all (probes paths peers ++ due))) packets))
           (sym drawn_is) (subst (Moves probed packets (all_drawn due probed)) (sym is) plan.row);
       on = subst (GoOn peers) (sym drawn_is) (goes_further on (moves_go_on plan.row));
       draws = each_append (DrawsNext peers) (probes paths peers) due

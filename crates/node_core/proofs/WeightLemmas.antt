@@ -12,8 +12,7 @@ use Rattle.node_core.specs.Copies.{command_hearing, copy_hearing, new_copy}
 use Rattle.node_core.specs.Packets.{PacketState, commanded, is_done, packet_hearing, while_open, with_command}
 use Rattle.node_core.specs.Peers.{next_number}
 use Rattle.node_core.specs.declared.copy.Order.{Order}
-use Rattle.node_core.proofs.CaseLemmas.{at_or_apart, commanded_puts, either_hears, either_open, hearing_puts}
-use Rattle.node_core.proofs.ListLemmas.{find_is, find_map}
+use Rattle.node_core.proofs.CaseLemmas.{at_or_apart, commanded_puts, either_hears, either_open, hearing_puts, find_is, find_map}
 use Rattle.node_core.proofs.Moves.{Commanding, CommandsOne, Copying, IsMove, Move, Moves, One, are_none, beyond, command_with, copies_moved, find_at, find_commanded, here, length_moved, next_elsewhere, next_moved, onward, peers_moved, place, still}
 
 -- ---- a sum over the open packets
@@ -47,7 +46,8 @@ module _ (left : List PacketCopy → ℕ) where
       least false = omega arith
 
   pub total_moved : (less : ℕ) {peers : List Peer} {move : Move} {packets after : List PacketState} →
-      ((copies : List PacketCopy) → IsMove peers copies move → less + left (copies_moved peers move copies) ≤ left copies) →
+      ((copies : List PacketCopy) → IsMove peers copies move →
+        less + left (copies_moved peers move copies) ≤ left copies) →
       One peers move packets after → less + total left after ≤ total left packets
   total_moved less {peers} {move} step (here {packet} {packets} open_yet is) = omega (
     arith,
@@ -192,7 +192,8 @@ weights_moved {peers} {move} one = omega (
 )
 
 pub weights_moved_other : (none : ℕ) {peers : List Peer} {move : Move} {packets after : List PacketState} (gateway : ℕ) →
-    place move ≢ gateway → One peers move packets after → weights_by none gateway after ≤ weights_by none gateway packets
+    place move ≢ gateway → One peers move packets after →
+      weights_by none gateway after ≤ weights_by none gateway packets
 weights_moved_other none {peers} {move} gateway apart one = omega (
   arith,
   total_moved (left_at none gateway) 0
@@ -230,7 +231,8 @@ abbrev pub Bounded : ℕ → List Peer → List PacketState → Type 0
 Bounded most peers packets = (gateway : ℕ) → gateway < length peers → next_number peers gateway + weights gateway packets ≤ most
 
 pub less_left : {peers : List Peer} {move : Move} {packets after : List PacketState} → One peers move packets after → (gateway : ℕ) →
-    next_number (peers_moved move peers) gateway + weights gateway after ≤ next_number peers gateway + weights gateway packets
+    next_number (peers_moved move peers) gateway + weights gateway after ≤ next_number peers gateway + weights gateway
+      packets
 less_left {peers} {move} {packets} {after} one gateway =
     at_or_apart (λ (g : ℕ). next_number (peers_moved move peers) g + weights g after
     ≤ next_number peers g + weights g packets) (place move) gateway

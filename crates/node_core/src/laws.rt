@@ -26,13 +26,13 @@ ghost use Rattle.node_core.specs.Ticks.{due};
 ghost use Rattle.node_core.specs.Value.{NodeValue};
 
 /// A log has as many gateways as its node was made with.
-#[tactic(auto, using(crate::proofs::LogLemmas::gateways_count))]
+#[tactic(auto, using(crate::proofs::NodeLemmas::gateways_count))]
 pub fn a_log_keeps_its_gateways()
     ensures { (gateways : List Addr) (log : List LogEntry) → length (peers_of gateways log) ≡ length gateways }
 {}
 
 /// The restart counter of a log is the one that its node tells.
-#[tactic(auto, using(crate::proofs::LogLemmas::counter_stays))]
+#[tactic(auto, using(crate::proofs::NodeLemmas::counter_stays))]
 pub fn a_log_has_one_counter()
     ensures { (first : ℕ) (log : List LogEntry) → (paths_of first log).counter ≡ counter_of first log }
 {}

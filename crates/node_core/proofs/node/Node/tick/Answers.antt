@@ -8,7 +8,7 @@ use Rattle.node_core.specs.Packets.{packet_after_all, while_open}
 use Rattle.node_core.specs.Peers.{all_drawn}
 use Rattle.node_core.specs.Ticks.{due_by, tick_entries}
 use Rattle.node_core.specs.Value.{NodeValue, befallen, most_quiet}
-use Rattle.node_core.proofs.OwnLemmas.{length-replaced, replaced_is}
+use Rattle.node_core.proofs.SettledLemmas.{length-replaced, replaced_is}
 use Rattle.node_core.proofs.NodeLemmas.{after_all-number, sound_on, while_open-number}
 use Rattle.node_core.proofs.PlanLemmas.{length-all_drawn, tick_result, within_by}
 use Rattle.node_core.proofs.node.Node.tick.Goals as goal
