@@ -196,16 +196,11 @@ pub record StaysPut (copy after : PacketCopy) : Type 0 where
 
 pub commanded_puts : (gateway : ℕ) (command : Command) (copy : PacketCopy) →
     StaysPut copy (commanded gateway command copy)
-commanded_puts gateway command copy =
-    either_commanded (StaysPut copy) gateway command copy (record { gateway = refl; number = refl; is_plain = refl })
-    (record { gateway = refl; number = refl; is_plain = refl })
+commanded_puts gateway command copy = either_commanded (StaysPut copy) gateway command copy (search) (search)
 
 pub hearing_puts : (port : Port) (gateway cause : ℕ) (numbers : List ℕ) (copy : PacketCopy) →
     StaysPut copy (copy_hearing port gateway cause numbers copy)
-hearing_puts port gateway cause numbers copy =
-    either_hears (StaysPut copy) port gateway cause numbers copy
-    (record { gateway = refl; number = refl; is_plain = refl })
-    (record { gateway = refl; number = refl; is_plain = refl })
+hearing_puts port gateway cause numbers copy = either_hears (StaysPut copy) port gateway cause numbers copy (search) (search)
 
 -- ---- at one place or elsewhere
 

@@ -145,7 +145,7 @@ pub record KeepsChoice (f : PacketCopy → PacketCopy) : Type 0 where
   pub same : (copy : PacketCopy) → is_chosen (f copy) ≡ is_chosen copy
   pub sealed : (copy : PacketCopy) → copy.verdict ≡ Sealed → (f copy).verdict ≡ Sealed
 
-chosen_map : (f : PacketCopy → PacketCopy) → KeepsChoice f → (copies : List PacketCopy) → Chosen copies → Chosen (map f copies)
+pub chosen_map : (f : PacketCopy → PacketCopy) → KeepsChoice f → (copies : List PacketCopy) → Chosen copies → Chosen (map f copies)
 chosen_map f keeps [] is = tt
 chosen_map f keeps (plain ∷ duplicates) is = (
   keeps.same plain ∙ is.0,
@@ -163,7 +163,7 @@ cancel_keeps gateway number = record {
       c.verdict ≡ Sealed) gateway (command_with Cancel number) copy is is;
 }
 
-hearing_keeps : (port : Port) (gateway cause : ℕ) (numbers : List ℕ) → KeepsChoice (copy_hearing port gateway cause numbers)
+pub hearing_keeps : (port : Port) (gateway cause : ℕ) (numbers : List ℕ) → KeepsChoice (copy_hearing port gateway cause numbers)
 hearing_keeps port gateway cause numbers = record {
   same = λ copy. either_hears (λ (c : PacketCopy). is_chosen c ≡ is_chosen copy) port gateway cause numbers copy
       (mapped_passes (λ (c : Command). is_release c.order) (command_hearing cause numbers) copy.command) refl;
@@ -303,11 +303,6 @@ waits_moved (Copying gateway) peers copies is waits = λ still. elim (waits (bef
     before (plain ∷ duplicates) still = still
 waits_moved (Commanding gateway order) peers copies is waits =
     λ still. inr (may_commanded order copies gateway (next_number peers gateway) is.fits still)
-
-pub chosen_hearing : (port : Port) (gateway cause : ℕ) (numbers : List ℕ) (copies : List PacketCopy) → Chosen copies →
-    Chosen (map (copy_hearing port gateway cause numbers) copies)
-chosen_hearing port gateway cause numbers =
-  chosen_map (copy_hearing port gateway cause numbers) (hearing_keeps port gateway cause numbers)
 
 pub waits_hearing : (port : Port) (gateway cause : ℕ) (numbers : List ℕ) (copies : List PacketCopy) → Waits copies →
     Waits (map (copy_hearing port gateway cause numbers) copies)

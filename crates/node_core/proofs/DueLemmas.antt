@@ -25,16 +25,7 @@ use Rattle.node_core.proofs.CaseLemmas.{contains_more, each_append, each_contain
 pub choice_of : {copies : List PacketCopy} (plain : PacketCopy) (duplicates : List PacketCopy) (copy : PacketCopy) →
     copies ≡ plain ∷ duplicates →
     plain.verdict ≡ Sealed → chosen duplicates ≡ Some copy → IsChoice copies copy.gateway copy.number
-choice_of plain duplicates copy whole sealed choice = record {
-  plain = plain;
-  duplicates = duplicates;
-  copy = copy;
-  whole = whole;
-  sealed = sealed;
-  choice = choice;
-  gateway_is = refl;
-  number_is = refl;
-}
+choice_of plain duplicates copy whole sealed choice = search (whole, sealed, choice)
 
 -- a copy that is new or sent again, the test of one, a release or a cancel
 pub record EachMay (P : Sending → Type 0) (number : ℕ) (peers : List Peer) (copies : List PacketCopy) : Type 0 where

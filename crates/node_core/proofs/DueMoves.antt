@@ -212,13 +212,6 @@ module _ (number : ℕ) (first : List Peer) where
   Settles f peers copies copy =
       (f copy ≡ []) ⊎ ((f copy ≡ settling first number copy) × IsReady first peers copies copy × HasOrder Cancel copy)
 
-  settles_on : (f : PacketCopy → List Sending) (gateway : ℕ) (peers : List Peer) (copies : List PacketCopy) (later_peers : List Peer) (later : List PacketCopy) →
-      StaysReady first gateway peers copies later_peers later → (copy : PacketCopy) → gateway ≢ copy.gateway →
-      Settles f peers copies copy → Settles f later_peers later copy
-  settles_on f gateway peers copies later_peers later stays copy apart (inl none) = inl none
-  settles_on f gateway peers copies later_peers later stays copy apart (inr is) =
-    inr (is.0, stays copy apart is.1, is.2)
-
   settles : (f : PacketCopy → List Sending) (duplicates : List PacketCopy) → AreApart duplicates →
     (peers : List Peer) (copies : List PacketCopy) →
       MayCancel copies → ((copy : PacketCopy) → Contains duplicates copy → Settles f peers copies copy) →
@@ -232,9 +225,12 @@ module _ (number : ℕ) (first : List Peer) where
         | inr is ↦ subst (λ (xs : List Sending). Does number peers copies (xs ++ flat_map f duplicates)) (sym is.0)
             (settling_goes peers copies copy.verdict copy (flat_map f duplicates) is.1 may is.2
             (λ later_peers later stays may_later. settles f duplicates apart.1 later_peers later may_later
-            (λ other there. settles_on f copy.gateway peers copies later_peers later stays other
-            (each_contains (λ (o : PacketCopy). copy.gateway ≢ o.gateway) duplicates other apart.0 there)
-            (each other (contains_more duplicates copy other there)))))
+            (λ other there. elim (each other (contains_more duplicates copy other there)) [
+              | inl none ↦ inl none
+              | inr its ↦ inr (its.0, stays other
+                  (each_contains (λ (o : PacketCopy). copy.gateway ≢ o.gateway) duplicates other apart.0 there)
+                  its.1, its.2)
+            ])))
       ]
 
 -- ---- at the start of a tick

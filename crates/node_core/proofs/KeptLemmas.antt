@@ -16,7 +16,7 @@ use Rattle.node_core.specs.Packets.{PacketState, commanded}
 use Rattle.node_core.specs.Peers.{next_number}
 use Rattle.node_core.specs.Roles.{IsPlainFirst}
 use Rattle.node_core.proofs.CaseLemmas.{StaysPut, at_or_apart, commanded_puts, either_hears, hearing_puts, if_mapped, if_or, each_map, each_push, each_weaker, find_none}
-use Rattle.node_core.proofs.ChosenLemmas.{AreApart, Chosen, Waits, chosen_hearing, chosen_moved, waits_hearing, waits_moved}
+use Rattle.node_core.proofs.ChosenLemmas.{AreApart, Chosen, Waits, chosen_map, hearing_keeps, chosen_moved, waits_hearing, waits_moved}
 use Rattle.node_core.proofs.Moves.{Copying, Commanding, IsMove, Move, Moves, One, are_none, beyond, command_with, copies_moved, find_at, here, length_moved, next_elsewhere, next_is, one_is, onward, peers_moved, place, still}
 
 -- ---- the gateways go on
@@ -194,5 +194,5 @@ kept_hearing peers port gateway cause numbers copies kept =
       number = below.number;
       command = if_mapped (IsBetween copy.number (next_number peers copy.gateway)) (command_hearing cause numbers) copy.command below.command;
     }) below) copies kept
-    (chosen_hearing port gateway cause numbers copies kept.chosen)
+    (chosen_map (copy_hearing port gateway cause numbers) (hearing_keeps port gateway cause numbers) copies kept.chosen)
     (waits_hearing port gateway cause numbers copies kept.waits)

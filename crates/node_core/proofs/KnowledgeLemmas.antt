@@ -15,7 +15,7 @@ use Rattle.node_core.specs.declared.sending.Sending.{Sending}
 use Rattle.node_core.specs.declared.sending.Sending.TheVariants as send
 use Rattle.node_core.specs.Copies.{command_hearing, copy_hearing, first_told, is_filed, is_release, is_released, is_unknown, copy_hearing_own, is_fulfilled, names, told_if}
 use Rattle.node_core.specs.Growing.{CommandGrows, CopyGrows, Extends, PacketGrows, is_within_start}
-use Rattle.node_core.specs.Log.{LogEntry, Submitted, Appointed, Ticked, Heard, Saying, Responds, packets_of}
+use Rattle.node_core.specs.Log.{LogEntry, Submitted, Appointed, Ticked, Heard, Responds, packets_of}
 use Rattle.node_core.specs.Packets.{PacketState, commanded, copies_after, is_resolved, packet_after_all, packet_hearing, while_open}
 use Rattle.node_core.specs.declared.copy.Order.{Order}
 use Rattle.node_core.specs.Resting.{AllRestOn, IsFulfilled, IsTold, RestsOn, since_start}
@@ -163,41 +163,30 @@ open_grows f keeps grows packet = either_open (PacketGrows packet) f packet (sam
 
 -- ---- one more entry
 
-saying_grows : (port : Port) (gateway : ℕ) (saying : Saying) (log : List LogEntry) →
-    Extends PacketGrows (packets_of log) (packets_of (Heard port gateway saying ∷ log))
-saying_grows port gateway (Responds cause numbers) log =
-    extends_map PacketGrows _
-    (open_grows (packet_hearing port gateway cause numbers) (λ packet. refl)
-    (λ packet. extends_map CopyGrows _ (hearing_grows port gateway cause numbers) packet.copies)) (packets_of log)
-saying_grows port gateway _ log = extends_itself PacketGrows same_packet (packets_of log)
-
 pub entry_grows : (entry : LogEntry) (log : List LogEntry) → is_within_start entry ≡ true →
     Extends PacketGrows (packets_of log) (packets_of (entry ∷ log))
 entry_grows (Submitted form) log is = extends_push PacketGrows same_packet (packets_of log) _
 entry_grows (Appointed gateway) log is = extends_itself PacketGrows same_packet (packets_of log)
 entry_grows (Ticked sendings) log is =
     extends_map PacketGrows _ (open_grows (packet_after_all sendings) (after_all-number sendings) (after_all_grows sendings)) (packets_of log)
-entry_grows (Heard port gateway saying) log is = saying_grows port gateway saying log
+entry_grows (Heard port gateway (Responds cause numbers)) log is =
+    extends_map PacketGrows _
+    (open_grows (packet_hearing port gateway cause numbers) (λ packet. refl)
+    (λ packet. extends_map CopyGrows _ (hearing_grows port gateway cause numbers) packet.copies)) (packets_of log)
+entry_grows (Heard port gateway _) log is = extends_itself PacketGrows same_packet (packets_of log)
 entry_grows _ log is = absurd (cc)
 
 -- ---- each verdict, and each command that is answered, rests on a response
 
 -- ---- one more entry
 
-more_told : (entry : LogEntry) (entries : List LogEntry) (copy : PacketCopy) → IsTold entries copy → IsTold (entry ∷ entries) copy
-more_told entry entries copy is =
-    search (contains_more entries entry _ is.heard, is.named, is.tells)
-
-more_fulfilled : (entry : LogEntry) (entries : List LogEntry) (gateway number : ℕ) → IsFulfilled entries gateway number →
-    IsFulfilled (entry ∷ entries) gateway number
-more_fulfilled entry entries gateway number is =
-    search (contains_more entries entry _ is.heard, is.named, is.tells)
-
 more_rests : (entry : LogEntry) (entries : List LogEntry) (copy : PacketCopy) → RestsOn entries copy → RestsOn (entry ∷ entries) copy
 more_rests entry entries copy rests = record {
-  verdict = λ known. more_told entry entries copy (rests.verdict known);
-  command = IfSome_then copy.command rests.command
-      (λ c is answered. more_fulfilled entry entries copy.gateway c.number (is answered));
+  verdict = λ known. let is : IsTold entries copy = rests.verdict known in
+    search (contains_more entries entry _ is.heard, is.named, is.tells);
+  command = IfSome_then copy.command rests.command (λ c now answered.
+    let is : IsFulfilled entries copy.gateway c.number = now answered in
+    search (contains_more entries entry _ is.heard, is.named, is.tells));
 }
 
 -- all copies of a packet, by recursion
@@ -287,19 +276,7 @@ module _ (port : Port) (gateway cause : ℕ) (numbers : List ℕ) (since : List 
     | inr isnt ↦ rw isnt.0 rests
   ]
 
-  packets_hear : (packets : List PacketState) → AllByRecursion (Each with_response) packets →
-      AllByRecursion (Each with_response) (map (while_open (packet_hearing port gateway cause numbers)) packets)
-  packets_hear = open_rests with_response (packet_hearing port gateway cause numbers)
-      (λ packet. each_map (RestsOn with_response) (RestsOn with_response) (copy_hearing port gateway cause numbers) hears packet.copies)
-
 -- ---- all logs
-
-saying_rests : (port : Port) (gateway : ℕ) (saying : Saying) (log : List LogEntry) →
-    AllByRecursion (Each (Heard port gateway saying ∷ since_start log)) (packets_of log) →
-    AllByRecursion (Each (Heard port gateway saying ∷ since_start log)) (packets_of (Heard port gateway saying ∷ log))
-saying_rests port gateway (Responds cause numbers) log all =
-  packets_hear port gateway cause numbers (since_start log) (packets_of log) all
-saying_rests port gateway _ log all = all
 
 rests : (log : List LogEntry) → AllByRecursion (Each (since_start log)) (packets_of log)
 rests (Submitted form ∷ log) =
@@ -310,8 +287,13 @@ rests (Ticked sendings ∷ log) =
     open_rests entries (packet_after_all sendings)
     (after_all_keeps (AllByRecursion (RestsOn entries)) sendings (λ sending there. copies_rest entries sending))
     (packets_of log) (more_each _ (since_start log) (packets_of log) (rests log))
-rests (Heard port gateway saying ∷ log) =
-    saying_rests port gateway saying log (more_each _ (since_start log) (packets_of log) (rests log))
+rests (Heard port gateway (Responds cause numbers) ∷ log) =
+    let entries : List LogEntry = Heard port gateway (Responds cause numbers) ∷ since_start log in
+    open_rests entries (packet_hearing port gateway cause numbers)
+    (λ packet. each_map (RestsOn entries) (RestsOn entries) (copy_hearing port gateway cause numbers)
+      (hears port gateway cause numbers (since_start log)) packet.copies)
+    (packets_of log) (more_each _ (since_start log) (packets_of log) (rests log))
+rests (Heard port gateway _ ∷ log) = more_each _ (since_start log) (packets_of log) (rests log)
 rests _ = tt
 
 pub all_rest : (log : List LogEntry) → All (AllRestOn (since_start log)) (packets_of log)

@@ -11,7 +11,7 @@ use Rattle.node_core.specs.declared.port.Port.{Port}
 use Rattle.node_core.specs.Copies.{command_hearing, copy_hearing, new_copy}
 use Rattle.node_core.specs.Log.{NodeSetup}
 use Rattle.node_core.specs.Packets.{PacketState, commanded, packet_hearing, while_open}
-use Rattle.node_core.specs.Peers.{next_number, peer_anew}
+use Rattle.node_core.specs.Peers.{next_number}
 use Rattle.node_core.specs.Reached.{NodeCall, reached}
 use Rattle.node_core.specs.Roles.{HasOneRole, use_of, uses, uses_by_command, uses_by_copies, uses_by_copy}
 use Rattle.node_core.proofs.CaseLemmas.{at_or_apart, either_hears, either_open, each_weaker}
@@ -145,12 +145,7 @@ same_uses : {peers other : List Peer} {packets after : List PacketState} {gatewa
     OneUse peers packets gateway number →
     next_number other gateway ≡ next_number peers gateway → uses gateway number after ≡ uses gateway number packets
     → OneUse other after gateway number
-same_uses was next many = record {
-  first = omega (arith, was.first, next);
-  before = λ low. many ∙ was.before low;
-  drawn = λ from to. many ∙ was.drawn from (omega (arith, to, next));
-  behind = λ high. many ∙ was.behind (omega (arith, high, next));
-}
+same_uses was next many = omega (arith, was, next, many)
 
 one_moved : (peers : List Peer) (move : Move) (packets after : List PacketState) → AllKept peers packets → One peers move packets after →
     OneUses peers packets → OneUses (peers_moved move peers) after
@@ -167,33 +162,15 @@ one_moved peers move packets after kept one is gateway number below =
         elim (eqb_tells (next_number peers (place move)) number) [
           | inl same ↦
               let used : use_of number (next_number peers (place move)) ≡ 1 = rw same.0 refl in
-              record {
-                first = omega (arith, was.first, next);
-                before = λ low. absurd (omega (arith, low, same.1, was.first));
-                drawn = λ from to. omega (arith, many, used, was.behind (omega (arith, same.1)));
-                behind = λ high. absurd (omega (arith, high, next, same.1));
-              }
+              omega (arith, was, next, many, used, same.1)
           | inr differs ↦
               let unused : use_of number (next_number peers (place move)) ≡ 0 = rw differs.0 refl in
-              let apart : next_number peers (place move) ≢ number = differs.1 in
-              record {
-                first = omega (arith, was.first, next);
-                before = λ low. omega (arith, many, unused, was.before low);
-                drawn = λ from to. omega (arith, many, unused, was.drawn from (omega (arith, to, next, apart)));
-                behind = λ high. omega (arith, many, unused, was.behind (omega (arith, high, next)));
-              }
+              omega (arith, was, next, many, unused, differs.1)
         ]
 
 pub one_use : Closed OneUses
 one_use = record {
-  anew = λ addresses gateway number below.
-      let next : next_number (map peer_anew addresses) gateway ≡ 65536 = anew_next addresses gateway in
-      record {
-        first = omega (arith, next);
-        before = λ low. refl;
-        drawn = λ from to. absurd (omega (arith, next, from, to));
-        behind = λ high. refl;
-      };
+  anew = λ addresses gateway number below. omega (arith, anew_next addresses gateway);
   alike = λ peers other packets alike is gateway number below.
       same_uses (is gateway number (omega (arith, below, alike.size))) (alike.numbers gateway) refl;
   pushed = λ peers packets new unrefused is gateway number below.
@@ -209,4 +186,4 @@ one_role setup calls gateway number some within =
     let size = (all_stand setup some calls).size in
     let one : OneUse (reached setup calls).gateways (reached setup calls).packets gateway number =
     all_closed setup some OneUses one_use calls gateway number (omega (arith, within, size)) in
-    record { before = one.before; drawn = one.drawn; behind = one.behind }
+    search (one.before, one.drawn, one.behind)

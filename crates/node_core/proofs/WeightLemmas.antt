@@ -184,13 +184,6 @@ weight_moved (Copying gateway) peers copies is =
     )
 weight_moved (Commanding gateway order) peers copies is = weight_commanded 2 gateway order peers copies is.fits
 
-pub weights_moved : {peers : List Peer} {move : Move} {packets after : List PacketState} → One peers move packets after →
-    suc (weights (place move) after) ≤ weights (place move) packets
-weights_moved {peers} {move} one = omega (
-  arith,
-  total_moved (left_at 2 (place move)) 1 (λ copies is. omega (arith, weight_moved move peers copies is)) one,
-)
-
 pub weights_moved_other : (none : ℕ) {peers : List Peer} {move : Move} {packets after : List PacketState} (gateway : ℕ) →
     place move ≢ gateway → One peers move packets after →
       weights_by none gateway after ≤ weights_by none gateway packets
@@ -236,7 +229,8 @@ pub less_left : {peers : List Peer} {move : Move} {packets after : List PacketSt
 less_left {peers} {move} {packets} {after} one gateway =
     at_or_apart (λ (g : ℕ). next_number (peers_moved move peers) g + weights g after
     ≤ next_number peers g + weights g packets) (place move) gateway
-    (omega (arith, next_moved one, weights_moved one))
+    (omega (arith, next_moved one,
+      total_moved (left_at 2 (place move)) 1 (λ copies is. omega (arith, weight_moved move peers copies is)) one))
     (λ apart. omega (arith, next_elsewhere move gateway peers apart, weights_moved_other 2 gateway apart one))
 
 pub bounded_after : {most : ℕ} {peers after_peers : List Peer} {packets after : List PacketState} → Moves peers packets after_peers after → Bounded most peers packets →
