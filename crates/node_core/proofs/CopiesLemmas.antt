@@ -1,6 +1,8 @@
--- Loops over copies: one copy more.
-use Rattle.std.proofs.Common.{◌≡◌, ℕ, zero, suc, ◌+◌, ◌<◌, ◌==◌, min, if◌then◌else◌, Bool, true, false, List, [], ◌∷◌, ◌++◌, length, map, take, drop, set, get_or, Option, Some, None, refl, ap, ◌∙◌, add-one, arith}
+-- Loops over copies and numbers: one more.
+use Rattle.std.proofs.Common.{◌≡◌, ℕ, ◌+◌, ◌<◌, ◌==◌, ◌||◌, min, if◌then◌else◌, Bool, true, false, List, ◌∷◌, ◌++◌, length, map, take, drop, set, get_or, Option, Some, None, refl, ap, ◌∙◌, arith, inl, inr}
 use Rattle.std.proofs.Math.Bool.{or-false}
+use Rattle.std.proofs.lemmas.Bool.{cases_Bool}
+use Rattle.std.proofs.lemmas.List.{at_drop_all, at_drop_more}
 use Rattle.std.proofs.lemmas.List.Edits.{map_over_more}
 use Rattle.std.specs.Prelude.{option_map}
 use Rattle.gw_base.specs.declared.cause.TheConstants.{SYSTEM_FAILURE}
@@ -25,27 +27,30 @@ pub commanded_more : (gateway : ℕ) (command : Command) (xs ys : List PacketCop
     set ys i (commanded gateway command x) ≡ map (commanded gateway command) (take (i + 1) xs) ++ drop (i + 1) xs
 commanded_more gateway command = map_over_more (commanded gateway command)
 
-least_here : (gateway low : ℕ) (copy : PacketCopy) (copies : List PacketCopy) (is : Bool) → (copy.gateway == gateway) ≡ is →
-    least low (numbers_at gateway (copy ∷ copies)) ≡ least (if is then min low copy.number else low) (numbers_at gateway copies)
-least_here gateway low copy copies true e = rw e refl
-least_here gateway low copy copies false e = rw e refl
-
-at : (gateway low : ℕ) (copies : List PacketCopy) (i : ℕ) (d : PacketCopy) → i < length copies →
-    least low (numbers_at gateway (drop i copies))
-    ≡ least (if (get_or copies i d).gateway == gateway then min low (get_or copies i d).number else low) (numbers_at gateway (drop (suc i) copies))
-at gateway low [] i d below = absurd (omega (arith, below))
-at gateway low (copy ∷ copies) zero d below = least_here gateway low copy copies (copy.gateway == gateway) refl
-at gateway low (copy ∷ copies) (suc i) d below = at gateway low copies i d (omega (arith, below))
-
 -- the least of the numbers from a place on: by the number there, and those from the next place on
 pub least_more : (gateway low : ℕ) (copies : List PacketCopy) (i : ℕ) (d : PacketCopy) → i < length copies →
     least low (numbers_at gateway (drop i copies))
     ≡ least (if (get_or copies i d).gateway == gateway then min low (get_or copies i d).number else low) (numbers_at gateway (drop (i + 1) copies))
-least_more gateway low copies i d below = rw add-one (at gateway low copies i d below)
+least_more gateway low copies i d below =
+    at_drop_more (λ (cs : List PacketCopy). least low (numbers_at gateway cs)) copies i d below
+    ∙ here (get_or copies i d) (drop (i + 1) copies)
+  where
+    here : (copy : PacketCopy) (copies : List PacketCopy) →
+        least low (numbers_at gateway (copy ∷ copies)) ≡ least (if copy.gateway == gateway then min low copy.number else low) (numbers_at gateway copies)
+    here copy copies = elim (cases_Bool (copy.gateway == gateway)) [ inl is ↦ rw is refl | inr isnt ↦ rw isnt refl ]
 
 pub least_none : (gateway low : ℕ) (copies : List PacketCopy) → least low (numbers_at gateway (drop (length copies) copies)) ≡ low
-least_none gateway low [] = refl
-least_none gateway low (copy ∷ copies) = least_none gateway low copies
+least_none gateway low copies = at_drop_all (λ (cs : List PacketCopy). least low (numbers_at gateway cs)) copies
+  (length copies) (omega arith)
+
+-- which numbers a response names, from a place on: the number there, or those from the next place on
+pub names_more : (f : ℕ → ℕ) (numbers : List ℕ) (number k : ℕ) → k < length numbers →
+    names (map f (drop k numbers)) number ≡ ((f (get_or numbers k 0) == number) || names (map f (drop (k + 1) numbers)) number)
+names_more f numbers number k below = at_drop_more (λ (ns : List ℕ). names (map f ns) number) numbers k 0 below
+
+pub names_none : (f : ℕ → ℕ) (numbers : List ℕ) (number : ℕ) → names (map f (drop (length numbers) numbers)) number ≡ false
+names_none f numbers number = at_drop_all (λ (ns : List ℕ). names (map f ns) number) numbers (length numbers)
+  (omega arith)
 
 -- ---- a failing device
 

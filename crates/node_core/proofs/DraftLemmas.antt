@@ -1,7 +1,7 @@
 -- A draft's octets with one more record are the value of the packet with that record.
 use Rattle.std.proofs.Common.{◌≡◌, ℕ, ◌+◌, ◌/◌, ◌%◌, ◌==◌, ◌≤◌, ◌<◌, Bool, true, false, if◌then◌else◌, nat_lt, List, [], ◌∷◌, ◌++◌, length, Option, Some, None, unwrap_or, option_map, refl, ap, sym, ◌∙◌, arith, length-append, subst}
 use Rattle.std.specs.List.{All, flat_map}
-use Rattle.std.proofs.lemmas.Bool.{eqb-false, le-ltb, lt-ltb, ltb-false, ltb-true}
+use Rattle.std.proofs.lemmas.Bool.{eqb-false, lt-ltb, ltb-false, ltb-true, ltb_from_iff}
 use Rattle.std.proofs.lemmas.List.{append-nil}
 use Rattle.std.proofs.lemmas.List.Elements.{All-append, All-nil, All-cons}
 use Rattle.gtpp_message.specs.Packet.{PacketForm, packet_of, records_at}
@@ -74,11 +74,10 @@ request_grown grows format version kept more draft =
     ∙ ap (λ (n : ℕ). 11 + n) (length_grown format version kept more)
 
 over : (n : ℕ) → nat_lt 65496 n ≡ nat_lt 65507 (11 + n)
-over n = by (nat_lt 65496 n) refl
-  where
-    by : (is : Bool) → nat_lt 65496 n ≡ is → nat_lt 65496 n ≡ nat_lt 65507 (11 + n)
-    by true e = let below : 65496 < n = ltb-true _ _ e in e ∙ sym (lt-ltb 65507 (11 + n) (omega arith))
-    by false e = let above : n ≤ 65496 = ltb-false _ _ e in e ∙ sym (le-ltb 65507 (11 + n) (omega arith))
+over n = ltb_from_iff (
+  λ is. let below : 65496 < n = ltb-true _ _ is in omega arith,
+  λ above. lt-ltb 65496 n (omega (arith, above)),
+)
 
 -- the faults are those of the octets kept
 pub fault_kept : Grows → (format version : ℕ) (kept more : List ℕ) → IsDraft format version kept →
@@ -104,13 +103,12 @@ fits format version kept more draft none =
   where
     by : (many long : Bool) → (stated_records kept == 255) ≡ many → nat_lt 65496 (grown_length kept (length more)) ≡ long →
         (if many then Some Count else if long then Some TooBig else ber_refusal format more) ≡ None → Fits format version kept more
-    by true long many_is long_is none = absurd (cc)
-    by false true many_is long_is none = absurd (cc)
     by false false many_is long_is none = record {
       draft = draft;
       few = omega (arith, eqb-false _ _ many_is, stated format version kept draft, draft.few);
       short = ltb-false _ _ long_is;
     }
+    by _ _ many_is long_is none = absurd (cc)
 
 short_records : (format version : ℕ) (kept more : List ℕ) → Fits format version kept more →
     All (λ octets. length octets < 65536) (records_among kept ++ more ∷ [])

@@ -1,6 +1,6 @@
 -- What holds of each message that may be due for a packet holds of all that are due for it.
-use Rattle.std.proofs.Common.{◌≡◌, ℕ, suc, ◌==◌, Bool, true, false, List, [], ◌∷◌, Option, Some, None, refl}
-use Rattle.std.specs.List.{AllByRecursion, find, flat_map, list_any}
+use Rattle.std.proofs.Common.{◌≡◌, ℕ, suc, ◌==◌, Bool, true, false, List, [], ◌∷◌, Option, Some, None, refl, subst}
+use Rattle.std.specs.List.{AllByRecursion, Contains, find, flat_map, list_any}
 use Rattle.std.proofs.lemmas.Bool.{cond_both}
 use Rattle.path_mgmt.specs.NodePath.{PathsOfNode, is_alive}
 use Rattle.node_core.specs.declared.copy.Command.{Command}
@@ -12,26 +12,20 @@ use Rattle.node_core.specs.declared.copy.Verdict.TheVariants.{Unknown, Sealed, H
 use Rattle.node_core.specs.declared.peer.Peer.{Peer}
 use Rattle.node_core.specs.declared.sending.Sending.{Sending}
 use Rattle.node_core.specs.declared.sending.Sending.TheVariants as send
-use Rattle.node_core.specs.Choosing.{IsChoice}
+use Rattle.node_core.specs.Choosing.{IsChoice, IsChoiceOf}
 use Rattle.node_core.specs.Copies.{is_answered, is_held}
+use Rattle.node_core.specs.Moving.{appointing, moved_at_tick}
 use Rattle.node_core.specs.Packets.{PacketState, chosen, is_done}
-use Rattle.node_core.specs.Peers.{next_number}
-use Rattle.node_core.specs.Sendings.{again, command_by, command_of, command_unless, copy_to, due_by_copies, due_by_verdict, due_for, probe_of, probes_from, releasing, repeating, settling, settling_beside, settling_by, test_of}
-use Rattle.node_core.proofs.RestingLemmas.{each_append}
+use Rattle.node_core.specs.Peers.{all_drawn, next_number}
+use Rattle.node_core.specs.Sendings.{again, command_by, command_of, command_unless, copy_to, due_by_copies, due_by_verdict, due_for, due_for_all, probe_of, probes_from, releasing, repeating, settling, settling_beside, settling_by, test_of}
+use Rattle.node_core.specs.Ticks.{due, due_now, moved}
+use Rattle.node_core.specs.Value.{NodeValue, befallen}
+use Rattle.node_core.proofs.CaseLemmas.{contains_more, each_append, each_contains, in_head}
 
 pub choice_of : {copies : List PacketCopy} (plain : PacketCopy) (duplicates : List PacketCopy) (copy : PacketCopy) →
     copies ≡ plain ∷ duplicates →
     plain.verdict ≡ Sealed → chosen duplicates ≡ Some copy → IsChoice copies copy.gateway copy.number
-choice_of plain duplicates copy whole sealed choice = record {
-  plain = plain;
-  duplicates = duplicates;
-  copy = copy;
-  whole = whole;
-  sealed = sealed;
-  choice = choice;
-  gateway_is = refl;
-  number_is = refl;
-}
+choice_of plain duplicates copy whole sealed choice = search (whole, sealed, choice)
 
 -- a copy that is new or sent again, the test of one, a release or a cancel
 pub record EachMay (P : Sending → Type 0) (number : ℕ) (peers : List Peer) (copies : List PacketCopy) : Type 0 where
@@ -130,3 +124,53 @@ probes_each P is gateway paths (peer ∷ peers) =
     by : (alive : Bool) → AllByRecursion P (probe_of alive gateway peer)
     by true = tt
     by false = (is gateway peer.path, tt)
+
+-- ---- a release that is due names the chosen duplicate of a packet whose first copy is sealed
+
+abbrev NamesBy : List PacketState → ℕ → ℕ → ℕ → Order → Type 0
+NamesBy packets packet gateway named Release = IsChoiceOf packets packet gateway named
+NamesBy packets packet gateway named Cancel = Unit {0}
+
+abbrev Names : List PacketState → Sending → Type 0
+Names packets (send.Command packet gateway named drawn order is_new) = NamesBy packets packet gateway named order
+Names packets _ = Unit {0}
+
+due_names : (packets : List PacketState) (favourite : ℕ) (up : Bool) (peers : List Peer) (packet : PacketState) →
+  Contains packets packet →
+    AllByRecursion (Names packets) (due_for favourite up peers packet)
+due_names packets favourite up peers packet there = due_each (Names packets) favourite up peers packet (record {
+  copied = λ gateway is_plain. tt;
+  repeated = λ copy. tt;
+  tested = λ copy. tt;
+  commanded = λ order copy drawn is_new next choice. by order copy choice;
+})
+  where
+    by : (order : Order) (copy : PacketCopy) → (order ≡ Release → IsChoice packet.copies copy.gateway copy.number) →
+        NamesBy packets packet.number copy.gateway copy.number order
+    by Release copy choice = record { state = packet; kept = there; number_is = refl; choice = choice refl }
+    by Cancel copy choice = tt
+
+all_names : (packets : List PacketState) (favourite : ℕ) (up : Bool) (peers : List Peer) (those : List PacketState) →
+    ((packet : PacketState) → Contains those packet → Contains packets packet) →
+    AllByRecursion (Names packets) (due_for_all favourite up peers those)
+all_names packets favourite up peers [] there = tt
+all_names packets favourite up peers (packet ∷ those) there =
+    each_append (Names packets) _ _ (due_names packets favourite up peers packet (there packet (in_head packet those)))
+    (all_names packets favourite up (all_drawn (due_for favourite up peers packet) peers) those
+    (λ later at. there later (contains_more those packet later at)))
+
+now_names : (node : NodeValue) → AllByRecursion (Names node.packets) (due_now node)
+now_names node =
+    each_append (Names node.packets) _ _
+      (probes_each (Names node.packets) (λ gateway path. tt) 0 node.paths node.gateways)
+    (all_names node.packets _ _ _ node.packets (λ packet at. at))
+
+pub release_is_of_choice : (node : NodeValue) (packet gateway named number : ℕ) (is_new : Bool) →
+    Contains (due node) (send.Command packet gateway named number Release is_new) → IsChoiceOf node.packets packet gateway named
+release_is_of_choice node packet gateway named number is_new =
+    each_contains (Names node.packets) (due node) _
+    (subst (λ (packets : List PacketState). AllByRecursion (Names packets) (due node)) (stay (moved_at_tick node)) (now_names (moved node)))
+  where
+    stay : (to : Option ℕ) → (befallen (appointing to) node).packets ≡ node.packets
+    stay None = refl
+    stay (Some gateway) = refl

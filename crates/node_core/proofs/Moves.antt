@@ -1,18 +1,20 @@
 -- The moves of a tick, one number each: a packet gets one more copy, or a release or a cancel for one of its copies.
-use Rattle.std.proofs.Common.{◌≡◌, ℕ, zero, suc, min, ◌<◌, ◌==◌, Bool, true, false, if◌then◌else◌, List, [], ◌∷◌, ◌++◌, length, map, Option, Some, None, refl, sym, ap, ◌∙◌, arith, inl, inr, ◌≢◌, option_map}
-use Rattle.std.specs.List.{find}
+use Rattle.std.proofs.Common.{◌≡◌, ℕ, zero, suc, min, ◌<◌, ◌==◌, Bool, true, false, if◌then◌else◌, List, [], ◌∷◌, ◌++◌, length, map, Option, Some, None, refl, sym, ap, ◌∙◌, arith, inl, inr, ◌≢◌}
+use Rattle.std.specs.List.{find, list_any}
 use Rattle.std.specs.Prelude.{slice_get, slice_set}
 use Rattle.std.specs.Option.{option_map_or}
 use Rattle.std.proofs.lemmas.Bool.Decides.{eqb_tells}
-use Rattle.std.proofs.lemmas.Bool.{cases_Bool, ne_eqb}
+use Rattle.std.proofs.lemmas.Bool.{ne_eqb}
+use Rattle.std.proofs.lemmas.List.{length-map}
 use Rattle.node_core.specs.declared.copy.Command.{Command}
 use Rattle.node_core.specs.declared.copy.Order.{Order}
 use Rattle.node_core.specs.declared.copy.Order.TheVariants.{Release, Cancel}
 use Rattle.node_core.specs.declared.copy.PacketCopy.{PacketCopy}
+use Rattle.node_core.specs.declared.copy.Verdict.{Verdict}
+use Rattle.node_core.specs.declared.copy.Verdict.TheVariants.{Filed, Sealed, Held}
 use Rattle.node_core.specs.declared.peer.Peer.{Peer}
-use Rattle.node_core.specs.Choosing.{IsChoice}
-use Rattle.node_core.specs.Copies.{new_copy}
-use Rattle.node_core.specs.Packets.{PacketState, commanded, is_done}
+use Rattle.node_core.specs.Copies.{is_chosen, new_copy}
+use Rattle.node_core.specs.Packets.{PacketState, chosen, commanded, is_done}
 use Rattle.node_core.specs.Peers.{at_place, next_number, number_drawn}
 
 pub data Move : Type 0 where
@@ -39,22 +41,27 @@ abbrev pub copies_moved : List Peer → Move → List PacketCopy → List Packet
 copies_moved peers (Copying gateway) copies = copies ++ new_copy gateway (next_number peers gateway) (are_none copies) ∷ []
 copies_moved peers (Commanding gateway order) copies = map (commanded gateway (command_with order (next_number peers gateway))) copies
 
--- the next number is one more
-abbrev pub number_raised : ℕ → ℕ → List Peer → List Peer
-number_raised gateway number peers = at_place gateway (λ (peer : Peer). record peer { next = suc number }) peers
-
--- so it is wherever the numbers don't end
-pub raised : (gateway number : ℕ) (peers : List Peer) → number < 9223372036854775808 → number_drawn gateway number peers ≡ number_raised gateway number peers
-raised gateway number peers below =
-    let least : min (suc number) 9223372036854775808 ≡ suc number = omega (arith, below) in
-    ap (λ (n : ℕ). at_place gateway (λ (peer : Peer). record peer { next = n }) peers) least
-
 abbrev pub peers_moved : Move → List Peer → List Peer
-peers_moved move peers = number_raised (place move) (next_number peers (place move)) peers
+peers_moved move peers = number_drawn (place move) (next_number peers (place move)) peers
+
+-- the packet waits for its first copy, which isn't known to be filed
+abbrev pub is_waiting : Verdict → Bool
+is_waiting Filed = false
+is_waiting Held = false
+is_waiting _ = true
+
+abbrev pub waiting : List PacketCopy → Bool
+waiting [] = true
+waiting (plain ∷ duplicates) = is_waiting plain.verdict
+
+-- while it waits, a duplicate is cancelled beside one that is released
+abbrev pub MayCancel : List PacketCopy → Type 0
+MayCancel copies = waiting copies ≡ true → list_any is_chosen copies ≡ true
 
 abbrev pub IsRight : Order → List PacketCopy → PacketCopy → Type 0
-IsRight Release copies copy = IsChoice copies copy.gateway copy.number
-IsRight Cancel copies copy = Unit {0}
+IsRight Release [] copy = ⊥
+IsRight Release (plain ∷ duplicates) copy = (plain.verdict ≡ Sealed) × (chosen duplicates ≡ Some copy)
+IsRight Cancel copies copy = MayCancel copies
 
 -- there is one copy at the gateway, for which nothing was sent yet, and a release is of the choice
 pub record CommandsOne (copies : List PacketCopy) (gateway : ℕ) (order : Order) : Type 0 where
@@ -63,9 +70,14 @@ pub record CommandsOne (copies : List PacketCopy) (gateway : ℕ) (order : Order
   pub fresh : copy.command ≡ None
   pub right : IsRight order copies copy
 
-abbrev pub IsMove : List Peer → List PacketCopy → Move → Type 0
-IsMove peers copies (Copying gateway) = (gateway < length peers) × (find_at gateway copies ≡ None)
-IsMove peers copies (Commanding gateway order) = (gateway < length peers) × CommandsOne copies gateway order
+abbrev pub Fits : List PacketCopy → Move → Type 0
+Fits copies (Copying gateway) = find_at gateway copies ≡ None
+Fits copies (Commanding gateway order) = CommandsOne copies gateway order
+
+pub record IsMove (peers : List Peer) (copies : List PacketCopy) (move : Move) : Type 0 where
+  pub within : place move < length peers
+  pub room : next_number peers (place move) < 9223372036854775808
+  pub fits : Fits copies move
 
 -- one packet, which is open, makes the move
 pub data One (peers : List Peer) (move : Move) : List PacketState → List PacketState → Type 0 where
@@ -79,65 +91,91 @@ pub data Moves : List Peer → List PacketState → List Peer → List PacketSta
   onward : {peers after_peers : List Peer} {packets between after : List PacketState} (move : Move) → One peers move packets between →
       Moves (peers_moved move peers) between after_peers after → Moves peers packets after_peers after
 
--- ---- the numbers of the gateways
+-- ---- one of the gateways is changed
 
-module _ {A : Type 0} where
-  get-set_same : (xs : List A) (i : ℕ) (x y : A) → slice_get xs i ≡ Some x → slice_get (slice_set xs i y) i ≡ Some y
-  get-set_same [] i x y is = absurd (cc)
-  get-set_same (z ∷ xs) zero x y is = refl
-  get-set_same (z ∷ xs) (suc i) x y is = get-set_same xs i x y is
+abbrev changed : ℕ → (Peer → Peer) → List Peer → List Peer
+changed i f [] = []
+changed zero f (peer ∷ peers) = f peer ∷ peers
+changed (suc i) f (peer ∷ peers) = peer ∷ changed i f peers
 
-  get-set_other : (xs : List A) (i j : ℕ) (y : A) → i ≢ j → slice_get (slice_set xs i y) j ≡ slice_get xs j
-  get-set_other [] i j y apart = refl
-  get-set_other (z ∷ xs) zero zero y apart = absurd (apart refl)
-  get-set_other (z ∷ xs) zero (suc j) y apart = refl
-  get-set_other (z ∷ xs) (suc i) zero y apart = refl
-  get-set_other (z ∷ xs) (suc i) (suc j) y apart = get-set_other xs i j y (λ e. apart (ap suc e))
-
-  set-length : (xs : List A) (i : ℕ) (y : A) → length (slice_set xs i y) ≡ length xs
-  set-length [] i y = refl
-  set-length (z ∷ xs) zero y = omega arith
-  set-length (z ∷ xs) (suc i) y = omega (arith, set-length xs i y)
-
-  get-within : (xs : List A) (i : ℕ) → i < length xs → (x : A) × (slice_get xs i ≡ Some x)
-  get-within [] i below = absurd (omega (arith, below))
-  get-within (x ∷ xs) zero below = (x, refl)
-  get-within (x ∷ xs) (suc i) below = get-within xs i (omega (arith, below))
-
--- the gateways with the number of one
-abbrev with_next : ℕ → Peer → Peer
-with_next number peer = record peer { next = suc number }
-
-drawn_there : (gateway number : ℕ) (peers : List Peer) (there : Option Peer) → slice_get peers gateway ≡ there →
-    number_raised gateway number peers ≡ option_map_or (λ (peer : Peer). slice_set peers gateway (with_next number peer)) there peers
-drawn_there gateway number peers there e =
-    ap (λ (o : Option Peer). option_map_or (λ (peer : Peer). slice_set peers gateway (with_next number peer)) o peers) e
-
-pub length_drawn : (gateway number : ℕ) (peers : List Peer) → length (number_raised gateway number peers) ≡ length peers
-length_drawn gateway number peers = by (slice_get peers gateway)
+placed : (i : ℕ) (f : Peer → Peer) (peers : List Peer) → at_place i f peers ≡ changed i f peers
+placed i f [] = refl
+placed zero f (peer ∷ peers) = refl
+placed (suc i) f (peer ∷ peers) = behind (slice_get peers i) ∙ ap (λ (ps : List Peer). peer ∷ ps) (placed i f peers)
   where
-    by : (there : Option Peer) →
-        length (option_map_or (λ (peer : Peer). slice_set peers gateway (with_next number peer)) there peers)
-        ≡ length peers
-    by None = refl
-    by (Some peer) = set-length peers gateway (with_next number peer)
+    behind : (there : Option Peer) → option_map_or (λ (p : Peer). slice_set (peer ∷ peers) (suc i) (f p)) there
+      (peer ∷ peers)
+        ≡ peer ∷ option_map_or (λ (p : Peer). slice_set peers i (f p)) there peers
+    behind None = refl
+    behind (Some p) = refl
 
-pub next_drawn : (gateway number : ℕ) (peers : List Peer) → gateway < length peers → next_number (number_raised gateway number peers) gateway ≡ suc number
-next_drawn gateway number peers below =
-    let at : (x : Peer) × (slice_get peers gateway ≡ Some x) = get-within peers gateway below in
-    let set : List Peer = slice_set peers gateway (with_next number at.0) in
-    ap (λ (ps : List Peer). next_number ps gateway) (drawn_there gateway number peers (Some at.0) at.1)
-    ∙ ap (λ (o : Option Peer). option_map_or (λ (peer : Peer). peer.next) o 65536) (get-set_same peers gateway at.0 (with_next number at.0) at.1)
-
-pub next_drawn_other : (gateway number other : ℕ) (peers : List Peer) → gateway ≢ other →
-    next_number (number_raised gateway number peers) other ≡ next_number peers other
-next_drawn_other gateway number other peers apart = by (slice_get peers gateway) refl
+-- what the change leaves of each stays of all
+pub place_keeps : {B : Type 0} (g : Peer → B) (f : Peer → Peer) → ((peer : Peer) → g (f peer) ≡ g peer) →
+    (i : ℕ) (peers : List Peer) →
+    map g (at_place i f peers) ≡ map g peers
+place_keeps {B} g f same i peers = ap (λ (ps : List Peer). map g ps) (placed i f peers) ∙ by i peers
   where
-    by : (there : Option Peer) → slice_get peers gateway ≡ there → next_number (number_raised gateway number peers) other ≡ next_number peers other
-    by None e = ap (λ (ps : List Peer). next_number ps other) (drawn_there gateway number peers None e)
-    by (Some peer) e =
-        ap (λ (ps : List Peer). next_number ps other) (drawn_there gateway number peers (Some peer) e)
-        ∙ ap (λ (o : Option Peer). option_map_or (λ (p : Peer). p.next) o 65536) (get-set_other peers gateway other (with_next number peer) apart)
+    by : (i : ℕ) (peers : List Peer) → map g (changed i f peers) ≡ map g peers
+    by i [] = refl
+    by zero (peer ∷ peers) = ap (λ (b : B). b ∷ map g peers) (same peer)
+    by (suc i) (peer ∷ peers) = ap (λ (bs : List B). g peer ∷ bs) (by i peers)
+
+pub length_placed : (i : ℕ) (f : Peer → Peer) (peers : List Peer) → length (at_place i f peers) ≡ length peers
+length_placed i f peers =
+    let one : Peer → ℕ = λ peer. 1 in
+    sym (length-map (at_place i f peers) one)
+    ∙ ap (λ (ns : List ℕ). length ns) (place_keeps one f (λ peer. refl) i peers) ∙ length-map peers one
+
+-- another's number stays, and all do where the change leaves them
+pub next_placed : (i other : ℕ) (f : Peer → Peer) → (i ≡ other → (peer : Peer) → (f peer).next ≡ peer.next) →
+    (peers : List Peer) →
+    next_number (at_place i f peers) other ≡ next_number peers other
+next_placed i other f same peers = ap (λ (ps : List Peer). next_number ps other) (placed i f peers)
+  ∙ by i other same peers
+  where
+    by : (i other : ℕ) → (i ≡ other → (peer : Peer) → (f peer).next ≡ peer.next) → (peers : List Peer) →
+        next_number (changed i f peers) other ≡ next_number peers other
+    by i other same [] = refl
+    by zero zero same (peer ∷ peers) = same refl peer
+    by zero (suc other) same (peer ∷ peers) = refl
+    by (suc i) zero same (peer ∷ peers) = refl
+    by (suc i) (suc other) same (peer ∷ peers) = by i other (λ e. same (ap suc e)) peers
+
+next_set : (i n : ℕ) (f : Peer → Peer) → ((peer : Peer) → (f peer).next ≡ n) → (peers : List Peer) → i < length peers →
+    next_number (at_place i f peers) i ≡ n
+next_set i n f is peers below = ap (λ (ps : List Peer). next_number ps i) (placed i f peers) ∙ by i peers below
+  where
+    by : (i : ℕ) (peers : List Peer) → i < length peers → next_number (changed i f peers) i ≡ n
+    by i [] below = absurd (omega (arith, below))
+    by zero (peer ∷ peers) below = is peer
+    by (suc i) (peer ∷ peers) below = by i peers (omega (arith, below))
+
+-- the next number of the one that a move draws for
+abbrev raised : ℕ → Peer → Peer
+raised number peer = record peer { next = min (suc number) 9223372036854775808 }
+
+pub length_moved : (move : Move) (peers : List Peer) → length (peers_moved move peers) ≡ length peers
+length_moved move peers = length_placed (place move) (raised (next_number peers (place move))) peers
+
+pub next_elsewhere : (move : Move) (gateway : ℕ) (peers : List Peer) → place move ≢ gateway →
+    next_number (peers_moved move peers) gateway ≡ next_number peers gateway
+next_elsewhere move gateway peers apart =
+    next_placed (place move) gateway (raised (next_number peers (place move))) (λ e. absurd (apart e)) peers
+
+pub next_is : {peers : List Peer} {copies : List PacketCopy} {move : Move} → IsMove peers copies move →
+    next_number (peers_moved move peers) (place move) ≡ suc (next_number peers (place move))
+next_is {peers} {copies} {move} is =
+    let next : ℕ = next_number peers (place move) in
+    next_set (place move) (suc next) (raised next) (λ peer. omega (arith, is.room)) peers is.within
+
+pub one_is : {peers : List Peer} {move : Move} {packets after : List PacketState} → One peers move packets after →
+    (copies : List PacketCopy) × IsMove peers copies move
+one_is (here {packet} open_yet is) = (packet.copies, is)
+one_is (beyond one) = one_is one
+
+pub next_moved : {peers : List Peer} {move : Move} {packets after : List PacketState} → One peers move packets after →
+    next_number (peers_moved move peers) (place move) ≡ suc (next_number peers (place move))
+next_moved one = next_is (one_is one).1
 
 -- ---- the copy at a gateway
 
@@ -150,24 +188,4 @@ find_commanded gateway other command (copy ∷ copies) apart =
       | inl is ↦ rw (is.0, ne_eqb copy.gateway other (λ same. apart (sym is.1 ∙ same))) rest
       | inr isnt ↦ rw isnt.0 (ap (λ (found : Option PacketCopy).
           if copy.gateway == other then Some copy else found) rest)
-    ]
-
-pub find_map : (test : PacketCopy → Bool) (f : PacketCopy → PacketCopy) →
-    ((copy : PacketCopy) → test (f copy) ≡ test copy) → (copies : List PacketCopy) →
-    find test (map f copies) ≡ option_map f (find test copies)
-find_map test f same [] = refl
-find_map test f same (copy ∷ copies) =
-    elim (cases_Bool (test copy)) [
-      | inl is ↦ rw (same copy, is) refl
-      | inr isnt ↦ rw (same copy, isnt) (find_map test f same copies)
-    ]
-
-pub find_passes : (test : PacketCopy → Bool) (copies : List PacketCopy) (copy : PacketCopy) →
-    find test copies ≡ Some copy → test copy ≡ true
-find_passes test [] copy found = absurd (cc)
-find_passes test (first ∷ copies) copy found =
-    elim (cases_Bool (test first)) [
-      | inl passes ↦ let at : Some first ≡ Some copy = rw passes at found in let same : first
-          ≡ copy = cc in ap test (sym same) ∙ passes
-      | inr fails ↦ find_passes test copies copy (rw fails at found)
     ]

@@ -1,5 +1,5 @@
 -- The numbers of open packets stay near the next one.
-use Rattle.std.proofs.Common.{◌≡◌, ℕ, zero, suc, min, ◌+◌, ◌-◌, ◌*◌, ◌<◌, ◌≤◌, not, nat_le, Bool, true, false, if◌then◌else◌, List, [], ◌∷◌, ◌++◌, length, map, Option, Some, None, refl, sym, ap, subst, ◌∙◌, arith, inl, inr}
+use Rattle.std.proofs.Common.{◌≡◌, ℕ, zero, suc, min, ◌+◌, ◌-◌, ◌<◌, ◌≤◌, not, nat_le, Bool, true, false, if◌then◌else◌, List, [], ◌∷◌, ◌++◌, length, map, Option, Some, None, refl, sym, subst, ◌∙◌, arith, inl, inr}
 use Rattle.std.specs.List.{AllByRecursion, flat_map}
 use Rattle.std.specs.Option.{option_or}
 use Rattle.std.proofs.lemmas.Bool.{cases_Bool, leb-false}
@@ -16,21 +16,14 @@ use Rattle.node_core.specs.Packets.{PacketState, commanded, is_done, packet_hear
 use Rattle.node_core.specs.Peers.{next_number}
 use Rattle.node_core.specs.Reached.{NodeCall, reached}
 use Rattle.node_core.specs.Submitting.{least, numbers_at, numbers_out, oldest_number, open_among, out_at, unsettled_at}
+use Rattle.node_core.proofs.CaseLemmas.{commanded_puts, either_hears, either_open, each_contains, each_map, each_push, each_weaker}
 use Rattle.node_core.proofs.KeptLemmas.{AllKept}
-use Rattle.node_core.proofs.Moves.{Commanding, Copying, Move, One, are_none, beyond, command_with, copies_moved, find_at, here, length_drawn, next_drawn, next_drawn_other, peers_moved, place}
-use Rattle.node_core.proofs.ReachedLemmas.{Closed, Unrefused, new_packet, stands, weights-push}
-use Rattle.node_core.proofs.RestingLemmas.{each_contains, each_map, each_push, each_weaker}
-use Rattle.node_core.proofs.WeightLemmas.{one_within, unless_least, weight, weight_most, weight_unless, weights, weights_heard, weights_moved, weights_moved_other}
-use Rattle.node_core.proofs.CaseLemmas.{at_or_apart, commanded_puts, either_hears, either_open}
-
--- ---- open packets
-
-unfoldable pub opens : List PacketState → ℕ
-opens [] = 0
-opens (packet ∷ packets) = weight_unless (is_done packet.copies) 1 + opens packets
+use Rattle.node_core.proofs.Moves.{Commanding, Copying, Move, One, are_none, beyond, command_with, copies_moved, here, length_moved, peers_moved, place}
+use Rattle.node_core.proofs.ReachedLemmas.{Closed, Unrefused, all_closed, all_stand}
+use Rattle.node_core.proofs.SettledLemmas.{least-append}
+use Rattle.node_core.proofs.WeightLemmas.{left_at, less_left, new_packet, opens, opens_heard, opens_moved, total_pushed, weight_unless, weights, weights_few, weights_heard}
 
 pub opens_are : (packets : List PacketState) → opens packets ≡ open_among packets
-unfolding opens
 opens_are [] = refl
 opens_are (packet ∷ packets) =
     omega (
@@ -43,47 +36,6 @@ opens_are (packet ∷ packets) =
     one : (is : Bool) → weight_unless is 1 ≡ (if not is then 1 else 0)
     one true = refl
     one false = refl
-
-pub weights_few : (gateway : ℕ) (packets : List PacketState) → weights gateway packets ≤ 2 * opens packets
-unfolding opens
-weights_few gateway [] = omega arith
-weights_few gateway (packet ∷ packets) = omega (arith, weights_few gateway packets, one (is_done packet.copies))
-  where
-    one : (is : Bool) → weight_unless is (weight gateway packet.copies) ≤ 2 * weight_unless is 1
-    one true = omega arith
-    one false = weight_most 2 2 (find_at gateway packet.copies) (omega arith) (omega arith)
-
-pub opens_moved : {peers : List Peer} {move : Move} {packets after : List PacketState} → One peers move packets after → opens after ≤ opens packets
-unfolding opens
-opens_moved {peers} {move} (here {packet} {packets} open_yet is) =
-    omega (
-      arith,
-      ap (λ (b : Bool). weight_unless b 1) open_yet,
-      unless_least (is_done (copies_moved peers move packet.copies)) 1,
-    )
-opens_moved (beyond one) = omega (arith, opens_moved one)
-
-pub opens_pushed : (packets : List PacketState) (number : ℕ) → opens (packets ++ new_packet number ∷ []) ≡ opens packets + 1
-unfolding opens
-opens_pushed [] number = omega arith
-opens_pushed (packet ∷ packets) number = omega (arith, opens_pushed packets number)
-
-pub opens_heard : (port : Port) (gateway cause : ℕ) (numbers : List ℕ) (packets : List PacketState) →
-    opens (map (while_open (packet_hearing port gateway cause numbers)) packets) ≤ opens packets
-unfolding opens
-opens_heard port gateway cause numbers [] = omega arith
-opens_heard port gateway cause numbers (packet ∷ packets) =
-    omega (
-      arith,
-      opens_heard port gateway cause numbers packets,
-      either_open (λ (p : PacketState). weight_unless (is_done p.copies) 1 ≤ weight_unless (is_done packet.copies) 1)
-          (packet_hearing port gateway cause numbers) packet (omega arith)
-          (λ open_yet. omega (
-            arith,
-            ap (λ (b : Bool). weight_unless b 1) open_yet,
-            unless_least (is_done (packet_hearing port gateway cause numbers packet).copies) 1,
-          )),
-    )
 
 -- ---- open numbers
 
@@ -139,16 +91,14 @@ or_none : {A : Type 0} (one other : Option A) → option_or one other ≡ None �
 or_none None other none = (refl, none)
 or_none (Some x) other none = absurd (cc)
 
-out_none : (first : ℕ) (peers : List Peer) (packets : List PacketState) → numbers_out first peers packets ≡ None → (i : ℕ) → i < length peers →
-    out_at (first + i) (next_number peers i) packets ≡ None
-out_none first [] packets none i below = absurd (omega (arith, below))
-out_none first (peer ∷ peers) packets none zero below =
-    let here_is : first + 0 ≡ first = omega arith in
-    ap (λ (g : ℕ). out_at g peer.next packets) here_is ∙ (or_none (out_at first peer.next packets) _ none).0
-out_none first (peer ∷ peers) packets none (suc i) below =
-    let there : first + suc i ≡ suc first + i = omega arith in
-    ap (λ (g : ℕ). out_at g (next_number peers i) packets) there
-    ∙ out_none (suc first) peers packets (or_none (out_at first peer.next packets) _ none).1 i (omega (arith, below))
+out_none : (first : ℕ) (peers : List Peer) (packets : List PacketState) → numbers_out first peers packets ≡ None → (i gateway : ℕ) → i < length peers →
+    first + i ≡ gateway → out_at gateway (next_number peers i) packets ≡ None
+out_none first [] packets none i gateway below is = absurd (omega (arith, below))
+out_none first (peer ∷ peers) packets none zero gateway below is =
+    let here_is : first ≡ gateway = omega (arith, is) in
+    subst (λ (g : ℕ). out_at g peer.next packets ≡ None) here_is (or_none (out_at first peer.next packets) _ none).0
+out_none first (peer ∷ peers) packets none (suc i) gateway below is =
+    out_none (suc first) peers packets (or_none (out_at first peer.next packets) _ none).1 i gateway (omega (arith, below)) (omega (arith, is))
 
 window : (gateway next : ℕ) (packets : List PacketState) → out_at gateway next packets ≡ None → next - oldest_number gateway next packets < 16384
 window gateway next packets none =
@@ -162,41 +112,38 @@ least_most : (number : ℕ) (numbers : List ℕ) → least number numbers ≤ nu
 least_most number [] = omega arith
 least_most number (n ∷ numbers) = omega (arith, least_most (min number n) numbers)
 
-each_least : (number : ℕ) (numbers : List ℕ) → AllByRecursion (λ (n : ℕ). least number numbers ≤ n) numbers
-each_least number [] = tt
-each_least number (n ∷ numbers) = (omega (arith, least_most (min number n) numbers), each_least (min number n) numbers)
+-- what is near the least number is near each
+module _ (most gateway : ℕ) where
+  near_copies : (low : ℕ) (copies : List PacketCopy) → most ≤ least low (numbers_at gateway copies) + 16511 →
+      AllByRecursion (IsNear most gateway) copies
+  near_copies low [] near = tt
+  near_copies low (copy ∷ copies) near =
+      elim (eqb_tells copy.gateway gateway) [
+        | inl is ↦
+            let at : most ≤ least (min low copy.number) (numbers_at gateway copies) + 16511 = rw is.0 at near in
+            ((λ same. omega (arith, at, least_most (min low copy.number) (numbers_at gateway copies))),
+              near_copies (min low copy.number) copies at)
+        | inr isnt ↦ ((λ same. absurd (isnt.1 same)), near_copies low copies (rw isnt.0 at near))
+      ]
 
-each_left : (P : ℕ → Type 0) (xs ys : List ℕ) → AllByRecursion P (xs ++ ys) → AllByRecursion P xs
-each_left P [] ys all = tt
-each_left P (x ∷ xs) ys all = (all.0, each_left P xs ys all.1)
-
-each_right : (P : ℕ → Type 0) (xs ys : List ℕ) → AllByRecursion P (xs ++ ys) → AllByRecursion P ys
-each_right P [] ys all = all
-each_right P (x ∷ xs) ys all = each_right P xs ys all.1
-
-each_copy : (P : ℕ → Type 0) (gateway : ℕ) (copies : List PacketCopy) → AllByRecursion P (numbers_at gateway copies) →
-    AllByRecursion (λ (copy : PacketCopy). copy.gateway ≡ gateway → P copy.number) copies
-each_copy P gateway [] all = tt
-each_copy P gateway (copy ∷ copies) all =
-    elim (eqb_tells copy.gateway gateway) [
-      | inl is ↦ let at = rw is.0 at all in ((λ same. at.0), each_copy P gateway copies at.1)
-      | inr isnt ↦ ((λ same. absurd (isnt.1 same)), each_copy P gateway copies (rw isnt.0 at all))
-    ]
-
--- what every unsettled number is, every number of an open packet's copy at the gateway is
-each_open : (P : ℕ → Type 0) (gateway : ℕ) (packets : List PacketState) → AllByRecursion P (flat_map (unsettled_at gateway) packets) →
-    AllByRecursion (λ (packet : PacketState). is_done packet.copies ≡ false → AllByRecursion (λ (copy : PacketCopy). copy.gateway ≡ gateway → P copy.number) packet.copies) packets
-each_open P gateway [] all = tt
-each_open P gateway (packet ∷ packets) all = (
-  λ open_yet. each_copy P gateway packet.copies
-      (subst (λ (done : Bool). AllByRecursion P (if done then [] else numbers_at gateway packet.copies)) open_yet
-      (each_left P (unsettled_at gateway packet) (flat_map (unsettled_at gateway) packets) all)),
-  each_open P gateway packets (each_right P (unsettled_at gateway packet) (flat_map (unsettled_at gateway) packets) all),
-)
+  near_packets : (low : ℕ) (packets : List PacketState) → most ≤ oldest_number gateway low packets + 16511 →
+    NearAll most gateway packets
+  near_packets low [] near = tt
+  near_packets low (packet ∷ packets) near =
+      let first : ℕ = least low (unsettled_at gateway packet) in
+      let later : most ≤ oldest_number gateway first packets + 16511 =
+      omega (arith, near, least-append low (unsettled_at gateway packet) (flat_map (unsettled_at gateway) packets)) in
+      let here_is : most ≤ first + 16511 =
+          omega (arith, later, least_most first (flat_map (unsettled_at gateway) packets)) in (
+        λ open_yet. near_copies low packet.copies
+            (subst (λ (done : Bool). most ≤ least low (if done then [] else numbers_at gateway packet.copies) + 16511)
+              open_yet here_is),
+        near_packets first packets later,
+      )
 
 -- ---- the law
 
-pub record AllNear (peers : List Peer) (packets : List PacketState) : Type 0 where
+record AllNear (peers : List Peer) (packets : List PacketState) : Type 0 where
   pub few : opens packets ≤ 64
   pub near : (gateway : ℕ) → gateway < length peers → NearAll (next_number peers gateway + weights gateway packets) gateway packets
 
@@ -205,64 +152,37 @@ near_after : (peers : List Peer) (move : Move) (packets after : List PacketState
 near_after peers move packets after kept one is = record {
   few = omega (arith, opens_moved one, is.few);
   near = λ gateway below.
-      let within : gateway < length peers = omega (arith, below, length_drawn (place move) (next_number peers (place move)) peers) in
       let most : ℕ = next_number (peers_moved move peers) gateway + weights gateway after in
-      let before : ℕ = next_number peers gateway + weights gateway packets in
-      let less : most ≤ before =
-      at_or_apart (λ (g : ℕ). next_number (peers_moved move peers) g + weights g after
-      ≤ next_number peers g + weights g packets) (place move) gateway
-      (omega (
-        arith,
-        next_drawn (place move) (next_number peers (place move)) peers (one_within one),
-        weights_moved one,
-      ))
-      (λ apart. omega (
-        arith,
-        next_drawn_other (place move) (next_number peers (place move)) gateway peers apart,
-        weights_moved_other 2 gateway apart one,
-      )) in
       near_moved most gateway one
-      (λ same. subst (λ (g : ℕ). most ≤ next_number peers g + 16511) (sym same) (omega (arith, less, weights_few gateway packets, is.few)))
-      (near_less before most gateway packets less (is.near gateway within));
+      (λ same. subst (λ (g : ℕ). most ≤ next_number peers g + 16511) (sym same)
+      (omega (arith, less_left one gateway, weights_few 2 2 gateway packets (omega arith) (omega arith), is.few)))
+      (near_less (next_number peers gateway + weights gateway packets) most gateway packets (less_left one gateway)
+      (is.near gateway (omega (arith, below, length_moved move peers))));
 }
 
-near_pushed : (peers : List Peer) (packets : List PacketState) (number : ℕ) → AllKept peers packets → Unrefused peers packets → AllNear peers packets →
+near_pushed : (peers : List Peer) (packets : List PacketState) (number : ℕ) → Unrefused peers packets → AllNear peers packets →
     AllNear peers (packets ++ new_packet number ∷ [])
-near_pushed peers packets number kept unrefused is = record {
-  few = omega (arith, opens_pushed packets number, opens_are packets, unrefused.few);
+near_pushed peers packets number unrefused is = record {
+  few = omega (arith, total_pushed (λ copies. 1) packets number, opens_are packets, unrefused.few);
   near = λ gateway below.
       let next : ℕ = next_number peers gateway in
-      let oldest : ℕ = oldest_number gateway next packets in
-      let from_first : 0 + gateway ≡ gateway = omega arith in
       let none_out : out_at gateway next packets ≡ None =
-      subst (λ (g : ℕ). out_at g next packets ≡ None) from_first (out_none 0 peers packets unrefused.near gateway below) in
-      let inside : next - oldest < 16384 = window gateway next packets none_out in
+          out_none 0 peers packets unrefused.near gateway gateway below (omega arith) in
       let most : ℕ = next + weights gateway (packets ++ new_packet number ∷ []) in
-      let few : weights gateway (packets ++ new_packet number ∷ []) ≤ 128 =
-      omega (
+      each_push (NearIn most gateway) packets (new_packet number)
+      (near_packets most gateway next packets (omega (
         arith,
-        weights-push 2 gateway packets number,
-        weights_few gateway packets,
+        window gateway next packets none_out,
+        total_pushed (left_at 2 gateway) packets number,
+        weights_few 2 2 gateway packets (omega arith) (omega arith),
         opens_are packets,
         unrefused.few,
-      ) in
-      let above = each_open (λ (n : ℕ). oldest ≤ n) gateway packets (each_least next (flat_map (unsettled_at gateway) packets)) in
-      each_push (NearIn most gateway) packets (new_packet number)
-      (each_weaker (λ (packet : PacketState). is_done packet.copies ≡ false →
-      AllByRecursion (λ (copy : PacketCopy). copy.gateway ≡ gateway → oldest ≤ copy.number) packet.copies) (NearIn most gateway)
-      (λ packet all open_yet. each_weaker (λ (copy : PacketCopy). copy.gateway ≡ gateway → oldest ≤ copy.number) (IsNear most gateway)
-      (λ copy holds same. omega (arith, holds same, inside, few)) packet.copies (all open_yet))
-      packets above)
-      (λ open_yet. tt);
+      ))) (λ open_yet. tt);
 }
 
-pub none_open : opens [] ≤ 64
-unfolding opens
-none_open = omega arith
-
-pub all_near : Closed AllNear
+all_near : Closed AllNear
 all_near = record {
-  anew = λ addresses. record { few = none_open; near = λ gateway below. tt };
+  anew = λ addresses. record { few = omega arith; near = λ gateway below. tt };
   alike = λ peers other packets alike is. record {
     few = is.few;
     near = λ gateway below.
@@ -271,7 +191,7 @@ all_near = record {
   };
   pushed = near_pushed;
   moved = near_after;
-  heard = λ peers packets port heard_gateway cause numbers kept is. record {
+  heard = λ peers packets port heard_gateway cause numbers is. record {
     few = omega (arith, opens_heard port heard_gateway cause numbers packets, is.few);
     near = λ gateway below.
         let f : PacketState → PacketState = while_open (packet_hearing port heard_gateway cause numbers) in
@@ -286,9 +206,10 @@ all_near = record {
 pub open_near : (setup : NodeSetup) (calls : List NodeCall) (gateway number : ℕ) → 1 ≤ length setup.gateways → gateway < length setup.gateways →
     HasOpenCopy (reached setup calls).packets gateway number → next_number (reached setup calls).gateways gateway ≤ number + 16511
 open_near setup calls gateway number some within has =
-    let is = stands setup some AllNear all_near calls in
+    let size = (all_stand setup some calls).size in
     let most : ℕ = next_number (reached setup calls).gateways gateway + weights gateway (reached setup calls).packets in
-    let near : NearAll most gateway (reached setup calls).packets = is.law_holds.near gateway (omega (arith, within, is.size)) in
+    let near : NearAll most gateway (reached setup calls).packets =
+    (all_closed setup some AllNear all_near calls).near gateway (omega (arith, within, size)) in
     let copies : AllByRecursion (IsNear most gateway) has.packet.copies =
     each_contains (NearIn most gateway) (reached setup calls).packets has.packet near has.kept has.open_yet in
     omega (arith, each_contains (IsNear most gateway) has.packet.copies has.copy copies has.sent has.gateway_is, has.number_is)

@@ -1,28 +1,36 @@
--- What is due for the packets from a place on: for the packet there, and then for those from the next place on.
-use Rattle.std.proofs.Common.{◌≡◌, ℕ, ◌+◌, ◌<◌, Bool, List, [], ◌∷◌, ◌++◌, length, drop, get_or, refl, sym, ap, ◌∙◌, append_assoc, arith}
+-- A tick, step by step: what is due for the packets, and the Node Alive Requests, from a place on: what is there, and
+-- then from the next place on.
+use Rattle.std.proofs.Common.{◌≡◌, ℕ, suc, ◌+◌, ◌<◌, min, Bool, List, [], ◌∷◌, ◌++◌, length, map, drop, get_or, Option, Some, None, refl, sym, ap, ◌∙◌, append_assoc, add-one, arith}
 use Rattle.std.proofs.lemmas.List.{at_drop_all, at_drop_more}
+use Rattle.std.specs.Option.{option_or}
+use Rattle.std.specs.Prelude.{IfSome}
+use Rattle.path_mgmt.specs.NodePath.{PathsOfNode, is_alive}
 use Rattle.node_core.specs.declared.peer.Peer.{Peer}
 use Rattle.node_core.specs.declared.sending.Sending.{Sending}
-use Rattle.node_core.specs.Packets.{PacketState, packet_after, packet_after_all}
+use Rattle.node_core.specs.Log.{Ticked}
+use Rattle.node_core.specs.Moving.{appointing, favourite_by, moved_at_tick, quiet_by}
+use Rattle.node_core.specs.Packets.{PacketState, packet_after, packet_after_all, while_open}
 use Rattle.node_core.specs.Peers.{all_drawn, drawn}
-use Rattle.node_core.specs.Sendings.{due_for, due_for_all}
+use Rattle.node_core.specs.Sendings.{due_for, due_for_all, probe_of, probes, probes_from}
 use Rattle.node_core.specs.Sound.{planned}
+use Rattle.node_core.specs.Submitting.{numbers_out, out_at}
+use Rattle.node_core.specs.Ticks.{due_by, due_now, tick_entries}
+use Rattle.node_core.specs.Value.{NodeValue, befallen, most_quiet}
+use Rattle.node_core.proofs.NodeLemmas.{all_drawn_keeps, length-anew}
 
 pub after_more : (sendings : List Sending) (packet : PacketState) (i : ℕ) (d : Sending) → i < length sendings →
     packet_after_all (drop i sendings) packet ≡ packet_after_all (drop (i + 1) sendings) (packet_after (get_or sendings i d) packet)
 after_more sendings packet i d below = at_drop_more (λ xs. packet_after_all xs packet) sendings i d below
 
 pub after_none : (sendings : List Sending) (packet : PacketState) → packet_after_all (drop (length sendings) sendings) packet ≡ packet
-after_none [] packet = refl
-after_none (sending ∷ sendings) packet = after_none sendings packet
+after_none sendings packet = at_drop_all (λ xs. packet_after_all xs packet) sendings (length sendings) (omega arith)
 
 pub drawn_more : (sendings : List Sending) (peers : List Peer) (i : ℕ) (d : Sending) → i < length sendings →
     all_drawn (drop i sendings) peers ≡ all_drawn (drop (i + 1) sendings) (drawn (get_or sendings i d) peers)
 drawn_more sendings peers i d below = at_drop_more (λ xs. all_drawn xs peers) sendings i d below
 
 pub drawn_none : (sendings : List Sending) (peers : List Peer) → all_drawn (drop (length sendings) sendings) peers ≡ peers
-drawn_none [] peers = refl
-drawn_none (sending ∷ sendings) peers = drawn_none sendings peers
+drawn_none sendings peers = at_drop_all (λ xs. all_drawn xs peers) sendings (length sendings) (omega arith)
 
 pub all_drawn_append : (one two : List Sending) (peers : List Peer) → all_drawn (one ++ two) peers ≡ all_drawn two (all_drawn one peers)
 all_drawn_append [] two peers = refl
@@ -75,3 +83,94 @@ module _ (favourite : ℕ) (up : Bool) where
         sym (all_drawn_append due sent_later peers)
             ∙ ap (λ (xs : List Sending). all_drawn xs peers) (sym (due_more peers packets i packet below)) ∙ so_far.2,
       )
+
+-- ---- the Node Alive Requests
+
+pub probes_more : (paths : PathsOfNode) (gateways : List Peer) (i : ℕ) (d : Peer) → i < length gateways →
+    probes_from i paths (drop i gateways)
+    ≡ probe_of (is_alive paths i) i (get_or gateways i d) ++ probes_from (i + 1) paths (drop (i + 1) gateways)
+probes_more paths gateways i d below =
+    at_drop_more (probes_from i paths) gateways i d below
+    ∙ ap (λ (n : ℕ). probe_of (is_alive paths i) i (get_or gateways i d) ++ probes_from n paths (drop (i + 1) gateways)) (sym (add-one i))
+
+-- so much is probed
+abbrev pub AreProbed : PathsOfNode → List Peer → List Sending → List Peer → List Sending → List Peer → ℕ → Type 0
+AreProbed paths gateways sendings₀ peers₀ sendings peers i =
+    (sendings ++ probes_from i paths (drop i gateways) ≡ sendings₀ ++ probes paths gateways)
+    × (all_drawn (probes_from i paths (drop i gateways)) peers ≡ all_drawn (probes paths gateways) peers₀)
+
+pub probe_step : (paths : PathsOfNode) (gateways : List Peer) (sendings₀ : List Sending) (peers₀ : List Peer)
+    (sendings sendings₁ : List Sending) (peers peers₁ : List Peer) (i : ℕ) (d : Peer) → i < length gateways →
+    sendings₁ ≡ sendings ++ probe_of (is_alive paths i) i (get_or gateways i d) →
+    peers₁ ≡ all_drawn (probe_of (is_alive paths i) i (get_or gateways i d)) peers →
+    AreProbed paths gateways sendings₀ peers₀ sendings peers i → AreProbed paths gateways sendings₀ peers₀ sendings₁ peers₁ (i + 1)
+probe_step paths gateways sendings₀ peers₀ sendings sendings₁ peers peers₁ i d below sent numbered so_far =
+    let here : List Sending = probe_of (is_alive paths i) i (get_or gateways i d) in
+    let later : List Sending = probes_from (i + 1) paths (drop (i + 1) gateways) in (
+      ap (λ (xs : List Sending). xs ++ later) sent ∙ append_assoc sendings here later
+          ∙ ap (λ (xs : List Sending). sendings ++ xs) (sym (probes_more paths gateways i d below)) ∙ so_far.0,
+      ap (all_drawn later) numbered ∙ sym (all_drawn_append here later peers)
+          ∙ ap (λ (xs : List Sending). all_drawn xs peers) (sym (probes_more paths gateways i d below)) ∙ so_far.1,
+    )
+
+-- ---- whether the numbers of a gateway are used up
+
+pub out_more : (gateways : List Peer) (packets : List PacketState) (i : ℕ) (d : Peer) → i < length gateways →
+    numbers_out i (drop i gateways) packets
+    ≡ option_or (out_at i (get_or gateways i d).next packets) (numbers_out (i + 1) (drop (i + 1) gateways) packets)
+out_more gateways packets i d below =
+    at_drop_more (λ (peers : List Peer). numbers_out i peers packets) gateways i d below
+    ∙ ap (λ (n : ℕ). option_or (out_at i (get_or gateways i d).next packets) (numbers_out n (drop (i + 1) gateways) packets)) (sym (add-one i))
+
+pub out_none : (gateways : List Peer) (packets : List PacketState) → numbers_out (length gateways) (drop (length gateways) gateways) packets ≡ None
+out_none gateways packets =
+    at_drop_all (λ (peers : List Peer). numbers_out (length gateways) peers packets) gateways (length gateways)
+      (omega arith)
+
+-- ---- the whole tick, once the favourite has moved or not
+
+abbrev due_if : NodeValue → Option ℕ → List Sending
+due_if node moved =
+    due_by (favourite_by moved node.favourite_place) (is_alive node.paths (favourite_by moved node.favourite_place))
+    node.paths node.gateways node.packets
+
+abbrev after_tick : NodeValue → Option ℕ → NodeValue
+after_tick node moved = record node {
+  favourite_place = favourite_by moved node.favourite_place;
+  quiet = min most_quiet (suc (quiet_by moved node.quiet));
+  gateways = all_drawn (due_if node moved) node.gateways;
+  packets = map (while_open (packet_after_all (due_if node moved))) node.packets;
+}
+
+tick_is : (node : NodeValue) → befallen (tick_entries node) node ≡ after_tick node (moved_at_tick node)
+tick_is node = by (moved_at_tick node)
+  where
+    by : (moved : Option ℕ) → befallen
+      (appointing moved ++ Ticked (due_now (befallen (appointing moved) node)) ∷ []) node ≡ after_tick node moved
+    by None = refl
+    by (Some gateway) = refl
+
+pub tick_result : (node : NodeValue) (moved : Option ℕ) (favourite : ℕ) (up : Bool) (quiet : ℕ) (peers : List Peer) (packets : List PacketState) →
+    moved ≡ moved_at_tick node → favourite ≡ favourite_by moved node.favourite_place → up ≡ is_alive node.paths favourite →
+    quiet ≡ min most_quiet (suc (quiet_by moved node.quiet)) →
+    peers ≡ all_drawn (due_by favourite up node.paths node.gateways node.packets) node.gateways →
+    packets ≡ map (while_open (packet_after_all (due_by favourite up node.paths node.gateways node.packets))) node.packets →
+    record node { favourite_place = favourite; quiet = quiet; gateways = peers; packets = packets } ≡ befallen (tick_entries node) node
+tick_result node moved favourite up quiet peers packets is_moved is_favourite is_up is_quiet is_peers is_packets =
+    let due_is : due_by favourite up node.paths node.gateways node.packets ≡ due_if node moved =
+    ap (λ (b : Bool). due_by favourite b node.paths node.gateways node.packets) is_up
+    ∙ ap (λ (g : ℕ). due_by g (is_alive node.paths g) node.paths node.gateways node.packets) is_favourite in
+    let drawn_is : peers ≡ all_drawn (due_if node moved) node.gateways = is_peers ∙ ap (λ (ss : List Sending). all_drawn ss node.gateways) due_is in
+    let sent_is : packets ≡ map (while_open (packet_after_all (due_if node moved))) node.packets =
+    is_packets ∙ ap (λ (ss : List Sending). map (while_open (packet_after_all ss)) node.packets) due_is in
+    (λ i. record node { favourite_place = is_favourite i; quiet = is_quiet i; gateways = drawn_is i; packets = sent_is i })
+    ∙ ap (λ (o : Option ℕ). after_tick node o) is_moved ∙ sym (tick_is node)
+
+-- the favourite is one of the gateways
+pub within_by : (moved : Option ℕ) (favourite size : ℕ) → IfSome moved (λ place. place < size) → favourite < size → favourite_by moved favourite < size
+within_by None favourite size moves stays = stays
+within_by (Some place) favourite size moves stays = moves
+
+pub length-all_drawn : (sendings : List Sending) (peers : List Peer) → length (all_drawn sendings peers) ≡ length peers
+length-all_drawn sendings peers =
+    sym (length-anew (all_drawn sendings peers)) ∙ ap (λ (ps : List Peer). length ps) (all_drawn_keeps sendings peers) ∙ length-anew peers

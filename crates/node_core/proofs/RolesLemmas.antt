@@ -1,25 +1,25 @@
 -- Each number that is drawn is that of one copy, or of one release or cancel.
-use Rattle.std.proofs.Common.{◌≡◌, ◌≢◌, ℕ, suc, ◌+◌, ◌<◌, ◌≤◌, ◌==◌, Bool, if◌then◌else◌, List, [], ◌∷◌, ◌++◌, length, map, Option, Some, None, option_map, refl, sym, ap, subst, ◌∙◌, arith, inl, inr}
-use Rattle.std.specs.List.{AllByRecursion}
-use Rattle.std.specs.Option.{option_or}
+use Rattle.std.proofs.Common.{◌≡◌, ◌≢◌, ℕ, suc, ◌+◌, ◌<◌, ◌≤◌, ◌==◌, if◌then◌else◌, List, [], ◌∷◌, ◌++◌, length, map, Option, Some, None, option_map, refl, sym, ap, ◌∙◌, arith, inl, inr}
 use Rattle.std.proofs.lemmas.Bool.Decides.{eqb_tells}
 use Rattle.std.proofs.lemmas.Bool.{eq-eqb, ne_eqb}
+use Rattle.std.proofs.lemmas.List.Elements.{All-from_recursion}
+use Rattle.std.proofs.lemmas.List.Folds.{map_fixed}
 use Rattle.node_core.specs.declared.copy.Command.{Command}
 use Rattle.node_core.specs.declared.copy.PacketCopy.{PacketCopy}
 use Rattle.node_core.specs.declared.peer.Peer.{Peer}
 use Rattle.node_core.specs.declared.port.Port.{Port}
 use Rattle.node_core.specs.Copies.{command_hearing, copy_hearing, new_copy}
 use Rattle.node_core.specs.Log.{NodeSetup}
-use Rattle.node_core.specs.Packets.{PacketState, commanded, packet_hearing, while_open, with_command}
-use Rattle.node_core.specs.Peers.{next_number, peer_anew}
+use Rattle.node_core.specs.Packets.{PacketState, commanded, packet_hearing, while_open}
+use Rattle.node_core.specs.Peers.{next_number}
 use Rattle.node_core.specs.Reached.{NodeCall, reached}
 use Rattle.node_core.specs.Roles.{HasOneRole, use_of, uses, uses_by_command, uses_by_copies, uses_by_copy}
-use Rattle.node_core.proofs.DueMoves.{AreApart}
+use Rattle.node_core.proofs.CaseLemmas.{at_or_apart, either_hears, either_open, each_weaker}
+use Rattle.node_core.proofs.ChosenLemmas.{AreApart}
 use Rattle.node_core.proofs.KeptLemmas.{AllKept}
-use Rattle.node_core.proofs.Moves.{Copying, Commanding, IsMove, Move, One, are_none, beyond, command_with, copies_moved, find_at, here, length_drawn, next_drawn, next_drawn_other, peers_moved, place}
-use Rattle.node_core.proofs.ReachedLemmas.{Closed, anew_next, new_packet, stands}
-use Rattle.node_core.proofs.WeightLemmas.{one_within}
-use Rattle.node_core.proofs.CaseLemmas.{at_or_apart, either_hears, either_open}
+use Rattle.node_core.proofs.Moves.{Copying, Commanding, IsMove, Move, One, are_none, beyond, command_with, copies_moved, find_at, here, length_moved, next_elsewhere, next_moved, peers_moved, place}
+use Rattle.node_core.proofs.ReachedLemmas.{Closed, all_closed, all_stand, anew_next}
+use Rattle.node_core.proofs.WeightLemmas.{new_packet}
 
 -- ---- a packet
 
@@ -35,14 +35,6 @@ here_uses gateway number copy same = rw (eq-eqb copy.gateway gateway same) refl
 there_uses : (gateway number : ℕ) (copy : PacketCopy) → copy.gateway ≢ gateway → uses_by_copy gateway number copy ≡ 0
 there_uses gateway number copy apart = rw (ne_eqb copy.gateway gateway apart) refl
 
--- copies elsewhere stay as they are
-map_same : (gateway : ℕ) (command : Command) (copies : List PacketCopy) → AllByRecursion (λ (copy : PacketCopy). gateway ≢ copy.gateway) copies →
-    map (commanded gateway command) copies ≡ copies
-map_same gateway command [] apart = refl
-map_same gateway command (copy ∷ copies) apart =
-    rw (ne_eqb copy.gateway gateway (λ e. apart.0 (sym e))) (ap (λ (cs : List PacketCopy).
-    copy ∷ cs) (map_same gateway command copies apart.1))
-
 command_uses : (gateway number : ℕ) (command : Command) (copies : List PacketCopy) (copy : PacketCopy) → AreApart copies → find_at gateway copies ≡ Some copy →
     copy.command ≡ None →
     uses_by_copies gateway number (map (commanded gateway command) copies) ≡ uses_by_copies gateway number copies + use_of number command.number
@@ -54,40 +46,26 @@ command_uses gateway number command (first ∷ copies) copy apart found fresh =
           let same : first ≡ copy = cc in
           let fresh_first : first.command ≡ None = ap (λ (c : PacketCopy). c.command) same ∙ fresh in
           let rest : map (commanded gateway command) copies ≡ copies =
-          map_same gateway command copies (subst (λ (g : ℕ). AllByRecursion (λ (c : PacketCopy). g ≢ c.gateway) copies) is.1 apart.0) in
-          let head : commanded gateway command first ≡ with_command command first =
-          ap (λ (b : Bool). if b then with_command command first else first) is.0 in
-          let after : uses_by_copy gateway number (with_command command first)
-          ≡ use_of number first.number + uses_by_command number (option_or first.command (Some command)) =
-          here_uses gateway number (with_command command first) is.1 in
-          let filled : uses_by_command number (option_or first.command (Some command)) ≡ use_of number command.number =
-          ap (λ (c : Option Command). uses_by_command number (option_or c (Some command))) fresh_first in
-          let before : uses_by_copy gateway number first ≡ use_of number first.number + uses_by_command number first.command = here_uses gateway number first is.1 in
-          let empty : uses_by_command number first.command ≡ 0 = ap (uses_by_command number) fresh_first in
-          omega (arith, ap (uses_by_copy gateway number) head, ap (uses_by_copies gateway number) rest, after, filled, before, empty)
-      | inr isnt ↦
-          let head : commanded gateway command first ≡ first = ap (λ (b : Bool). if b then with_command command first else first) isnt.0 in
-          omega (
-            arith,
-            ap (uses_by_copy gateway number) head,
-            command_uses gateway number command copies copy apart.1 (rw isnt.0 at found) fresh,
-          )
+          map_fixed (commanded gateway command) copies
+            (All-from_recursion (λ (c : PacketCopy). commanded gateway command c ≡ c) copies
+          (each_weaker (λ (c : PacketCopy). first.gateway ≢ c.gateway)
+            (λ (c : PacketCopy). commanded gateway command c ≡ c)
+          (λ c differs. rw (ne_eqb c.gateway gateway (λ e. differs (is.1 ∙ sym e))) refl) copies apart.0)) in
+          rw (is.0, is.0, fresh_first, rest) (omega arith)
+      | inr isnt ↦ rw (isnt.0, isnt.0)
+          (omega (arith, command_uses gateway number command copies copy apart.1 (rw isnt.0 at found) fresh))
     ]
 
 command_uses_other : (gateway other number : ℕ) (command : Command) (copies : List PacketCopy) → gateway ≢ other →
     uses_by_copies other number (map (commanded gateway command) copies) ≡ uses_by_copies other number copies
 command_uses_other gateway other number command [] apart = refl
 command_uses_other gateway other number command (copy ∷ copies) apart =
-    omega (arith, one, command_uses_other gateway other number command copies apart)
-  where
-    one : uses_by_copy other number (commanded gateway command copy) ≡ uses_by_copy other number copy
-    one = elim (eqb_tells copy.gateway gateway) [
-      | inl is ↦
-          let elsewhere : copy.gateway ≢ other = λ e. apart (sym is.1 ∙ e) in
-          rw is.0 (there_uses other number (with_command command copy) elsewhere
-          ∙ sym (there_uses other number copy elsewhere))
+    let one : uses_by_copy other number (commanded gateway command copy) ≡ uses_by_copy other number copy =
+    elim (eqb_tells copy.gateway gateway) [
+      | inl is ↦ rw (is.0, ne_eqb copy.gateway other (λ e. apart (sym is.1 ∙ e))) refl
       | inr isnt ↦ rw isnt.0 refl
-    ]
+    ] in
+    omega (arith, one, command_uses_other gateway other number command copies apart)
 
 copies_uses : (move : Move) (peers : List Peer) (copies : List PacketCopy) (number : ℕ) → AreApart copies → IsMove peers copies move →
     uses_by_copies (place move) number (copies_moved peers move copies)
@@ -96,7 +74,7 @@ copies_uses (Copying gateway) peers copies number apart is =
     let copy : PacketCopy = new_copy gateway (next_number peers gateway) (are_none copies) in
     omega (arith, uses_push gateway number copies copy, here_uses gateway number copy refl)
 copies_uses (Commanding gateway order) peers copies number apart is =
-    command_uses gateway number (command_with order (next_number peers gateway)) copies is.1.copy apart is.1.found is.1.fresh
+    command_uses gateway number (command_with order (next_number peers gateway)) copies is.fits.copy apart is.fits.found is.fits.fresh
 
 copies_uses_other : (move : Move) (peers : List Peer) (copies : List PacketCopy) (gateway number : ℕ) → place move ≢ gateway →
     uses_by_copies gateway number (copies_moved peers move copies) ≡ uses_by_copies gateway number copies
@@ -111,7 +89,7 @@ copies_uses_other (Commanding there order) peers copies gateway number apart =
 uses_moved : {peers : List Peer} {move : Move} {packets after : List PacketState} (number : ℕ) → AllKept peers packets → One peers move packets after →
     uses (place move) number after ≡ uses (place move) number packets + use_of number (next_number peers (place move))
 uses_moved {peers} {move} number kept (here {packet} {packets} open_yet is) =
-    omega (arith, copies_uses move peers packet.copies number kept.0.placed.apart is)
+    omega (arith, copies_uses move peers packet.copies number kept.0.apart is)
 uses_moved number kept (beyond one) = omega (arith, uses_moved number kept.1 one)
 
 uses_moved_other : {peers : List Peer} {move : Move} {packets after : List PacketState} (gateway number : ℕ) → place move ≢ gateway → One peers move packets after →
@@ -167,68 +145,45 @@ same_uses : {peers other : List Peer} {packets after : List PacketState} {gatewa
     OneUse peers packets gateway number →
     next_number other gateway ≡ next_number peers gateway → uses gateway number after ≡ uses gateway number packets
     → OneUse other after gateway number
-same_uses was next many = record {
-  first = omega (arith, was.first, next);
-  before = λ low. many ∙ was.before low;
-  drawn = λ from to. many ∙ was.drawn from (omega (arith, to, next));
-  behind = λ high. many ∙ was.behind (omega (arith, high, next));
-}
+same_uses was next many = omega (arith, was, next, many)
 
 one_moved : (peers : List Peer) (move : Move) (packets after : List PacketState) → AllKept peers packets → One peers move packets after →
     OneUses peers packets → OneUses (peers_moved move peers) after
 one_moved peers move packets after kept one is gateway number below =
     at_or_apart (λ (g : ℕ). OneUse peers packets g number → OneUse (peers_moved move peers) after g number) (place move)
     gateway there
-    (λ apart was. same_uses was (next_drawn_other (place move) (next_number peers (place move)) gateway peers apart)
-    (uses_moved_other gateway number apart one))
-    (is gateway number (omega (arith, below, length_drawn (place move) (next_number peers (place move)) peers)))
+    (λ apart was. same_uses was (next_elsewhere move gateway peers apart) (uses_moved_other gateway number apart one))
+    (is gateway number (omega (arith, below, length_moved move peers)))
   where
     there : OneUse peers packets (place move) number → OneUse (peers_moved move peers) after (place move) number
     there was =
-        let next : next_number (peers_moved move peers) (place move) ≡ suc (next_number peers (place move)) = next_drawn (place move) _ peers (one_within one) in
+        let next : next_number (peers_moved move peers) (place move) ≡ suc (next_number peers (place move)) = next_moved one in
         let many : uses (place move) number after ≡ uses (place move) number packets + use_of number (next_number peers (place move)) = uses_moved number kept one in
         elim (eqb_tells (next_number peers (place move)) number) [
           | inl same ↦
               let used : use_of number (next_number peers (place move)) ≡ 1 = rw same.0 refl in
-              record {
-                first = omega (arith, was.first, next);
-                before = λ low. absurd (omega (arith, low, same.1, was.first));
-                drawn = λ from to. omega (arith, many, used, was.behind (omega (arith, same.1)));
-                behind = λ high. absurd (omega (arith, high, next, same.1));
-              }
+              omega (arith, was, next, many, used, same.1)
           | inr differs ↦
               let unused : use_of number (next_number peers (place move)) ≡ 0 = rw differs.0 refl in
-              let apart : next_number peers (place move) ≢ number = differs.1 in
-              record {
-                first = omega (arith, was.first, next);
-                before = λ low. omega (arith, many, unused, was.before low);
-                drawn = λ from to. omega (arith, many, unused, was.drawn from (omega (arith, to, next, apart)));
-                behind = λ high. omega (arith, many, unused, was.behind (omega (arith, high, next)));
-              }
+              omega (arith, was, next, many, unused, differs.1)
         ]
 
 pub one_use : Closed OneUses
 one_use = record {
-  anew = λ addresses gateway number below.
-      let next : next_number (map peer_anew addresses) gateway ≡ 65536 = anew_next addresses gateway in
-      record {
-        first = omega (arith, next);
-        before = λ low. refl;
-        drawn = λ from to. absurd (omega (arith, next, from, to));
-        behind = λ high. refl;
-      };
+  anew = λ addresses gateway number below. omega (arith, anew_next addresses gateway);
   alike = λ peers other packets alike is gateway number below.
       same_uses (is gateway number (omega (arith, below, alike.size))) (alike.numbers gateway) refl;
-  pushed = λ peers packets new kept unrefused is gateway number below.
+  pushed = λ peers packets new unrefused is gateway number below.
       same_uses (is gateway number below) refl (uses_pushed gateway number packets new);
   moved = one_moved;
-  heard = λ peers packets port heard_gateway cause numbers kept is gateway number below.
+  heard = λ peers packets port heard_gateway cause numbers is gateway number below.
       same_uses (is gateway number below) refl (uses_heard port heard_gateway cause numbers gateway number packets);
 }
 
 pub one_role : (setup : NodeSetup) (calls : List NodeCall) (gateway number : ℕ) → 1 ≤ length setup.gateways → gateway < length setup.gateways →
     HasOneRole (reached setup calls) gateway number
 one_role setup calls gateway number some within =
-    let is = stands setup some OneUses one_use calls in
-    let one : OneUse (reached setup calls).gateways (reached setup calls).packets gateway number = is.law_holds gateway number (omega (arith, within, is.size)) in
-    record { before = one.before; drawn = one.drawn; behind = one.behind }
+    let size = (all_stand setup some calls).size in
+    let one : OneUse (reached setup calls).gateways (reached setup calls).packets gateway number =
+    all_closed setup some OneUses one_use calls gateway number (omega (arith, within, size)) in
+    search (one.before, one.drawn, one.behind)

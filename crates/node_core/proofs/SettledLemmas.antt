@@ -1,31 +1,37 @@
--- Packets of which those in front are done: what is asked of all can be asked of the rest.
-use Rattle.std.proofs.Common.{◌≡◌, ℕ, zero, suc, ◌+◌, ◌≤◌, ◌<◌, ◌&&◌, not, Bool, true, false, if◌then◌else◌, List, [], ◌∷◌, ◌++◌, length, map, take, drop, set, get_or, Option, None, refl, sym, ap, ◌∙◌, add-one, min, arith, inl, inr}
-use Rattle.std.specs.List.{count_by, flat_map, list_any}
+-- Packets of which those in front are done: what is asked of all can be asked of the rest. What is due for a packet is
+-- of that packet alone, so each packet changes by what is due for it.
+use Rattle.std.proofs.Common.{◌≡◌, ℕ, zero, suc, ◌+◌, ◌≤◌, ◌<◌, ◌&&◌, not, Bool, true, false, if◌then◌else◌, List, [], ◌∷◌, ◌++◌, length, map, take, drop, set, get_or, Option, None, refl, sym, ap, subst, ◌∙◌, add-one, min, arith, inl, inr, ◌==◌, append_assoc, length-drop}
+use Rattle.std.specs.List.{count_by, flat_map, list_any, AllByRecursion}
 use Rattle.std.specs.Option.{option_or}
-use Rattle.std.proofs.lemmas.List.{at_drop_all, at_drop_more, take_more}
+use Rattle.std.proofs.lemmas.List.{at_drop_all, at_drop_more, map-append, take-append-drop, take-map, take_more}
 use Rattle.std.proofs.lemmas.List.Edits.{map_over_more}
 use Rattle.std.proofs.lemmas.List.Sums.{sum_by-cons}
-use Rattle.std.proofs.lemmas.Bool.{and_parts, cases_Bool}
+use Rattle.std.proofs.lemmas.Bool.{and_parts, cases_Bool, ne_eqb}
 use Rattle.node_core.specs.declared.copy.PacketCopy.{PacketCopy}
 use Rattle.node_core.specs.declared.peer.Peer.{Peer}
 use Rattle.node_core.specs.declared.port.Port.{Port}
 use Rattle.node_core.specs.Hearing.{first_made}
 use Rattle.node_core.specs.Log.{done_among, resolved_among}
 use Rattle.node_core.specs.Moving.{waits_at}
-use Rattle.node_core.specs.Packets.{PacketState, is_done, is_resolved, packet_hearing, while_open}
-use Rattle.node_core.specs.Sendings.{due_for_all}
-use Rattle.node_core.specs.Sound.{AllDone, IsSettled, KeptPackets}
+use Rattle.node_core.specs.Packets.{PacketState, is_done, is_resolved, packet_hearing, while_open, is_of, packet_after, packet_after_all}
+use Rattle.node_core.specs.Sendings.{due_for_all, due_for, probes}
+use Rattle.node_core.specs.Sound.{AllDone, IsSettled, KeptPackets, AreNumbered, planned}
 use Rattle.node_core.specs.Submitting.{least, oldest_number, open_among, unsettled_at}
+use Rattle.path_mgmt.specs.NodePath.{PathsOfNode}
+use Rattle.node_core.specs.declared.sending.Sending.{Sending}
+use Rattle.node_core.specs.Peers.{all_drawn}
+use Rattle.node_core.specs.Ticks.{due_by}
+use Rattle.node_core.proofs.NodeLemmas.{after_all-number}
+use Rattle.node_core.proofs.DueLemmas.{due_each, probes_each}
+use Rattle.node_core.proofs.CaseLemmas.{each_append}
 
 -- ---- what a done packet adds
 
-count_by-cons : (f : PacketState → Bool) (packet : PacketState) (packets : List PacketState) →
-    count_by f (packet ∷ packets) ≡ (if f packet then 1 else 0) + count_by f packets
-count_by-cons f packet packets = sum_by-cons (λ x. if f x then 1 else 0) packet packets
-
 count_by-pass : (f : PacketState → Bool) (packet : PacketState) (packets : List PacketState) (is : Bool) → f packet ≡ is →
     count_by f (packet ∷ packets) ≡ (if is then 1 else 0) + count_by f packets
-count_by-pass f packet packets is e = count_by-cons f packet packets ∙ ap (λ (b : Bool). (if b then 1 else 0) + count_by f packets) e
+count_by-pass f packet packets is e =
+    sum_by-cons (λ x. if f x then 1 else 0) packet packets
+      ∙ ap (λ (b : Bool). (if b then 1 else 0) + count_by f packets) e
 
 -- a done packet is resolved
 resolved_first : (copies : List PacketCopy) → is_done copies ≡ true → is_resolved copies ≡ true
@@ -34,70 +40,55 @@ resolved_first (plain ∷ duplicates) done = (and_parts (is_resolved (plain ∷ 
 
 -- ---- the packets from the first open one on
 
-open_of : (n : ℕ) (packets : List PacketState) → AllDone (take n packets) → open_among (drop n packets) ≡ open_among packets
-open_of (suc n) (packet ∷ packets) done =
-    open_of n packets done.1
-    ∙ sym (count_by-pass (λ (p : PacketState). not (is_done p.copies)) packet packets false (ap not done.0) ∙ (omega arith))
-open_of _ _ done = refl
+-- what no done packet changes
+settled_is : {B : Type 0} (F : List PacketState → B) →
+    ((packet : PacketState) (packets : List PacketState) → is_done packet.copies ≡ true →
+      F (packet ∷ packets) ≡ F packets) →
+    (kept : KeptPackets) → IsSettled kept → F (drop kept.settled kept.packets) ≡ F kept.packets
+settled_is F step kept settled = by kept.settled kept.packets settled.done
+  where
+    by : (n : ℕ) (packets : List PacketState) → AllDone (take n packets) → F (drop n packets) ≡ F packets
+    by (suc n) (packet ∷ packets) done = by n packets done.1 ∙ sym (step packet packets done.0)
+    by _ _ done = refl
 
 pub open_settled : (kept : KeptPackets) → IsSettled kept → open_among (drop kept.settled kept.packets) ≡ open_among kept.packets
-open_settled kept settled = open_of kept.settled kept.packets settled.done
+open_settled = settled_is open_among (λ packet packets done.
+    count_by-pass (λ (p : PacketState). not (is_done p.copies)) packet packets false (ap not done) ∙ (omega arith))
 
-resolved_of : (n : ℕ) (packets : List PacketState) → n ≤ length packets → AllDone (take n packets) →
-    n + resolved_among (drop n packets) ≡ resolved_among packets
-resolved_of zero packets within done = omega arith
-resolved_of (suc n) [] within done = absurd (omega (arith, within))
-resolved_of (suc n) (packet ∷ packets) within done =
-    omega (
-      arith,
-      resolved_of n packets (omega (arith, within)) done.1,
-      count_by-pass (λ (p : PacketState). is_resolved p.copies) packet packets true (resolved_first packet.copies done.0),
-    )
+-- what each done packet adds to
+counted : (f : PacketState → Bool) → ((packet : PacketState) → is_done packet.copies ≡ true → f packet ≡ true) →
+  (kept : KeptPackets) → IsSettled kept →
+    kept.settled + count_by f (drop kept.settled kept.packets) ≡ count_by f kept.packets
+counted f passes kept settled = by kept.settled kept.packets settled.within settled.done
+  where
+    by : (n : ℕ) (packets : List PacketState) → n ≤ length packets → AllDone (take n packets) → n + count_by f (drop n packets) ≡ count_by f packets
+    by zero packets within done = omega arith
+    by (suc n) [] within done = absurd (omega (arith, within))
+    by (suc n) (packet ∷ packets) within done =
+        omega (arith, by n packets (omega (arith, within)) done.1, count_by-pass f packet packets true
+          (passes packet done.0))
 
 pub resolved_settled : (kept : KeptPackets) → IsSettled kept →
     kept.settled + resolved_among (drop kept.settled kept.packets) ≡ resolved_among kept.packets
-resolved_settled kept settled = resolved_of kept.settled kept.packets settled.within settled.done
-
-done_of : (n : ℕ) (packets : List PacketState) → n ≤ length packets → AllDone (take n packets) →
-    n + done_among (drop n packets) ≡ done_among packets
-done_of zero packets within done = omega arith
-done_of (suc n) [] within done = absurd (omega (arith, within))
-done_of (suc n) (packet ∷ packets) within done =
-    omega (
-      arith,
-      done_of n packets (omega (arith, within)) done.1,
-      count_by-pass (λ (p : PacketState). is_done p.copies) packet packets true done.0,
-    )
+resolved_settled = counted (λ (p : PacketState). is_resolved p.copies) (λ packet. resolved_first packet.copies)
 
 pub done_settled : (kept : KeptPackets) → IsSettled kept →
     kept.settled + done_among (drop kept.settled kept.packets) ≡ done_among kept.packets
-done_settled kept settled = done_of kept.settled kept.packets settled.within settled.done
-
-waits_of : (gateway n : ℕ) (packets : List PacketState) → AllDone (take n packets) →
-    list_any (waits_at gateway) (drop n packets) ≡ list_any (waits_at gateway) packets
-waits_of gateway (suc n) (packet ∷ packets) done =
-    rw done.0 (waits_of gateway n packets done.1)
-waits_of gateway _ _ done = refl
+done_settled = counted (λ (p : PacketState). is_done p.copies) (λ packet done. done)
 
 pub waits_settled : (gateway : ℕ) (kept : KeptPackets) → IsSettled kept →
     list_any (waits_at gateway) (drop kept.settled kept.packets) ≡ list_any (waits_at gateway) kept.packets
-waits_settled gateway kept settled = waits_of gateway kept.settled kept.packets settled.done
+waits_settled gateway = settled_is (list_any (waits_at gateway)) (λ packet packets done. rw done refl)
 
 -- ---- the oldest number
 
-least-append : (number : ℕ) (xs ys : List ℕ) → least number (xs ++ ys) ≡ least (least number xs) ys
+pub least-append : (number : ℕ) (xs ys : List ℕ) → least number (xs ++ ys) ≡ least (least number xs) ys
 least-append number [] ys = refl
 least-append number (x ∷ xs) ys = least-append (min number x) xs ys
 
-oldest_of : (gateway next n : ℕ) (packets : List PacketState) → AllDone (take n packets) →
-    oldest_number gateway next (drop n packets) ≡ oldest_number gateway next packets
-oldest_of gateway next (suc n) (packet ∷ packets) done =
-    rw done.0 (oldest_of gateway next n packets done.1)
-oldest_of gateway next _ _ done = refl
-
 pub oldest_settled : (gateway next : ℕ) (kept : KeptPackets) → IsSettled kept →
     oldest_number gateway next (drop kept.settled kept.packets) ≡ oldest_number gateway next kept.packets
-oldest_settled gateway next kept settled = oldest_of gateway next kept.settled kept.packets settled.done
+oldest_settled gateway next = settled_is (oldest_number gateway next) (λ packet packets done. rw done refl)
 
 pub oldest_more : (gateway next : ℕ) (packets : List PacketState) (i : ℕ) (d : PacketState) → i < length packets →
     oldest_number gateway next (drop i packets)
@@ -144,40 +135,38 @@ module _ (test : List PacketCopy → Bool) (change : PacketState → PacketState
 
 -- ---- what is due
 
-due_of : (favourite : ℕ) (up : Bool) (peers : List Peer) (n : ℕ) (packets : List PacketState) → AllDone (take n packets) →
-    due_for_all favourite up peers (drop n packets) ≡ due_for_all favourite up peers packets
-due_of favourite up peers (suc n) (packet ∷ packets) done = rw done.0 (due_of favourite up peers n packets done.1)
-due_of favourite up peers _ _ done = refl
-
 pub due_settled : (favourite : ℕ) (up : Bool) (peers : List Peer) (kept : KeptPackets) → IsSettled kept →
     due_for_all favourite up peers (drop kept.settled kept.packets) ≡ due_for_all favourite up peers kept.packets
-due_settled favourite up peers kept settled = due_of favourite up peers kept.settled kept.packets settled.done
+due_settled favourite up peers = settled_is (due_for_all favourite up peers) (λ packet packets done. rw done refl)
 
 -- ---- a change while they are open
 
-open_map : (f : PacketState → PacketState) (n : ℕ) (packets : List PacketState) → AllDone (take n packets) →
-    take n packets ++ map (while_open f) (drop n packets) ≡ map (while_open f) packets
-open_map f (suc n) (packet ∷ packets) done =
-    rw done.0 (ap (λ (ps : List PacketState). packet ∷ ps) (open_map f n packets done.1))
-open_map f _ _ done = refl
+front_same : (f : PacketState → PacketState) (n : ℕ) (packets : List PacketState) → AllDone (take n packets) →
+    map (while_open f) (take n packets) ≡ take n packets
+front_same f (suc n) (packet ∷ packets) done =
+  rw done.0 (ap (λ (ps : List PacketState). packet ∷ ps) (front_same f n packets done.1))
+front_same f _ _ done = refl
 
 pub changed_settled : (f : PacketState → PacketState) (kept : KeptPackets) → IsSettled kept →
     take kept.settled kept.packets ++ map (while_open f) (drop kept.settled kept.packets) ≡ map (while_open f) kept.packets
-changed_settled f kept settled = open_map f kept.settled kept.packets settled.done
+changed_settled f kept settled =
+    let n : ℕ = kept.settled in
+    ap (λ (ps : List PacketState). ps ++ map (while_open f) (drop n kept.packets))
+      (sym (front_same f n kept.packets settled.done))
+    ∙ sym (map-append (while_open f) (take n kept.packets) (drop n kept.packets))
+    ∙ ap (λ (ps : List PacketState). map (while_open f) ps) (take-append-drop n kept.packets)
 
 -- ---- a response heard by all, from the first open packet on
 
 pub changed_front : (f : PacketState → PacketState) (n : ℕ) (packets : List PacketState) → AllDone (take n packets) →
     packets ≡ map (while_open f) (take n packets) ++ drop n packets
-changed_front f (suc n) (packet ∷ packets) done =
-    rw done.0 (ap (λ (ps : List PacketState). packet ∷ ps) (changed_front f n packets done.1))
-changed_front f _ _ done = refl
+changed_front f n packets done =
+    sym (take-append-drop n packets) ∙ ap (λ (ps : List PacketState). ps ++ drop n packets)
+      (sym (front_same f n packets done))
 
 pub done_front : (f : PacketState → PacketState) (n : ℕ) (packets : List PacketState) → AllDone (take n packets) →
     AllDone (take n (map (while_open f) packets))
-done_front f (suc n) (packet ∷ packets) done =
-    (rw (done.0, done.0) refl, done_front f n packets done.1)
-done_front f _ _ done = tt
+done_front f n packets done = subst AllDone (sym (take-map (while_open f) n packets ∙ front_same f n packets done)) done
 
 never_both : (b : Bool) → (not b && b) ≡ false
 never_both true = refl
@@ -204,3 +193,128 @@ made_step test f xs ys i x before here after below so_far is was now result =
     result ∙ ap (λ (o : Option ℕ). option_or o here) was
     ∙ ap (option_or (first_made test f (take i xs))) (now ∙ ap (λ (p : PacketState). first_made test f (p ∷ [])) at)
     ∙ sym (made_more test f xs i x below)
+
+-- ---- what is due for a packet is of it
+
+-- none of the sendings is of the packet with this number
+abbrev pub IsOfAnother : ℕ → Sending → Type 0
+IsOfAnother number sending = is_of number sending ≡ false
+
+abbrev pub AreOfOthers : ℕ → List Sending → Type 0
+AreOfOthers number sendings = AllByRecursion (IsOfAnother number) sendings
+
+-- sendings of others change nothing of a packet
+pub others_change_nothing : (packet : PacketState) (sendings : List Sending) → AreOfOthers packet.number sendings →
+    packet_after_all sendings packet ≡ packet
+others_change_nothing packet [] others = refl
+others_change_nothing packet (sending ∷ sendings) others =
+    ap (packet_after_all sendings) (rw others.0 refl) ∙ others_change_nothing packet sendings others.1
+
+pub after_all-append : (one two : List Sending) (packet : PacketState) → packet_after_all (one ++ two) packet ≡ packet_after_all two (packet_after_all one packet)
+after_all-append [] two packet = refl
+after_all-append (sending ∷ one) two packet = after_all-append one two (packet_after sending packet)
+
+-- ---- what is due for a packet with another number
+
+due-others : (number favourite : ℕ) (up : Bool) (peers : List Peer) (packet : PacketState) → (packet.number == number) ≡ false →
+    AreOfOthers number (due_for favourite up peers packet)
+due-others number favourite up peers packet other = due_each (IsOfAnother number) favourite up peers packet (record {
+  copied = λ gateway is_plain. other;
+  repeated = λ copy. other;
+  tested = λ copy. other;
+  commanded = λ order copy drawn is_new next choice. other;
+})
+
+-- what is due for packets with greater numbers
+later-others : (number favourite : ℕ) (up : Bool) (before : ℕ) (peers : List Peer) (packets : List PacketState) → AreNumbered before packets → number ≤ before →
+    AreOfOthers number (due_for_all favourite up peers packets)
+later-others number favourite up before peers [] numbered below = tt
+later-others number favourite up before peers (packet ∷ packets) numbered below =
+    each_append (IsOfAnother number) _ _ (due-others number favourite up peers packet
+    (ne_eqb packet.number number (λ e. omega (arith, e, numbered.0, below))))
+    (later-others number favourite up (suc before) (all_drawn (due_for favourite up peers packet) peers) packets numbered.1 (omega (arith, below)))
+
+-- ---- all packets
+
+module _ (favourite : ℕ) (up : Bool) where
+  one_packet : (peers : List Peer) (packet : PacketState) (sent later : List Sending) →
+      AreOfOthers packet.number sent → AreOfOthers packet.number later →
+      while_open (packet_after_all (sent ++ (due_for favourite up peers packet ++ later))) packet
+      ≡ packet_after_all (due_for favourite up peers packet) packet
+  one_packet peers packet sent later before behind =
+      let due : List Sending = due_for favourite up peers packet in
+      let others : AreOfOthers (packet_after_all due packet).number later =
+      subst (λ (n : ℕ). AreOfOthers n later) (sym (after_all-number due packet)) behind in
+      let all : packet_after_all (sent ++ (due ++ later)) packet ≡ packet_after_all due packet =
+      after_all-append sent (due ++ later) packet
+      ∙ ap (packet_after_all (due ++ later)) (others_change_nothing packet sent before)
+      ∙ after_all-append due later packet
+      ∙ others_change_nothing (packet_after_all due packet) later others in
+      elim (cases_Bool (is_done packet.copies)) [
+        | inl done ↦ rw done refl
+        | inr open_yet ↦ ap (λ (is : Bool). if is then packet else packet_after_all (sent ++ (due ++ later)) packet)
+            open_yet ∙ all
+      ]
+
+  -- all that a tick sends, behind what is of none of these packets: each packet changes by what is due for it
+  pub planned_is_map : (before : ℕ) (peers : List Peer) (packets : List PacketState) (sent : List Sending) → AreNumbered before packets →
+      ((n : ℕ) → before < n → AreOfOthers n sent) →
+      map (while_open (packet_after_all (sent ++ due_for_all favourite up peers packets))) packets ≡ planned favourite up peers packets
+  planned_is_map before peers [] sent numbered low = refl
+  planned_is_map before peers (packet ∷ packets) sent numbered low =
+      let due : List Sending = due_for favourite up peers packet in
+      let later : List Sending = due_for_all favourite up (all_drawn due peers) packets in
+      let of_later : AreOfOthers packet.number later =
+      later-others packet.number favourite up (suc before) (all_drawn due peers) packets numbered.1 (omega (arith, numbered.0)) in
+      let head : while_open (packet_after_all (sent ++ (due ++ later))) packet ≡ packet_after_all due packet =
+      one_packet peers packet sent later (low packet.number (omega (arith, numbered.0))) of_later in
+      let lower : (n : ℕ) → suc before < n → AreOfOthers n (sent ++ due) =
+      λ n below. each_append (IsOfAnother n) _ _ (low n (omega (arith, below)))
+      (due-others n favourite up peers packet (ne_eqb packet.number n (λ e. omega (arith, e, numbered.0, below)))) in
+      let tail : map (while_open (packet_after_all (sent ++ (due ++ later)))) packets ≡ planned favourite up (all_drawn due peers) packets =
+      ap (λ (all : List Sending). map (while_open (packet_after_all all)) packets) (sym (append_assoc sent due later))
+      ∙ planned_is_map (suc before) (all_drawn due peers) packets (sent ++ due) numbered.1 lower in
+      ap (λ (p : PacketState). p ∷ map (while_open (packet_after_all (sent ++ (due ++ later)))) packets) head
+      ∙ ap (λ (ps : List PacketState). packet_after_all due packet ∷ ps) tail
+
+  -- the same behind the Node Alive Requests
+  pub planned_after_probes : (before : ℕ) (paths : PathsOfNode) (gateways peers : List Peer) (packets : List PacketState) → AreNumbered before packets →
+      map (while_open (packet_after_all (probes paths gateways ++ due_for_all favourite up peers packets))) packets ≡ planned favourite up peers packets
+  planned_after_probes before paths gateways peers packets numbered =
+      planned_is_map before peers packets (probes paths gateways) numbered
+      (λ n below. probes_each (IsOfAnother n) (λ gateway path. refl) 0 paths gateways)
+
+length-planned : (favourite : ℕ) (up : Bool) (peers : List Peer) (packets : List PacketState) → length (planned favourite up peers packets) ≡ length packets
+length-planned favourite up peers [] = refl
+length-planned favourite up peers (packet ∷ packets) = ap suc (length-planned favourite up (all_drawn (due_for favourite up peers packet) peers) packets)
+
+numbered_drop : (before n : ℕ) (packets : List PacketState) → AreNumbered before packets → AreNumbered (before + n) (drop n packets)
+numbered_drop before zero packets numbered = subst (λ (m : ℕ). AreNumbered m packets) (omega arith) numbered
+numbered_drop before (suc n) [] numbered = tt
+numbered_drop before (suc n) (packet ∷ packets) numbered =
+    subst (λ (m : ℕ). AreNumbered m (drop n packets)) (omega arith) (numbered_drop (suc before) n packets numbered.1)
+
+-- the planned packets and those before them are as many as before
+pub length-replaced : (favourite : ℕ) (up : Bool) (peers : List Peer) (kept : KeptPackets) (after : List PacketState) → IsSettled kept →
+    after ≡ planned favourite up peers (drop kept.settled kept.packets) → length after + kept.settled ≡ length kept.packets
+length-replaced favourite up peers kept after settled is =
+    let size : length after ≡ length (drop kept.settled kept.packets) =
+    ap (λ (ps : List PacketState). length ps) is ∙ length-planned favourite up peers (drop kept.settled kept.packets) in
+    omega (arith, size, length-drop kept.settled kept.packets, settled.within)
+
+-- with them in their place, each packet is as it is after the whole tick
+pub replaced_is : (favourite : ℕ) (up : Bool) (paths : PathsOfNode) (gateways : List Peer) (before : ℕ) (kept : KeptPackets) (after now : List PacketState) →
+    AreNumbered before kept.packets → IsSettled kept →
+    after ≡ planned favourite up (all_drawn (probes paths gateways) gateways) (drop kept.settled kept.packets) →
+    now ≡ take kept.settled kept.packets ++ after →
+    now ≡ map (while_open (packet_after_all (due_by favourite up paths gateways kept.packets))) kept.packets
+replaced_is favourite up paths gateways before kept after now numbered settled is replaced =
+    let peers : List Peer = all_drawn (probes paths gateways) gateways in
+    let rest : List PacketState = drop kept.settled kept.packets in
+    let same : probes paths gateways ++ due_for_all favourite up peers rest ≡ due_by favourite up paths gateways kept.packets =
+    ap (λ (xs : List Sending). probes paths gateways ++ xs) (due_settled favourite up peers kept settled) in
+    let changed : after ≡ map (while_open (packet_after_all (due_by favourite up paths gateways kept.packets))) rest =
+    is ∙ sym (planned_after_probes favourite up (before + kept.settled) paths gateways peers rest (numbered_drop before kept.settled kept.packets numbered))
+    ∙ ap (λ (all : List Sending). map (while_open (packet_after_all all)) rest) same in
+    replaced ∙ ap (λ (ps : List PacketState). take kept.settled kept.packets ++ ps) changed
+    ∙ changed_settled (packet_after_all (due_by favourite up paths gateways kept.packets)) kept settled

@@ -1,31 +1,38 @@
--- What a tick makes of the packets and of the numbers is a row of moves.
-use Rattle.std.proofs.Common.{◌≡◌, ℕ, ◌<◌, ◌≤◌, ◌&&◌, ◌||◌, Bool, true, false, if◌then◌else◌, List, [], ◌∷◌, ◌++◌, length, map, Option, Some, None, refl, sym, ap, subst, ◌∙◌, arith}
-use Rattle.std.proofs.lemmas.Bool.{and_right}
-use Rattle.std.specs.List.{list_all, list_any}
+-- What a tick makes of the packets and of the numbers is a row of moves; each number that it draws is at least the next
+-- one of its gateway, and each request is of a copy that the packets have then.
+use Rattle.std.proofs.Common.{◌≡◌, ℕ, suc, ◌+◌, ◌%◌, ◌<◌, ◌≤◌, ◌&&◌, Bool, true, false, if◌then◌else◌, List, [], ◌∷◌, ◌++◌, length, map, Option, Some, None, refl, sym, ap, subst, ◌∙◌, arith}
+use Rattle.std.proofs.lemmas.Bool.{and_right, cond_both}
+use Rattle.std.specs.List.{AllByRecursion, list_all}
 use Rattle.std.specs.Option.{option_map_or, option_or}
-use Rattle.std.proofs.lemmas.List.Folds.{list_all-append}
+use Rattle.std.proofs.lemmas.List.Folds.{list_all-append, list_all-map}
+use Rattle.path_mgmt.specs.NodePath.{PathsOfNode, is_alive}
 use Rattle.node_core.specs.declared.copy.Command.{Command}
 use Rattle.node_core.specs.declared.copy.Order.{Order}
 use Rattle.node_core.specs.declared.copy.PacketCopy.{PacketCopy}
-use Rattle.node_core.specs.declared.copy.Verdict.{Verdict}
 use Rattle.node_core.specs.declared.peer.Peer.{Peer}
 use Rattle.node_core.specs.declared.sending.Sending.{Sending}
-use Rattle.node_core.specs.Copies.{is_answered, is_filed, is_release, is_released, is_sealed, is_settled, new_copy}
-use Rattle.node_core.specs.Packets.{PacketState, commanded, copies_after, is_done, is_of, is_resolved, packet_after, packet_after_all}
-use Rattle.node_core.specs.Peers.{all_drawn, next_number}
-use Rattle.node_core.specs.Sendings.{due_by_copies, due_for, due_for_all}
-use Rattle.node_core.specs.Sound.{planned}
-use Rattle.node_core.proofs.WeightLemmas.{Bounded, bounded_after, one_within, packet_weight, weight, weight_unless}
-use Rattle.node_core.proofs.DueMoves.{Does, HasRoom, due_does, ends, idles, moves}
-use Rattle.node_core.proofs.KeptLemmas.{AllKept, IsKept, all_kept_moved, peers_go_on}
-use Rattle.node_core.proofs.Moves.{Copying, Commanding, Move, Moves, are_none, beyond, command_with, copies_moved, here, onward, peers_moved, still}
+use Rattle.node_core.specs.declared.sending.Sending.TheVariants as send
+use Rattle.node_core.specs.Copies.{is_release, is_released, is_settled, new_copy}
+use Rattle.node_core.specs.Packets.{PacketState, commanded, copies_after, is_done, is_resolved, packet_after_all, while_open}
+use Rattle.node_core.specs.Peers.{all_drawn, next_number, path_drawn}
+use Rattle.node_core.specs.Sendings.{due_by_copies, due_for, due_for_all, probe_of, probes, probes_from}
+use Rattle.node_core.specs.Sent.{IsSent}
+use Rattle.node_core.specs.Sound.{AreNumbered, planned}
+use Rattle.node_core.specs.Ticks.{due_by}
+use Rattle.node_core.proofs.CaseLemmas.{either_commanded, else_fails, any_map, each_append, each_weaker}
+use Rattle.node_core.proofs.DueLemmas.{due_each, probes_each}
+use Rattle.node_core.proofs.DueMoves.{Does, HasRoom, Step, due_does, ends, idles, moves, sends, Own, own_goes_on, sent_here, sent_later}
+use Rattle.node_core.proofs.KnowledgeLemmas.{after_all_grows}
+use Rattle.node_core.proofs.KeptLemmas.{AllKept, GoOn, IsKept, all_kept_after, all_kept_on, goes_on}
+use Rattle.node_core.proofs.Moves.{Copying, Commanding, Move, Moves, are_none, beyond, command_with, copies_moved, here, length_placed, next_placed, one_is, onward, still}
+use Rattle.node_core.proofs.NodeLemmas.{after_all-number}
+use Rattle.node_core.proofs.SettledLemmas.{planned_after_probes}
 use Rattle.node_core.proofs.PlanLemmas.{all_drawn_append}
-use Rattle.node_core.proofs.SentLemmas.{packet_with}
-use Rattle.node_core.proofs.CaseLemmas.{either_commanded}
+use Rattle.node_core.proofs.WeightLemmas.{Bounded, bounded_after, left_at, weight_unless}
 
 -- ---- an open packet stays open
 
-pub open_copied : (gateway number : ℕ) (copies : List PacketCopy) → is_done (copies ++ new_copy gateway number (are_none copies) ∷ []) ≡ false
+open_copied : (gateway number : ℕ) (copies : List PacketCopy) → is_done (copies ++ new_copy gateway number (are_none copies) ∷ []) ≡ false
 open_copied gateway number [] = refl
 open_copied gateway number (plain ∷ duplicates) =
     let copy : PacketCopy = new_copy gateway number false in
@@ -36,17 +43,6 @@ open_copied gateway number (plain ∷ duplicates) =
 module _ (gateway number : ℕ) (order : Order) where
   abbrev after_command : PacketCopy → PacketCopy
   after_command = commanded gateway (command_with order number)
-
-  answered_same : (copy : PacketCopy) → is_answered (after_command copy) ≡ is_answered copy
-  answered_same copy =
-      either_commanded (λ (c : PacketCopy). is_answered c ≡ is_answered copy) gateway (command_with order number) copy
-      (at copy.command) refl
-    where
-      at : (command : Option Command) →
-          option_map_or (λ (c : Command). c.is_answered) (option_or command (Some (command_with order number))) false
-          ≡ option_map_or (λ (c : Command). c.is_answered) command false
-      at None = refl
-      at (Some command) = refl
 
   verdict_same : (copy : PacketCopy) → (after_command copy).verdict ≡ copy.verdict
   verdict_same copy =
@@ -64,60 +60,54 @@ module _ (gateway number : ℕ) (order : Order) where
       at None = and_right (is_release order) false refl
       at (Some command) = refl
 
-  any_same : (copies : List PacketCopy) → list_any is_released (map after_command copies) ≡ list_any is_released copies
-  any_same [] = refl
-  any_same (copy ∷ copies) =
-      ap (λ (b : Bool). b || list_any is_released (map after_command copies)) (released_same copy)
-      ∙ ap (λ (b : Bool). is_released copy || b) (any_same copies)
-
   settled_same : (copy : PacketCopy) → is_settled (after_command copy) ≡ is_settled copy
   settled_same copy =
-      ap (λ (b : Bool). is_sealed (after_command copy).verdict || b) (answered_same copy)
-      ∙ ap (λ (v : Verdict). is_sealed v || is_answered copy) (verdict_same copy)
+      either_commanded (λ (c : PacketCopy). is_settled c ≡ is_settled copy) gateway (command_with order number) copy
+      (rw (else_fails (λ (c : Command). c.is_answered) copy.command (command_with order number) refl) refl) refl
 
-  all_same : (copies : List PacketCopy) → list_all is_settled (map after_command copies) ≡ list_all is_settled copies
-  all_same [] = refl
-  all_same (copy ∷ copies) =
-      ap (λ (b : Bool). b && list_all is_settled (map after_command copies)) (settled_same copy)
-      ∙ ap (λ (b : Bool). is_settled copy && b) (all_same copies)
-
-  pub done_commanded : (copies : List PacketCopy) → is_done (map after_command copies) ≡ is_done copies
+  done_commanded : (copies : List PacketCopy) → is_done (map after_command copies) ≡ is_done copies
   done_commanded [] = refl
   done_commanded (plain ∷ duplicates) =
-      ap (λ (b : Bool). (is_filed (after_command plain).verdict || list_any is_released (map after_command duplicates)) && b) (all_same duplicates)
-      ∙ ap (λ (b : Bool). (is_filed (after_command plain).verdict || b) && list_all is_settled duplicates) (any_same duplicates)
-      ∙ ap (λ (v : Verdict). (is_filed v || list_any is_released duplicates) && list_all is_settled duplicates) (verdict_same plain)
+      let all : list_all is_settled (map after_command duplicates) ≡ list_all is_settled duplicates =
+      list_all-map is_settled after_command duplicates
+        ∙ (λ i. list_all (λ (c : PacketCopy). settled_same c i) duplicates) in
+      rw (verdict_same plain, any_map is_released after_command released_same duplicates, all) refl
 
-pub open_moved : (move : Move) (peers : List Peer) (copies : List PacketCopy) → is_done copies ≡ false → is_done (copies_moved peers move copies) ≡ false
+open_moved : (move : Move) (peers : List Peer) (copies : List PacketCopy) → is_done copies ≡ false → is_done (copies_moved peers move copies) ≡ false
 open_moved (Copying gateway) peers copies open_yet = open_copied gateway (next_number peers gateway) copies
 open_moved (Commanding gateway order) peers copies open_yet = done_commanded gateway (next_number peers gateway) order copies ∙ open_yet
 
--- ---- the moves of one packet, and of all
+-- ---- what is due for one packet
 
-own_after : (number : ℕ) (copies : List PacketCopy) (sending : Sending) → is_of number sending ≡ true →
-    packet_after sending (packet_with number copies) ≡ packet_with number (copies_after sending copies)
-own_after number copies sending is =
-    ap (λ (b : Bool). if b then packet_with number (copies_after sending copies) else packet_with number copies) is
+abbrev packet_with : ℕ → List PacketCopy → PacketState
+packet_with number copies = record { number = number; copies = copies }
 
-does_moves : {number : ℕ} {peers : List Peer} {copies : List PacketCopy} {sendings : List Sending} (packets : List PacketState) →
+step_row : {peers later_peers after_peers : List Peer} {copies later : List PacketCopy} {after : List PacketState}
+  (number : ℕ) (packets : List PacketState) →
+    Step peers copies later_peers later → is_done copies ≡ false →
+    (is_done later ≡ false → Moves later_peers (packet_with number later ∷ packets) after_peers after) →
+    Moves peers (packet_with number copies ∷ packets) after_peers after
+step_row number packets idles open_yet rest = rest open_yet
+step_row number packets (moves {peers} {copies} move is) open_yet rest =
+    onward move (here open_yet is) (rest (open_moved move peers copies open_yet))
+
+does_row : {number : ℕ} {peers : List Peer} {copies : List PacketCopy} {sendings : List Sending} (packets : List PacketState) →
     Does number peers copies sendings → is_done copies ≡ false →
     Moves peers (packet_with number copies ∷ packets) (all_drawn sendings peers) (packet_after_all sendings (packet_with number copies) ∷ packets)
-does_moves packets ends open_yet = still
-does_moves {number} packets (idles {peers} {copies} {sending} {sendings} is drawn_same copies_same rest) open_yet =
-    let after : packet_after sending (packet_with number copies) ≡ packet_with number copies =
-    own_after number copies sending is ∙ ap (packet_with number) copies_same in
-    subst (λ (ps : List Peer). Moves peers (packet_with number copies ∷ packets) (all_drawn sendings ps)
-    (packet_after_all sendings (packet_after sending (packet_with number copies)) ∷ packets)) (sym drawn_same)
-    (subst (λ (p : PacketState). Moves peers (packet_with number copies ∷ packets) (all_drawn sendings peers) (packet_after_all sendings p ∷ packets)) (sym after)
-    (does_moves packets rest open_yet))
-does_moves {number} packets (moves {peers} {copies} {sending} {sendings} move is_move is drawn_is copies_are rest) open_yet =
-    let moved : List PacketCopy = copies_moved peers move copies in
-    let after : packet_after sending (packet_with number copies) ≡ packet_with number moved =
-    own_after number copies sending is ∙ ap (packet_with number) copies_are in
-    subst (λ (ps : List Peer). Moves peers (packet_with number copies ∷ packets) (all_drawn sendings ps)
-    (packet_after_all sendings (packet_after sending (packet_with number copies)) ∷ packets)) (sym drawn_is)
-    (subst (λ (p : PacketState). Moves peers (packet_with number copies ∷ packets) (all_drawn sendings (peers_moved move peers)) (packet_after_all sendings p ∷ packets)) (sym after)
-    (onward move (here open_yet is_move) (does_moves packets rest (open_moved move peers copies open_yet))))
+does_row packets ends open_yet = still
+does_row {number} packets (sends {peers} {copies} {sending} {sendings} is own step rest) open_yet =
+    rw is (step_row number packets step open_yet (does_row packets rest))
+
+does_own : {number : ℕ} {peers : List Peer} {copies : List PacketCopy} {sendings : List Sending} → Does number peers copies sendings →
+    AllByRecursion (Own number (packet_after_all sendings (packet_with number copies)).copies) sendings
+does_own ends = tt
+does_own {number} (sends {peers} {copies} {sending} {sendings} is own step rest) =
+    let next : PacketState = packet_with number (copies_after sending copies) in
+    subst (λ (p : PacketState). AllByRecursion (Own number (packet_after_all sendings p).copies) (sending ∷ sendings))
+    (sym (ap (λ (b : Bool). if b then next else packet_with number copies) is))
+    (own_goes_on next.copies (packet_after_all sendings next).copies (after_all_grows sendings next) number sending own, does_own rest)
+
+-- ---- rows of moves
 
 moves_beyond : {peers after_peers : List Peer} {packets after : List PacketState} (packet : PacketState) → Moves peers packets after_peers after →
     Moves peers (packet ∷ packets) after_peers (packet ∷ after)
@@ -129,47 +119,160 @@ moves_on : {peers between_peers after_peers : List Peer} {packets between after 
 moves_on still second = second
 moves_on (onward move one rest) second = onward move one (moves_on rest second)
 
-pub all_kept_after : {peers after_peers : List Peer} {packets after : List PacketState} → Moves peers packets after_peers after → AllKept peers packets →
-    AllKept after_peers after
-all_kept_after still kept = kept
-all_kept_after (onward move one rest) kept = all_kept_after rest (all_kept_moved one kept)
+goes_further : {peers between later : List Peer} → GoOn peers between → GoOn between later → GoOn peers later
+goes_further first second = record {
+  size = second.size ∙ first.size;
+  numbers = λ gateway. omega (arith, first.numbers gateway, second.numbers gateway);
+}
 
-pub size_after : {peers after_peers : List Peer} {packets after : List PacketState} → Moves peers packets after_peers after → length after_peers ≡ length peers
-size_after still = refl
-size_after {peers} (onward move one rest) = size_after rest ∙ (peers_go_on move peers (one_within one)).size
+moves_go_on : {peers later : List Peer} {packets after : List PacketState} → Moves peers packets later after → GoOn peers later
+moves_go_on still = record { size = refl; numbers = λ gateway. omega arith }
+moves_go_on (onward move one rest) = goes_further (goes_on (one_is one).1) (moves_go_on rest)
+
+-- ---- the numbers that are drawn
+
+-- a number that the sending draws is at least the next one of the gateway
+abbrev pub DrawsNext : List Peer → Sending → Type 0
+DrawsNext peers (send.Data packet gateway drawn is_plain is_new) = is_new ≡ true → next_number peers gateway ≤ drawn
+DrawsNext peers (send.Command packet gateway named drawn order is_new) = is_new ≡ true → next_number peers gateway ≤ drawn
+DrawsNext peers _ = Unit {0}
+
+abbrev pub AllDraw : List Peer → List Sending → Type 0
+AllDraw peers sendings = AllByRecursion (DrawsNext peers) sendings
+
+due_draws : (favourite : ℕ) (up : Bool) (peers : List Peer) (packet : PacketState) → AllDraw peers (due_for favourite up peers packet)
+due_draws favourite up peers packet = due_each (DrawsNext peers) favourite up peers packet (record {
+  copied = λ gateway is_plain is. omega arith;
+  repeated = λ copy is. absurd (cc);
+  tested = λ copy. tt;
+  commanded = λ order copy drawn is_new next choice is. omega (arith, next is);
+})
+
+-- where the numbers have gone on, one that is drawn there is at least the next one from before too
+draws_before : (peers later : List Peer) → GoOn peers later → (sending : Sending) → DrawsNext later sending → DrawsNext peers sending
+draws_before peers later on (send.Data packet gateway drawn is_plain is_new) is = λ new. omega (arith, on.numbers gateway, is new)
+draws_before peers later on (send.Command packet gateway named drawn order is_new) is = λ new. omega (arith, on.numbers gateway, is new)
+draws_before peers later on _ is = tt
+
+-- ---- what is due for all packets
 
 module _ (favourite : ℕ) (up : Bool) where
-  -- so many numbers are left
-  room_of : (most : ℕ) (peers : List Peer) (packet : PacketState) (packets : List PacketState) → most ≤ 9223372036854775808 → is_done packet.copies ≡ false →
-      Bounded most peers (packet ∷ packets) → HasRoom peers packet.copies
-  room_of most peers packet packets few open_yet bounded gateway within left =
-      let here : packet_weight 2 gateway packet ≡ weight gateway packet.copies =
-      ap (λ (b : Bool). weight_unless b (weight gateway packet.copies)) open_yet in
-      omega (arith, bounded gateway within, here, left, few)
+  record IsPlan (peers : List Peer) (packets : List PacketState) : Type 0 where
+    row : Moves peers packets (all_drawn (due_for_all favourite up peers packets) peers) (planned favourite up peers packets)
+    draws : AllDraw peers (due_for_all favourite up peers packets)
+    sent : AllByRecursion (IsSent (planned favourite up peers packets)) (due_for_all favourite up peers packets)
 
-  pub one_packet : (most : ℕ) (peers : List Peer) (packet : PacketState) (packets : List PacketState) → most ≤ 9223372036854775808 → favourite < length peers →
+  one_packet : (most : ℕ) (peers : List Peer) (packet : PacketState) (packets : List PacketState) → most ≤ 9223372036854775808 → favourite < length peers →
       IsKept peers packet.copies → Bounded most peers (packet ∷ packets) →
       Moves peers (packet ∷ packets) (all_drawn (due_for favourite up peers packet) peers) (packet_after_all (due_for favourite up peers packet) packet ∷ packets)
-  one_packet most peers packet packets few within kept bounded = by (is_done packet.copies) refl
+      × AllByRecursion (Own packet.number (packet_after_all (due_for favourite up peers packet) packet).copies) (due_for favourite up peers packet)
+  one_packet most peers packet packets few within kept bounded =
+      cond_both (is_done packet.copies) [] (due_by_copies favourite up peers packet.number packet.copies)
+      (λ (sendings : List Sending). Moves peers (packet ∷ packets) (all_drawn sendings peers)
+        (packet_after_all sendings packet ∷ packets)
+      × AllByRecursion (Own packet.number (packet_after_all sendings packet).copies) sendings)
+      (λ _. (still, tt))
+      (λ open_yet. let does = due_does packet.number favourite up peers within packet.copies kept (room open_yet) in
+      (does_row packets does open_yet, does_own does))
     where
-      by : (done : Bool) → is_done packet.copies ≡ done →
-          Moves peers (packet ∷ packets) (all_drawn (if done then [] else due_by_copies favourite up peers packet.number packet.copies) peers)
-          (packet_after_all (if done then [] else due_by_copies favourite up peers packet.number packet.copies) packet ∷ packets)
-      by true e = still
-      by false e = does_moves packets (due_does packet.number favourite up peers within packet.copies kept.placed (room_of most peers packet packets few e bounded)) e
+      -- so many numbers are left
+      room : is_done packet.copies ≡ false → HasRoom peers packet.copies
+      room open_yet gateway place left = omega (
+        arith,
+        bounded gateway place,
+        ap (λ (b : Bool). weight_unless b (left_at 2 gateway packet.copies)) open_yet,
+        left,
+        few,
+      )
 
-  pub tick_moves : (most : ℕ) (peers : List Peer) (packets : List PacketState) → most ≤ 9223372036854775808 → favourite < length peers → AllKept peers packets →
-      Bounded most peers packets →
-      Moves peers packets (all_drawn (due_for_all favourite up peers packets) peers) (planned favourite up peers packets)
-  tick_moves most peers [] few within kept bounded = still
-  tick_moves most peers (packet ∷ packets) few within kept bounded =
+  tick_plan : (most : ℕ) (peers : List Peer) (packets : List PacketState) → most ≤ 9223372036854775808 → favourite < length peers → AllKept peers packets →
+      Bounded most peers packets → IsPlan peers packets
+  tick_plan most peers [] few within kept bounded = record { row = still; draws = tt; sent = tt }
+  tick_plan most peers (packet ∷ packets) few within kept bounded =
       let due : List Sending = due_for favourite up peers packet in
-      let first = one_packet most peers packet packets few within kept.0 bounded in
       let between : List Peer = all_drawn due peers in
-      let kept_between : AllKept between (packet_after_all due packet ∷ packets) = all_kept_after first kept in
-      let bounded_between : Bounded most between (packet_after_all due packet ∷ packets) = bounded_after first bounded in
-      let rest = tick_moves most between packets few (omega (arith, size_after first, within)) kept_between.1
+      let after : PacketState = packet_after_all due packet in
+      let first = one_packet most peers packet packets few within kept.0 bounded in
+      let kept_between : AllKept between (after ∷ packets) = all_kept_after first.0 kept in
+      let bounded_between : Bounded most between (after ∷ packets) = bounded_after first.0 bounded in
+      let on : GoOn peers between = moves_go_on first.0 in
+      let rest = tick_plan most between packets few (omega (arith, on.size, within)) kept_between.1
       (λ gateway below. omega (arith, bounded_between gateway below)) in
-      subst (λ (ps : List Peer). Moves peers (packet ∷ packets) ps (planned favourite up peers (packet ∷ packets)))
-      (sym (all_drawn_append due (due_for_all favourite up between packets) peers))
-      (moves_on first (moves_beyond (packet_after_all due packet) rest))
+      let later : List PacketState = planned favourite up between packets in
+      let due_later : List Sending = due_for_all favourite up between packets in
+      record {
+        row = subst (λ (ps : List Peer). Moves peers (packet ∷ packets) ps (after ∷ later))
+            (sym (all_drawn_append due due_later peers)) (moves_on first.0 (moves_beyond after rest.row));
+        draws = each_append (DrawsNext peers) due due_later (due_draws favourite up peers packet)
+            (each_weaker (DrawsNext between) (DrawsNext peers) (draws_before peers between on) due_later rest.draws);
+        sent = each_append (IsSent (after ∷ later)) due due_later
+            (each_weaker (Own packet.number after.copies) (IsSent (after ∷ later))
+            (sent_here packet.number after later (after_all-number due packet)) due first.1)
+            (each_weaker (IsSent later) (IsSent (after ∷ later)) (sent_later after later) due_later rest.sent);
+      }
+
+-- ---- the Node Alive Requests: as many gateways, with the same request numbers
+
+pub record Alike (peers other : List Peer) : Type 0 where
+  pub size : length other ≡ length peers
+  pub numbers : (gateway : ℕ) → next_number other gateway ≡ next_number peers gateway
+
+probes_alike : (gateway : ℕ) (paths : PathsOfNode) (probed peers : List Peer) → Alike peers (all_drawn (probes_from gateway paths probed) peers)
+probes_alike gateway paths [] peers = record { size = refl; numbers = λ other. refl }
+probes_alike gateway paths (peer ∷ probed) peers = by (is_alive paths gateway) (probes_alike (suc gateway) paths probed)
+  where
+    step : Peer → Peer
+    step p = record p { path = (peer.path + 1) % 65536 }
+
+    by : (alive : Bool) → ((ps : List Peer) → Alike ps (all_drawn (probes_from (suc gateway) paths probed) ps)) →
+        Alike peers (all_drawn (probe_of alive gateway peer ++ probes_from (suc gateway) paths probed) peers)
+    by true rest = rest peers
+    by false rest =
+        let later = rest (path_drawn gateway peer.path peers) in
+        record {
+          size = later.size ∙ length_placed gateway step peers;
+          numbers = λ other. later.numbers other ∙ next_placed gateway other step (λ _ p. refl) peers;
+        }
+
+-- ---- the whole tick
+
+pub record IsTick (peers : List Peer) (packets : List PacketState) (sendings : List Sending) : Type 0 where
+  pub probed : List Peer
+  pub alike : Alike peers probed
+  pub kept : AllKept probed packets
+  pub row : Moves probed packets (all_drawn sendings peers) (map (while_open (packet_after_all sendings)) packets)
+  pub on : GoOn peers (all_drawn sendings peers)
+  pub draws : AllDraw peers sendings
+  pub sent : AllByRecursion (IsSent (map (while_open (packet_after_all sendings)) packets)) sendings
+
+pub a_tick : (favourite most before : ℕ) (up : Bool) (paths : PathsOfNode) (peers : List Peer) (packets : List PacketState) → most ≤ 9223372036854775808 →
+    favourite < length peers → AllKept peers packets → Bounded most peers packets → AreNumbered before packets →
+    IsTick peers packets (due_by favourite up paths peers packets)
+a_tick favourite most before up paths peers packets few within kept bounded numbered =
+    let probed : List Peer = all_drawn (probes paths peers) peers in
+    let due : List Sending = due_for_all favourite up probed packets in
+    let alike : Alike peers probed = probes_alike 0 paths peers peers in
+    let on : GoOn peers probed =
+      record { size = alike.size; numbers = λ gateway. omega (arith, alike.numbers gateway) } in
+    let there : AllKept probed packets = all_kept_on peers probed packets on kept in
+    let plan = tick_plan favourite up most probed packets few (omega (arith, within, alike.size)) there
+    (λ gateway below. omega (arith, bounded gateway (omega (arith, below, alike.size)), alike.numbers gateway)) in
+    let after : List PacketState = planned favourite up probed packets in
+    let is : map (while_open (packet_after_all (probes paths peers ++ due))) packets ≡ after =
+    planned_after_probes favourite up before paths peers probed packets numbered in
+    let drawn_is : all_drawn (probes paths peers ++ due) peers ≡ all_drawn due probed = all_drawn_append (probes paths peers) due peers in
+    record {
+      probed = probed;
+      alike = alike;
+      kept = there;
+      row = subst (λ (ps : List Peer). Moves probed packets ps
+        (map (while_open (packet_after_all (probes paths peers ++ due))) packets))
+          (sym drawn_is) (subst (Moves probed packets (all_drawn due probed)) (sym is) plan.row);
+      on = subst (GoOn peers) (sym drawn_is) (goes_further on (moves_go_on plan.row));
+      draws = each_append (DrawsNext peers) (probes paths peers) due
+          (probes_each (DrawsNext peers) (λ gateway path. tt) 0 paths peers)
+          (each_weaker (DrawsNext probed) (DrawsNext peers) (draws_before peers probed on) due plan.draws);
+      sent = subst (λ (ps : List PacketState). AllByRecursion (IsSent ps) (probes paths peers ++ due)) (sym is)
+          (each_append (IsSent after) (probes paths peers) due
+          (probes_each (IsSent after) (λ gateway path. tt) 0 paths peers) plan.sent);
+    }

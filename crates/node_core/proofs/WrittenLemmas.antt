@@ -1,11 +1,16 @@
--- How long a message is.
-use Rattle.std.proofs.Common.{◌≡◌, ℕ, ◌+◌, ◌≤◌, None, length, lit≤, arith}
-use Rattle.gtpp_message.specs.Message.{MessageValue}
+-- How long a message is, and a message that is spelled with 0 for each number, with its own numbers in their places.
+use Rattle.std.proofs.Common.{◌≡◌, ℕ, ◌+◌, ◌≤◌, ◌%◌, ◌/◌, None, length, lit≤, refl, arith}
+use Rattle.gtpp_message.specs.Message.{MessageValue, TransferRequest, Possible}
+use Rattle.gtpp_message.specs.Packet.{Empty}
 use Rattle.gtpp_message.specs.PathMessages.{path_message, path_number}
 use Rattle.gtpp_message.specs.Writing.{body_octets, written}
 use Rattle.path_mgmt.specs.declared.event.PathEvent.{PathEvent}
 use Rattle.path_mgmt.specs.declared.event.PathEvent.TheVariants.{EchoAsked}
+use Rattle.node_core.specs.declared.copy.Order.{Order}
+use Rattle.node_core.specs.declared.copy.Order.TheVariants as order
 use Rattle.node_core.specs.Hearing.{path_octets}
+use Rattle.node_core.specs.Octets.{order_of, wire}
+use Rattle.node_core.specs.Patterns.{numbered_at, order_pattern, test_pattern}
 
 pub length-written : (number : ℕ) (message : MessageValue) → length (written number message) ≡ 6 + length (body_octets message)
 length-written number message = omega arith
@@ -17,3 +22,19 @@ short _ = lit≤ tt
 
 pub path_is_short : (event : PathEvent) → length (written (path_number event) (path_message event None)) ≤ 64
 path_is_short event = short event
+
+-- ---- its numbers
+
+-- the high octet of 16 bits
+high : (number : ℕ) → wire number / 256 % 256 ≡ wire number / 256
+high number = omega arith
+
+pub test_numbered : (number : ℕ) →
+    numbered_at 4 (wire number) test_pattern ≡ written (wire number) (TransferRequest (Possible Empty))
+test_numbered number = rw (high number) refl
+
+pub order_numbered : (order : Order) (number named : ℕ) →
+    numbered_at 11 (wire named) (numbered_at 4 (wire number) (order_pattern order))
+    ≡ written (wire number) (TransferRequest (order_of order named))
+order_numbered order.Release number named = rw (high number, high named) refl
+order_numbered order.Cancel number named = rw (high number, high named) refl

@@ -26,13 +26,13 @@ ghost use Rattle.node_core.specs.Ticks.{due};
 ghost use Rattle.node_core.specs.Value.{NodeValue};
 
 /// A log has as many gateways as its node was made with.
-#[tactic(auto, using(crate::proofs::LogLemmas::gateways_count))]
+#[tactic(auto, using(crate::proofs::NodeLemmas::gateways_count))]
 pub fn a_log_keeps_its_gateways()
     ensures { (gateways : List Addr) (log : List LogEntry) → length (peers_of gateways log) ≡ length gateways }
 {}
 
 /// The restart counter of a log is the one that its node tells.
-#[tactic(auto, using(crate::proofs::LogLemmas::counter_stays))]
+#[tactic(auto, using(crate::proofs::NodeLemmas::counter_stays))]
 pub fn a_log_has_one_counter()
     ensures { (first : ℕ) (log : List LogEntry) → (paths_of first log).counter ≡ counter_of first log }
 {}
@@ -64,7 +64,7 @@ pub fn the_first_telling_response_decides()
 
 /// Within a start packets and copies stay, what is known of them stays, and what is resolved or done
 /// stays so.
-#[tactic(auto, using(crate::proofs::GrowingLemmas::entry_grows))]
+#[tactic(auto, using(crate::proofs::KnowledgeLemmas::entry_grows))]
 pub fn knowledge_grows()
     ensures { (entry : LogEntry) (log : List LogEntry) → is_within_start entry ≡ true →
         Extends PacketGrows (packets_of log) (packets_of (entry ∷ log)) }
@@ -78,7 +78,7 @@ pub fn releases_name_the_choice()
 {}
 
 /// A copy for which a release was sent stays the choice of its packet, whose first copy is sealed.
-#[tactic(auto, using(crate::proofs::ReleasedLemmas::all_released_chosen))]
+#[tactic(auto, using(crate::proofs::LawLemmas::all_released_chosen))]
 pub fn released_copies_are_chosen()
     ensures { (setup : NodeSetup) (calls : List NodeCall) → 1 ≤ length setup.gateways →
         All ReleasesChoice (reached setup calls).packets }
@@ -86,7 +86,7 @@ pub fn released_copies_are_chosen()
 
 /// Each request of a tick is of a copy that the packets have after it: a copy, or a test of it, or the
 /// release or the cancel that was sent for it, which is the same whenever it is sent again.
-#[tactic(auto, using(crate::proofs::RequestsLemmas::all_requests_sent))]
+#[tactic(auto, using(crate::proofs::LawLemmas::all_requests_sent))]
 pub fn requests_are_of_copies()
     ensures { (setup : NodeSetup) (calls : List NodeCall) → 1 ≤ length setup.gateways →
         (reached setup calls).is_running ≡ true →
@@ -95,7 +95,7 @@ pub fn requests_are_of_copies()
 
 /// A packet has one copy at a gateway, the first alone is plain, and a release or a cancel has a
 /// greater number than its copy.
-#[tactic(auto, using(crate::proofs::SingleLemmas::all_single))]
+#[tactic(auto, using(crate::proofs::LawLemmas::all_single))]
 pub fn a_gateway_gets_one_copy()
     ensures { (setup : NodeSetup) (calls : List NodeCall) → 1 ≤ length setup.gateways →
         All (IsSingle (reached setup calls).gateways) (reached setup calls).packets }
@@ -111,7 +111,7 @@ pub fn each_number_has_one_role()
 
 /// Numbers rise: each request number that a tick draws is at least the gateway's next one before it and
 /// below the next one after it, and no next number falls by it.
-#[tactic(auto, using(crate::proofs::RisingLemmas::all_draw_between, crate::proofs::RisingLemmas::next_goes_on))]
+#[tactic(auto, using(crate::proofs::LawLemmas::all_draw_between, crate::proofs::LawLemmas::next_goes_on))]
 pub fn numbers_rise()
     ensures drawn { (setup : NodeSetup) (calls : List NodeCall) → 1 ≤ length setup.gateways →
         (reached setup calls).is_running ≡ true →
@@ -149,7 +149,7 @@ pub fn numbers_stay_near_the_last_settled()
 {}
 
 /// The least number of the open packets' copies at a gateway is the least of all their numbers there.
-#[tactic(auto, using(crate::proofs::LeastLemmas::least_of_copies))]
+#[tactic(auto, using(crate::proofs::LawLemmas::least_of_copies))]
 pub fn the_least_number_is_of_a_copy()
     ensures { (setup : NodeSetup) (calls : List NodeCall) (gateway number : ℕ) → 1 ≤ length setup.gateways →
         least number (flat_map (unsettled_at gateway) (reached setup calls).packets)

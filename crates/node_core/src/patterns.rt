@@ -42,7 +42,7 @@ impl Patterns {
     }
 
     /// A test with the last 16 bits of this number.
-    #[tactic(auto, using(crate::proofs::PatternLemmas::test_numbered))]
+    #[tactic(auto, using(crate::proofs::WrittenLemmas::test_numbered))]
     pub fn test(&self, alloc: Global, number: u64) -> Result<Octets, NoMemory>
         requires { self.now ≡ the_patterns }
         ensures { IfOk result (λ octets. octets ≡ written (wire number) (TransferRequest (Possible Empty))) }
@@ -54,7 +54,7 @@ impl Patterns {
 
     /// A release or a cancel with the last 16 bits of these numbers, its own and the one that it
     /// names.
-    #[tactic(auto, using(crate::proofs::PatternLemmas::order_numbered))]
+    #[tactic(auto, using(crate::proofs::WrittenLemmas::order_numbered))]
     pub fn order(
         &self,
         alloc: Global,

@@ -35,7 +35,7 @@ impl Peer {
 }
 
 /// The gateways as at a start.
-#[tactic(auto, using(crate::proofs::PeerLemmas::renewed_more, std::proofs::lemmas::Grind::common_steps))]
+#[tactic(auto, using(crate::proofs::NodeLemmas::renewed_more, std::proofs::lemmas::Grind::common_steps))]
 pub(crate) fn renew(peers: &mut [Peer])
     ensures { peers.new ≡ peers_anew peers.old }
 {

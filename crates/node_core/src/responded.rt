@@ -35,7 +35,7 @@ impl<'a> Responded<'a> {
     }
 
     /// Whether it speaks for this number.
-    #[tactic(auto, using(crate::proofs::RespondedLemmas::names_more, crate::proofs::RespondedLemmas::names_none))]
+    #[tactic(auto, using(crate::proofs::CopiesLemmas::names_more, crate::proofs::CopiesLemmas::names_none))]
     pub fn names(&self, number: u64) -> bool
         ensures { result ≡ names self.now number }
     {

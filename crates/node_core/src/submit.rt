@@ -74,7 +74,7 @@ impl Node {
 }
 
 /// The first gateway whose numbers are used up, if there is one.
-#[tactic(auto, using(crate::proofs::TickLemmas::out_more, crate::proofs::TickLemmas::out_none))]
+#[tactic(auto, using(crate::proofs::PlanLemmas::out_more, crate::proofs::PlanLemmas::out_none))]
 fn numbers_out(gateways: &[Peer], packets: &Packets) -> Option<SubmitFault>
     requires { length gateways.now ≤ 255 }
     ensures fault { result ≡ numbers_out 0 gateways.now packets.now.packets }

@@ -85,32 +85,26 @@ module _ (told : Bool) (front faults : ℕ) (t : KeptTurn) (found left : Facts) 
   -- where no commit and no opening again failed since, both counts stood
   stood_first : is_above left.cuts faults ≡ false → Stood t.left.cuts found.cuts
   stood_first not =
-      let a = follows.cuts in let b = owes.cuts in let c = is.faults_is in
       let most = no_greater left.cuts faults not in let low = not_last left.cuts faults not in
-      (omega (arith, a, b, c, most), omega (arith, a, b, c, most, low, few))
+      (omega (arith, follows.cuts, owes.cuts, is.faults_is), omega (arith, follows.cuts, owes.cuts, is.faults_is))
 
   stood_then : is_above left.cuts faults ≡ false → Stood found.cuts left.cuts
   stood_then not =
-      let a = follows.cuts in let b = owes.cuts in let c = is.faults_is in
       let most = no_greater left.cuts faults not in let low = not_last left.cuts faults not in
-      (omega (arith, a, b, c, most), omega (arith, a, b, c, most, low, few))
+      (omega (arith, follows.cuts, owes.cuts, is.faults_is), omega (arith, follows.cuts, owes.cuts, is.faults_is))
 
   goes_on : (commits : HasCommitted told front faults found left firm_found firm_left settled added) → is_above left.cuts faults ≡ false
       → commits.is_broken ≡ false
   goes_on commits not =
       false_from_ne_true commits.is_broken (λ broken.
-      let cut = commits.cut broken in let stood = stood_then not in let same = stood.0 in let below = stood.1 in
-      omega (arith, cut, same, below))
+      omega (arith, commits.cut broken, stood_then not))
 
   -- a commit made all that the answer rests on firm
   long_enough : (commits : HasCommitted told front faults found left firm_found firm_left settled added) → is_above left.cuts faults ≡ false
       → front ≤ firm_left
   long_enough commits not =
       let firm = (commits.all (goes_on commits not)).0 in
-      let more = owes.entries (stood_then not) in
-      let first = follows.entries (stood_first not) in
-      let at = is.front_is in
-      omega (arith, firm, more, first, at)
+      omega (arith, firm, owes.entries (stood_then not), follows.entries (stood_first not), is.front_is)
 
   -- what was told, of what is firm now
   abbrev tells_of : Settles told front faults found left firm_found firm_left settled added → IsToldAt told front faults left firm_left settled
@@ -125,8 +119,7 @@ module _ (told : Bool) (front faults : ℕ) (t : KeptTurn) (found left : Facts) 
       → nat_lt firm_left front ≡ true → ⊥
   not_short (inl asked) not short =
       asked.sure firm_left (told_by settled left.cuts firm_left front faults asked.tells.is not short)
-  not_short (inr commits) not short =
-      let long = long_enough commits not in let lt = ltb-true firm_left front short in omega (arith, long, lt)
+  not_short (inr commits) not short = omega (arith, long_enough commits not, ltb-true firm_left front short)
 
   begins_firm : told ≡ true → is_above left.cuts faults ≡ false → settled ≡ Firm → Begins t.left.list left.firm
   begins_firm it_is not firm =
@@ -140,13 +133,11 @@ module _ (told : Bool) (front faults : ℕ) (t : KeptTurn) (found left : Facts) 
   -- where the device didn't fail since, nothing is lost
   no_loss : is_above left.cuts faults ≡ true → ¬ (Stood t.left.faults left.faults)
   no_loss above stood =
-      let same = stood.0 in let below = stood.1 in
-      let a = follows.faults in let b = owes.faults in let cut = sound.cut in
-      let first = follows.calm (omega (arith, a, b, same), omega (arith, below)) in
-      let second = owes.cause (omega (arith, a, b, same), omega (arith, a, b, same, below)) in
-      let at = is.faults_is in
-      let last = is_greater left.cuts faults above (omega (arith, first, second, at)) in
-      absurd (omega (arith, last, cut, same, below))
+      let a = follows.faults in let b = owes.faults in
+      let first = follows.calm (omega (arith, a, b, stood), omega (arith, stood)) in
+      let second = owes.cause (omega (arith, a, b, stood), omega (arith, a, b, stood)) in
+      let last = is_greater left.cuts faults above (omega (arith, first, second, is.faults_is)) in
+      absurd (omega (arith, last, sound.cut, stood))
 
   -- what the pass learns, once it keeps the turn
   pub learns_then : (before after : Knowledge) → after ≡ after_turn before found left drops added

@@ -1,7 +1,4 @@
-pub mod ActorLemmas
 pub mod AskingLemmas
-pub mod CommittedLemmas
-pub mod EndedLemmas
 pub mod GivenLemmas
 pub mod OwnedLemmas
 pub mod PushedLemmas

@@ -1,8 +1,8 @@
 -- Why each entry past the beginning is an answer, where each pass added answers alone.
-use Rattle.std.proofs.Common.{◌≡◌, ◌⊎◌, inl, inr, ℕ, zero, suc, ◌<◌, ◌==◌, Bool, true, false, if◌then◌else◌, List, [], ◌∷◌, ◌++◌, length, Option, None, Some, refl, sym, ap, subst, ◌∙◌, arith}
+use Rattle.std.proofs.Common.{◌≡◌, ◌⊎◌, inl, inr, ℕ, zero, suc, ◌<◌, ◌==◌, List, [], ◌∷◌, ◌++◌, length, Option, None, Some, refl, sym, ap, subst, ◌∙◌, arith}
 use Rattle.std.specs.Prelude.{All, slice_index_or}
 use Rattle.std.specs.List.{Contains}
-use Rattle.std.proofs.lemmas.Bool.{eq-eqb}
+use Rattle.std.proofs.lemmas.Bool.{cond_both, eq-eqb}
 use Rattle.gw_base.specs.Facts.{Facts}
 use Rattle.gw_base.specs.Owes.{base}
 use Rattle.gw_base.specs.declared.history.HistoryAct.{HistoryAct}
@@ -38,26 +38,18 @@ all_in P (y ∷ ys) x all (inr later) = all_in P ys x (λ k d lt. all (suc k) d 
 
 in_sublist : (xs ys : List Pair) (x : Pair) → IsSublist xs ys → In x xs → In x ys
 in_sublist [] ys x sub is = absurd is
-in_sublist (z ∷ zs) [] x sub is = absurd (no_cons sub)
-  where
-    no_cons : z ∷ zs ≡ [] → ⊥
-    no_cons e = cc e
+in_sublist (z ∷ zs) [] x sub is = absurd (cc sub)
 in_sublist (z ∷ zs) (y ∷ ys) x (inl both) (inl is) = inl (is ∙ both.0)
 in_sublist (z ∷ zs) (y ∷ ys) x (inl both) (inr later) = inr (in_sublist zs ys x both.1 later)
 in_sublist (z ∷ zs) (y ∷ ys) x (inr sub) is = inr (in_sublist (z ∷ zs) ys x sub is)
 
 in_session : (n : ℕ) (ps : List Pair) (p : Pair) → In p ps → p.0.caller.session ≡ n → In p (by_session n ps)
 in_session n [] p is own = absurd is
-in_session n (q ∷ qs) p (inl is) own = by_test (q.0.caller.session == n) (eq-eqb q.0.caller.session n (sym (ap (λ (x : Pair). x.0.caller.session) is) ∙ own))
-  where
-    by_test : (b : Bool) → b ≡ true → In p (if b then q ∷ by_session n qs else by_session n qs)
-    by_test true it_is = inl is
-    by_test false it_is = absurd (cc it_is)
-in_session n (q ∷ qs) p (inr later) own = by_test (q.0.caller.session == n) (in_session n qs p later own)
-  where
-    by_test : (b : Bool) → In p (by_session n qs) → In p (if b then q ∷ by_session n qs else by_session n qs)
-    by_test true is = inr is
-    by_test false is = is
+in_session n (q ∷ qs) p (inl is) own =
+    rw (eq-eqb q.0.caller.session n (sym (ap (λ (x : Pair). x.0.caller.session) is) ∙ own)) (inl is)
+in_session n (q ∷ qs) p (inr later) own =
+    cond_both (q.0.caller.session == n) (q ∷ by_session n qs) (by_session n qs) (In p)
+    (λ _. inr (in_session n qs p later own)) (λ _. in_session n qs p later own)
 
 in_placed : (before entries : List HistoryEntry) (p : Pair) → In p (placed before entries) → In p.0 entries
 in_placed before [] p is = absurd is
@@ -67,23 +59,18 @@ in_placed before (e ∷ entries) p (inr later) = inr (in_placed (before ++ e ∷
 in_either : {X : Type 0} (xs ys : List X) (x : X) → In x (xs ++ ys) → In x xs ⊎ In x ys
 in_either [] ys x is = inr is
 in_either (z ∷ zs) ys x (inl is) = inl (inl is)
-in_either (z ∷ zs) ys x (inr later) = by_case (in_either zs ys x later)
-  where
-    by_case : In x zs ⊎ In x ys → In x (z ∷ zs) ⊎ In x ys
-    by_case (inl first) = inl (inr first)
-    by_case (inr second) = inr second
+in_either (z ∷ zs) ys x (inr later) =
+  elim (in_either zs ys x later) [ inl first ↦ inl (inr first) | inr second ↦ inr second ]
 
 -- the turn that added an entry
 adder : (turns : List KeptTurn) (p : Pair) → In p (added_by turns)
     → (t : KeptTurn) × In t turns × In p (placed (base t.drops (facts_of t.found)) t.added)
 adder [] p is = absurd is
-adder (t ∷ turns) p is = by_case (in_either (placed (base t.drops (facts_of t.found)) t.added) (added_by turns) p is) (λ later. adder turns p later)
-  where
-    by_case : In p (placed (base t.drops (facts_of t.found)) t.added) ⊎ In p (added_by turns)
-        → (In p (added_by turns) → (u : KeptTurn) × In u turns × In p (placed (base u.drops (facts_of u.found)) u.added))
-        → (u : KeptTurn) × In u (t ∷ turns) × In p (placed (base u.drops (facts_of u.found)) u.added)
-    by_case (inl here) more = (t, inl refl, here)
-    by_case (inr later) more = let found = more later in (found.0, inr found.1, found.2)
+adder (t ∷ turns) p is =
+    elim (in_either (placed (base t.drops (facts_of t.found)) t.added) (added_by turns) p is) [
+      | inl here ↦ (t, inl refl, here)
+      | inr later ↦ let found = adder turns p later in (found.0, inr found.1, found.2)
+    ]
 
 numbered : (n : ℕ) (passes : List Knowledge) → HasNumber n passes → (k : Knowledge) × In k passes × (k.number ≡ n)
 numbered n [] is = absurd is

@@ -1,13 +1,14 @@
 -- What becomes of the passes to inboxes when one of them pushes.
-use Rattle.std.proofs.Common.{◌≡◌, ℕ, zero, suc, ◌<◌, List, [], ◌∷◌, length, Result, Ok, Err, refl, sym, ap, subst, ◌∙◌, arith}
-use Rattle.std.specs.Prelude.{IfErr, OnErr, OnOk, slice_index_or}
+use Rattle.std.proofs.Common.{◌≡◌, ℕ, zero, suc, ◌<◌, List, [], ◌∷◌, length, refl, sym, ap, subst, ◌∙◌, arith}
+use Rattle.std.specs.Prelude.{slice_index_or, slice_set}
+use Rattle.std.proofs.lemmas.List.{get_or-map, set-get_or}
 use Rattle.std.specs.List.{insert, remove}
 use Rattle.crossbeam_queue.specs.Fifo.{Held}
 use Rattle.gw_base.specs.Faults.{next_count}
 use Rattle.gw_base.specs.declared.address.Addr.{Addr}
 use Rattle.job_inbox.specs.Hands.{Shows}
+use Rattle.job_inbox.specs.Rule.{idle, with_put}
 use Rattle.job_inbox.specs.Inbox.{IsPassOf, capacity_of, knowledge, known_by, made_by}
-use Rattle.job_inbox.specs.Rule.{with_put}
 use Rattle.job_inbox.specs.declared.hand.Hand.{Hand}
 use Rattle.job_inbox.specs.declared.inbox.Inbox.{Inbox}
 use Rattle.job_inbox.specs.declared.inbox.InboxPass.{InboxPass}
@@ -38,17 +39,29 @@ still_own (b ∷ bs) [] k inbox new own lt is has = absurd own
 still_own (b ∷ bs) (p ∷ ps) zero inbox new own lt is has = (subst (λ x. IsPassOf x new) is has, own.1)
 still_own (b ∷ bs) (p ∷ ps) (suc k) inbox new own lt is has = (own.0, still_own bs ps k inbox new own.1 (omega (arith, lt)) is has)
 
-pub pushed : (passes : List InboxPass) (k : ℕ) (pass new : InboxPass) (job : Job) → k < length passes → pass ≡ slice_index_or passes k pass
-    → knowledge new ≡ with_put job (knowledge pass) → known_by (insert (remove passes k) k new) ≡ with_job k job (known_by passes)
-pushed [] k pass new job lt is has = absurd (omega (arith, lt))
-pushed (p ∷ ps) zero pass new job lt is has = ap (λ h. h ∷ known_by ps) (has ∙ ap (λ x. with_put job (knowledge x)) is)
-pushed (p ∷ ps) (suc k) pass new job lt is has = ap (λ hs. knowledge p ∷ hs) (pushed ps k pass new job (omega (arith, lt)) is has)
+-- what the passes know with a new one in its place
+replaced : (passes : List InboxPass) (k : ℕ) (new : InboxPass) → k < length passes →
+    known_by (insert (remove passes k) k new) ≡ slice_set (known_by passes) k (knowledge new)
+replaced [] k new lt = absurd (omega (arith, lt))
+replaced (p ∷ ps) zero new lt = refl
+replaced (p ∷ ps) (suc k) new lt = ap (λ (hs : List Hand). knowledge p ∷ hs) (replaced ps k new (omega (arith, lt)))
 
-pub kept : (passes : List InboxPass) (k : ℕ) (pass new : InboxPass) → k < length passes → pass ≡ slice_index_or passes k pass
-    → knowledge new ≡ knowledge pass → known_by (insert (remove passes k) k new) ≡ known_by passes
-kept [] k pass new lt is has = absurd (omega (arith, lt))
-kept (p ∷ ps) zero pass new lt is has = ap (λ h. h ∷ known_by ps) (has ∙ ap (λ x. knowledge x) is)
-kept (p ∷ ps) (suc k) pass new lt is has = ap (λ hs. knowledge p ∷ hs) (kept ps k pass new (omega (arith, lt)) is has)
+module _ (inboxes : List Inbox) (passes : List InboxPass) (k : ℕ) (pass new : InboxPass) (job : Job) (now : List InboxPass) (own : AreOfEach inboxes passes)
+    (lt : k < length inboxes) (is : pass ≡ slice_index_or passes k pass) (same : now ≡ insert (remove passes k) k new) where
+  within : k < length passes
+  within = omega (arith, lt, as_many inboxes passes own)
+
+  now_is : known_by now ≡ slice_set (known_by passes) k (knowledge new)
+  now_is = ap known_by same ∙ replaced passes k new within
+
+  known_is : knowledge pass ≡ slice_index_or (known_by passes) k idle
+  known_is = ap knowledge is ∙ sym (get_or-map knowledge passes k pass idle within)
+
+  pub pushed : knowledge new ≡ with_put job (knowledge pass) → known_by now ≡ with_job k job (known_by passes)
+  pushed has = now_is ∙ ap (slice_set (known_by passes) k) (has ∙ ap (with_put job) known_is)
+
+  pub kept : (back : Job) → (back ≡ job) × (knowledge new ≡ knowledge pass) → known_by now ≡ known_by passes
+  kept back has = now_is ∙ ap (slice_set (known_by passes) k) (has.1 ∙ known_is) ∙ set-get_or (known_by passes) k idle
 
 pub full_at : (inboxes : List Inbox) (passes : List InboxPass) (k : ℕ) (inbox : Inbox) (pass : InboxPass) → AreOfEach inboxes passes
     → k < length inboxes → inbox ≡ slice_index_or inboxes k inbox → pass ≡ slice_index_or passes k pass
@@ -59,29 +72,6 @@ full_at (b ∷ bs) (p ∷ ps) zero inbox pass own lt is also full =
     subst (λ x. Held (capacity_of x) (Shows (made_by x) (knowledge p))) is
     (subst (λ x. Held (capacity_of inbox) (Shows (made_by inbox) (knowledge x))) also full)
 full_at (b ∷ bs) (p ∷ ps) (suc k) inbox pass own lt is also full = full_at bs ps k inbox pass own.1 (omega (arith, lt)) is also full
-
--- the same, by whether the job was pushed
-pub pushed_where : (r : Result Unit Job) (inboxes : List Inbox) (passes : List InboxPass) (k : ℕ) (pass new : InboxPass) (job : Job) (now : List InboxPass)
-    → AreOfEach inboxes passes → k < length inboxes → pass ≡ slice_index_or passes k pass → now ≡ insert (remove passes k) k new
-    → OnOk r (knowledge new ≡ with_put job (knowledge pass)) → OnOk r (known_by now ≡ with_job k job (known_by passes))
-pushed_where (Ok done) inboxes passes k pass new job now own lt is same has =
-    let many = as_many inboxes passes own in
-    ap known_by same ∙ pushed passes k pass new job (omega (arith, many, lt)) is has
-pushed_where (Err back) inboxes passes k pass new job now own lt is same has = has
-
-pub kept_where : (r : Result Unit Job) (inboxes : List Inbox) (passes : List InboxPass) (k : ℕ) (pass new : InboxPass) (job : Job) (now : List InboxPass)
-    → AreOfEach inboxes passes → k < length inboxes → pass ≡ slice_index_or passes k pass → now ≡ insert (remove passes k) k new
-    → IfErr r (λ back. (back ≡ job) × (knowledge new ≡ knowledge pass)) → OnErr r (known_by now ≡ known_by passes)
-kept_where (Ok done) inboxes passes k pass new job now own lt is same has = has
-kept_where (Err back) inboxes passes k pass new job now own lt is same has =
-    let many = as_many inboxes passes own in
-    ap known_by same ∙ kept passes k pass new (omega (arith, many, lt)) is has.1
-
-pub full_where : (r : Result Unit Job) (inboxes : List Inbox) (passes : List InboxPass) (k : ℕ) (inbox : Inbox) (pass : InboxPass)
-    → AreOfEach inboxes passes → k < length inboxes → inbox ≡ slice_index_or inboxes k inbox → pass ≡ slice_index_or passes k pass
-    → OnErr r (Held (capacity_of inbox) (Shows (made_by inbox) (knowledge pass))) → OnErr r (WasFull inboxes k (known_by passes))
-full_where (Ok done) inboxes passes k inbox pass own lt is also full = full
-full_where (Err back) inboxes passes k inbox pass own lt is also full = full_at inboxes passes k inbox pass own lt is also full
 
 -- What a step tells of a datagram that was received, by what came of it: nothing but the buffer was changed before.
 module _ (inboxes : List Inbox) (old between new : Dispatcher) (link_old link_new : LinkState) (clock_old clock_new : ℕ) (from : Addr) (octets heard : List ℕ)

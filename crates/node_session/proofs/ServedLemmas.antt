@@ -1,11 +1,12 @@
 -- What a session tells of a job, by what it did step by step.
-use Rattle.std.proofs.Common.{◌≡◌, ◌⊎◌, inl, inr, ℕ, ◌≤◌, Bool, true, List, [], ◌∷◌, ◌++◌, length, Option, Some, None, Result, Ok, Err, refl, sym, ap, subst, ◌∙◌, append_assoc, arith}
-use Rattle.std.specs.Prelude.{All, IfSome, MatchOption, slice_index_or}
+use Rattle.std.proofs.Common.{◌≡◌, ◌⊎◌, inl, inr, ℕ, ◌≤◌, Bool, List, [], ◌∷◌, ◌++◌, length, Option, Some, None, Result, Ok, Err, refl, sym, ap, subst, ◌∙◌, append_assoc, arith}
+use Rattle.std.specs.Prelude.{All, IfSome, MatchOption}
 use Rattle.std.specs.List.{Contains}
 use Rattle.std.proofs.lemmas.List.{append-nil}
-use Rattle.std.proofs.lemmas.List.Elements.{All-append, All-cons, All-nil, Contains-append_left, Contains-push}
+use Rattle.std.proofs.lemmas.List.Elements.{All-cons, All-nil, Contains-append_left, Contains-push}
 use Rattle.area_disk.specs.declared.area.Area.{Ghosts}
 use Rattle.gw_base.specs.Facts.{Facts, WhereTold}
+use Rattle.gw_base.specs.Owes.{Begins}
 use Rattle.gateway_answer.specs.Answer.{Decided, Says, Silent, failure_reply}
 use Rattle.gateway_answer.specs.Answered.{act_decided}
 use Rattle.gateway_book.specs.Caller as caller
@@ -27,20 +28,23 @@ use Rattle.net_link.specs.Steps.{Sends}
 use Rattle.net_link.specs.declared.link.LinkStop.{LinkStop}
 use Rattle.net_link.specs.declared.link.LinkStop.TheVariants as stop
 use Rattle.turn_cell.specs.Cell.{knowledge}
-use Rattle.turn_cell.specs.Knowing.{kept}
+use Rattle.turn_cell.specs.Knowing.{Saw, kept}
+use Rattle.turn_cell.specs.Passes.{Took}
 use Rattle.turn_cell.specs.declared.cell.Pass.{Pass}
 use Rattle.turn_cell.specs.declared.knowing.KeptTurn.{KeptTurn}
 use Rattle.turn_cell.specs.declared.knowing.Knowledge.{Knowledge}
-use Rattle.node_session.specs.Answering.{AddsAnswers, HasSent, IsAnswerTo, IsFaultAt, IsReplyAt, KeepsTurns, MayHave, Tells, TellsBehind, called_at, history_at}
+use Rattle.node_session.specs.Answering.{HasSent, IsAnswerTo, IsFaultAt, IsReplyAt, KeepsTurns, MayHave, Tells, TellsBehind, called_at, history_at}
 use Rattle.node_session.specs.Asking.{IsAsked, TakesIn}
 use Rattle.node_session.specs.Learning.{HasTurnFor, IsCountedBy, Learns}
 use Rattle.node_session.specs.Passes.{known_by}
 use Rattle.node_session.specs.Serving.{Concludes, GoesOn, IsServed, SendsFor, SendsTo, caller_of, once_sent}
+use Rattle.node_session.specs.Together.{GoesFrom}
 use Rattle.node_session.specs.Turns as turns
 use Rattle.node_session.specs.declared.gate.Go.{Go}
 use Rattle.node_session.specs.declared.gate.Go.TheVariants as go
 use Rattle.node_session.specs.declared.served.Served.{Served}
 use Rattle.node_session.specs.declared.served.Served.TheVariants as served
+use Rattle.node_session.proofs.AskingLemmas.{begins_then}
 
 -- what a receipt tells was decided
 says_of : (d : Decided) (receipt : Receipt) → turns.Tells d (outcome.Answer receipt)
@@ -52,35 +56,96 @@ says_of (Says octets act) receipt told =
     let cause : receipt.cause ≡ cause_in octets = ap (λ (r : Receipt). r.cause) same ∙ told.3 in
     ((act, ap (λ (o : List ℕ). Says o act) (sym reply)), cause ∙ ap cause_in (sym reply))
 
--- what a pass did behind its first turn: at most one turn more, which added nothing
-pub record Later (taken after : Knowledge) : Type 0 where
-  pub later : List KeptTurn
-  pub turns : after.turns ≡ taken.turns ++ later
-  pub number : after.number ≡ taken.number
-  pub size : after.size ≡ taken.size
-  pub one_more : length later ≤ 1
-  pub adds_none : All (λ t. t.added ≡ []) later
+-- ---- a pass that knows no less and keeps its turns
 
-later_none : (taken after : Knowledge) → after ≡ taken → Later taken after
-later_none taken after is = record {
-  later = [];
-  turns = ap (λ (k : Knowledge). k.turns) is ∙ sym (append-nil taken.turns);
-  number = ap (λ (k : Knowledge). k.number) is;
-  size = ap (λ (k : Knowledge). k.size) is;
-  one_more = omega arith;
-  adds_none = All-nil (λ (t : KeptTurn). t.added ≡ []);
-}
+module _ {told : Bool} where
+  abbrev pub goes_none : {before after : Knowledge} → after ≡ before → GoesFrom told before after
+  goes_none {before} is = record {
+    number = ap (λ (k : Knowledge). k.number) is;
+    size = ap (λ (k : Knowledge). k.size) is;
+    faults = ap (λ (k : Knowledge). k.faults) is;
+    known = λ it_is. subst (λ (k : Knowledge). Begins before.known k.known) (sym is)
+      ([], sym (append-nil before.known));
+    later = [];
+    turns = ap (λ (k : Knowledge). k.turns) is ∙ sym (append-nil before.turns);
+  }
 
--- the turn that took a datagram is kept
-pub own_turn : {A : Type 0} (tells : Ghosts A) (from : Addr) (octets : List ℕ) (now : ℕ) (who : Caller) (before taken : Knowledge) (o : Outcome)
-    → TakesIn tells from octets now who before o taken → HasTurnFor (tells_lists tells) o taken
-own_turn tells from octets now who before taken o first receipt is =
-    let t : KeptTurn = kept (book_facts first.found) (book_facts first.left) first.drops first.added in
-    let counts = subst (λ (x : Outcome). turns.IsCountedAt (book_facts first.left) x) is first.does_so.counts in (
-      t,
-      subst (λ (k : Knowledge). Contains k.turns t) (sym first.kept) (Contains-push before.turns t),
-      record { front_is = counts.0; faults_is = counts.1; long = λ it_is. counts.0 ∙ first.sound.1.counted it_is },
-    )
+  abbrev pub goes_then : {one two three : Knowledge} → GoesFrom told one two → GoesFrom told two three → GoesFrom told one three
+  goes_then {one} {two} {three} p q = record {
+    number = q.number ∙ p.number;
+    size = q.size ∙ p.size;
+    faults = q.faults ∙ p.faults;
+    known = λ it_is. begins_then one.known two.known three.known (p.known it_is) (q.known it_is);
+    later = p.later ++ q.later;
+    turns = q.turns ∙ ap (λ (ts : List KeptTurn). ts ++ q.later) p.turns ∙ append_assoc one.turns p.later q.later;
+  }
+
+  abbrev pub goes_turn : {V R : Type 0} {facts : V → Facts} {session : Option ℕ} {does : V → V → R → Bool → List HistoryEntry → Type 0}
+      {before : Knowledge} {answer : R} {after : Knowledge} → Took told facts session does before answer after → GoesFrom told before after
+  goes_turn {facts = facts} {before = before} took = record {
+    number = ap (λ (k : Knowledge). k.number) took.kept;
+    size = ap (λ (k : Knowledge). k.size) took.kept;
+    faults = ap (λ (k : Knowledge). k.faults) took.kept;
+    known = λ it_is. subst (λ (h : List HistoryEntry). Begins before.known h) (sym (ap (λ (k : Knowledge). k.known) took.kept))
+        (begins_then before.known (facts took.found).firm (facts took.left).firm (took.legal.known it_is)
+          (took.owes.firm it_is));
+    later = kept (facts took.found) (facts took.left) took.drops took.added ∷ [];
+    turns = ap (λ (k : Knowledge). k.turns) took.kept;
+  }
+
+  abbrev goes_saw : {seen : ℕ} {before after : Knowledge} → Saw told seen before after → GoesFrom told before after
+  goes_saw {before = before} saw = record {
+    number = ap (λ (k : Knowledge). k.number) saw.same;
+    size = ap (λ (k : Knowledge). k.size) saw.same;
+    faults = ap (λ (k : Knowledge). k.faults) saw.same;
+    known = saw.grows;
+    later = [];
+    turns = ap (λ (k : Knowledge). k.turns) saw.same ∙ sym (append-nil before.turns);
+  }
+
+-- what a pass did behind its first turns: so many turns more at most, which added nothing
+pub record Laters (told : Bool) (most : ℕ) (taken after : Knowledge) : Type 0 where
+  pub goes : GoesFrom told taken after
+  pub few : length goes.later ≤ most
+  pub adds_none : All (λ t. t.added ≡ []) goes.later
+
+pub later_none : {told : Bool} {taken after : Knowledge} (most : ℕ) → after ≡ taken → Laters told most taken after
+later_none most is =
+  record { goes = goes_none is; few = omega arith; adds_none = All-nil (λ (t : KeptTurn). t.added ≡ []) }
+
+-- ---- the turn that took a datagram
+
+module _ {A : Type 0} (tells : Ghosts A) where
+  counted_by : {from : Addr} {octets : List ℕ} {now : ℕ} {who : Caller} {before taken : Knowledge} {o : Outcome}
+    (first : TakesIn tells from octets now who before o taken)
+      (receipt : Receipt) → o ≡ outcome.Answer receipt
+      → IsCountedBy (tells_lists tells) receipt.front receipt.faults
+        (kept (book_facts first.found) (book_facts first.left) first.drops first.added)
+  counted_by first receipt is =
+      let counts = subst (λ (x : Outcome). turns.IsCountedAt (book_facts first.left) x) is first.does_so.counts in
+      record { front_is = counts.0; faults_is = counts.1; long = λ it_is. counts.0 ∙ first.sound.1.counted it_is }
+
+  -- it is kept
+  pub own_turn : (from : Addr) (octets : List ℕ) (now : ℕ) (who : Caller) (before taken : Knowledge) (o : Outcome)
+      → TakesIn tells from octets now who before o taken → HasTurnFor (tells_lists tells) o taken
+  own_turn from octets now who before taken o first receipt is = (
+    _,
+    subst (λ (k : Knowledge). Contains k.turns
+      (kept (book_facts first.found) (book_facts first.left) first.drops first.added)) (sym first.kept)
+        (Contains-push before.turns _),
+    counted_by first receipt is,
+  )
+
+  -- what it added
+  pub adds_first : (session : ℕ) (job : Job) {before taken : Knowledge} {o : Outcome}
+      (first : TakesIn tells job.from job.octets job.moment (caller_of session job) before o taken)
+      → let t = kept (book_facts first.found) (book_facts first.left) first.drops first.added in
+      WhereTold (tells_lists tells) ((t.added ≡ []) ⊎ (t.added ≡ called_at (tells_lists tells) session job t))
+  adds_first session job first told =
+      elim (first.does_so.answers told) [
+        | inl taken ↦ inr taken.adds
+        | inr failed ↦ inl failed.adds
+      ]
 
 -- a turn that asks what has become of an answer adds nothing
 none_settled : {told : Bool} {front faults : ℕ} {found left : Facts} {firm_found firm_left : ℕ} {s : Settled} {added : List HistoryEntry}
@@ -89,35 +154,25 @@ none_settled (inl asked) = asked.adds
 none_settled (inr commits) = commits.adds
 
 module _ {A : Type 0} (tells : Ghosts A) where
-  later_asked : (front faults : ℕ) (taken after : Knowledge) (s : Settled) → IsAsked tells front faults taken s after → Later taken after
+  later_asked : (front faults : ℕ) (taken after : Knowledge) (s : Settled) → IsAsked tells front faults taken s after → Laters (tells_lists tells) 1 taken after
   later_asked front faults taken after s asked =
       elim asked.ends [
-        | inl seen ↦
-            record {
-              later = [];
-              turns = ap (λ (k : Knowledge). k.turns) (seen.2 ∙ asked.saw.same) ∙ sym (append-nil taken.turns);
-              number = ap (λ (k : Knowledge). k.number) (seen.2 ∙ asked.saw.same);
-              size = ap (λ (k : Knowledge). k.size) (seen.2 ∙ asked.saw.same);
-              one_more = omega arith;
-              adds_none = All-nil (λ (t : KeptTurn). t.added ≡ []);
-            }
-        | inr more ↦
-            let took = more.1 in
-            let u : KeptTurn = kept (book_facts took.found) (book_facts took.left) took.drops took.added in
-            record {
-              later = u ∷ [];
-              turns = ap (λ (k : Knowledge). k.turns) took.kept ∙ ap (λ (k : Knowledge). k.turns ++ u ∷ []) asked.saw.same;
-              number = ap (λ (k : Knowledge). k.number) took.kept ∙ ap (λ (k : Knowledge). k.number) asked.saw.same;
-              size = ap (λ (k : Knowledge). k.size) took.kept ∙ ap (λ (k : Knowledge). k.size) asked.saw.same;
-              one_more = omega arith;
-              adds_none = All-cons (λ (t : KeptTurn). t.added ≡ []) u [] (none_settled took.does_so) (All-nil (λ (t : KeptTurn). t.added ≡ []));
-            }
+        | inl seen ↦ record {
+          goes = goes_then (goes_saw asked.saw) (goes_none seen.2);
+          few = omega arith;
+          adds_none = All-nil (λ (t : KeptTurn). t.added ≡ []);
+        }
+        | inr more ↦ record {
+          goes = goes_then (goes_saw asked.saw) (goes_turn more.1);
+          few = omega arith;
+          adds_none = All-cons (λ (t : KeptTurn). t.added ≡ []) _ [] (none_settled more.1.does_so) (All-nil (λ (t : KeptTurn). t.added ≡ []));
+        }
       ]
 
   module _ (may : ℕ → ℕ → Go → Type 0) (session : ℕ) (job : Job) (old new : LinkState) (result : Served) where
-    pub later_on : (taken after : Knowledge) (o : Outcome) → GoesOn tells may session job old new result taken after o → Later taken after
-    later_on taken after (outcome.Drop why) goes = later_none taken after goes.1
-    later_on taken after (outcome.Answer receipt) (inl over) = later_none taken after over.1.1
+    pub later_on : (taken after : Knowledge) (o : Outcome) → GoesOn tells may session job old new result taken after o → Laters (tells_lists tells) 1 taken after
+    later_on taken after (outcome.Drop why) goes = later_none 1 goes.1
+    later_on taken after (outcome.Answer receipt) (inl over) = later_none 1 over.1.1
     later_on taken after (outcome.Answer receipt) (inr on) =
         later_asked receipt.front receipt.faults taken after on.1.settled on.1.asked
 
@@ -125,27 +180,19 @@ module _ {A : Type 0} (tells : Ghosts A) where
     abbrev first_of : {before after : Knowledge} → IsServed tells may session job old new result before after → KeptTurn
     first_of is = kept (book_facts is.first.found) (book_facts is.first.left) is.first.drops is.first.added
 
-    adds_by : {before after : Knowledge} (is : IsServed tells may session job old new result before after) → WhereTold (tells_lists tells)
-        (((first_of is).added ≡ []) ⊎ ((first_of is).added ≡ called_at (tells_lists tells) session job (first_of is)))
-    adds_by is told =
-        elim (is.first.does_so.answers told) [
-          | inl taken ↦ inr taken.adds
-          | inr failed ↦ inl failed.adds
-        ]
-
-    pub keeps_turns : (before after : Knowledge) → IsServed tells may session job old new result before after
+    pub keeps_turns : {before after : Knowledge} → IsServed tells may session job old new result before after
         → KeepsTurns (tells_lists tells) session job before after
-    keeps_turns before after is =
+    keeps_turns {before} {after} is =
         let then = later_on is.taken after is.outcome is.goes_on in
+        let goes : GoesFrom (tells_lists tells) before after = goes_then (goes_turn is.first) then.goes in
         record {
           first = first_of is;
-          later = then.later;
-          turns = then.turns ∙ ap (λ (k : Knowledge). k.turns ++ then.later) is.first.kept
-              ∙ append_assoc before.turns (first_of is ∷ []) then.later;
-          number = then.number ∙ ap (λ (k : Knowledge). k.number) is.first.kept;
-          size = (then.size ∙ ap (λ (k : Knowledge). k.size) is.first.kept, is.first.legal.size);
-          adds = adds_by is;
-          one_more = then.one_more;
+          later = then.goes.later;
+          turns = goes.turns;
+          number = goes.number;
+          size = (goes.size, is.first.legal.size);
+          adds = adds_first tells session job is.first;
+          one_more = then.few;
           adds_none = then.adds_none;
         }
 
@@ -173,8 +220,8 @@ module _ {A : Type 0} (tells : Ghosts A) where
     may_on taken after (outcome.Answer receipt) (inl over) = subst (λ (r : Served). MayHave (may session job.serial) r) (sym over.1.0) over.0
     may_on taken after (outcome.Answer receipt) (inr on) = may_for receipt on.1.settled on.1.sends on.0
 
-    pub may_have : (before after : Knowledge) → IsServed tells may session job old new result before after → MayHave (may session job.serial) result
-    may_have before after is = may_on is.taken after is.outcome is.goes_on
+    pub may_have : {before after : Knowledge} → IsServed tells may session job old new result before after → MayHave (may session job.serial) result
+    may_have {after = after} is = may_on is.taken after is.outcome is.goes_on
 
     -- The session went on with a job behind turns that its pass took for other jobs.
     pub record IsServedBehind (between : List KeptTurn) (before now after : Knowledge) : Type 0 where
@@ -210,9 +257,7 @@ module _ {A : Type 0} (tells : Ghosts A) where
           (subst (λ (ts : List KeptTurn). Contains ts t) (sym taken_turns) (Contains-push before.turns t)))
 
       counted : (receipt : Receipt) → is.outcome ≡ outcome.Answer receipt → IsCountedBy told receipt.front receipt.faults t
-      counted receipt o =
-          let counts = subst (λ (x : Outcome). turns.IsCountedAt (book_facts is.first.left) x) o is.first.does_so.counts in
-          record { front_is = counts.0; faults_is = counts.1; long = λ it_is. counts.0 ∙ is.first.sound.1.counted it_is }
+      counted receipt o = counted_by tells is.first receipt o
 
       said : (receipt : Receipt) → is.outcome ≡ outcome.Answer receipt → {d : Decided} → turns.Tells d is.outcome
           → ((act : Option HistoryAct) × (d ≡ Says receipt.reply act)) × (receipt.cause ≡ cause_in receipt.reply)
@@ -247,8 +292,8 @@ module _ {A : Type 0} (tells : Ghosts A) where
         abbrev learnt : Learns told t now after on.settled
         learnt = on.learns t has_first (counted receipt o)
 
-        abbrev then : Later now after
-        then = later_asked receipt.front receipt.faults now after on.settled on.asked
+        abbrev then : GoesFrom told now after
+        then = (later_asked receipt.front receipt.faults now after on.settled on.asked).goes
 
         sent_by : (answer : Served) (octets : List ℕ) (sent : Result Unit LinkStop) → Sends old job.from octets sent new
             → (HasSent told session job old new octets → TellsSo answer) → TellsSo (once_sent answer sent)
@@ -323,24 +368,6 @@ more_jobs size session jobs more t (inr is) = inr (is.0, Contains-append_left jo
 
 pub none_added : (size session : ℕ) (jobs : List Job) (later : List KeptTurn) → All (λ t. t.added ≡ []) later → All (IsAnswerTo size session jobs) later
 none_added size session jobs later none k d lt = inl (none k d lt)
-
-pub adds_answers : (told : Bool) (session : ℕ) (job : Job) (before after : Knowledge) → KeepsTurns told session job before after → told ≡ true
-    → session ≡ before.number → (jobs : List Job) → AddsAnswers jobs before → AddsAnswers (jobs ++ job ∷ []) after
-adds_answers told session job before after keeps it_is own jobs adds =
-    rw (keeps.turns, keeps.size.0, keeps.number)
-    (All-append (IsAnswerTo before.size before.number (jobs ++ job ∷ [])) before.turns (keeps.first ∷ keeps.later)
-    (λ k d lt. more_jobs before.size before.number jobs (job ∷ []) (slice_index_or before.turns k d) (adds k d lt))
-    (All-cons (IsAnswerTo before.size before.number (jobs ++ job ∷ [])) keeps.first keeps.later (by_case (keeps.adds it_is))
-    (none_added before.size before.number (jobs ++ job ∷ []) keeps.later keeps.adds_none)))
-  where
-    by_case : (keeps.first.added ≡ []) ⊎ (keeps.first.added ≡ called_at told session job keeps.first)
-        → IsAnswerTo before.size before.number (jobs ++ job ∷ []) keeps.first
-    by_case (inl none) = inl none
-    by_case (inr is) = inr (
-      job,
-      Contains-push jobs job,
-      is ∙ (λ i. turns.called_for (history_at keeps.first) (keeps.size.1 i) job.from job.octets job.moment (caller_of (own i) job)),
-    )
 
 -- the same of the pass that a session has
 pub at_pass : {A : Type 0} {tells : Ghosts A} {may : ℕ → ℕ → Go → Type 0} {session : ℕ} {job : Job} {old new : LinkState} {result : Served}

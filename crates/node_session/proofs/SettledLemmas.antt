@@ -1,31 +1,121 @@
--- What ends a gateway does, step by step.
-use Rattle.std.proofs.Common.{◌≡◌, ◌≢◌, ◌↔◌, ℕ, ◌&&◌, Bool, true, false, if◌then◌else◌, List, [], ◌∷◌, ◌++◌, Option, None, Some, Result, refl, sym, ap, ◌∙◌, append_assoc}
-use Rattle.std.proofs.lemmas.Bool.{and_from, true≢false}
+-- What a turn that makes the history firm did, and what ends a gateway does: its book, then its writer.
+use Rattle.std.proofs.Common.{◌≡◌, ◌≢◌, ℕ, Bool, true, false, if◌then◌else◌, List, [], ◌∷◌, ◌++◌, Result, Ok, Err, is_err, refl, sym, ap, ◌∙◌, ◌↔◌, ◌&&◌, Option, None, Some, append_assoc, subst}
+use Rattle.std.proofs.lemmas.Bool.{and_from, and_parts, cond_both, true≢false}
 use Rattle.std.proofs.lemmas.List.{append-nil}
 use Rattle.area_disk.specs.declared.area.Area.{Ghosts}
 use Rattle.gate_journal.specs.Moments.{Told}
-use Rattle.cgf_journal.specs.Trail.{is_closed}
+use Rattle.cgf_journal.specs.Trail.{firm_length, is_closed, length_of}
+use Rattle.gw_base.specs.declared.history.HistoryEntry.{HistoryEntry}
+use Rattle.gateway_book.specs.Book.{HasCause, IsLeft, fortune_of, value_of, Stays as StaysSo}
+use Rattle.gateway_book.specs.Read.{IsUnchanged}
+use Rattle.gateway_book.specs.Caller.{IsCommitTold}
+use Rattle.gateway_book.specs.Calls.{commit_left, length_at, settled_by, settled_of, Left, closed, marked_at, marked_if_ready}
+use Rattle.gateway_book.specs.Turning.{facts_of, tells_lists, IsTurn, act_in, act_marked, added_to, drops_of, is_gone}
+use Rattle.gateway_answer.specs.Value.{BookValue, Fortune, Refused, Reopening, after_commit, committed, faulted, history_of, reopened, tried, tried_with, readied, torn_of}
+use Rattle.gateway_book.specs.declared.book.Book.{Book}
+use Rattle.gateway_book.specs.declared.outcome.Broken.{Broken}
+use Rattle.gateway_book.specs.declared.outcome.Settled.{Settled}
+use Rattle.gateway_book.specs.declared.outcome.Settled.TheVariants.{NotYet}
+use Rattle.node_session.specs.Turns.{HasAsked, HasCommitted, IsToldAt}
 use Rattle.gw_base.specs.Owes.{base}
 use Rattle.gw_base.specs.declared.history.Caller.{Caller}
 use Rattle.gw_base.specs.declared.history.HistoryAct.{HistoryAct}
-use Rattle.gw_base.specs.declared.history.HistoryEntry.{HistoryEntry}
 use Rattle.gateway_answer.specs.Answered.{entry_by, with_act}
-use Rattle.gateway_book.specs.Book.{IsLeft, fortune_of, value_of}
-use Rattle.gateway_book.specs.Calls.{Left, closed, commit_left, marked_at, marked_if_ready}
 use Rattle.gateway_answer.specs.Marks.{Mark, NotDue, close_mark}
-use Rattle.gateway_book.specs.Turning.{IsTurn, act_in, act_marked, added_to, drops_of, facts_of, is_gone, tells_lists}
-use Rattle.gateway_answer.specs.Value.{BookValue, history_of, readied, torn_of}
-use Rattle.gateway_book.specs.declared.book.Book.{Book}
-use Rattle.gateway_book.specs.declared.outcome.Broken.{Broken}
 use Rattle.gateway_book.specs.declared.outcome.Marked.{Marked}
 use Rattle.gateway_book.specs.declared.outcome.Marked.TheVariants as marked
-use Rattle.node_session.proofs.CommittedLemmas.{commit_rests}
-use Rattle.node_session.specs.Settling.{Grows, HasClosed, HasFirmed, IsSettled, closed_behind}
+use Rattle.node_session.specs.Settling.{Grows, HasClosed, HasFirmed, IsSettled, closed_behind, HasTakenAll}
+use Rattle.cdr_shelf.specs.declared.shelf.Shelf as shelf
+use Rattle.gw_base.specs.Facts.{WhereTold}
+use Rattle.file_writer.specs.declared.writer.Writer.{Writer}
+use Rattle.node_session.specs.Writing.{IsWriterOf, KeepsFiles}
+use Rattle.node_session.proofs.GivenLemmas.{Stays, writer_grows}
 
--- a value that isn't broken: its history, and no entry is torn
-history_open : (v : BookValue) → v.is_broken ≡ false → history_of v ≡ v.firm ++ v.rest
-history_open v runs = ap (λ b. if b then v.firm else v.firm ++ v.rest) runs
+-- a value that isn't broken has nothing that waits
+abbrev pub Rests : BookValue → Type 0
+Rests v = v.is_broken ≡ false → v.rest ≡ []
 
+reopened_rests : (v : BookValue) (r : Reopening) → Rests (reopened v r)
+reopened_rests v Refused runs = absurd (true≢false runs)
+reopened_rests v _ runs = refl
+
+tried_rests : (f : Fortune) (v : BookValue) → Rests (tried f v)
+tried_rests f v = cond_both f.fails (faulted v) (committed v) Rests (λ fails runs. absurd (true≢false runs)) (λ fails runs. refl)
+
+tried_with_rests : (f : Fortune) (v : BookValue) (xs : List HistoryEntry) → v.rest ≡ xs → Rests (tried_with f v xs)
+tried_with_rests f v [] is runs = is
+tried_with_rests f v (e ∷ xs) is runs = tried_rests f v runs
+
+pub commit_rests : (f : Fortune) (v : BookValue) → Rests (after_commit f v)
+commit_rests f v = cond_both v.is_broken (reopened v f.reopening) (tried_with f v v.rest) Rests (λ is. reopened_rests v f.reopening) (λ is. tried_with_rests f v v.rest refl)
+
+-- a value that isn't broken and has nothing that waits stands for its firm part
+firm_list : (v : BookValue) → v.is_broken ≡ false → v.rest ≡ [] → history_of v ≡ v.firm
+firm_list v runs none = ap (λ c. if c then v.firm else v.firm ++ v.rest) runs
+    ∙ ap (λ (h : List HistoryEntry). v.firm ++ h) none ∙ append-nil v.firm
+
+-- a book that nothing was done with is unchanged
+pub unchanged : {A : Type 0} {tells : Ghosts A} (book : Book A tells) → IsUnchanged book book
+unchanged book = record {
+  value = λ told. refl;
+  broken = refl;
+  cuts = refl;
+  kept = refl;
+  entries = refl;
+  firm = refl;
+  free = refl;
+  index = refl;
+  torn_stands = refl;
+  stays = record { size = refl; header = refl; open_time = refl };
+}
+
+-- what a book tells of an answer
+abbrev pub told_at : {A : Type 0} {tells : Ghosts A} (front faults : ℕ) (book : Book A tells) (answer : Settled)
+    → (Told tells → answer ≡ settled_of (value_of book) front faults) → answer ≡ settled_by book.cuts (firm_length book.trail) front faults
+    → IsToldAt (tells_lists tells) front faults (facts_of book) (firm_length book.trail) answer
+told_at {tells = tells} front faults book answer told counted =
+    record {
+      calm = λ (none : book.cuts ≡ 0). sym (ap (λ (c : ℕ). length_at c (firm_length book.trail) book.kept) none);
+      is = counted;
+      counts = λ it_is. told (and_parts tells.tells_octets tells.tells_crash it_is);
+    }
+
+module _ {A : Type 0} {tells : Ghosts A} (front faults : ℕ) (old new : Book A tells) (answer : Settled) where
+  pub has_asked : IsToldAt (tells_lists tells) front faults (facts_of old) (firm_length old.trail) answer → ((n : ℕ) → answer ≢ NotYet n)
+      → HasAsked (tells_lists tells) front faults (facts_of old) (facts_of old) (firm_length old.trail) (firm_length old.trail) answer []
+  has_asked is sure = record { tells = is; sure = sure; still = (refl, refl); adds = refl }
+
+  all_firm : (r : Result ℕ Broken) → IsCommitTold new r → is_closed new.trail ≡ is_err r → is_closed new.trail ≡ false
+      → firm_length new.trail ≡ length_of new.trail
+  all_firm (Ok n) told broken goes = sym told.0 ∙ told.1
+  all_firm (Err fault) told broken goes = absurd (true≢false (sym broken ∙ goes))
+
+  pub has_committed : (r : Result ℕ Broken) → (Told tells → IsLeft old new (commit_left (fortune_of old new) (value_of old)) r)
+      → IsCommitTold new r → is_closed new.trail ≡ is_err r → HasCause old new
+      → (short : ℕ) → IsToldAt (tells_lists tells) front faults (facts_of old) (firm_length old.trail) (NotYet short)
+      → (Told tells → answer ≡ settled_of (value_of new) front faults) → answer ≡ settled_by new.cuts (firm_length new.trail) front faults
+      → HasCommitted (tells_lists tells) front faults (facts_of old) (facts_of new) (firm_length old.trail) (firm_length new.trail) answer []
+  has_committed r left told broken cause short waited said counted = record {
+    short = short;
+    waited = waited;
+    tells = told_at front faults new answer said counted;
+    is_broken = is_closed new.trail;
+    all = λ goes. (
+      all_firm r told broken goes,
+      λ tells_them.
+          let is = (left (and_parts tells.tells_octets tells.tells_crash tells_them)).value in
+          let same = sym (ap (λ (v : BookValue). v.is_broken) is) ∙ goes in
+          firm_list (value_of new) goes (ap (λ (v : BookValue). v.rest) is ∙ commit_rests (fortune_of old new) (value_of old) same),
+    );
+    uncut = cause.uncut;
+    cut = cause.cut;
+    rose = cause.broken;
+    adds = refl;
+  }
+
+-- ---- the book, step by step
+
+-- of a value that isn't broken no entry is torn
 none_torn : (v : BookValue) → v.is_broken ≡ false → torn_of v ≡ []
 none_torn v runs = ap (λ b. if b then v.rest else []) runs
 
@@ -68,8 +158,7 @@ module _ {A : Type 0} {tells : Ghosts A} (old new : Book A tells) where
     whole = whole;
     firm = λ told.
         let none = rest told in
-        sym (joined_open (value_of new) goes ∙ history_open (value_of new) goes
-        ∙ ap (λ (h : List HistoryEntry). (value_of new).firm ++ h) none ∙ append-nil (value_of new).firm)
+        sym (joined_open (value_of new) goes ∙ firm_list (value_of new) goes none)
         ∙ (turn.adds (tells_them told)).stands ∙ append-nil (base (drops_of (fortune_of old new) (value_of old)) (facts_of old));
     none_waits = rest;
     goes_on = goes;
@@ -125,8 +214,7 @@ settled a b c d now who first close last = record {
   whole = first.whole;
   firm = λ told.
       let at : history_of (value_of b) ≡ base first.drops (facts_of a) =
-      history_open (value_of b) first.goes_on
-      ∙ ap (λ (h : List HistoryEntry). (value_of b).firm ++ h) (first.none_waits told) ∙ append-nil (value_of b).firm ∙ first.firm told in
+      firm_list (value_of b) first.goes_on (first.none_waits told) ∙ first.firm told in
       last.firm told ∙ ap (λ drops. base drops (facts_of c)) (last.whole close.goes_on)
       ∙ joined_open (value_of c) close.goes_on ∙ close.history told
       ∙ ap (λ (h : List HistoryEntry). closed_behind h now who) at;
@@ -137,3 +225,47 @@ settled a b c d now who first close last = record {
 pub not_device : (r : Marked) (b : Bool) → (r ≡ marked.Device) ↔ (b ≡ true) → r ≢ marked.Device → b ≡ false
 not_device r true device not = absurd (not (device.1 refl))
 not_device r false device not = refl
+
+-- ---- the book, then the writer
+
+module _ {A : Type 0} {tells : Ghosts A} where
+  pub stays_then : (a b c : Book A tells) → StaysSo a b → StaysSo b c → StaysSo a c
+  stays_then a b c first second = record {
+    size = second.size ∙ first.size;
+    header = second.header ∙ first.header;
+    open_time = second.open_time ∙ first.open_time;
+  }
+
+  pub same_firm : (b c : Book A tells) → IsUnchanged b c → Told tells → (value_of c).firm ≡ (value_of b).firm
+  same_firm b c same told = ap (λ (v : BookValue). v.firm) (same.value told)
+
+  pub grows_same : (a b c : Book A tells) → Grows a b → IsUnchanged b c → Grows a c
+  grows_same a b c grows same told = let more = grows told in (more.0, same_firm b c same told ∙ more.1)
+
+  pub settled_stays : (a b c : Book A tells) (now : ℕ) (who : Caller) → IsSettled a b now who → IsUnchanged b c → IsSettled a c now who
+  settled_stays a b c now who settled same = record {
+    drops = settled.drops;
+    whole = settled.whole;
+    firm = λ told. same_firm b c same told ∙ settled.firm told;
+    none_waits = λ told. ap (λ (v : BookValue). v.rest) (same.value told) ∙ settled.none_waits told;
+    goes_on = same.broken ∙ settled.goes_on;
+  }
+
+  module _ {F : Type 0} {files : shelf.Ghosts F} where
+    pub writer_on : Stays → (a b : Book A tells) (w : Writer F files) → Grows a b
+        → IsWriterOf (tells_lists tells) (value_of a).firm w → IsWriterOf (tells_lists tells) (value_of b).firm w
+    writer_on stays a b w grows writer = writer_grows stays w (tells_lists tells) (value_of a).firm (value_of b).firm
+        (λ told. grows (and_parts tells.tells_octets tells.tells_crash told)) writer
+
+    pub writer_same : Stays → (b c : Book A tells) (w : Writer F files) → IsUnchanged b c
+        → IsWriterOf (tells_lists tells) (value_of b).firm w → IsWriterOf (tells_lists tells) (value_of c).firm w
+    writer_same stays b c w same writer = writer_grows stays w (tells_lists tells) (value_of b).firm (value_of c).firm
+        (λ told. ([], same_firm b c same (and_parts tells.tells_octets tells.tells_crash told) ∙ sym (append-nil (value_of b).firm))) writer
+
+    pub files_same : (b c : Book A tells) (v w : Writer F files) → IsUnchanged b c
+        → WhereTold (tells_lists tells) (KeepsFiles files (value_of b).firm v w) → WhereTold (tells_lists tells) (KeepsFiles files (value_of c).firm v w)
+    files_same b c v w same keeps told =
+        subst (λ (h : List HistoryEntry). KeepsFiles files h v w) (sym (same_firm b c same (and_parts tells.tells_octets tells.tells_crash told))) (keeps told)
+
+    pub all_same : (b c : Book A tells) (w : Writer F files) → IsUnchanged b c → Told tells → HasTakenAll (value_of b).firm w → HasTakenAll (value_of c).firm w
+    all_same b c w same told all = subst (λ (h : List HistoryEntry). HasTakenAll h w) (sym (same_firm b c same told)) all

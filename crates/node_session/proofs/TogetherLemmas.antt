@@ -1,28 +1,26 @@
 -- What a session tells of jobs that it served together, by what it did step by step.
-use Rattle.std.proofs.Common.{◌≡◌, ◌⊎◌, inl, inr, ℕ, suc, ◌≤◌, Bool, true, List, [], ◌∷◌, ◌++◌, ◌+◌, ◌<◌, length, take, Option, Some, refl, sym, ap, subst, ◌∙◌, append_assoc, arith}
+use Rattle.std.proofs.Common.{◌≡◌, ◌⊎◌, inl, inr, ℕ, suc, Bool, true, List, [], ◌∷◌, ◌++◌, ◌+◌, ◌<◌, length, take, Option, Some, refl, sym, ap, subst, ◌∙◌, append_assoc, arith}
 use Rattle.std.specs.Prelude.{All, slice_index_or}
 use Rattle.std.specs.List.{Contains}
 use Rattle.std.proofs.lemmas.List.{append-nil, length-append, take_more}
 use Rattle.std.proofs.lemmas.List.Elements.{All-append, All-cons, All-nil, Contains-append_left, Contains-push}
 use Rattle.area_disk.specs.declared.area.Area.{Ghosts}
-use Rattle.gw_base.specs.Facts.{Facts, WhereTold}
-use Rattle.gw_base.specs.Owes.{Begins}
+use Rattle.gw_base.specs.Facts.{Facts}
 use Rattle.gw_base.specs.declared.history.HistoryEntry.{HistoryEntry}
 use Rattle.gateway_book.specs.Turning.{facts_of as book_facts, tells_lists}
 use Rattle.gateway_book.specs.declared.book.Book.{Book}
 use Rattle.gateway_book.specs.declared.outcome.Outcome.{Outcome}
 use Rattle.gateway_book.specs.declared.outcome.Outcome.TheVariants as outcome
-use Rattle.gateway_book.specs.declared.outcome.Settled.{Settled}
 use Rattle.job_inbox.specs.declared.job.Job.{Job}
 use Rattle.net_link.specs.Datagrams.{LinkState}
 use Rattle.turn_cell.specs.Cell.{knowledge}
-use Rattle.turn_cell.specs.Knowing.{Saw, kept}
-use Rattle.turn_cell.specs.Passes.{Took, TookEach, TookMore}
+use Rattle.turn_cell.specs.Knowing.{kept}
+use Rattle.turn_cell.specs.Passes.{TookEach, TookMore}
 use Rattle.turn_cell.specs.declared.cell.Pass.{Pass}
 use Rattle.turn_cell.specs.declared.knowing.KeptTurn.{KeptTurn}
 use Rattle.turn_cell.specs.declared.knowing.Knowledge.{Knowledge}
-use Rattle.node_session.specs.Answering.{AddsAnswers, IsAnswerTo, called_at, history_at}
-use Rattle.node_session.specs.Asking.{IsAsked, TakesIn}
+use Rattle.node_session.specs.Answering.{AddsAnswers, IsAnswerTo, KeepsTurns, called_at, history_at}
+use Rattle.node_session.specs.Asking.{TakesIn}
 use Rattle.node_session.specs.Learning.{HasTurnFor}
 use Rattle.node_session.specs.Passes.{known_by}
 use Rattle.node_session.specs.Serving.{GoesOn, caller_of}
@@ -30,34 +28,7 @@ use Rattle.node_session.specs.Together.{AreFirstsOf, AreServed, AreTaken, EachMa
 use Rattle.node_session.specs.Turns as turns
 use Rattle.node_session.specs.declared.gate.Go.{Go}
 use Rattle.node_session.specs.declared.served.Served.{Served}
-use Rattle.node_session.proofs.AskingLemmas.{begins_then}
-use Rattle.node_session.proofs.ServedLemmas.{Later, later_on, may_on, more_jobs, none_added, own_turn, tells_behind}
-
--- what becomes of what a pass knows: it began with as many faults, and it knows no less
-record OnFrom (told : Bool) (before after : Knowledge) : Type 0 where
-  pub faults : after.faults ≡ before.faults
-  pub known : WhereTold told (Begins before.known after.known)
-
-on_then : (told : Bool) (one two three : Knowledge) → OnFrom told one two → OnFrom told two three → OnFrom told one three
-on_then told one two three p q = record {
-  faults = q.faults ∙ p.faults;
-  known = λ y. begins_then one.known two.known three.known (p.known y) (q.known y);
-}
-
-on_same : (told : Bool) (one two : Knowledge) → two ≡ one → OnFrom told one two
-on_same told one two is = subst (λ (k : Knowledge). OnFrom told one k) (sym is)
-    (record { faults = refl; known = λ y. ([], sym (append-nil one.known)) })
-
-on_took : {V R : Type 0} (told : Bool) (facts : V → Facts) (session : Option ℕ) (does : V → V → R → Bool → List HistoryEntry → Type 0)
-    (before : Knowledge) (answer : R) (after : Knowledge) → Took told facts session does before answer after → OnFrom told before after
-on_took told facts session does before answer after t = record {
-  faults = ap (λ (k : Knowledge). k.faults) t.kept;
-  known = λ y. subst (λ (h : List HistoryEntry). Begins before.known h) (sym (ap (λ (k : Knowledge). k.known) t.kept))
-      (begins_then before.known (facts t.found).firm (facts t.left).firm (t.legal.known y) (t.owes.firm y));
-}
-
-on_saw : (told : Bool) (seen : ℕ) (before after : Knowledge) → Saw told seen before after → OnFrom told before after
-on_saw told seen before after s = record { faults = ap (λ (k : Knowledge). k.faults) s.same; known = s.grows }
+use Rattle.node_session.proofs.ServedLemmas.{Laters, adds_first, goes_none, goes_then, goes_turn, later_none, later_on, may_on, more_jobs, none_added, own_turn, tells_behind}
 
 -- the pass keeps the turn of an outcome behind more turns
 turn_stays : (told : Bool) (outcome : Outcome) (before after : Knowledge) (more : List KeptTurn)
@@ -121,74 +92,33 @@ module _ {A : Type 0} (tells : Ghosts A) (session : ℕ) where
       → after.turns ≡ before.turns ++ turn_of {job = job} took ∷ []
   turns_with took = ap (λ (k : Knowledge). k.turns) took.kept
 
-  -- what the turn added that took a datagram
-  adds_first : (job : Job) (before after : Knowledge) (outcome : Outcome) (took : Takes job before outcome after)
-      → WhereTold told (((turn_of {job = job} took).added ≡ [])
-      ⊎ ((turn_of {job = job} took).added ≡ called_at told session job (turn_of {job = job} took)))
-  adds_first job before after outcome took it_is =
-      elim (took.does_so.answers it_is) [
-        | inl taken ↦ inr taken.adds
-        | inr failed ↦ inl failed.adds
-      ]
-
   -- the turns that took datagrams, one for each job
   record Firsts (jobs : List Job) (before after : Knowledge) : Type 0 where
-    pub firsts : List KeptTurn
-    pub turns : after.turns ≡ before.turns ++ firsts
-    pub number : after.number ≡ before.number
-    pub size : after.size ≡ before.size
-    pub each : AreFirstsOf told session before.size jobs firsts
+    pub goes : GoesFrom told before after
+    pub each : AreFirstsOf told session before.size jobs goes.later
 
   firsts_of : (jobs : List Job) (outcomes : List Outcome) (before after : Knowledge)
       → AreTaken tells session jobs outcomes before after → Firsts jobs before after
-  firsts_of [] [] before after taken = record {
-    firsts = [];
-    turns = ap (λ (k : Knowledge). k.turns) taken ∙ sym (append-nil before.turns);
-    number = ap (λ (k : Knowledge). k.number) taken;
-    size = ap (λ (k : Knowledge). k.size) taken;
-    each = refl;
-  }
+  firsts_of [] [] before after taken = record { goes = goes_none taken; each = refl }
   firsts_of (job ∷ jobs) (outcome ∷ outcomes) before after taken =
-      let took = taken.1 in
-      let t : KeptTurn = turn_of {job = job} took in
       let rest : Firsts jobs taken.0 after = firsts_of jobs outcomes taken.0 after taken.2 in
-      let size : taken.0.size ≡ before.size = ap (λ (k : Knowledge). k.size) took.kept in
       record {
-        firsts = t ∷ rest.firsts;
-        turns = rest.turns ∙ ap (λ (ts : List KeptTurn). ts ++ rest.firsts) (turns_with {job = job} took)
-            ∙ append_assoc before.turns (t ∷ []) rest.firsts;
-        number = rest.number ∙ ap (λ (k : Knowledge). k.number) took.kept;
-        size = rest.size ∙ size;
+        goes = goes_then (goes_turn taken.1) rest.goes;
         each = (
-          took.legal.size,
-          adds_first job before taken.0 outcome took,
-          subst (λ (n : ℕ). AreFirstsOf told session n jobs rest.firsts) size rest.each,
+          taken.1.legal.size,
+          adds_first tells session job taken.1,
+          subst (λ (n : ℕ). AreFirstsOf told session n jobs rest.goes.later)
+            (ap (λ (k : Knowledge). k.size) taken.1.kept) rest.each,
         );
       }
   firsts_of _ _ before after taken = absurd taken
-
-  -- it knows no less behind the turns that took datagrams
-  on_taken : (jobs : List Job) (outcomes : List Outcome) (before after : Knowledge) → AreTaken tells session jobs outcomes before after
-      → OnFrom told before after
-  on_taken [] [] before after taken = on_same told before after taken
-  on_taken (job ∷ jobs) (o ∷ outcomes) before after taken =
-      on_then told before taken.0 after (on_took told (λ book. book_facts book) _ _ before o taken.0 taken.1)
-      (on_taken jobs outcomes taken.0 after taken.2)
-  on_taken _ _ before after taken = absurd taken
-
-  from_taken : (jobs : List Job) (outcomes : List Outcome) (before after : Knowledge) → AreTaken tells session jobs outcomes before after
-      → GoesFrom told before after
-  from_taken jobs outcomes before after taken =
-      let first : Firsts jobs before after = firsts_of jobs outcomes before after taken in
-      let on : OnFrom told before after = on_taken jobs outcomes before after taken in
-      record { number = first.number; size = first.size; faults = on.faults; known = on.known; later = first.firsts; turns = first.turns }
 
   -- the pass keeps the turns of all these outcomes
   pub have_turns : (jobs : List Job) (outcomes : List Outcome) (before after : Knowledge) → AreTaken tells session jobs outcomes before after
       → HaveTurnsFor told outcomes after
   have_turns [] [] before after taken = All-nil (λ (o : Outcome). HasTurnFor told o after)
   have_turns (job ∷ jobs) (o ∷ outcomes) before after taken =
-      let rest : GoesFrom told taken.0 after = from_taken jobs outcomes taken.0 after taken.2 in
+      let rest : GoesFrom told taken.0 after = (firsts_of jobs outcomes taken.0 after taken.2).goes in
       All-cons (λ (x : Outcome). HasTurnFor told x after) o outcomes
       (turn_stays told o taken.0 after rest.later rest.turns (own_turn tells job.from job.octets job.moment (caller_of session job) before taken.0 o taken.1))
       (have_turns jobs outcomes taken.0 after taken.2)
@@ -202,14 +132,14 @@ module _ {A : Type 0} (tells : Ghosts A) (session : ℕ) where
 
     pub turns_behind : HaveTurnsFor told old before → HaveTurnsFor told new after
     turns_behind have =
-        let goes : GoesFrom told before after = from_taken jobs took.0 before after all_took in
+        let goes : GoesFrom told before after = (firsts_of jobs took.0 before after all_took).goes in
         subst (λ (os : List Outcome). HaveTurnsFor told os after) (sym took.1)
         (All-append (λ (o : Outcome). HasTurnFor told o after) old took.0
         (λ k d lt. turn_stays told (slice_index_or old k d) before after goes.later goes.turns (have k d lt))
         (have_turns jobs took.0 before after all_took))
 
     pub number_behind : after.number ≡ before.number
-    number_behind = (firsts_of jobs took.0 before after all_took).number
+    number_behind = (firsts_of jobs took.0 before after all_took).goes.number
 
     pub as_many_behind : length new ≡ length old + length jobs
     as_many_behind =
@@ -217,23 +147,6 @@ module _ {A : Type 0} (tells : Ghosts A) (session : ℕ) where
         ∙ ap (λ (n : ℕ). length old + n) (as_many jobs took.0 before after all_took)
 
   module _ (may : ℕ → ℕ → Go → Type 0) where
-    on_asked : (front faults : ℕ) (before : Knowledge) (settled : Settled) (after : Knowledge)
-        → IsAsked tells front faults before settled after → OnFrom told before after
-    on_asked front faults before settled after a =
-        let saw = on_saw told a.seen before a.looked a.saw in
-        elim a.ends [
-          | inl firm ↦ on_then told before a.looked after saw (on_same told a.looked after firm.2)
-          | inr second ↦
-              on_then told before a.looked after saw (on_took told (λ book. book_facts book) _ _ a.looked settled after second.1)
-        ]
-
-    on_goes : (job : Job) (old new : LinkState) (result : Served) (taken after : Knowledge) (o : Outcome)
-        → GoesOn tells may session job old new result taken after o → OnFrom told taken after
-    on_goes job old new result taken after (outcome.Drop why) e = on_same told taken after e.1
-    on_goes job old new result taken after (outcome.Answer receipt) (inl over) = on_same told taken after over.1.1
-    on_goes job old new result taken after (outcome.Answer receipt) (inr on) =
-        on_asked receipt.front receipt.faults taken on.1.settled after on.1.asked
-
     abbrev Goes : Job → LinkState → LinkState → Served → Knowledge → Knowledge → Outcome → Type 0
     Goes job old new result now after outcome = GoesOn tells may session job old new result now after outcome
 
@@ -275,52 +188,29 @@ module _ {A : Type 0} (tells : Ghosts A) (session : ℕ) where
     pub turns_stay : (job : Job) (old new : LinkState) (result : Served) (now after : Knowledge) (outcome : Outcome) (outcomes : List Outcome)
         → Goes job old new result now after outcome → HaveTurnsFor told outcomes now → HaveTurnsFor told outcomes after
     turns_stay job old new result now after outcome outcomes goes have =
-        let one : Later now after = later_on tells may session job old new result now after outcome goes in
+        let one : GoesFrom told now after =
+          (later_on tells may session job old new result now after outcome goes).goes in
         λ k d lt. turn_stays told (slice_index_or outcomes k d) now after one.later one.turns (have k d lt)
 
     -- the turns behind those that took the datagrams: at most one for each job, which added nothing
-    record Laters (jobs : List Job) (taken after : Knowledge) : Type 0 where
-      pub later : List KeptTurn
-      pub turns : after.turns ≡ taken.turns ++ later
-      pub number : after.number ≡ taken.number
-      pub size : after.size ≡ taken.size
-      pub one_each : length later ≤ length jobs
-      pub adds_none : All (λ t. t.added ≡ []) later
-
     laters_of : (jobs : List Job) (outcomes : List Outcome) (results : List Served) (taken after : Knowledge) (old new : LinkState)
-        → GoOn tells may session jobs outcomes results taken after old new → Laters jobs taken after
-    laters_of [] outcomes results taken after old new goes = record {
-      later = [];
-      turns = ap (λ (k : Knowledge). k.turns) goes.2 ∙ sym (append-nil taken.turns);
-      number = ap (λ (k : Knowledge). k.number) goes.2;
-      size = ap (λ (k : Knowledge). k.size) goes.2;
-      one_each = omega arith;
-      adds_none = All-nil (λ (t : KeptTurn). t.added ≡ []);
-    }
+        → GoOn tells may session jobs outcomes results taken after old new → Laters told (length jobs) taken after
+    laters_of [] outcomes results taken after old new goes = later_none 0 goes.2
     laters_of (job ∷ jobs) (o ∷ outcomes) (r ∷ results) taken after old new goes =
-        let one : Later taken goes.0 = later_on tells may session job old goes.1 r taken goes.0 o goes.2 in
-        let rest : Laters jobs goes.0 after = laters_of jobs outcomes results goes.0 after goes.1 new goes.3 in
+        let one : Laters told 1 taken goes.0 = later_on tells may session job old goes.1 r taken goes.0 o goes.2 in
+        let rest : Laters told (length jobs) goes.0 after =
+          laters_of jobs outcomes results goes.0 after goes.1 new goes.3 in
         record {
-          later = one.later ++ rest.later;
-          turns = rest.turns ∙ ap (λ (ts : List KeptTurn). ts ++ rest.later) one.turns ∙ append_assoc taken.turns one.later rest.later;
-          number = rest.number ∙ one.number;
-          size = rest.size ∙ one.size;
-          one_each = let a = one.one_more in let b = rest.one_each in let both = length-append one.later rest.later in omega (arith, a, b, both);
-          adds_none = All-append (λ (t : KeptTurn). t.added ≡ []) one.later rest.later one.adds_none rest.adds_none;
+          goes = goes_then one.goes rest.goes;
+          few = let a = one.few in let b = rest.few in
+            omega (arith, a, b, length-append one.goes.later rest.goes.later);
+          adds_none = All-append (λ (t : KeptTurn). t.added ≡ []) one.goes.later rest.goes.later one.adds_none rest.adds_none;
         }
     laters_of (job ∷ jobs) _ _ taken after old new goes = absurd goes
 
     pub number_on : (jobs : List Job) (outcomes : List Outcome) (results : List Served) (taken after : Knowledge) (old new : LinkState)
         → GoOn tells may session jobs outcomes results taken after old new → after.number ≡ taken.number
-    number_on jobs outcomes results taken after old new goes = (laters_of jobs outcomes results taken after old new goes).number
-
-    -- the pass knows no less behind what followed for a job
-    goes_from : (job : Job) (old new : LinkState) (result : Served) (now after : Knowledge) (outcome : Outcome)
-        → Goes job old new result now after outcome → GoesFrom told now after
-    goes_from job old new result now after outcome goes =
-        let one : Later now after = later_on tells may session job old new result now after outcome goes in
-        let on : OnFrom told now after = on_goes job old new result now after outcome goes in
-        record { number = one.number; size = one.size; faults = on.faults; known = on.known; later = one.later; turns = one.turns }
+    number_on jobs outcomes results taken after old new goes = (laters_of jobs outcomes results taken after old new goes).goes.number
 
     -- what is told of each
     each_tells : (jobs : List Job) (outcomes : List Outcome) (results : List Served) (before taken now after : Knowledge)
@@ -329,11 +219,11 @@ module _ {A : Type 0} (tells : Ghosts A) (session : ℕ) where
         → EachTells told session jobs results before now after old new
     each_tells [] outcomes results before taken now after old new more is takes goes = (goes.1, goes.2, goes.3)
     each_tells (job ∷ jobs) (o ∷ outcomes) (r ∷ results) before taken now after old new more is takes goes =
-        let rest : Firsts jobs takes.0 taken = firsts_of jobs outcomes takes.0 taken takes.2 in
-        let between : List KeptTurn = rest.firsts ++ more in
+        let rest : GoesFrom told takes.0 taken = (firsts_of jobs outcomes takes.0 taken takes.2).goes in
+        let between : List KeptTurn = rest.later ++ more in
         let behind : now.turns ≡ takes.0.turns ++ between =
-        is ∙ ap (λ (ts : List KeptTurn). ts ++ more) rest.turns ∙ append_assoc takes.0.turns rest.firsts more in
-        let one : GoesFrom told now goes.0 = goes_from job old goes.1 r now goes.0 o goes.2 in (
+        is ∙ ap (λ (ts : List KeptTurn). ts ++ more) rest.turns ∙ append_assoc takes.0.turns rest.later more in
+        let one : GoesFrom told now goes.0 = (later_on tells may session job old goes.1 r now goes.0 o goes.2).goes in (
           takes.0,
           goes.0,
           goes.1,
@@ -360,12 +250,12 @@ module _ {A : Type 0} (tells : Ghosts A) (session : ℕ) where
     )
     each_may_have (job ∷ jobs) _ _ taken after old new goes = absurd goes
 
-    module _ (jobs : List Job) (old new : LinkState) (results : List Served) (before after : Knowledge)
+    module _ {jobs : List Job} {old new : LinkState} {results : List Served} {before after : Knowledge}
         (is : AreServed tells may session jobs old new results before after) where
       pub tell_together : TellTogether told session jobs results before after old new
       tell_together = record {
         taken = is.taken;
-        goes = from_taken jobs is.outcomes before is.taken is.first;
+        goes = (firsts_of jobs is.outcomes before is.taken is.first).goes;
         each = each_tells jobs is.outcomes results before is.taken is.taken after old new [] (sym (append-nil is.taken.turns)) is.first is.go_on;
       }
 
@@ -375,15 +265,16 @@ module _ {A : Type 0} (tells : Ghosts A) (session : ℕ) where
       pub keeps_turns_of : KeepsTurnsOf told session jobs before after
       keeps_turns_of =
           let first : Firsts jobs before is.taken = firsts_of jobs is.outcomes before is.taken is.first in
-          let then : Laters jobs is.taken after = laters_of jobs is.outcomes results is.taken after old new is.go_on in
+          let then : Laters told (length jobs) is.taken after = laters_of jobs is.outcomes results is.taken after old new is.go_on in
           record {
-            firsts = first.firsts;
-            later = then.later;
-            turns = then.turns ∙ ap (λ (ts : List KeptTurn). ts ++ then.later) first.turns ∙ append_assoc before.turns first.firsts then.later;
-            number = then.number ∙ first.number;
-            size = then.size ∙ first.size;
+            firsts = first.goes.later;
+            later = then.goes.later;
+            turns = then.goes.turns ∙ ap (λ (ts : List KeptTurn). ts ++ then.goes.later) first.goes.turns
+                ∙ append_assoc before.turns first.goes.later then.goes.later;
+            number = then.goes.number ∙ first.goes.number;
+            size = then.goes.size ∙ first.goes.size;
             each = first.each;
-            one_each = then.one_each;
+            one_each = then.few;
             adds_none = then.adds_none;
           }
 
@@ -447,9 +338,9 @@ module _ (told : Bool) (session size : ℕ) where
       )
 
 -- a pass that added answers to some jobs added answers to these and the ones behind them
-pub adds_answers_of : (told : Bool) (session : ℕ) (jobs : List Job) (before after : Knowledge) → KeepsTurnsOf told session jobs before after
+pub adds_answers_of : {told : Bool} {session : ℕ} {jobs : List Job} {before after : Knowledge} → KeepsTurnsOf told session jobs before after
     → told ≡ true → session ≡ before.number → (earlier : List Job) → AddsAnswers earlier before → AddsAnswers (earlier ++ jobs) after
-adds_answers_of told session jobs before after keeps it_is own earlier adds =
+adds_answers_of {told} {session} {jobs} {before} {after} keeps it_is own earlier adds =
     rw (keeps.turns, keeps.size, keeps.number)
     (All-append (IsAnswerTo before.size before.number (earlier ++ jobs)) before.turns (keeps.firsts ++ keeps.later)
     (λ k d lt. more_jobs before.size before.number earlier jobs (slice_index_or before.turns k d) (adds k d lt))
@@ -458,3 +349,17 @@ adds_answers_of told session jobs before after keeps it_is own earlier adds =
     (subst (λ (n : ℕ). All (IsAnswerTo before.size n (earlier ++ (jobs ++ []))) keeps.firsts) own
     (firsts_answer told session before.size earlier jobs [] keeps.firsts it_is keeps.each)))
     (none_added before.size before.number (earlier ++ jobs) keeps.later keeps.adds_none)))
+
+pub adds_answers : {told : Bool} {session : ℕ} {job : Job} {before after : Knowledge} → KeepsTurns told session job before after → told ≡ true
+    → session ≡ before.number → (jobs : List Job) → AddsAnswers jobs before → AddsAnswers (jobs ++ job ∷ []) after
+adds_answers {told} {session} {job} {before} {after} keeps =
+  adds_answers_of {jobs = job ∷ []} {before = before} {after = after} (record {
+  firsts = keeps.first ∷ [];
+  later = keeps.later;
+  turns = keeps.turns;
+  number = keeps.number;
+  size = keeps.size.0;
+  each = (keeps.size.1, keeps.adds, refl);
+  one_each = keeps.one_more;
+  adds_none = keeps.adds_none;
+})

@@ -1,4 +1,4 @@
-use Rattle.node_core.proofs.RestingLemmas.{all_rest}
+use Rattle.node_core.proofs.KnowledgeLemmas.{all_rest}
 use Rattle.node_core.proofs.laws.knowledge_rests_on_responses.Goals as goal
 
 pub returns : goal.returns

@@ -1,4 +1,4 @@
-use Rattle.node_core.proofs.ChoosingLemmas.{release_is_of_choice}
+use Rattle.node_core.proofs.DueLemmas.{release_is_of_choice}
 use Rattle.node_core.proofs.laws.releases_name_the_choice.Goals as goal
 
 pub returns : goal.returns

@@ -2,7 +2,7 @@ use Rattle.std.proofs.Common.{◌++◌, Bool, get_or, ap, ◌∙◌}
 use Rattle.node_core.specs.declared.peer.Peer.{Peer}
 use Rattle.node_core.specs.Peers.{all_drawn}
 use Rattle.node_core.specs.Sendings.{probe_of}
-use Rattle.node_core.proofs.TickLemmas.{probe_step}
+use Rattle.node_core.proofs.PlanLemmas.{probe_step}
 use Rattle.node_core.proofs.tick.probe.Goals as goal
 
 pub loop-i-preserved : goal.loop-i-preserved

@@ -1,4 +1,4 @@
-use Rattle.node_session.proofs.EndedLemmas.{all_same, files_same, grows_same, settled_stays, stays_then, writer_on, writer_same}
+use Rattle.node_session.proofs.SettledLemmas.{all_same, files_same, grows_same, settled_stays, stays_then, writer_on, writer_same}
 use Rattle.node_session.proofs.settling.settle.Goals as goal
 
 pub returns-in_err-end-clause-writer : goal.returns-in_err-end-clause-writer

@@ -1,5 +1,4 @@
-use Rattle.std.proofs.Common.{◌≡◌, ℕ, ◌-◌, Bool, refl, Some, List, map, length, sym, ap, subst, ◌∙◌, arith}
-use Rattle.std.proofs.lemmas.List.{length-map}
+use Rattle.std.proofs.Common.{◌≡◌, ℕ, Bool, refl, Some, List, map, ap, ◌∙◌}
 use Rattle.gw_base.specs.Nearest.{nearest}
 use Rattle.node_core.specs.declared.copy.PacketCopy.{PacketCopy}
 use Rattle.node_core.specs.declared.peer.Peer.{Peer}
@@ -7,9 +6,8 @@ use Rattle.node_core.specs.Hearing.{first_made}
 use Rattle.node_core.specs.NodeFields.{value_of_node}
 use Rattle.node_core.specs.Packets.{PacketState, is_done, is_resolved, packet_hearing, while_open}
 use Rattle.node_core.specs.Peers.{last_number}
-use Rattle.node_core.specs.Sound.{AreNumbered}
 use Rattle.node_core.specs.Value.{NodeValue}
-use Rattle.node_core.proofs.NumberedLemmas.{numbered_map, while_open-number}
+use Rattle.node_core.proofs.NodeLemmas.{sound_on, while_open-number}
 use Rattle.node_core.proofs.node.Node.learn.Goals as goal
 
 -- the numbers as they are read
@@ -40,25 +38,9 @@ invariant_of-self c =
     let inside = c.self.inside in
     let sound = c.self.invariant in
     let hears : PacketState → PacketState = packet_hearing c.args.port c.args.gateway c.args.cause c.new-numbers.result in
-    let size : length c.hear.new.self.packets ≡ length inside.packets.packets =
-    ap (λ (ps : List PacketState). length ps) c.hear.ensures.packets ∙ length-map inside.packets.packets (while_open hears) in
-    record {
-      some = sound.some;
-      most = sound.most;
-      within = sound.within;
-      quiet = sound.quiet;
-      numbers = sound.numbers;
-      numbered = subst (λ (n : ℕ). AreNumbered (inside.submissions - n) c.hear.new.self.packets) (sym size)
-          (subst (λ (ps : List PacketState). AreNumbered (inside.submissions - length inside.packets.packets) ps) (sym c.hear.ensures.packets)
-          (numbered_map (while_open hears) (while_open-number hears (λ packet. refl)) (inside.submissions - length inside.packets.packets)
-          inside.packets.packets sound.numbered));
-      packets = omega (arith, size, sound.packets);
-      forms = sound.forms ∙ sym size;
-      submissions = sound.submissions;
-      resolved = omega (arith, size, sound.resolved);
-      done = omega (arith, size, sound.done);
-      counter = sound.counter;
-    }
+    sound_on inside.counter (value_of_node inside) (while_open hears) (while_open-number hears (λ packet. refl)) sound
+    inside.gateways.items inside.favourite inside.quiet c.hear.new.self.packets
+    refl sound.within sound.quiet sound.numbers c.hear.ensures.packets
 
 pub returns-clause-packets : goal.returns-clause-packets
 returns-clause-packets c =

@@ -1,17 +1,16 @@
-use Rattle.std.proofs.Common.{◌≡◌, ℕ, suc, ◌-◌, ◌<◌, min, List, map, length, refl, sym, ap, subst, ◌∙◌, arith}
+use Rattle.std.proofs.Common.{◌≡◌, ℕ, suc, ◌-◌, ◌<◌, min, List, map, length, sym, ap, subst, ◌∙◌, arith}
 use Rattle.std.specs.Prelude.{IfSome}
-use Rattle.std.proofs.lemmas.List.{length-map}
 use Rattle.node_core.specs.declared.peer.Peer.{Peer}
 use Rattle.node_core.specs.declared.sending.Sending.{Sending}
 use Rattle.node_core.specs.Moving.{moved_at_tick, quiet_by}
 use Rattle.node_core.specs.NodeFields.{value_of_node}
-use Rattle.node_core.specs.Packets.{PacketState, packet_after_all, while_open}
+use Rattle.node_core.specs.Packets.{packet_after_all, while_open}
 use Rattle.node_core.specs.Peers.{all_drawn}
-use Rattle.node_core.specs.Sound.{AreNumbered}
 use Rattle.node_core.specs.Ticks.{due_by, tick_entries}
 use Rattle.node_core.specs.Value.{NodeValue, befallen, most_quiet}
-use Rattle.node_core.proofs.OwnLemmas.{length-replaced, replaced_is}
-use Rattle.node_core.proofs.TickLemmas.{length-all_drawn, numbered_tick, tick_result, within_by}
+use Rattle.node_core.proofs.SettledLemmas.{length-replaced, replaced_is}
+use Rattle.node_core.proofs.NodeLemmas.{after_all-number, sound_on, while_open-number}
+use Rattle.node_core.proofs.PlanLemmas.{length-all_drawn, tick_result, within_by}
 use Rattle.node_core.proofs.node.Node.tick.Goals as goal
 
 pub replace-requires : goal.replace-requires
@@ -36,30 +35,16 @@ invariant_of-self c =
     let peers : length c.in_ok-plan.plan.peers.items ≡ length inside.gateways.items =
     ap (λ (ps : List Peer). length ps) c.in_ok-plan.ensures.peers ∙ length-all_drawn sendings c.deref.result.now
     ∙ ap (λ (ps : List Peer). length ps) c.deref.ensures.value in
-    let size : length c.replace.new.self.packets ≡ length inside.packets.packets =
-    ap (λ (ps : List PacketState). length ps) (replaced c) ∙ length-map inside.packets.packets (while_open (packet_after_all sendings)) in
     let moves : IfSome c.moved_at_tick-moved.result (λ place. place < length inside.gateways.items) =
     subst (λ (v : NodeValue). IfSome c.moved_at_tick-moved.result (λ place. place < length v.gateways)) (sym c.self.view_is)
     c.moved_at_tick-moved.ensures.within in
     let within : c.favourite_by-favourite.result < length inside.gateways.items =
     subst (λ (n : ℕ). n < length inside.gateways.items) (sym c.favourite_by-favourite.ensures)
     (within_by c.moved_at_tick-moved.result inside.favourite (length inside.gateways.items) moves sound.within) in
-    record {
-      some = omega (arith, peers, sound.some);
-      most = omega (arith, peers, sound.most);
-      within = omega (arith, peers, within);
-      quiet = omega (arith, c.min-self-inside.ensures);
-      numbers = c.in_ok-plan.ensures.numbers;
-      numbered = subst (λ (n : ℕ). AreNumbered (inside.submissions - n) c.replace.new.self.packets) (sym size)
-          (subst (λ (ps : List PacketState). AreNumbered (inside.submissions - length inside.packets.packets) ps) (sym (replaced c))
-          (numbered_tick sendings (inside.submissions - length inside.packets.packets) inside.packets.packets sound.numbered));
-      packets = omega (arith, size, sound.packets);
-      forms = sound.forms ∙ sym size;
-      submissions = sound.submissions;
-      resolved = omega (arith, size, sound.resolved);
-      done = omega (arith, size, sound.done);
-      counter = sound.counter;
-    }
+    sound_on inside.counter (value_of_node inside) (while_open (packet_after_all sendings))
+    (while_open-number (packet_after_all sendings) (after_all-number sendings)) sound
+    c.in_ok-plan.plan.peers.items c.favourite_by-favourite.result c.min-self-inside.result c.replace.new.self.packets
+    peers within (omega (arith, c.min-self-inside.ensures)) c.in_ok-plan.ensures.numbers (replaced c)
 
 pub returns-clause-node : goal.returns-clause-node
 returns-clause-node c =
@@ -75,6 +60,6 @@ returns-clause-node c =
     let packets : c.replace.new.self.packets ≡ map (while_open (packet_after_all sendings)) inside.packets.packets =
     replaced c
     ∙ ap (λ (ps : List Peer). map (while_open (packet_after_all (due_by c.favourite_by-favourite.result c.is_alive.result inside.paths ps inside.packets.packets))) inside.packets.packets) c.deref.ensures.value in
-    let after = (tick_result node c.moved_at_tick-moved.result c.favourite_by-favourite.result c.is_alive.result c.min-self-inside.result
-    c.in_ok-plan.plan.peers.items sendings c.replace.new.self.packets moved c.favourite_by-favourite.ensures c.is_alive.ensures quiet refl peers packets).1 in
-    after ∙ ap (λ (v : NodeValue). befallen (tick_entries v) v) c.self.view_is
+    tick_result node c.moved_at_tick-moved.result c.favourite_by-favourite.result c.is_alive.result c.min-self-inside.result
+    c.in_ok-plan.plan.peers.items c.replace.new.self.packets moved c.favourite_by-favourite.ensures c.is_alive.ensures quiet peers packets
+    ∙ ap (λ (v : NodeValue). befallen (tick_entries v) v) c.self.view_is

@@ -1,6 +1,6 @@
 use Rattle.std.proofs.Common.{◌≡◌, ◌-◌, suc, length, sym, ap, ◌∙◌, arith, rules}
 use Rattle.std.specs.Prelude.{slice_get}
-use Rattle.node_core.proofs.NumberedLemmas.{none_numbered, place_numbered}
+use Rattle.node_core.proofs.NodeLemmas.{none_numbered, place_numbered}
 use Rattle.node_core.proofs.packets.Packets.numbered.Goals as goal
 
 pub returns-then-number-before : goal.returns-then-number-before

@@ -1,6 +1,6 @@
 use Rattle.std.proofs.Common.{sym, ◌∙◌}
 use Rattle.turn_cell.specs.Cell.{knowledge}
-use Rattle.node_session.proofs.ActorLemmas.{lists_at}
+use Rattle.node_session.proofs.GivenLemmas.{lists_at}
 use Rattle.node_session.proofs.actor.FileActor.list.Goals as goal
 
 pub returns-clause-lists : goal.returns-clause-lists

@@ -6,7 +6,7 @@ use Rattle.gateway_book.specs.Turning.{tells_lists}
 use Rattle.gw_base.specs.Facts.{WhereTold}
 use Rattle.gw_base.specs.Owes.{Begins}
 use Rattle.node_session.specs.Writing.{AreNext, HoldsFilesOf, IsWriterOf, KeepsFiles, KeepsListing, knowledge_of, writer_of}
-use Rattle.node_session.proofs.ActorLemmas.{failed_in, keeps_one, known_grows, later_by, listed_count, listed_in, listed_next, listed_room, listed_writer}
+use Rattle.node_session.proofs.GivenLemmas.{failed_in, keeps_one, known_grows, later_by, listed_count, listed_in, listed_next, listed_room, listed_writer}
 use Rattle.node_session.proofs.actor.FileActor.step.Goals as goal
 use Rattle.node_session.proofs.actor.FileActor.step.Goals.{After-give, After-list}
 

@@ -4,7 +4,7 @@ use Rattle.gateway_book.specs.Book.{fortune_of, value_of}
 use Rattle.gateway_book.specs.Turning.{drops_of, facts_of, tells_lists}
 use Rattle.gateway_book.specs.declared.outcome.Settled.{Settled}
 use Rattle.node_session.specs.Turns.{IsToldAt}
-use Rattle.node_session.proofs.CommittedLemmas.{has_asked, has_committed, told_at, unchanged}
+use Rattle.node_session.proofs.SettledLemmas.{has_asked, has_committed, told_at, unchanged}
 use Rattle.node_session.proofs.committing.CommittingTurnBook.run.Goals as goal
 
 pub returns-in_default : goal.returns-in_default

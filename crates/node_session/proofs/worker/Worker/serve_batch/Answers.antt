@@ -1,5 +1,4 @@
 use Rattle.std.proofs.Common.{sym, ◌∙◌}
-use Rattle.gateway_book.specs.Turning.{tells_lists}
 use Rattle.node_session.specs.Passes.{known_by}
 use Rattle.node_session.proofs.TogetherLemmas.{adds_answers_of, all_may_have, all_taken, both_served, keeps_turns_of, tell_together}
 use Rattle.node_session.proofs.worker.Worker.serve_batch.Goals as goal
@@ -14,22 +13,15 @@ returns-clause-served g c =
     (λ k first. c.take.ensures.taken k first)) c.go_on.ensures.goes
 
 pub returns-clause-turns : goal.returns-clause-turns
-returns-clause-turns g c =
-    keeps_turns_of g.A.Area c.args.self.now.session (g.G.Gate.may c.args.gate.now) c.args.batch.now.jobs.items (g.L.Link.state c.args.link.now)
-    (g.L.Link.state c.go_on.new.link) c.go_on.new.batch.served.items (known_by c.args.self.now.pass) (known_by c.go_on.new.self.pass) (returns-clause-served g c)
+returns-clause-turns g c = keeps_turns_of g.A.Area _ _ (returns-clause-served g c)
 
 pub returns-clause-tells : goal.returns-clause-tells
-returns-clause-tells g c =
-    tell_together g.A.Area c.args.self.now.session (g.G.Gate.may c.args.gate.now) c.args.batch.now.jobs.items (g.L.Link.state c.args.link.now)
-    (g.L.Link.state c.go_on.new.link) c.go_on.new.batch.served.items (known_by c.args.self.now.pass) (known_by c.go_on.new.self.pass) (returns-clause-served g c)
+returns-clause-tells g c = tell_together g.A.Area _ _ (returns-clause-served g c)
 
 pub returns-clause-gate : goal.returns-clause-gate
-returns-clause-gate g c =
-    all_may_have g.A.Area c.args.self.now.session (g.G.Gate.may c.args.gate.now) c.args.batch.now.jobs.items (g.L.Link.state c.args.link.now)
-    (g.L.Link.state c.go_on.new.link) c.go_on.new.batch.served.items (known_by c.args.self.now.pass) (known_by c.go_on.new.self.pass) (returns-clause-served g c)
+returns-clause-gate g c = all_may_have g.A.Area _ _ (returns-clause-served g c)
 
 pub returns-clause-answers : goal.returns-clause-answers
 returns-clause-answers g c =
     let turns = returns-clause-turns g c in
-    λ told. adds_answers_of (tells_lists g.A.Area) c.args.self.now.session c.args.batch.now.jobs.items (known_by c.args.self.now.pass)
-    (known_by c.go_on.new.self.pass) turns told (sym c.take.ensures.own.1 ∙ c.go_on.ensures.number ∙ turns.number)
+    λ told. adds_answers_of turns told (sym c.take.ensures.own.1 ∙ c.go_on.ensures.number ∙ turns.number)

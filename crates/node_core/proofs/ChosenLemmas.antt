@@ -1,0 +1,330 @@
+-- What was sent for the copies of a packet: a release for the choice alone, where the first copy is sealed; and while
+-- the first copy waits, nothing, or a release among it. Each move and each response leaves it so.
+use Rattle.std.proofs.Common.{◌≡◌, ◌≢◌, ◌⊎◌, inl, inr, ℕ, ◌==◌, Bool, true, false, if◌then◌else◌, List, [], ◌∷◌, ◌++◌, map, Option, Some, None, option_map, refl, sym, ap, subst, ◌∙◌}
+use Rattle.std.specs.List.{AllByRecursion, Contains, find, list_any}
+use Rattle.std.specs.Option.{IfSome, option_map_or, option_or}
+use Rattle.std.proofs.lemmas.Bool.{cases_Bool, eqb-true, false≢true, ne_eqb, or_from, or_left}
+use Rattle.std.proofs.lemmas.Bool.Decides.{eqb_tells}
+use Rattle.std.proofs.lemmas.List.Folds.{find-append, list_any-append}
+use Rattle.node_core.specs.declared.copy.Command.{Command}
+use Rattle.node_core.specs.declared.copy.Order.{Order}
+use Rattle.node_core.specs.declared.copy.Order.TheVariants.{Release, Cancel}
+use Rattle.node_core.specs.declared.copy.PacketCopy.{PacketCopy}
+use Rattle.node_core.specs.declared.copy.Verdict.{Verdict}
+use Rattle.node_core.specs.declared.copy.Verdict.TheVariants.{Filed, Sealed, Held}
+use Rattle.node_core.specs.declared.peer.Peer.{Peer}
+use Rattle.node_core.specs.declared.port.Port.{Port}
+use Rattle.node_core.specs.Copies.{command_hearing, copy_hearing, first_told, is_chosen, is_held, is_release, names, new_copy, told_if}
+use Rattle.node_core.specs.Packets.{chosen, commanded, with_command}
+use Rattle.node_core.specs.Peers.{next_number}
+use Rattle.node_core.proofs.CaseLemmas.{either_commanded, either_hears, else_fails, mapped_passes, any_map, contains_more, each_contains, each_in, each_map, each_push, each_weaker, find_is, find_map, find_mapped, find_none, find_only, in_cons, in_map, in_none, none_passes, passes_in}
+use Rattle.node_core.proofs.Moves.{Commanding, CommandsOne, Copying, IsMove, IsRight, MayCancel, Move, are_none, command_with, copies_moved, find_at, is_waiting, waiting}
+
+-- ---- one copy at each gateway
+
+pub own_number : (number : ℕ) → (number == number) ≡ true
+own_number number = elim (eqb_tells number number) [ inl is ↦ is.0 | inr isnt ↦ absurd (isnt.1 refl) ]
+
+abbrev pub AreApart : List PacketCopy → Type 0
+AreApart [] = Unit {0}
+AreApart (copy ∷ copies) = AllByRecursion (λ (other : PacketCopy). copy.gateway ≢ other.gateway) copies × AreApart copies
+
+pub found_at : (copies : List PacketCopy) (copy : PacketCopy) → AreApart copies → Contains copies copy →
+    find_at copy.gateway copies ≡ Some copy
+found_at [] copy apart there = absurd (in_none copy there)
+found_at (first ∷ copies) copy apart there =
+    elim (in_cons first copy copies there) [
+      | inl same ↦ subst (λ (c : PacketCopy). find_at c.gateway (first ∷ copies) ≡ Some c) same
+          (rw (own_number first.gateway) refl)
+      | inr later ↦ rw (ne_eqb first.gateway copy.gateway
+          (each_contains (λ (other : PacketCopy). first.gateway ≢ other.gateway) copies copy apart.0 later))
+          (found_at copies copy apart.1 later)
+    ]
+
+-- ---- the choice
+
+pub chosen_is : (copies : List PacketCopy) (copy : PacketCopy) → chosen copies ≡ Some copy → Contains copies copy
+chosen_is copies copy is = by (find is_chosen copies) refl is
+  where
+    by : (there : Option PacketCopy) → find is_chosen copies ≡ there →
+        option_or there (find (λ (c : PacketCopy). is_held c.verdict) copies) ≡ Some copy → Contains copies copy
+    by None e is = (find_is (λ (c : PacketCopy). is_held c.verdict) copies copy is).0
+    by (Some there) e is = (find_is is_chosen copies copy (e ∙ is)).0
+
+-- one for which a release was sent is the choice
+pub found_chosen : (copies : List PacketCopy) (copy : PacketCopy) → find is_chosen copies ≡ Some copy → chosen copies ≡ Some copy
+found_chosen copies copy found =
+    ap (λ (there : Option PacketCopy). option_or there (find (λ (c : PacketCopy). is_held c.verdict) copies)) found
+
+-- who is released is the first that is, and the first copy is sealed
+abbrev pub IsFirstChosen : PacketCopy → List PacketCopy → PacketCopy → Type 0
+IsFirstChosen plain duplicates copy = is_chosen copy ≡ true → (plain.verdict ≡ Sealed)
+  × (find is_chosen duplicates ≡ Some copy)
+
+abbrev pub Chosen : List PacketCopy → Type 0
+Chosen [] = Unit {0}
+Chosen (plain ∷ duplicates) = (is_chosen plain ≡ false) × AllByRecursion (IsFirstChosen plain duplicates) duplicates
+
+-- nothing was sent for any copy, or a release for one, for as long as the first copy waits for it
+abbrev pub Waits : List PacketCopy → Type 0
+Waits copies = waiting copies ≡ true →
+    AllByRecursion (λ (copy : PacketCopy). copy.command ≡ None) copies ⊎ (list_any is_chosen copies ≡ true)
+
+-- what was sent for a copy, if anything was, has this order
+abbrev pub HasOrder : Order → PacketCopy → Type 0
+HasOrder order copy = IfSome copy.command (λ (command : Command). command.order ≡ order)
+
+-- what isn't released was cancelled, if anything was sent for it
+pub has_order : (copy : PacketCopy) (is : Bool) → is_chosen copy ≡ is → HasOrder (if is then Release else Cancel) copy
+has_order copy is = by copy.command
+  where
+    at : (order : Order) → is_release order ≡ is → order ≡ (if is then Release else Cancel)
+    at Release e = rw (← e) refl
+    at Cancel e = rw (← e) refl
+
+    by : (command : Option Command) → option_map_or (λ (c : Command). is_release c.order) command false ≡ is →
+        IfSome command (λ (c : Command). c.order ≡ (if is then Release else Cancel))
+    by None e = tt
+    by (Some command) e = at command.order e
+
+-- where there is no choice none is held
+pub none_held : (copies : List PacketCopy) → chosen copies ≡ None → AllByRecursion (λ (copy : PacketCopy). is_held copy.verdict ≡ false) copies
+none_held copies is = by (find is_chosen copies) is
+  where
+    by : (there : Option PacketCopy) → option_or there (find (λ (c : PacketCopy). is_held c.verdict) copies) ≡ None →
+        AllByRecursion (λ (copy : PacketCopy). is_held copy.verdict ≡ false) copies
+    by None is = find_none (λ (c : PacketCopy). is_held c.verdict) copies is
+    by (Some copy) is = absurd (cc)
+
+-- what was sent for a duplicate is a cancel, but for the choice of a packet whose first copy is sealed
+pub cancelled : (plain : PacketCopy) (duplicates : List PacketCopy) → Chosen (plain ∷ duplicates) →
+    (copy : PacketCopy) → Contains duplicates copy →
+    (plain.verdict ≡ Sealed → chosen duplicates ≡ Some copy → ⊥) → HasOrder Cancel copy
+cancelled plain duplicates was copy there other =
+    elim (cases_Bool (is_chosen copy)) [
+      | inl is ↦
+          let first = each_contains (IsFirstChosen plain duplicates) duplicates copy was.1 there is in
+          absurd (other first.0 (found_chosen duplicates copy first.1))
+      | inr isnt ↦ has_order copy false isnt
+    ]
+
+pub choice_released : (plain : PacketCopy) (duplicates : List PacketCopy) → Chosen (plain ∷ duplicates) → Waits (plain ∷ duplicates) →
+    plain.verdict ≡ Sealed → (choice : PacketCopy) → chosen duplicates ≡ Some choice → HasOrder Release choice
+choice_released plain duplicates was waits sealed choice is = elim (waits (ap is_waiting sealed)) [
+  | inl none ↦
+      let fresh : choice.command ≡ None =
+      each_contains (λ (c : PacketCopy). c.command ≡ None) duplicates choice none.1 (chosen_is duplicates choice is) in
+      subst (λ (o : Option Command). IfSome o (λ (c : Command). c.order ≡ Release)) (sym fresh) tt
+  | inr any ↦ has_order choice true (by (find is_chosen duplicates) refl any)
+]
+  where
+    by : (there : Option PacketCopy) → find is_chosen duplicates ≡ there → list_any is_chosen (plain ∷ duplicates) ≡ true → is_chosen choice ≡ true
+    by None e any = absurd
+      (false≢true (sym (or_from (is_chosen plain) _ was.0 (none_passes is_chosen duplicates e)) ∙ any))
+    by (Some copy) e any =
+        let both : Some copy ≡ Some choice = sym (found_chosen duplicates copy e) ∙ is in
+        let same : copy ≡ choice = cc in
+        ap is_chosen (sym same) ∙ (find_is is_chosen duplicates copy e).1
+
+-- who is released or cancelled keeps a release among the copies
+pub may_still : (order : Order) (copies : List PacketCopy) (copy : PacketCopy) → Contains copies copy →
+    IsRight order copies copy →
+    HasOrder order copy → (copy.command ≡ None → ⊥) → MayCancel copies
+may_still Cancel copies copy there right has sent = right
+may_still Release copies copy there right has sent = λ waits. passes_in is_chosen copies copy there
+  (by copy.command has sent)
+  where
+    by : (command : Option Command) → IfSome command (λ (c : Command). c.order ≡ Release) → (command ≡ None → ⊥) →
+        option_map_or (λ (c : Command). is_release c.order) command false ≡ true
+    by None has sent = absurd (sent refl)
+    by (Some command) has sent = ap is_release has
+
+-- ---- what leaves the choice: each copy is released exactly where it was, and a sealed one stays sealed
+
+pub record KeepsChoice (f : PacketCopy → PacketCopy) : Type 0 where
+  pub same : (copy : PacketCopy) → is_chosen (f copy) ≡ is_chosen copy
+  pub sealed : (copy : PacketCopy) → copy.verdict ≡ Sealed → (f copy).verdict ≡ Sealed
+
+pub chosen_map : (f : PacketCopy → PacketCopy) → KeepsChoice f → (copies : List PacketCopy) → Chosen copies → Chosen (map f copies)
+chosen_map f keeps [] is = tt
+chosen_map f keeps (plain ∷ duplicates) is = (
+  keeps.same plain ∙ is.0,
+  each_map (IsFirstChosen plain duplicates) (IsFirstChosen (f plain) (map f duplicates)) f
+      (λ c first is_so. let at = first (sym (keeps.same c) ∙ is_so) in
+      (keeps.sealed plain at.0, find_map is_chosen f keeps.same duplicates ∙ ap (option_map f) at.1)) duplicates is.1,
+)
+
+cancel_keeps : (gateway number : ℕ) → KeepsChoice (commanded gateway (command_with Cancel number))
+cancel_keeps gateway number = record {
+  same = λ copy. either_commanded (λ (c : PacketCopy).
+      is_chosen c ≡ is_chosen copy) gateway (command_with Cancel number) copy
+      (else_fails (λ (c : Command). is_release c.order) copy.command (command_with Cancel number) refl) refl;
+  sealed = λ copy is. either_commanded (λ (c : PacketCopy).
+      c.verdict ≡ Sealed) gateway (command_with Cancel number) copy is is;
+}
+
+pub hearing_keeps : (port : Port) (gateway cause : ℕ) (numbers : List ℕ) → KeepsChoice (copy_hearing port gateway cause numbers)
+hearing_keeps port gateway cause numbers = record {
+  same = λ copy. either_hears (λ (c : PacketCopy). is_chosen c ≡ is_chosen copy) port gateway cause numbers copy
+      (mapped_passes (λ (c : Command). is_release c.order) (command_hearing cause numbers) copy.command) refl;
+  sealed = λ copy is. either_hears (λ (c : PacketCopy).
+      c.verdict ≡ Sealed) port gateway cause numbers copy
+      (ap (λ (v : Verdict). first_told v (told_if (names numbers copy.number) port copy.is_plain cause)) is) is;
+}
+
+-- ---- a release
+
+released_now : (copies : List PacketCopy) (gateway number : ℕ) (one : CommandsOne copies gateway Release) →
+    is_chosen (commanded gateway (command_with Release number) one.copy) ≡ true
+released_now copies gateway number one =
+    ap (λ (b : Bool). is_chosen (if b then with_command (command_with Release number) one.copy else one.copy))
+    (find_is (λ (c : PacketCopy). c.gateway == gateway) copies one.copy one.found).1
+    ∙ ap (λ (c : Option Command). option_map_or (λ (command : Command). is_release command.order)
+    (option_or c (Some (command_with Release number))) false) one.fresh
+
+module _ (plain : PacketCopy) (duplicates : List PacketCopy) (apart : AreApart (plain ∷ duplicates)) (gateway number : ℕ)
+    (one : CommandsOne (plain ∷ duplicates) gateway Release) where
+  abbrev after_release : PacketCopy → PacketCopy
+  after_release copy = commanded gateway (command_with Release number) copy
+
+  among : Contains duplicates one.copy
+  among = chosen_is duplicates one.copy one.right.1
+
+  place_is : one.copy.gateway ≡ gateway
+  place_is = eqb-true one.copy.gateway gateway
+      (find_is (λ (c : PacketCopy). c.gateway == gateway) (plain ∷ duplicates) one.copy one.found).1
+
+  none_yet : AllByRecursion (λ (copy : PacketCopy). is_chosen copy ≡ false) duplicates
+  none_yet = find_none is_chosen duplicates (by (find is_chosen duplicates) refl)
+    where
+      by : (found : Option PacketCopy) → find is_chosen duplicates ≡ found → find is_chosen duplicates ≡ None
+      by None e = e
+      by (Some copy) e =
+          let both : Some copy ≡ Some one.copy = sym (found_chosen duplicates copy e) ∙ one.right.1 in
+          let same : copy ≡ one.copy = cc in
+          let is_so : is_chosen one.copy ≡ true = ap is_chosen (sym same) ∙ (find_is is_chosen duplicates copy e).1 in
+          let is_not : is_chosen one.copy ≡ false =
+          ap (λ (c : Option Command). option_map_or (λ (command : Command). is_release command.order) c false)
+          one.fresh in
+          absurd (cc)
+
+  -- who is released now is the one at the gateway
+  only : (copy : PacketCopy) → Contains duplicates copy → is_chosen (after_release copy) ≡ true → copy ≡ one.copy
+  only copy there is_so = elim (eqb_tells copy.gateway gateway) [
+    | inl is ↦
+        let found : find_at copy.gateway (plain ∷ duplicates) ≡ Some copy =
+        found_at (plain ∷ duplicates) copy apart (contains_more duplicates plain copy there) in
+        let both : Some copy ≡ Some one.copy = sym found ∙ ap (λ (g : ℕ). find_at g (plain ∷ duplicates)) is.1 ∙ one.found in
+        cc
+    | inr isnt ↦
+        let chosen_so : is_chosen copy ≡ true = rw isnt.0 at is_so in
+        absurd (false≢true
+        (sym (each_contains (λ (c : PacketCopy). is_chosen c ≡ false) duplicates copy none_yet there) ∙ chosen_so))
+  ]
+
+  plain_stays : after_release plain ≡ plain
+  plain_stays =
+      let differs : plain.gateway ≢ one.copy.gateway =
+      each_contains (λ (other : PacketCopy). plain.gateway ≢ other.gateway) duplicates one.copy apart.0 among in
+      rw (ne_eqb plain.gateway gateway (λ e. differs (e ∙ sym place_is))) refl
+
+  chosen_released : is_chosen plain ≡ false → Chosen (map after_release (plain ∷ duplicates))
+  chosen_released plain_not = (
+    ap is_chosen plain_stays ∙ plain_not,
+    each_map (Contains duplicates) (IsFirstChosen (after_release plain) (map after_release duplicates)) after_release
+        (λ copy there is_so.
+          (ap (λ (c : PacketCopy). c.verdict) plain_stays ∙ one.right.0, found copy (only copy there is_so)))
+        duplicates (each_in duplicates),
+  )
+    where
+      found : (copy : PacketCopy) → copy ≡ one.copy →
+        find is_chosen (map after_release duplicates) ≡ Some (after_release copy)
+      found copy same =
+          find_mapped is_chosen after_release duplicates
+          ∙ ap (option_map after_release) (find_only (λ (c : PacketCopy). is_chosen (after_release c)) one.copy
+          (released_now (plain ∷ duplicates) gateway number one) duplicates only among)
+          ∙ ap (λ (c : PacketCopy). Some (after_release c)) (sym same)
+
+-- ---- all moves, and a response
+
+-- a release or a cancel leaves a release among the copies
+pub may_commanded : (order : Order) (copies : List PacketCopy) (gateway number : ℕ) → CommandsOne copies gateway order →
+    MayCancel (map (commanded gateway (command_with order number)) copies)
+may_commanded Release copies gateway number one =
+    let f : PacketCopy → PacketCopy = commanded gateway (command_with Release number) in
+    λ waits. passes_in is_chosen (map f copies) (f one.copy)
+    (in_map f copies one.copy (find_is (λ (c : PacketCopy). c.gateway == gateway) copies one.copy one.found).0)
+    (released_now copies gateway number one)
+may_commanded Cancel copies gateway number one =
+    λ waits. any_map is_chosen (commanded gateway (command_with Cancel number))
+      (cancel_keeps gateway number).same copies
+    ∙ one.right (stays copies waits)
+  where
+    stays : (copies : List PacketCopy) → waiting (map (commanded gateway (command_with Cancel number)) copies) ≡ true →
+      waiting copies ≡ true
+    stays [] waits = refl
+    stays (plain ∷ duplicates) waits =
+        either_commanded (λ (c : PacketCopy). is_waiting c.verdict ≡ true → is_waiting plain.verdict ≡ true)
+        gateway (command_with Cancel number) plain (λ e. e) (λ e. e) waits
+
+pub chosen_moved : (move : Move) (peers : List Peer) (copies : List PacketCopy) → AreApart copies → IsMove peers copies move → Chosen copies →
+    Chosen (copies_moved peers move copies)
+chosen_moved (Copying gateway) peers [] apart is was = (refl, tt)
+chosen_moved (Copying gateway) peers (plain ∷ duplicates) apart is was =
+    let copy : PacketCopy = new_copy gateway (next_number peers gateway) false in (
+      was.0,
+      each_push (IsFirstChosen plain (duplicates ++ copy ∷ [])) duplicates copy
+          (each_weaker (IsFirstChosen plain duplicates) (IsFirstChosen plain (duplicates ++ copy ∷ []))
+          (λ c first is_so. (
+            (first is_so).0,
+            find-append is_chosen duplicates (copy ∷ []) ∙ ap (λ (o : Option PacketCopy). option_or o None)
+              (first is_so).1,
+          )) duplicates was.1)
+          (λ is_so. absurd (cc)),
+    )
+chosen_moved (Commanding gateway Cancel) peers copies apart is was =
+    chosen_map (commanded gateway (command_with Cancel (next_number peers gateway))) (cancel_keeps gateway (next_number peers gateway)) copies was
+chosen_moved (Commanding gateway Release) peers [] apart is was = tt
+chosen_moved (Commanding gateway Release) peers (plain ∷ duplicates) apart is was =
+    chosen_released plain duplicates apart gateway (next_number peers gateway) is.fits was.0
+
+pub waits_moved : (move : Move) (peers : List Peer) (copies : List PacketCopy) → IsMove peers copies move → Waits copies →
+    Waits (copies_moved peers move copies)
+waits_moved (Copying gateway) peers copies is waits = λ still. elim (waits (before copies still)) [
+  | inl none ↦ inl (each_push (λ (c : PacketCopy). c.command ≡ None) copies copy none refl)
+  | inr any ↦ inr (list_any-append is_chosen copies (copy ∷ []) ∙ or_left (list_any is_chosen copies) _ any)
+]
+  where
+    copy : PacketCopy
+    copy = new_copy gateway (next_number peers gateway) (are_none copies)
+
+    before : (copies : List PacketCopy) → waiting (copies ++ copy ∷ []) ≡ true → waiting copies ≡ true
+    before [] still = refl
+    before (plain ∷ duplicates) still = still
+waits_moved (Commanding gateway order) peers copies is waits =
+    λ still. inr (may_commanded order copies gateway (next_number peers gateway) is.fits still)
+
+pub waits_hearing : (port : Port) (gateway cause : ℕ) (numbers : List ℕ) (copies : List PacketCopy) → Waits copies →
+    Waits (map (copy_hearing port gateway cause numbers) copies)
+waits_hearing port gateway cause numbers copies waits = λ still. elim (waits (before copies still)) [
+  | inl none ↦ inl (each_map (λ (c : PacketCopy). c.command ≡ None) (λ (c : PacketCopy). c.command ≡ None)
+      (copy_hearing port gateway cause numbers) fresh copies none)
+  | inr any ↦ inr (any_map is_chosen (copy_hearing port gateway cause numbers)
+      (hearing_keeps port gateway cause numbers).same copies ∙ any)
+]
+  where
+    first : (one two : Verdict) → is_waiting (first_told one two) ≡ true → is_waiting one ≡ true
+    first Filed two e = e
+    first Held two e = e
+    first _ two e = refl
+
+    before : (copies : List PacketCopy) → waiting (map (copy_hearing port gateway cause numbers) copies) ≡ true → waiting copies ≡ true
+    before [] still = refl
+    before (plain ∷ duplicates) still =
+        either_hears (λ (c : PacketCopy). is_waiting c.verdict ≡ true → is_waiting plain.verdict ≡ true)
+        port gateway cause numbers plain (first plain.verdict _) (λ e. e) still
+
+    fresh : (copy : PacketCopy) → copy.command ≡ None → (copy_hearing port gateway cause numbers copy).command ≡ None
+    fresh copy e =
+        either_hears (λ (c : PacketCopy). c.command ≡ None) port gateway cause numbers copy
+        (ap (option_map (command_hearing cause numbers)) e) e
