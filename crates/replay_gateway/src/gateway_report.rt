@@ -31,9 +31,10 @@ pub struct Tally {
     pub entries: u64,
     /// The records that its firm entries file.
     pub records: usize,
-    /// The counts of its book. One that is down is opened for them, so that their `entries` and `free` may have a Start
-    /// more. A clause tells `held` and `stranded` alone.
-    pub counts: Counts,
+    /// The copies that are held in present epochs.
+    pub held: u64,
+    /// Those of earlier epochs that were neither released nor cancelled.
+    pub stranded: u64,
 }
 
 impl Machine {
@@ -47,14 +48,7 @@ impl Machine {
     {
         self.report_files(alloc, place, out)?;
         let tally = self.tally(alloc)?;
-        print_counts(
-            alloc,
-            out,
-            place,
-            tally.entries,
-            tally.records,
-            tally.counts,
-        )
+        print_counts(alloc, out, place, tally)
     }
 
     /// What it counts. One that is down is opened for this, and its area is left as it was. `NoMemory`: there was no
@@ -67,10 +61,17 @@ impl Machine {
         if self.is_down() {
             return self.tally_down(alloc);
         }
-        self.tell(alloc)
+        let told = self.tell(alloc)?;
+        let (records, counts) = told;
+        Ok(Tally {
+            entries: counts.entries,
+            records,
+            held: counts.held,
+            stranded: counts.stranded,
+        })
     }
 
-    // The same of one that is down.
+    // The same of one that is down. The Start of the opening isn't firm, and doesn't count.
     fn tally_down(&mut self, alloc: Global) -> Result<Tally, NoMemory>
         ensures { (setup : Setup) (place : ℕ) (g : Gateway) (m : MachineValue) →
             MachineStands setup place g m self.old → g.is_down ≡ true →
@@ -79,27 +80,25 @@ impl Machine {
         self.open_book(alloc)?;
         let told = self.tell(alloc)?;
         self.close_book();
+        let (records, counts) = told;
         Ok(Tally {
-            entries: told.counts.firm,
-            records: told.records,
-            counts: told.counts,
+            entries: counts.firm,
+            records,
+            held: counts.held,
+            stranded: counts.stranded,
         })
     }
 
-    // What the book of one that is up tells.
-    fn tell(&mut self, alloc: Global) -> Result<Tally, NoMemory>
+    // How many records the firm entries of one that is up have filed, and what its book counts.
+    fn tell(&mut self, alloc: Global) -> Result<(usize, Counts), NoMemory>
         ensures told { (setup : Setup) (place : ℕ) (g : Gateway) (m : MachineValue) →
             SiteStands setup place g m self.old.site → g.is_down ≡ false →
-            IfOk result (λ tally. Tells g.book setup.size tally × SiteStands setup place g m self.new.site) }
+            IfOk result (λ told. Tells g.book setup.size told.0 told.1 × SiteStands setup place g m self.new.site) }
         ensures rest { self.new ≡ record self.old { site = self.new.site } }
     {
         let items = self.firm_items(alloc, 0)?;
         let counts = self.counts();
-        Ok(Tally {
-            entries: counts.entries,
-            records: record_count(&items),
-            counts,
-        })
+        Ok((record_count(&items), counts))
     }
 
     // What its book counts, of one that is up.
@@ -213,19 +212,17 @@ pub fn record_count(items: &[Item]) -> usize
 }
 
 /// The line of a gateway's counts.
-fn print_counts(
-    alloc: Global,
-    out: &mut Octets,
-    place: u8,
-    entries: u64,
-    records: usize,
-    counts: Counts,
-) -> Result<(), NoMemory>
+fn print_counts(alloc: Global, out: &mut Octets, place: u8, tally: Tally) -> Result<(), NoMemory>
     ensures { OnOk result (out.new ≡ out.old
-        ++ counts_text place entries records counts.held counts.stranded) }
+        ++ counts_text place tally.entries tally.records tally.held tally.stranded) }
 {
     let number = u64::from(place) + 1;
-    let (held, stranded) = (counts.held, counts.stranded);
+    let Tally {
+        entries,
+        records,
+        held,
+        stranded,
+    } = tally;
     let line = format!(in alloc;
         "gateway {number} entries {entries} records {records} held {held} stranded {stranded}\n"
     )?;
