@@ -40,7 +40,7 @@ impl<A: Area> Book<A> {
         ensures cause { HasCause self.old self.new }
         ensures planned { AsPlanned self.old self.new (asked_to_commit (value_of self.old)) }
         // Over every area, also one that tells nothing.
-        ensures told { IsCommitTold self.new result }
+        ensures everywhere { IsCommitTold self.new result }
     {
         match self.firm_up() {
             Ok(()) => {
