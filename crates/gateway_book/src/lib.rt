@@ -35,7 +35,6 @@ mod seen;
 mod taking;
 
 pub use book::Book;
-pub use cgf_journal::Waiting;
 pub use gateway_answer::{Key, Prepared, failure, prepare};
 pub use outcome::{
     BookFault, Broken, Counts, ItemsFault, Marked, Outcome, Receipt, Settled, Setup,
