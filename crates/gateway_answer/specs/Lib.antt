@@ -7,7 +7,6 @@ pub mod Filed
 pub mod Fit
 pub mod FitHistory
 pub mod Items
-pub mod Limits
 pub mod Marks
 pub mod Once
 pub mod Plain
