@@ -1,6 +1,7 @@
 -- What public clauses cite.
 pub mod Answer
 pub mod Answered
+pub mod Asked
 pub mod Cases
 pub mod Decisions
 pub mod Filed
