@@ -31,6 +31,7 @@ mod opening;
 mod outcome;
 mod reading;
 mod readying;
+mod records;
 mod seen;
 mod taking;
 
@@ -39,3 +40,4 @@ pub use gateway_answer::{Key, Prepared, failure, prepare};
 pub use outcome::{
     BookFault, Broken, Counts, ItemsFault, Marked, Outcome, Receipt, Settled, Setup,
 };
+pub use records::{count_records, record_count};

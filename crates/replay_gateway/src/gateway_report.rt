@@ -1,24 +1,22 @@
 // The report of a gateway.
-ghost use Rattle.std.specs.Prelude.{◌≡◌, ◌<◌, ◌++◌, ℕ, IfOk, List, OnOk, count_by, false, length, take, true};
+ghost use Rattle.std.specs.Prelude.{◌≡◌, ◌<◌, ◌++◌, ℕ, IfOk, OnOk, false, take, true};
 ghost use Rattle.std.specs.List.{flat_map};
 ghost use Rattle.file_writer.specs.Files.{stream_files};
 ghost use Rattle.file_writer.specs.Streams.{stream_count};
 ghost use Rattle.gateway_book.specs.Calls.{counts_of};
-ghost use Rattle.gateway_answer.specs.Filed.{filed};
 ghost use Rattle.gateway_answer.specs.Items.{items_of};
-ghost use Rattle.gw_base.specs.declared.history.HistoryEntry.{HistoryEntry};
 ghost use Rattle.once_core.specs.Gateway.{Gateway};
 ghost use Rattle.replay_gateway.specs.GatewayReport.{counts_text, digits, file_line, file_name, gateway_text, sealed_lines};
 ghost use Rattle.replay_gateway.specs.Machine.{Machine as MachineValue};
 ghost use Rattle.replay_gateway.specs.Setup.{Setup, files_in};
 ghost use Rattle.replay_gateway.specs.Standing.{MachineStands, SiteStands};
-ghost use Rattle.replay_gateway.specs.Tally.{IsTallied, Tells, is_part};
+ghost use Rattle.replay_gateway.specs.Tally.{IsTallied, Tells};
 
 use crate::machine::Machine;
 use crate::site::Site;
 use cdr_shelf::FileName;
-use gateway_book::Counts;
-use gw_base::{Item, NoMemory, Octets};
+use gateway_book::{Counts, record_count};
+use gw_base::{NoMemory, Octets};
 use std::alloc::Global;
 
 /// How many streams a gateway has.
@@ -195,20 +193,6 @@ fn print_digits(out: &mut Octets, count: u32, number: u32) -> Result<(), NoMemor
     print_digits(out, count - 1, number / 10)?;
     out.append(&[b'0' + (number % 10) as u8])?;
     Ok(())
-}
-
-/// How many records there are among items: of all items of a history, how many it filed.
-pub fn record_count(items: &[Item]) -> usize
-    ensures parts { result ≡ count_by is_part items.now }
-    ensures records { (h : List HistoryEntry) → items.now ≡ items_of h → result ≡ length (filed h) }
-{
-    let mut records = 0;
-    for item in items {
-        if let Item::Part { .. } = item {
-            records += 1;
-        }
-    }
-    records
 }
 
 /// The line of a gateway's counts.
