@@ -24,8 +24,8 @@ use cgf_edge::{
     Trouble, WriterSink, accept,
 };
 use cgf_top::{
-    Ended, NodeTurn, Places, Status, StreamPlaces, Watch, run_watched, serve_places, stream_places,
-    tcp_address,
+    Ended, NodeTurn, ServePlaces, Status, StreamPlaces, Watch, run_watched, serve_places,
+    stream_places, tcp_address,
 };
 use gw_base::{Sink, Source};
 use net_link::UdpLinks;
@@ -166,7 +166,7 @@ fn run_served<R: Threads + Wait + Clock + Sync>(
     threads: &R,
     rt: &HostRuntime,
     words: &[String],
-    places: Places<'_>,
+    places: ServePlaces<'_>,
 ) -> Status
     requires long { fewest_octets ≤ places.length }
     requires short { places.length ≤ most_octets }

@@ -1,5 +1,5 @@
 -- The messages of a stream, one after the other.
-use Rattle.std.proofs.Common.{◌≡◌, ℕ, ◌+◌, ◌<◌, ◌≤◌, ◌⊎◌, ⊎_elim, inl, inr, Bool, true, false, if◌then◌else◌, List, [], ◌∷◌, length, Option, None, refl, sym, ap, ◌∙◌, arith}
+use Rattle.std.proofs.Common.{◌≡◌, ℕ, ◌+◌, ◌<◌, ◌≤◌, ◌⊎◌, ⊎_elim, inl, inr, Bool, true, false, if◌then◌else◌, List, [], ◌∷◌, length, Option, None, Some, refl, sym, ap, ◌∙◌, arith}
 use Rattle.std.proofs.lemmas.Bool.{cases_lt, lt-ltb}
 use Rattle.area_disk.specs.Disk.{counted, last_count}
 use Rattle.area_disk.specs.declared.area.Area as areas
@@ -89,20 +89,22 @@ module _ {A : Type 0} {tells : areas.Ghosts A} where
     broken_is = ap (λ (v : BookValue). v.is_broken) left
 
     pub answers_firm : (reply : Option (List ℕ)) → is_closed new.trail ≡ false → reply_of reply ≡ octets_told told
-        → Answers tells from message old new (reply_of reply)
+        → Answers tells from message old new (Some now) (reply_of reply)
     answers_firm reply runs same = record {
       tried = tried;
       octets_are = refl;
+      last_is = refl;
       value = left;
       sent_is = same ∙ ap octets_told took.answer ∙ told_says (taken (fortune_of old mid) from (prepared_of message) (size_of old) now no_caller (value_of old)).value said
           ∙ ap (λ (b : Bool). octets_said (if b then decided_by_fault message else said)) (sym (sym broken_is ∙ runs));
     }
 
     pub answers_fault : (reply : Option (List ℕ)) → is_closed new.trail ≡ true → reply ≡ failure_reply (prepared_of message)
-        → Answers tells from message old new (reply_of reply)
+        → Answers tells from message old new (Some now) (reply_of reply)
     answers_fault reply closed same = record {
       tried = tried;
       octets_are = refl;
+      last_is = refl;
       value = left;
       sent_is = ap reply_of same ∙ failure_says (decided (failure_answer (prepared_of message)))
           ∙ ap (λ (b : Bool). octets_said (if b then decided_by_fault message else said)) (sym (sym broken_is ∙ closed));

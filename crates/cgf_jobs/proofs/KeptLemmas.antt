@@ -19,8 +19,9 @@ use Rattle.net_link.specs.Datagrams.{Datagram}
 use Rattle.net_link.specs.Making.{GrowsBy, LinksState}
 use Rattle.replay_gateway.specs.Setup.{Setup}
 use Rattle.session_run.specs.History.{IsReply}
+use Rattle.cgf_jobs.specs.Linked.{UsesLinks}
 use Rattle.cgf_jobs.specs.ServeSteps.{HasServedAt}
-use Rattle.cgf_jobs.specs.Served.{GoesOnIn, HasFirstFiles, HasReplied, LosesNothing, files_at, header_for}
+use Rattle.cgf_jobs.specs.Served.{GoesOnIn, HasFirstFiles, HasReplied, LosesNothing, files_at, header_at}
 use Rattle.cgf_jobs.specs.Serving.{address_in}
 use Rattle.cgf_jobs.specs.Shelved.{IsFiledIn, KeepsShelf}
 use Rattle.cgf_jobs.specs.declared.serving.Serving.{Serving}
@@ -41,7 +42,7 @@ none_grows (Some list) = ap Some (append-nil list)
 
 module _ {A : Type 0} (tells : areas.Ghosts A) (of : Serving) (area area' : A) (links : LinksState) where
   -- where nothing was sent, a history goes on where it stands
-  pub goes_on_unsent : (start : List HistoryEntry) (octets : List ℕ) → StandsOrStarts (header_for tells area of) octets start
+  pub goes_on_unsent : (start : List HistoryEntry) (octets : List ℕ) → StandsOrStarts (header_at tells area of.ip) octets start
       → GoesOnIn tells of area area' links links start octets
   goes_on_unsent start octets stands = record {
     history = start;
@@ -54,6 +55,15 @@ module _ {A : Type 0} (tells : areas.Ghosts A) (of : Serving) (area area' : A) (
       in_turn = none_in_turn (tells.size area) start (tells.faults area) (tells.faults area') (links.received (address_in of)) (Some []) refl;
     };
   }
+
+-- links that nobody used
+pub unused : (of : Serving) (links : LinksState) → UsesLinks of links links
+unused of links = record {
+  most = omega arith;
+  others_turns = λ a other. refl;
+  others_received = λ a other list is. is;
+  others_sent = λ a other list is. is;
+}
 
 -- an area that is as it was has lost nothing
 pub untouched_keeps : {A : Type 0} (tells : areas.Ghosts A) (of : Serving) (area : A) (links : LinksState)
@@ -68,7 +78,7 @@ module _ {A F : Type 0} (tells : areas.Ghosts A) (files : shelves.Ghosts F) (of 
     (same : files.files shelf' ≡ files.files shelf) where
   -- a shelf that has the files that it had has the first ones of those of a history that stands still
   pub filed_still : (start : List HistoryEntry) → HasFirstFiles (files_at of setup) start (files.files shelf)
-      → (octets : List ℕ) → StandsOrStarts (header_for tells area of) octets start → IsFiledIn tells files of setup
+      → (octets : List ℕ) → StandsOrStarts (header_at tells area of.ip) octets start → IsFiledIn tells files of setup
       area shelf' start octets
   filed_still start first octets stands = record {
     history = start;
@@ -87,7 +97,7 @@ module _ {A F : Type 0} (tells : areas.Ghosts A) (files : shelves.Ghosts F) (of 
 module _ {A F : Type 0} (tells : areas.Ghosts A) (files : shelves.Ghosts F) (of : Serving) (told : Told tells)
     (area : A) (book book' book'' : Book A tells) (writer writer' : Writer F files)
     (links links' : LinksState) (clock clock' : ℕ) (service : Service) (open_time : ℕ)
-    (sized : tells.size (area_of book) ≡ tells.size area) (opens : IsOpened (header_for tells area of) area open_time book)
+    (sized : tells.size (area_of book) ≡ tells.size area) (opens : IsOpened (header_at tells area of.ip) area open_time book)
     (serves : HasServedAt tells files of book book' writer writer' links links' clock clock' service)
     (later : tells.faults (area_of book') ≤ tells.faults (area_of book''))
     (law : ReplyLater) (history : List HistoryEntry) (begins : Begins (value_of book').firm history) where

@@ -77,11 +77,14 @@ module _ {A : Type 0} (tells : areas.Ghosts A) where
       (closes (λ is. calm (let rose = failed is in omega (arith, rose, later))))
 
 module _ {A F : Type 0} (tells : areas.Ghosts A) (files : shelves.Ghosts F) where
-  fails_as : (service : Service) (book a b : Book A tells) (writer w : Writer F files) → tells.faults (area_of book) ≤ tells.faults (area_of a)
+  fails_as : (service : Service) (book a b : Book A tells) (writer w : Writer F files) → service.stop ≡ None
+      → tells.faults (area_of book) ≤ tells.faults (area_of a)
       → (ended : Status) → FailsBy tells a b ended → HasNoLine tells files service book b writer w ended
-  fails_as service book a b writer w up ended (inl memory) = subst (HasNoLine tells files service book b writer w) (sym memory) tt
-  fails_as service book a b writer w up ended (inr device) = subst (HasNoLine tells files service book b writer w) (sym device.0)
-      (inl (let r = device.1 in omega (arith, up, r)))
+  fails_as service book a b writer w runs up ended (inl memory) =
+      subst (HasNoLine tells files service book b writer w) (sym memory) tt
+  fails_as service book a b writer w runs up ended (inr device) =
+      subst (HasNoLine tells files service book b writer w) (sym device.0)
+      (runs, inl (let r = device.1 in omega (arith, up, r)))
 
   -- settled, and then the line was read of the book, or not
   pub line_settled : {X : Type 0} (octets : X → List ℕ) (service : Service) (book a b : Book A tells) (writer w : Writer F files) (now : ℕ)
@@ -126,4 +129,4 @@ module _ {A F : Type 0} (tells : areas.Ghosts A) (files : shelves.Ghosts F) wher
 
       by_err : (r : Result X Status) → IfErr r (FailsBy tells a b) → IfErr r (HasNoLine tells files service book b writer w)
       by_err (Ok l) fails = tt
-      by_err (Err ended) fails = fails_as service book a b writer w later.0 ended fails
+      by_err (Err ended) fails = fails_as service book a b writer w runs later.0 ended fails

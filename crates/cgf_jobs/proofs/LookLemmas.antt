@@ -46,10 +46,14 @@ module _ {A F : Type 0} (tells : areas.Ghosts A) (files : shelves.Ghosts F) (of 
         → StopsServing tells files of area area' looked shelf' links links' clock clock' ended
         → StopsServing tells files of area area' shelf shelf' links links' clock clock' ended
     stops_before status.Link kept same stops = stops
-    stops_before (status.Store fault.Device) kept same stops = ⊎_elim
-        (λ (r : Rose (tells.faults area) (tells.faults area')). inl r)
-        (λ (r : Rose (files.faults looked) (files.faults shelf')). inr (subst (λ (n : ℕ). Rose n (files.faults shelf')) same r)) stops
-    stops_before (status.Store (fault.NotOurs at)) kept same stops = (stops.0, stops.1, stops.2, stops.3 ∙ kept, stops.4)
+    stops_before (status.Store fault.Device) kept same stops = (
+      stops.0,
+      ⊎_elim
+          (λ (r : Rose (tells.faults area) (tells.faults area')). inl r)
+          (λ (r : Rose (files.faults looked) (files.faults shelf')). inr
+          (subst (λ (n : ℕ). Rose n (files.faults shelf')) same r)) stops.1,
+    )
+    stops_before (status.Store (fault.NotOurs at)) kept same stops = (stops.0, stops.1, stops.2 ∙ kept, stops.3)
     stops_before status.Memory kept same stops = tt
     stops_before _ kept same stops = absurd stops
 
@@ -69,4 +73,5 @@ module _ {A F : Type 0} (tells : areas.Ghosts A) (files : shelves.Ghosts F) (of 
       link = falls.link;
       time = falls.time;
       size = falls.size;
+      uses = falls.uses;
     }

@@ -1,8 +1,9 @@
 -- A piece of a stream is taken in, up to the end of a message or whole.
-use Rattle.std.proofs.Common.{◌≡◌, ℕ, ◌+◌, ◌-◌, ◌<◌, ◌≤◌, ◌⊎◌, inl, inr, Bool, true, false, if◌then◌else◌, List, [], ◌∷◌, ◌++◌, length, length-append, map, take, drop, Option, Some, None, Ok, Err, refl, sym, ap, subst, ◌∙◌, append_assoc, append-nil, arith}
+use Rattle.std.proofs.Common.{◌≡◌, ◌≢◌, ℕ, ◌+◌, ◌-◌, ◌<◌, ◌≤◌, ◌⊎◌, inl, inr, Bool, true, false, if◌then◌else◌, List, [], ◌∷◌, ◌++◌, length, length-append, map, take, drop, Option, Some, None, Ok, Err, refl, sym, ap, subst, ◌∙◌, append_assoc, append-nil, arith}
 use Rattle.std.proofs.Math.Seq.{take-add, take-length}
 use Rattle.std.proofs.lemmas.List.{length-take, take-append-drop}
 use Rattle.std.specs.Prelude.{IsSome}
+use Rattle.std.specs.Option.{option_or}
 use Rattle.std.specs.Io.KnownBytes.{Appends}
 use Rattle.area_disk.specs.Disk.{last_count}
 use Rattle.area_disk.specs.declared.area.Area as areas
@@ -18,7 +19,7 @@ use Rattle.gtpp_stream.specs.declared.frame.FrameEnd.TheVariants as ends
 use Rattle.gtpp_stream.specs.declared.frame.FrameKind.{FrameKind}
 use Rattle.gw_base.specs.declared.address.Addr.{Addr}
 use Rattle.cgf_jobs.specs.Kinds.{of_frame}
-use Rattle.cgf_jobs.specs.Replies.{Tried, after_all, after_message, sent_for, sent_for_all}
+use Rattle.cgf_jobs.specs.Replies.{Tried, after_all, after_message, last_moment, sent_for, sent_for_all}
 use Rattle.cgf_jobs.specs.StreamEnds.{end_by, most_stream, rest_place}
 use Rattle.cgf_jobs.specs.StreamSteps.{Answers, AnswersAll, CutsByFaults, HasAnsweredOne, HasGoneTo, IsGoingOn, IsLastOf, IsSteady, StopsAtMessage, StopsIn}
 use Rattle.cgf_jobs.specs.declared.connection.Connection.{Connection}
@@ -74,10 +75,15 @@ octets_snoc : (tried : List Tried) (t : Tried) → map (λ m. m.octets) (tried +
 octets_snoc [] t = refl
 octets_snoc (m ∷ tried) t = ap (λ (l : List (List ℕ)). m.octets ∷ l) (octets_snoc tried t)
 
+last_snoc : (tried : List Tried) (t : Tried) → last_moment (tried ++ t ∷ []) ≡ Some t.now
+last_snoc [] t = refl
+last_snoc (m ∷ tried) t = ap (λ (o : Option ℕ). option_or o (Some m.now)) (last_snoc tried t)
+
 module _ {A : Type 0} (tells : areas.Ghosts A) where
-  abbrev pub AllAnswered : Addr → Book A tells → List (List ℕ) → List ℕ → Book A tells → Type 0
-  AllAnswered from opened messages sent book = (a : AnswersAll tells from opened messages sent (tells.faults (area_of book)))
-      × (value_of book ≡ after_all (size_of opened) from (value_of opened) a.tried)
+  abbrev pub AllAnswered : Addr → Book A tells → List (List ℕ) → List ℕ → Book A tells → Option ℕ → Type 0
+  AllAnswered from opened messages sent book last =
+      (a : AnswersAll tells from opened messages sent (tells.faults (area_of book)))
+      × (value_of book ≡ after_all (size_of opened) from (value_of opened) a.tried) × (last ≡ last_moment a.tried)
 
   later_answers : (from : Addr) (opened : Book A tells) (messages : List (List ℕ)) (sent : List ℕ) (f g : ℕ) → f ≤ g
       → AnswersAll tells from opened messages sent f → AnswersAll tells from opened messages sent g
@@ -95,9 +101,9 @@ module _ {A : Type 0} (tells : areas.Ghosts A) where
 
   -- the same from an address that is equal
   abbrev answers_from : (a b : Addr) → a ≡ b → (opened : Book A tells) (messages : List (List ℕ)) (sent : List ℕ)
-      (book : Book A tells)
-      → AllAnswered a opened messages sent book → AllAnswered b opened messages sent book
-  answers_from a b is opened messages sent book all = (
+      (book : Book A tells) (last : Option ℕ)
+      → AllAnswered a opened messages sent book last → AllAnswered b opened messages sent book last
+  answers_from a b is opened messages sent book last all = (
     record {
       tried = all.0.tried;
       octets_are = all.0.octets_are;
@@ -108,12 +114,15 @@ module _ {A : Type 0} (tells : areas.Ghosts A) where
           ≤ opened.cuts + tells.faults (area_of book)) ⊎ (last_count ≤ tells.faults (area_of book))) is all.0.cuts;
     },
     subst (λ (x : Addr). value_of book ≡ after_all (size_of opened) x (value_of opened) all.0.tried) is all.1,
+    all.2,
   )
 
   answers_more : (from : Addr) (opened mid new : Book A tells) (messages : List (List ℕ)) (message sent more : List ℕ)
-      → size_of mid ≡ size_of opened → CutsByFaults tells opened new → AllAnswered from opened messages sent mid
-      → Answers tells from message mid new more → AllAnswered from opened (messages ++ message ∷ []) (sent ++ more) new
-  answers_more from opened mid new messages message sent more sized cuts all one = (
+      (before last : Option ℕ)
+      → size_of mid ≡ size_of opened → CutsByFaults tells opened new → AllAnswered from opened messages sent mid before
+      → Answers tells from message mid new last more
+      → AllAnswered from opened (messages ++ message ∷ []) (sent ++ more) new last
+  answers_more from opened mid new messages message sent more before last sized cuts all one = (
     record {
       tried = all.0.tried ++ one.tried ∷ [];
       octets_are = octets_snoc all.0.tried one.tried ∙ (λ i. all.0.octets_are i ++ one.octets_are i ∷ []);
@@ -124,6 +133,7 @@ module _ {A : Type 0} (tells : areas.Ghosts A) where
           ⊎ (last_count ≤ tells.faults (area_of new))) value cuts.cuts;
     },
     value,
+    one.last_is ∙ sym (last_snoc all.0.tried one.tried),
   )
     where
       value : value_of new ≡ after_all (size_of opened) from (value_of opened) (all.0.tried ++ one.tried ∷ [])
@@ -230,11 +240,12 @@ module _ {A : Type 0} (tells : areas.Ghosts A) where
         all_stays : Stays opened n.book
         all_stays = stays_on opened o.book n.book goes.stays stays
 
-        abbrev with_one : (more : List ℕ) → (Told tells → Answers tells o.node d.octets o.book n.book more) → Told tells
-            → AllAnswered n.node opened (messages ++ d.octets ∷ []) (sent ++ more) n.book
+        abbrev with_one : (more : List ℕ) → (Told tells → Answers tells o.node d.octets o.book n.book n.last more)
+            → Told tells → AllAnswered n.node opened (messages ++ d.octets ∷ []) (sent ++ more) n.book n.last
         with_one more one told = answers_from o.node n.node (sym node) opened (messages ++ d.octets ∷ [])
-            (sent ++ more) n.book
-            (answers_more o.node opened o.book n.book messages d.octets sent more sized all_cuts (goes.answers told) (one told))
+            (sent ++ more) n.book n.last
+            (answers_more o.node opened o.book n.book messages d.octets sent more o.last n.last sized all_cuts
+            (goes.answers told) (one told))
 
         pub goes_whole : (more : List ℕ) → HasAnsweredOne tells (pushed o d used) n more
             → IsGoingOn tells opened (given ++ take used piece) (sent ++ more) n
@@ -252,39 +263,53 @@ module _ {A : Type 0} (tells : areas.Ghosts A) where
         }
 
         -- the message isn't answered
-        answers_before : value_of n.book ≡ value_of o.book → Told tells → AllAnswered n.node opened messages sent n.book
+        answers_before : value_of n.book ≡ value_of o.book → n.last ≡ o.last → Told tells
+            → AllAnswered n.node opened messages sent n.book n.last
         unfolding later_answers
-        answers_before same told = subst (λ (a : Addr). AllAnswered a opened messages sent n.book) (sym node) (
-          later_answers o.node opened messages sent (tells.faults (area_of o.book)) (tells.faults (area_of n.book)) cuts.later (goes.answers told).0,
-          same ∙ (goes.answers told).1,
+        answers_before same kept told = subst (λ (a : Addr). AllAnswered a opened messages sent n.book n.last)
+            (sym node) (
+              later_answers o.node opened messages sent (tells.faults (area_of o.book)) (tells.faults (area_of n.book)) cuts.later (goes.answers told).0,
+              same ∙ (goes.answers told).1,
+              kept ∙ (goes.answers told).2,
+            )
+
+        -- the whole messages that came behind it in the piece
+        abbrev behind : List (List ℕ)
+        behind = frames (rest_of (given ++ take used piece) ++ drop used piece)
+
+        frames_on : frames (given ++ piece) ≡ (messages ++ d.octets ∷ []) ++ behind
+        frames_on = ap (λ (l : List ℕ). frames l) (ap (λ (l : List ℕ). given ++ l) (sym (take-append-drop used piece))
+            ∙ sym (append_assoc given (take used piece) (drop used piece)))
+            ∙ frames_cut (given ++ take used piece) (drop used piece)
+            ∙ ap (λ (l : List (List ℕ)). l ++ behind) frames_with
+
+        gone_before : value_of n.book ≡ value_of o.book → n.last ≡ o.last
+            → (s : HasGoneTo tells opened (given ++ piece) sent n) × (s.unanswered ≢ [])
+        gone_before same kept = (
+          record {
+            messages = messages;
+            unanswered = d.octets ∷ behind;
+            frames_are = frames_on ∙ append_assoc messages (d.octets ∷ []) behind;
+            answers = answers_before same kept;
+            stays = all_stays;
+            cuts = all_cuts;
+          },
+          λ none. cc none,
         )
 
-        gone_before : value_of n.book ≡ value_of o.book → HasGoneTo tells opened (given ++ piece) sent n
-        gone_before same = record {
-          messages = messages;
-          unanswered = frames (rest_of given ++ piece);
-          frames_are = frames_cut given piece ∙ ap (λ (l : List (List ℕ)). l ++ frames (rest_of given ++ piece)) frames_before;
-          answers = answers_before same;
-          stays = all_stays;
-          cuts = all_cuts;
-        }
-
         -- it was, and its reply is cut
-        abbrev gone_with : (more : List ℕ) → (Told tells → Answers tells o.node d.octets o.book n.book more)
+        abbrev gone_with : (more : List ℕ) → (Told tells → Answers tells o.node d.octets o.book n.book n.last more)
             → HasGoneTo tells opened (given ++ piece) (sent ++ more) n
         gone_with more one = record {
           messages = messages ++ d.octets ∷ [];
-          unanswered = frames (rest_of (given ++ take used piece) ++ drop used piece);
-          frames_are = ap (λ (l : List ℕ). frames l) (ap (λ (l : List ℕ). given ++ l) (sym (take-append-drop used piece))
-              ∙ sym (append_assoc given (take used piece) (drop used piece)))
-              ∙ frames_cut (given ++ take used piece) (drop used piece)
-              ∙ ap (λ (l : List (List ℕ)). l ++ frames (rest_of (given ++ take used piece) ++ drop used piece)) frames_with;
+          unanswered = behind;
+          frames_are = frames_on;
           answers = with_one more one;
           stays = all_stays;
           cuts = all_cuts;
         }
 
-        last_one : (more : List ℕ) (one : Told tells → Answers tells o.node d.octets o.book n.book more)
+        last_one : (more : List ℕ) (one : Told tells → Answers tells o.node d.octets o.book n.book n.last more)
             (told : Told tells)
             → IsLastOf tells n.node opened ((gone_with more one).answers told).0.tried sent more
         unfolding answers_more
@@ -301,7 +326,8 @@ module _ {A : Type 0} (tells : areas.Ghosts A) where
 
         pub stops_whole : (before after : Option (List ℕ)) (ended : Status) → StopsAtMessage tells (pushed o d used) n before after ended
             → StopsIn tells opened (given ++ piece) sent n before after ended
-        stops_whole before after status.Link same = (gone_before (ap (λ (b : Book A tells). value_of b) same.1), same.0)
+        stops_whole before after status.Link same =
+            let gone = gone_before (ap (λ (b : Book A tells). value_of b) same.1) same.2 in (gone.0, gone.1, same.0)
         stops_whole before after status.Write stops = (
           stops.0,
           gone_with stops.0 stops.1,

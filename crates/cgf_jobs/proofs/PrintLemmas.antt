@@ -1,5 +1,5 @@
 -- The lines that are printed, step by step.
-use Rattle.std.proofs.Common.{◌≡◌, ℕ, zero, suc, ◌+◌, ◌-◌, ◌*◌, ◌/◌, ◌%◌, ◌^◌, ◌<◌, ◌≤◌, min, ◌==◌, List, [], ◌∷◌, ◌++◌, length, length-append, take, drop, slice_set, Some, None, slice_get, refl, ap, sym, ◌∙◌, arith, append_assoc, append-nil}
+use Rattle.std.proofs.Common.{◌≡◌, ℕ, suc, ◌+◌, ◌-◌, ◌*◌, ◌^◌, ◌<◌, ◌≤◌, min, ◌==◌, List, [], ◌∷◌, ◌++◌, length, length-append, take, drop, slice_set, Some, None, slice_get, ap, sym, ◌∙◌, arith, append_assoc, append-nil}
 use Rattle.std.specs.List.{flat_map}
 use Rattle.std.proofs.lemmas.Grind.{flat_map-append}
 use Rattle.std.proofs.lemmas.List.Elements.{filter-append}
@@ -10,16 +10,8 @@ use Rattle.file_writer.specs.Files.{files_below, stream_files}
 use Rattle.file_writer.specs.Streams.{Settings}
 use Rattle.gw_base.specs.declared.item.Item.{Item}
 use Rattle.cgf_jobs.specs.FeedReport.{lines_size}
-use Rattle.replay_gateway.specs.GatewayReport.{digits, file_line}
+use Rattle.replay_gateway.specs.GatewayReport.{file_line}
 use Rattle.cgf_jobs.proofs.PlaceLemmas.{none_at, rest_at}
-
--- the last digit stands behind the others
-pub last_digit : (count n : ℕ) → (count ≡ 0 → ⊥) → digits (count - 1) (n / 10) ++ (48 + n % 10) ∷ [] ≡ digits count n
-last_digit zero n some = absurd (some refl)
-last_digit (suc count) n some = ap (λ (k : ℕ). digits k (n / 10) ++ (48 + n % 10) ∷ []) (less count)
-  where
-    less : (k : ℕ) → suc k - 1 ≡ k
-    less k = omega arith
 
 -- the digits of all octets are spelt, and the end of the line behind them
 pub line_spelt : (octets line : List ℕ) (k : ℕ) → length octets ≤ k → length line ≡ 2 * length octets + 1

@@ -18,11 +18,11 @@ use Rattle.world_script.specs.declared.line.Line.{Line}
 use Rattle.cgf_jobs.specs.Ending.{HasCause}
 use Rattle.cgf_jobs.specs.Job.{Job}
 use Rattle.cgf_jobs.specs.Kinds.{of_line}
+use Rattle.cgf_jobs.specs.Linked.{TakesAllTurns, UsesLinks}
 use Rattle.cgf_jobs.specs.Run.{IsRead, TakesUpTo, may_have_written}
 use Rattle.cgf_jobs.specs.ServeEnds.{EndsBy, IsCalm, IsGatewayEnd, IsRefusedAt, ServedBy, Serves, may_have_opened}
 use Rattle.cgf_jobs.specs.ServeSteps.{AreOf, CausesRead, IsSetBy, RefusesAsForeign, RefusesSettings, RefusesText, StopsServing, WritesLine}
-use Rattle.cgf_jobs.specs.Served.{HasServed, LosesNothing, SettlesStill, header_for, served_line}
-use Rattle.cgf_jobs.specs.Serving.{address_in}
+use Rattle.cgf_jobs.specs.Served.{HasServed, LosesNothing, SettlesStill, header_at, served_line}
 use Rattle.cgf_jobs.specs.Shelved.{KeepsShelf}
 use Rattle.cgf_jobs.specs.declared.input_kind.InputKind.{InputKind}
 use Rattle.cgf_jobs.specs.declared.serve.FileSettings.{FileSettings}
@@ -124,9 +124,9 @@ module _ {A F : Type 0} (tells : areas.Ghosts A) (files : shelves.Ghosts F) (of 
   pub refused_serves : {X : Type 0} (ended : Status) → RefusesSettings job.left job.rest ended
       → CausesRead {X = X} job.read_before job.read_after (Err ended) → TakesUpTo (most_text + 1) job.left job.rest
       → job.written_after ≡ job.written_before → LosesNothing tells of area area' links links'
-      → ((setup : Setup) → KeepsShelf tells files of setup area area' shelf shelf')
+      → ((setup : Setup) → KeepsShelf tells files of setup area area' shelf shelf') → UsesLinks of links links'
       → Serves tells files of job area area' shelf shelf' links links' clock clock' ended None
-  refused_serves ended refuses causes bound same keeps filed =
+  refused_serves ended refuses causes bound same keeps filed uses =
       let r = refuses_by job ended refuses causes in
       record {
         done = λ is. absurd (subst (Refuses job) is r);
@@ -140,6 +140,7 @@ module _ {A F : Type 0} (tells : areas.Ghosts A) (files : shelves.Ghosts F) (of 
         foreign = λ at is. absurd (subst (Refuses job) is r);
         link = λ is. absurd (subst (Refuses job) is r);
         closed = λ is. absurd (subst (Refuses job) is r);
+        uses = uses;
         cause = refused_cause ended r same;
         known = refused_known ended r;
         bound = bound;
@@ -164,23 +165,24 @@ module _ {A F : Type 0} (tells : areas.Ghosts A) (files : shelves.Ghosts F) (of 
 
   -- an area that is found isn't another's
   abbrev Ours : Type 0
-  Ours = (octets : List ℕ) (h : List HistoryEntry) (at : ℕ) → StandsFitFor (header_for tells area of) octets h
-      → ¬ (IsNotOurs (header_for tells area of) octets at)
+  Ours = (octets : List ℕ) (h : List HistoryEntry) (at : ℕ) → StandsFitFor (header_at tells area of.ip) octets h
+      → ¬ (IsNotOurs (header_at tells area of.ip) octets at)
 
   abbrev Others : Type 0
-  Others = (octets : List ℕ) (at : ℕ) → IsNotOurs (header_for tells area of) octets at → ¬ (Starts (header_for tells area of) octets)
+  Others = (octets : List ℕ) (at : ℕ) → IsNotOurs (header_at tells area of.ip) octets at → ¬ (Starts (header_at tells area of.ip) octets)
 
-  found_ours : Ours → Others → (h : List HistoryEntry) (at : ℕ) → StandsOrStarts (header_for tells area of) (tells.octets area) h
-      → IsNotOurs (header_for tells area of) (tells.octets area) at → ⊥
+  found_ours : Ours → Others → (h : List HistoryEntry) (at : ℕ) → StandsOrStarts (header_at tells area of.ip) (tells.octets area) h
+      → IsNotOurs (header_at tells area of.ip) (tells.octets area) at → ⊥
   found_ours ours others h at (inl stands) foreign = ours (tells.octets area) h at stands foreign
   found_ours ours others h at (inr starts) foreign = others (tells.octets area) at foreign starts.0
 
   stopped_calmly : Ours → Others → (ended : Status) → Stops ended → IsCalm tells files of job area area' shelf shelf' links links' clock clock' ended → Told tells
-      → (h : List HistoryEntry) → StandsOrStarts (header_for tells area of) (tells.octets area) h → (ended ≡ status.Memory) ⊎ (ended ≡ status.Done)
+      → (h : List HistoryEntry) → StandsOrStarts (header_at tells area of.ip) (tells.octets area) h → (ended ≡ status.Memory) ⊎ (ended ≡ status.Done)
   stopped_calmly ours others status.Link s calm told h stands = absurd (⊎_elim (λ r. calm.link r) (λ r. calm.time r) s)
-  stopped_calmly ours others (status.Store fault.Device) s calm told h stands = absurd (⊎_elim (λ r. calm.device r) (λ r. calm.shelf_runs r) s)
+  stopped_calmly ours others (status.Store fault.Device) s calm told h stands =
+      absurd (⊎_elim (λ r. calm.device r) (λ r. calm.shelf_runs r) s.1)
   stopped_calmly ours others (status.Store (fault.NotOurs at)) s calm told h stands = absurd
-      (found_ours ours others h at stands (s.4 told).0)
+      (found_ours ours others h at stands (s.3 told).0)
   stopped_calmly ours others status.Memory s calm told h stands = inl refl
   stopped_calmly ours others _ s calm told h stands = absurd s
 
@@ -211,10 +213,10 @@ module _ {A F : Type 0} (tells : areas.Ghosts A) (files : shelves.Ghosts F) (of 
       → (Told tells → RefusesAsForeign tells of area result) → Ours → Others
       → job.read_after ≡ job.read_before → TakesUpTo (most_text + 1) job.left job.rest → job.written_after ≡ job.written_before
       → LosesNothing tells of area area' links links' → ((setup : Setup) → AreOf setup by → KeepsShelf tells files of
-      setup area area' shelf shelf')
+      setup area area' shelf shelf') → UsesLinks of links links'
       → Serves tells files of job area area' shelf shelf' links links' clock clock' ended None
   stopped_serves {X = X} result ended text by read set is_err stops settles foreign_so ours others unread bound same
-      keeps filed = record {
+      keeps filed uses = record {
         done = λ is. absurd (subst (λ (e : Status). Stops e) is s);
         front = λ is. absurd (subst (λ (e : Status). Stops e) is s);
         keeps = keeps;
@@ -225,6 +227,7 @@ module _ {A F : Type 0} (tells : areas.Ghosts A) (files : shelves.Ghosts F) (of 
         foreign = λ at is. subst (λ (e : Status). Stops e) is s;
         link = λ is. subst (λ (e : Status). Stops e) is s;
         closed = λ is. settles (is_err ∙ ap (λ (e : Status). Err e) is);
+        uses = uses;
         cause = stopped_cause ended s unread same;
         known = stopped_known ended s;
         bound = bound;
@@ -250,7 +253,8 @@ module _ {A F : Type 0} (tells : areas.Ghosts A) (files : shelves.Ghosts F) (of 
           ⊎ (◌≡◌ {A = Result X Status} (Err ended) (Err (status.Store fault.Device)) ⊎ ◌≡◌ {A = Result X Status} (Err ended) (Err status.Memory))
           → (ended ≡ status.Memory) ⊎ (ended ≡ status.Store (fault.NotOurs at))
       by_foreign calm at (inl e) = inr (ap ended_in e)
-      by_foreign calm at (inr (inl e)) = absurd (⊎_elim (λ r. calm.device r) (λ r. calm.shelf_runs r) (subst (λ (e : Status). Stops e) (ap ended_in e) s))
+      by_foreign calm at (inr (inl e)) = absurd (⊎_elim (λ r. calm.device r) (λ r. calm.shelf_runs r)
+          (subst (λ (e : Status). Stops e) (ap ended_in e) s).1)
       by_foreign calm at (inr (inr e)) = inl (ap ended_in e)
 
   -- ---- the gateway has a line
@@ -282,7 +286,7 @@ module _ {A F : Type 0} (tells : areas.Ghosts A) (files : shelves.Ghosts F) (of 
       (set : IsSetBy text by) (writes : WritesLine line job.before job.after job.written_before job.written_after ended)
       (serves_so : Told tells → (setup : Setup) → AreOf setup by → IfOk result (λ y. (history : List HistoryEntry)
       × HasServed tells files of setup area area' shelf shelf' links links' history × (octets y ≡ served_line history)))
-      (turns_so : OnOk result (links'.turns (address_in of) ≡ links.turns (address_in of) + of.turns))
+      (turns_so : OnOk result (TakesAllTurns of links links' clock clock'))
       (foreign_so : Told tells → RefusesAsForeign tells of area result) where
     abbrev Grown : Setup → X → Type 0
     Grown setup y = (history : List HistoryEntry)
@@ -291,8 +295,8 @@ module _ {A F : Type 0} (tells : areas.Ghosts A) (files : shelves.Ghosts F) (of 
     serves : Told tells → (setup : Setup) → AreOf setup by → Grown setup x
     serves told setup are = subst (λ (r : Result X Status). IfOk r (λ y. Grown setup y)) is_ok (serves_so told setup are)
 
-    turns : links'.turns (address_in of) ≡ links.turns (address_in of) + of.turns
-    turns = subst (λ (r : Result X Status). OnOk r (links'.turns (address_in of) ≡ links.turns (address_in of) + of.turns)) is_ok turns_so
+    turns : TakesAllTurns of links links' clock clock'
+    turns = subst (λ (r : Result X Status). OnOk r (TakesAllTurns of links links' clock clock')) is_ok turns_so
 
     foreign : Told tells → RefusesAsForeign tells of area (Ok x)
     foreign told = subst (λ (r : Result X Status). RefusesAsForeign tells of area r) is_ok (foreign_so told)
@@ -306,7 +310,7 @@ module _ {A F : Type 0} (tells : areas.Ghosts A) (files : shelves.Ghosts F) (of 
       served = λ told. (let found = serves told (setup_of set.0) set.2 in (found.0, found.1, subst wrote (is_line ∙ found.2) all));
     }
 
-    not_foreign : Told tells → (at : ℕ) → IsNotOurs (header_for tells area of) (tells.octets area) at → ⊥
+    not_foreign : Told tells → (at : ℕ) → IsNotOurs (header_at tells area of.ip) (tells.octets area) at → ⊥
     not_foreign told at not_ours = none_of (foreign told at not_ours)
       where
         is_ok_of : Result X Status → Bool
@@ -321,9 +325,9 @@ module _ {A F : Type 0} (tells : areas.Ghosts A) (files : shelves.Ghosts F) (of 
 
     pub written_serves : job.read_after ≡ job.read_before → TakesUpTo (most_text + 1) job.left job.rest
         → LosesNothing tells of area area' links links' → ((setup : Setup) → AreOf setup by → KeepsShelf tells files of
-        setup area area' shelf shelf')
+        setup area area' shelf shelf') → UsesLinks of links links'
         → Serves tells files of job area area' shelf shelf' links links' clock clock' ended None
-    written_serves unread bound keeps filed =
+    written_serves unread bound keeps filed uses =
         let w = writes_by job line ended writes in
         record {
           done = λ is. (served_by (λ l. Appends job.before job.after l) (subst (Writes job line) is w).0, turns);
@@ -337,6 +341,7 @@ module _ {A F : Type 0} (tells : areas.Ghosts A) (files : shelves.Ghosts F) (of 
           foreign = λ at is. absurd (subst (Writes job line) is w);
           link = λ is. absurd (subst (Writes job line) is w);
           closed = λ is. absurd (subst (Writes job line) is w);
+          uses = uses;
           cause = written_cause line ended w unread;
           known = written_known line ended w;
           bound = bound;

@@ -33,7 +33,7 @@ use Rattle.replay_gateway.specs.AtRest.{AreShut}
 use Rattle.replay_gateway.specs.Setup.{Setup}
 use Rattle.session_run.specs.History.{GoesOnUntil}
 use Rattle.cgf_jobs.specs.ServeSteps.{AreOf, HasLine, HasServedAt}
-use Rattle.cgf_jobs.specs.Served.{HasAllFiles, HasFirstFiles, HasGrown, HasReplied, HasServed, LeavesClosed, files_at, header_for, moment_of}
+use Rattle.cgf_jobs.specs.Served.{HasAllFiles, HasFirstFiles, HasGrown, HasReplied, HasServed, LeavesClosed, files_at, header_at, moment_of}
 use Rattle.cgf_jobs.specs.Serving.{address_in}
 use Rattle.cgf_jobs.specs.declared.serve.FileSettings.{FileSettings}
 use Rattle.cgf_jobs.specs.declared.serving.Serving.{Serving}
@@ -118,7 +118,7 @@ module _ {A F : Type 0} (tells : areas.Ghosts A) (files : shelves.Ghosts F) (of 
     (in_turn : StaysInTurn)
     (later_reply : ReplyLater) (area : A) (book book' book'' : Book A tells) (writer writer' : Writer F files)
     (links links' : LinksState) (clock clock' : ℕ) (service : Service) (open_time : ℕ)
-    (sized : tells.size (area_of book) ≡ tells.size area) (opens : IsOpened (header_for tells area of) area open_time book)
+    (sized : tells.size (area_of book) ≡ tells.size area) (opens : IsOpened (header_at tells area of.ip) area open_time book)
     (serves : HasServedAt tells files of book book' writer writer' links links' clock clock' service)
     (stays : Stays book' book'') (later : tells.faults (area_of book') ≤ tells.faults (area_of book''))
     (settled : IsSettled book' book'' (moment_of service.last) no_caller) (leaves : LeavesFit book'') where
@@ -134,11 +134,11 @@ module _ {A F : Type 0} (tells : areas.Ghosts A) (files : shelves.Ghosts F) (of 
   is_fresh : grow.IsFresh start (value_of book)
   is_fresh = subst (grow.IsFresh start) (sym (opens.found told).2) (grow.opened_is_fresh (tells.size area) start)
 
-  header_is : header_of book'' ≡ header_for tells area of
+  header_is : header_of book'' ≡ header_at tells area of.ip
   header_is = stays.header ∙ serves.stays.name ∙ opens.named
 
   -- after any crash, and by a read
-  leaves_whole : (c : List ℕ) → tells.may_leave (area_of book'') c → StandsFitFor (header_for tells area of) c history
+  leaves_whole : (c : List ℕ) → tells.may_leave (area_of book'') c → StandsFitFor (header_at tells area of.ip) c history
   leaves_whole c may = subst (λ (h : List ℕ). StandsFitFor h c history) header_is
       (leaves.whole told settled.goes_on c may)
 

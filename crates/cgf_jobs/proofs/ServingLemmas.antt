@@ -20,9 +20,10 @@ use Rattle.session_run.specs.Desks.{HearsNothing}
 use Rattle.session_run.specs.Filing.{KeepsWriter}
 use Rattle.session_run.specs.History.{GoesOnUntil, IsHeard, IsReply}
 use Rattle.session_run.specs.Links.{GivesBack, HasMade, IsIdleAt, received_with, sent_with, turns_with}
-use Rattle.session_run.specs.Running.{AnyOf, AreFiveOf, HasFailed, HasStopCause, HaveReplied, StaysAs, heard_by, sent_by, turns_by}
+use Rattle.session_run.specs.Running.{AnyOf, AreFiveOf, HasFailed, HasStopCause, HaveReplied, NoneFailed, StaysAs, TakesAtMost, heard_by, sent_by}
 use Rattle.session_run.specs.declared.stop.Stop.{Stop}
 use Rattle.session_run.specs.declared.stop.Stop.TheVariants as stop
+use Rattle.cgf_jobs.specs.Linked.{UsesLinks}
 use Rattle.cgf_jobs.specs.ServeSteps.{HasServedAt}
 use Rattle.cgf_jobs.specs.Served.{HasReplied}
 use Rattle.cgf_jobs.specs.Serving.{address_in}
@@ -39,6 +40,12 @@ told_weaker : (P Q : Datagram → Type 0) → ((d : Datagram) → P d → Q d) �
 told_weaker P Q more None all = tt
 told_weaker P Q more (Some list) all = All-weaker P Q more list all
 
+-- what is told in the end was told before
+told_before : (new old : Option (List Datagram)) → IfSome new (λ list. old ≡ Some list) → (list : List Datagram)
+    → new ≡ Some list → old ≡ Some list
+told_before None old same list is = absurd (cc is)
+told_before (Some l) old same list is = same ∙ is
+
 some_stop : (why : Stop) → ◌≡◌ {A = Option Stop} (Some why) None → ⊥
 some_stop why is = cc is
 
@@ -46,6 +53,19 @@ module _ {A F L : Type 0} (tells : areas.Ghosts A) (files : shelves.Ghosts F) (l
   -- what the law of what links sent says
   abbrev SentBehind : Type 0
   SentBehind = (told : Option (List Datagram)) (all : List L) → sent_with links told all ≡ joined told (sent_by links all)
+
+  -- Links were made and given back: what is told of other addresses stays.
+  used : (made back : List L) (stops : Option Stop) → HasMade links (address_in of) old mid made stops
+      → GivesBack links (address_in of) mid new back → new.turns (address_in of) ≤ old.turns (address_in of) + of.turns
+      → UsesLinks of old new
+  used made back stops has gave most = record {
+    most = most;
+    others_turns = λ a other. gave.others_turns a other ∙ has.keeps.turns a;
+    others_received = λ a other list is. sym (has.keeps.received a)
+        ∙ told_before (new.received a) (mid.received a) (gave.others_received a other) list is;
+    others_sent = λ a other list is. sym (has.keeps.sent a)
+        ∙ told_before (new.sent a) (mid.sent a) (gave.others_sent a other) list is;
+  }
 
   -- Where links weren't made the gateway didn't serve.
 
@@ -66,22 +86,35 @@ module _ {A F L : Type 0} (tells : areas.Ghosts A) (files : shelves.Ghosts F) (l
 
   pub unserved : SentBehind → (book : Book A tells) (writer : Writer F files) (clock : ℕ) (made : List L) (why : Stop) (stops : Option Stop)
       → stops ≡ Some why → is_broken writer ≡ true
-      → AreSound (tells_lists tells) (facts_of book) → HasMade links (address_in of) old mid made stops
+      → old.turns (address_in of) < 2 ^ 63 → AreSound (tells_lists tells) (facts_of book)
+      → HasMade links (address_in of) old mid made stops
       → GivesBack links (address_in of) mid new made
       → HasServedAt tells files of book book writer writer old new clock clock (record { last = None; stop = Some why })
-  unserved law book writer clock made why stops is_why broken sound made_so gave = record {
+  unserved law book writer clock made why stops is_why broken few sound made_so gave = record {
     goes_on = nothing_befell (tells_lists tells) (new.received (address_in of)) (facts_of book) sound;
     replies = λ told. sent_none;
     stays = same_facts (facts_of book);
     kept = kept_self (value_of book).firm writer broken;
     turns = λ none. absurd (some_stop why none);
+    uses = used made made (Some why) has gave (omega (arith, no_turns));
     later = (let a = has.later in let b = gave.later in omega (arith, a, b), omega arith);
     link = λ is. rose_in_all made (Some why) has gave (has.cause is);
     time = λ is. absurd (has.no_clock is);
+    link_stood = λ none. absurd (some_stop why none);
+    time_stood = λ none. refl;
   }
     where
       has : HasMade links (address_in of) old mid made (Some why)
       has = subst (λ (s : Option Stop). HasMade links (address_in of) old mid made s) is_why made_so
+
+      same_turns : mid.turns (address_in of) ≡ old.turns (address_in of)
+      same_turns = has.keeps.turns (address_in of)
+
+      no_turns : new.turns (address_in of) ≡ old.turns (address_in of)
+      no_turns = gave.turns ∙ turns_none links (mid.turns (address_in of)) made (omega (arith, few, same_turns))
+          (All-weaker (λ (l : L). IsIdleAt (address_in of) (links.state l)) (λ (l : L). (links.state l).turns ≡ 0)
+          (λ (l : L) idle. idle.turns) made has.idle)
+          ∙ same_turns
 
       none : IsEmpty (sent_by links made)
       none = none_sent_by links made (All-weaker (λ (l : L). IsIdleAt (address_in of) (links.state l)) (λ (l : L). IsEmpty (links.state l).sent)
@@ -114,37 +147,44 @@ module _ {A F L : Type 0} (tells : areas.Ghosts A) (files : shelves.Ghosts F) (l
     pub replies : WhereTold (tells_lists tells) (HaveReplied links (heard_by links back) (facts_of book) (facts_of book') back)
     pub stays : StaysAs (facts_of book) (facts_of book')
     pub five : AreFiveOf links (address_in of) back
-    pub turns : stops ≡ None → turns_by links back ≡ of.turns
+    pub turns : TakesAtMost links back stops of.turns
     pub kept : KeepsWriter files (tells_lists tells) (value_of book').firm writer writer'
     pub later : clock ≤ clock'
     pub cause : HasStopCause links clock clock' back stops
 
   pub served : SentBehind → HeardInTurn → ReplyLater → (book book' : Book A tells) (writer writer' : Writer F files) (clock clock' : ℕ) (made back : List L) (stops : Option Stop)
-      (last : Option Moment) (made_stops : Option Stop) → HasMade links (address_in of) old mid made made_stops → HasRun book book' writer writer' clock clock' back stops last
+      (last : Option Moment) (made_stops : Option Stop) → HasMade links (address_in of) old mid made made_stops
+      → made_stops ≡ None → HasRun book book' writer writer' clock clock' back stops last
       → GivesBack links (address_in of) mid new back → old.turns (address_in of) < 2 ^ 63 → of.turns ≤ 2 ^ 40
       → HasServedAt tells files of book book' writer writer' old new clock clock' (record { last = last; stop = stops })
-  served sends hears replies book book' writer writer' clock clock' made [] stops last made_stops has ran gave few short = absurd ran.five
-  served sends hears replies book book' writer writer' clock clock' made (link ∷ others) stops last made_stops has ran gave few short = record {
-    goes_on = λ told. goes_on_there hears (received_with links (mid.received (address_in of)) others) heard there gave.received more
-        (facts_of book) (facts_of book') last (ran.history told);
-    replies = λ told. record {
-      sent = sent_by links (link ∷ others);
-      is_sent = sent_grows links sends (old.sent (address_in of)) (mid.sent (address_in of)) (new.sent (address_in of)) (link ∷ others)
-          (has.keeps.sent (address_in of)) gave.sent;
-      each = all_sent links (Fits there) (link ∷ others)
-          (All-weaker (λ (l : L). IfSome (links.state l).sent (λ list. All (Fits heard) list)) (λ (l : L). IfSome (links.state l).sent (λ list. All (Fits there) list))
-          (λ (l : L) all. told_weaker (Fits heard) (Fits there) reply_is_there (links.state l).sent all) (link ∷ others) (ran.replies told).each);
-      in_turn = replies (size_of book) (value_of book').firm (value_of book').firm (tells.faults (area_of book)) (tells.faults (area_of book'))
-          (tells.faults (area_of book)) (tells.faults (area_of book')) (received_with links (mid.received (address_in of)) others) heard there
-          (sent_by links (link ∷ others)) (begins_self (value_of book').firm) (λ rose. rose) gave.received (ran.replies told).in_turn;
-    };
-    stays = ran.stays;
-    kept = ran.kept;
-    turns = λ none. gave.turns ∙ ap (λ (n : ℕ). added n (links.state link).turns) others_none ∙ exact (ran.turns none);
-    later = (let a = has.later in let b = gave.later in omega (arith, a, b), ran.later);
-    link = λ is. rose_before old.faults mid.faults new.faults has.later (gave.failed (stopped is));
-    time = λ is. subst (λ (s : Option Stop). HasStopCause links clock clock' (link ∷ others) s) is ran.cause;
-  }
+  served sends hears replies book book' writer writer' clock clock' made [] stops last made_stops has all_made ran gave
+      few short = absurd ran.five
+  served sends hears replies book book' writer writer' clock clock' made (link ∷ others) stops last made_stops has
+      all_made ran gave few short = record {
+        goes_on = λ told. goes_on_there hears (received_with links (mid.received (address_in of)) others) heard there gave.received more
+            (facts_of book) (facts_of book') last (ran.history told);
+        replies = λ told. record {
+          sent = sent_by links (link ∷ others);
+          is_sent = sent_grows links sends (old.sent (address_in of)) (mid.sent (address_in of)) (new.sent (address_in of)) (link ∷ others)
+              (has.keeps.sent (address_in of)) gave.sent;
+          each = all_sent links (Fits there) (link ∷ others)
+              (All-weaker (λ (l : L). IfSome (links.state l).sent (λ list. All (Fits heard) list)) (λ (l : L). IfSome (links.state l).sent (λ list. All (Fits there) list))
+              (λ (l : L) all. told_weaker (Fits heard) (Fits there) reply_is_there (links.state l).sent all) (link ∷ others) (ran.replies told).each);
+          in_turn = replies (size_of book) (value_of book').firm (value_of book').firm (tells.faults (area_of book)) (tells.faults (area_of book'))
+              (tells.faults (area_of book)) (tells.faults (area_of book')) (received_with links (mid.received (address_in of)) others) heard there
+              (sent_by links (link ∷ others)) (begins_self (value_of book').firm) (λ rose. rose) gave.received (ran.replies told).in_turn;
+        };
+        stays = ran.stays;
+        kept = ran.kept;
+        turns = λ none. gave.turns ∙ ap (λ (n : ℕ). added n (links.state link).turns) others_none
+            ∙ exact (ran.turns.1 none);
+        uses = used made (link ∷ others) made_stops has gave (at_most ran.turns.0);
+        later = (let a = has.later in let b = gave.later in omega (arith, a, b), ran.later);
+        link = λ is. rose_before old.faults mid.faults new.faults has.later (gave.failed (stopped is));
+        time = λ is. subst (λ (s : Option Stop). HasStopCause links clock clock' (link ∷ others) s) is ran.cause;
+        link_stood = λ none. gave.calm (calm none).1 ∙ has.calm all_made;
+        time_stood = λ none. (calm none).0;
+      }
     where
       heard : Option (List Datagram)
       heard = (links.state link).received
@@ -172,5 +212,15 @@ module _ {A F L : Type 0} (tells : areas.Ghosts A) (files : shelves.Ghosts F) (l
       exact : (links.state link).turns ≡ of.turns → added (old.turns (address_in of)) (links.state link).turns ≡ old.turns (address_in of) + of.turns
       exact is = omega (arith, is, few, short)
 
+      at_most : (links.state link).turns ≤ of.turns → new.turns (address_in of) ≤ old.turns (address_in of) + of.turns
+      at_most le =
+          let sum : new.turns (address_in of)
+          ≡ added (turns_with links (mid.turns (address_in of)) others) (links.state link).turns = gave.turns in
+          omega (arith, sum, others_none, le)
+
       stopped : stops ≡ Some stop.Link → AnyOf (HasFailed links) (link ∷ others)
       stopped is = subst (λ (s : Option Stop). HasStopCause links clock clock' (link ∷ others) s) is ran.cause
+
+      -- where nothing stopped it, nothing failed
+      calm : stops ≡ None → (clock' ≡ clock) × NoneFailed links (link ∷ others)
+      calm none = subst (λ (s : Option Stop). HasStopCause links clock clock' (link ∷ others) s) none ran.cause

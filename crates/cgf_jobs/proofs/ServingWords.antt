@@ -1,7 +1,7 @@
 -- Which words are those of `serve`.
 use Rattle.std.proofs.Common.{◌≡◌, ℕ, true, false, List, [], ◌∷◌, length, map, codes, get_or, Option, None, Some, option_map, refl, sym, ap, ◌∙◌, arith}
 use Rattle.std.specs.Str.{bytes_eq}
-use Rattle.cgf_jobs.specs.Serving.{PlacesValue, places_in, places_of, serving_by, serving_of}
+use Rattle.cgf_jobs.specs.Serving.{ServePlacesValue, serve_places_in, serve_places_of, serving_by, serving_of}
 use Rattle.cgf_jobs.specs.Words.{is_option}
 use Rattle.cgf_jobs.specs.declared.serving.Serving.{Serving}
 use Rattle.cgf_jobs.proofs.EndingLemmas.{some_is_none}
@@ -29,8 +29,8 @@ seven_words text _ a b c d e f g seven pa pb pc pd pe pf pg = absurd (omega (ari
 -- the places that seven words name
 pub places_there : {A : Type 0} (text : A → List ℕ) (words : List A) (of : Serving) (f g : A) (area folder : List ℕ)
     → Some of ≡ serving_of (map text words) → f ≡ get_or words 5 f → g ≡ get_or words 6 g → area ≡ text f → folder ≡ text g
-    → ◌≡◌ {A = Option PlacesValue} (Some (record { length = of.length; area = area; folder = folder })) (places_of (map text words))
+    → ◌≡◌ {A = Option ServePlacesValue} (Some (record { length = of.length; area = area; folder = folder })) (serve_places_of (map text words))
 places_there text (u ∷ v ∷ w ∷ x ∷ y ∷ z ∷ t ∷ []) of f g area folder asked pf pg is_area is_folder =
     (λ i. Some (record { length = of.length; area = (is_area ∙ ap text pf) i; folder = (is_folder ∙ ap text pg) i }))
-    ∙ ap (λ (o : Option Serving). option_map (places_in (map text (u ∷ v ∷ w ∷ x ∷ y ∷ z ∷ t ∷ []))) o) asked
+    ∙ ap (λ (o : Option Serving). option_map (serve_places_in (map text (u ∷ v ∷ w ∷ x ∷ y ∷ z ∷ t ∷ []))) o) asked
 places_there text _ of f g area folder asked pf pg is_area is_folder = absurd (some_is_none of asked)

@@ -1,5 +1,5 @@
 -- How a gateway that was to serve ends: it wasn't opened, or it was settled.
-use Rattle.std.proofs.Common.{◌≡◌, ◌⊎◌, ⊎_elim, inl, inr, ℕ, ◌≤◌, true, false, List, [], ◌++◌, Result, Ok, Err, IfErr, IfOk, refl, sym, ap, subst, ◌∙◌, arith}
+use Rattle.std.proofs.Common.{◌≡◌, ◌⊎◌, ⊎_elim, inl, inr, ℕ, ◌≤◌, true, false, List, [], ◌++◌, Result, Ok, Err, IfErr, IfOk, OnOk, refl, sym, ap, subst, ◌∙◌, arith}
 use Rattle.std.specs.Prelude.{IsTrue}
 use Rattle.area_disk.specs.AreaLaws.{AreaLaws}
 use Rattle.area_disk.specs.Disk.{Rose}
@@ -27,8 +27,9 @@ use Rattle.net_link.specs.Making.{LinksState}
 use Rattle.node_session.specs.Settling.{IsSettled}
 use Rattle.replay_gateway.specs.AtRest.{AreShut}
 use Rattle.replay_gateway.specs.Setup.{Setup}
+use Rattle.cgf_jobs.specs.Linked.{TakesAllTurns}
 use Rattle.cgf_jobs.specs.ServeSteps.{HasLine, HasNoLine, HasServedAt, HasSettledAll, NeverFalls, RefusesAsForeign, StopsServing, status_by}
-use Rattle.cgf_jobs.specs.Served.{GoesOnIn, HasFirstFiles, HasServed, HoldsHistory, LeavesClosed, LosesNothing, SettlesStill, files_at, header_for, moment_of, served_line}
+use Rattle.cgf_jobs.specs.Served.{GoesOnIn, HasFirstFiles, HasServed, HoldsHistory, LeavesClosed, LosesNothing, SettlesStill, files_at, header_at, moment_of, served_line}
 use Rattle.cgf_jobs.specs.Shelved.{IsFiledIn, KeepsShelf}
 use Rattle.cgf_jobs.specs.declared.serving.Serving.{Serving}
 use Rattle.cgf_jobs.specs.declared.settling.Service.{Service}
@@ -44,18 +45,17 @@ use Rattle.cgf_jobs.proofs.ServiceLemmas.{ReplyLater, StaysInTurn, begins_self, 
 
 module _ {A F : Type 0} (tells : areas.Ghosts A) (files : shelves.Ghosts F) (of : Serving) (area : A) (shelf : F)
     (links : LinksState) (clock : ℕ) where
-  pub unopened_stops : (why : BookFault) (area' : A) (ended : Status) → ended ≡ status_by why → IsRefused tells area (header_for tells area of) (why, area')
+  pub unopened_stops : (why : BookFault) (area' : A) (ended : Status) → ended ≡ status_by why → IsRefused tells area (header_at tells area of.ip) (why, area')
       → StopsServing tells files of area area' shelf shelf links links clock clock ended
   unopened_stops why area' ended is refused =
       subst (λ (s : Status). StopsServing tells files of area area' shelf shelf links links clock clock s) (sym is) (by_fault why refused)
     where
-      by_fault : (w : BookFault) → IsRefused tells area (header_for tells area of) (w, area')
+      by_fault : (w : BookFault) → IsRefused tells area (header_at tells area of.ip) (w, area')
           → StopsServing tells files of area area' shelf shelf links links clock clock (status_by w)
-      by_fault of_book.Device refused = inl (refused.cause refl)
+      by_fault of_book.Device refused = ((refl, refl), inl (refused.cause refl))
       by_fault (of_book.NotOurs at) refused = (
         record { made = λ a is. is; turns = λ a. refl; received = λ a. refl; sent = λ a. refl },
-        refl,
-        refl,
+        (refl, refl),
         refl,
         λ told. (refused.place told at refl, refused.unwritten told (λ is. cc is)),
       )
@@ -77,30 +77,30 @@ module _ {A F : Type 0} (tells : areas.Ghosts A) (files : shelves.Ghosts F) (of 
 
   -- what a crash leaves of an area whose opening failed stands as it did, or starts, where it was to be made anew
   unopened_left : (why : BookFault) (area' : A)
-      → (Told tells → (h : List HistoryEntry) → StandsFitFor (header_for tells area of) (tells.octets area) h →
+      → (Told tells → (h : List HistoryEntry) → StandsFitFor (header_at tells area of.ip) (tells.octets area) h →
       FindsHistory {tells = tells} area (Err (why, area')) h)
-      → (Told tells → Starts (header_for tells area of) (tells.octets area) → IsMadeAnew {tells = tells} area
-      (Err (why, area')) (header_for tells area of))
-      → Told tells → (start : List HistoryEntry) → HoldsHistory tells (header_for tells area of) area start
-      → (c : List ℕ) → tells.may_leave area' c → StandsOrStarts (header_for tells area of) c start
+      → (Told tells → Starts (header_at tells area of.ip) (tells.octets area) → IsMadeAnew {tells = tells} area
+      (Err (why, area')) (header_at tells area of.ip))
+      → Told tells → (start : List HistoryEntry) → HoldsHistory tells (header_at tells area of.ip) area start
+      → (c : List ℕ) → tells.may_leave area' c → StandsOrStarts (header_at tells area of.ip) c start
   unopened_left why area' reads anew told start holds c may = left holds.now
     where
-      left : StandsOrStarts (header_for tells area of) (tells.octets area) start → StandsOrStarts
-          (header_for tells area of) c start
+      left : StandsOrStarts (header_at tells area of.ip) (tells.octets area) start → StandsOrStarts
+          (header_at tells area of.ip) c start
       left (inl stands) = holds.crash c ((reads told start stands).moments.now c may)
       left (inr starts) = ⊎_elim
           (λ (old : tells.may_leave area c). holds.crash c old)
-          (λ (made : Starts (header_for tells area of) c ⊎ StandsFor (header_for tells area of) c []). ⊎_elim
-          (λ (s : Starts (header_for tells area of) c). inr (s, starts.1))
-          (λ (s : StandsFor (header_for tells area of) c []). inl (subst (λ (h : List HistoryEntry). StandsFitFor (header_for tells area of) c h) (sym starts.1)
+          (λ (made : Starts (header_at tells area of.ip) c ⊎ StandsFor (header_at tells area of.ip) c []). ⊎_elim
+          (λ (s : Starts (header_at tells area of.ip) c). inr (s, starts.1))
+          (λ (s : StandsFor (header_at tells area of.ip) c []). inl (subst (λ (h : List HistoryEntry). StandsFitFor (header_at tells area of.ip) c h) (sym starts.1)
           (record { stands = s; fit = tt }))) made)
           ((anew told starts.0).moments.now c may)
 
   pub unopened_keeps : (why : BookFault) (area' : A) → AreaLaws tells
-      → (Told tells → (h : List HistoryEntry) → StandsFitFor (header_for tells area of) (tells.octets area) h →
+      → (Told tells → (h : List HistoryEntry) → StandsFitFor (header_at tells area of.ip) (tells.octets area) h →
       FindsHistory {tells = tells} area (Err (why, area')) h)
-      → (Told tells → Starts (header_for tells area of) (tells.octets area) → IsMadeAnew {tells = tells} area
-      (Err (why, area')) (header_for tells area of))
+      → (Told tells → Starts (header_at tells area of.ip) (tells.octets area) → IsMadeAnew {tells = tells} area
+      (Err (why, area')) (header_at tells area of.ip))
       → LosesNothing tells of area area' links links
   unopened_keeps why area' laws reads anew told start holds = record {
     now = goes_on (tells.octets area') (laws.holds area');
@@ -112,10 +112,10 @@ module _ {A F : Type 0} (tells : areas.Ghosts A) (files : shelves.Ghosts F) (of 
           (unopened_left why area' reads anew told start holds c may)
 
   pub unopened_shelf : (why : BookFault) (area' : A) (setup : Setup) → AreaLaws tells
-      → (Told tells → (h : List HistoryEntry) → StandsFitFor (header_for tells area of) (tells.octets area) h →
+      → (Told tells → (h : List HistoryEntry) → StandsFitFor (header_at tells area of.ip) (tells.octets area) h →
       FindsHistory {tells = tells} area (Err (why, area')) h)
-      → (Told tells → Starts (header_for tells area of) (tells.octets area) → IsMadeAnew {tells = tells} area
-      (Err (why, area')) (header_for tells area of))
+      → (Told tells → Starts (header_at tells area of.ip) (tells.octets area) → IsMadeAnew {tells = tells} area
+      (Err (why, area')) (header_at tells area of.ip))
       → KeepsShelf tells files of setup area area' shelf shelf
   unopened_shelf why area' setup laws reads anew told tells_files start holds first = (
     filed (tells.octets area') (laws.holds area'),
@@ -132,7 +132,7 @@ module _ {A F : Type 0} (tells : areas.Ghosts A) (files : shelves.Ghosts F) (of 
     (book book' book'' : Book A tells) (writer writer' writer'' : Writer F files)
     (links links' : LinksState) (clock clock' : ℕ) (service : Service) (open_time : ℕ)
     {X : Type 0} (octets : X → List ℕ) (result : Result X Status)
-    (sized : tells.size (area_of book) ≡ tells.size area) (opens : IsOpened (header_for tells area of) area open_time book)
+    (sized : tells.size (area_of book) ≡ tells.size area) (opens : IsOpened (header_at tells area of.ip) area open_time book)
     (on : shelf_of writer ≡ shelf) (serves : HasServedAt tells files of book book' writer writer' links links' clock clock' service)
     (settles : HasSettledAll tells files octets service book' book'' writer' writer'' result) where
   device : tells.faults area ≤ tells.faults (area_of book')
@@ -148,14 +148,20 @@ module _ {A F : Type 0} (tells : areas.Ghosts A) (files : shelves.Ghosts F) (of 
     link = serves.later.0;
     time = serves.later.1;
     size = settles.stays.0.size ∙ serves.stays.size ∙ sized;
+    uses = serves.uses;
   }
 
   stops : (ended : Status) → HasNoLine tells files service book' book'' writer' writer'' ended
       → StopsServing tells files of area (area_of book'') shelf (shelf_of writer'') links links' clock clock' ended
   stops status.Link none = ⊎_elim (λ is. inl (serves.link is)) (λ is. inr (serves.time is)) none
-  stops (status.Store fault.Device) none = ⊎_elim
-      (λ (r : Rose (tells.faults (area_of book')) (tells.faults (area_of book''))). inl (let a = device in omega (arith, a, r)))
-      (λ (r : Rose (files.faults (shelf_of writer')) (files.faults (shelf_of writer''))). inr (let a = shelf_up in omega (arith, a, r))) none
+  stops (status.Store fault.Device) none = (
+    (serves.link_stood none.0, serves.time_stood none.0),
+    ⊎_elim
+        (λ (r : Rose (tells.faults (area_of book')) (tells.faults (area_of book''))). inl
+        (let a = device in omega (arith, a, r)))
+        (λ (r : Rose (files.faults (shelf_of writer')) (files.faults (shelf_of writer''))). inr
+        (let a = shelf_up in omega (arith, a, r))) none.1,
+  )
   stops status.Memory none = tt
   stops _ none = absurd none
 
@@ -167,6 +173,19 @@ module _ {A F : Type 0} (tells : areas.Ghosts A) (files : shelves.Ghosts F) (of 
   pub settled_stops : IfErr result (StopsServing tells files of area (area_of book'') shelf (shelf_of writer'') links links' clock clock')
   settled_stops = by_err result settles.err
 
+  took_all : (r : Result X Status) → IfOk r (λ x. HasLine tells files service book' book'' writer'' (octets x))
+      → OnOk r (TakesAllTurns of links links' clock clock')
+  took_all (Ok x) has = record {
+    turns = serves.turns has.runs;
+    link = serves.link_stood has.runs;
+    time = serves.time_stood has.runs;
+  }
+  took_all (Err ended) has = tt
+
+  -- a gateway that has a line took all its turns
+  pub turns_as : OnOk result (TakesAllTurns of links links' clock clock')
+  turns_as = took_all result settles.ok
+
   -- of the area and the shelf as they were handed back
   pub stops_as : (area'' : A) (shelf'' : F) → area'' ≡ area_of book'' → shelf'' ≡ shelf_of writer''
       → IfErr result (StopsServing tells files of area area'' shelf shelf'' links links' clock clock')
@@ -175,12 +194,12 @@ module _ {A F : Type 0} (tells : areas.Ghosts A) (files : shelves.Ghosts F) (of 
       (subst (λ (f : F). IfErr result (StopsServing tells files of area (area_of book'') shelf f links links' clock clock')) (sym is_shelf) settled_stops)
 
   -- an area that was opened isn't another's
-  pub settled_foreign : ((octets : List ℕ) (h : List HistoryEntry) (at : ℕ) → StandsFitFor (header_for tells area of) octets h
-      → ¬ (IsNotOurs (header_for tells area of) octets at))
-      → ((octets : List ℕ) (at : ℕ) → IsNotOurs (header_for tells area of) octets at → ¬ (Starts (header_for tells area of) octets))
+  pub settled_foreign : ((octets : List ℕ) (h : List HistoryEntry) (at : ℕ) → StandsFitFor (header_at tells area of.ip) octets h
+      → ¬ (IsNotOurs (header_at tells area of.ip) octets at))
+      → ((octets : List ℕ) (at : ℕ) → IsNotOurs (header_at tells area of.ip) octets at → ¬ (Starts (header_at tells area of.ip) octets))
       → Told tells → RefusesAsForeign tells of area result
   settled_foreign ours others told at foreign = ⊎_elim
-      (λ (s : StandsFitFor (header_for tells area of) (tells.octets area) (opens.found told).0). absurd (ours (tells.octets area) (opens.found told).0 at s foreign))
+      (λ (s : StandsFitFor (header_at tells area of.ip) (tells.octets area) (opens.found told).0). absurd (ours (tells.octets area) (opens.found told).0 at s foreign))
       (λ s. absurd (others (tells.octets area) at foreign s.0)) (opens.found told).1
 
   module _ (laws : AreaLaws tells) (shuts : (h : List HistoryEntry) → is_close_due h ≡ false → AreShut (items_of h))
@@ -246,16 +265,16 @@ module _ {A F : Type 0} (tells : areas.Ghosts A) (files : shelves.Ghosts F) (of 
   -- Nothing is lost.
 
   module _ (laws : AreaLaws tells) (later_reply : ReplyLater) (leaves : LeavesFit book'')
-      (reads : Told tells → (h : List HistoryEntry) → StandsFitFor (header_for tells area of) (tells.octets area) h → FindsHistory {tells = tells} area (Ok book) h)
-      (anew : Told tells → Starts (header_for tells area of) (tells.octets area) → IsMadeAnew {tells = tells} area (Ok book) (header_for tells area of)) where
-    found_is : Told tells → (start : List HistoryEntry) → StandsOrStarts (header_for tells area of) (tells.octets area) start → (value_of book).firm ≡ start
+      (reads : Told tells → (h : List HistoryEntry) → StandsFitFor (header_at tells area of.ip) (tells.octets area) h → FindsHistory {tells = tells} area (Ok book) h)
+      (anew : Told tells → Starts (header_at tells area of.ip) (tells.octets area) → IsMadeAnew {tells = tells} area (Ok book) (header_at tells area of.ip)) where
+    found_is : Told tells → (start : List HistoryEntry) → StandsOrStarts (header_at tells area of.ip) (tells.octets area) start → (value_of book).firm ≡ start
     found_is told start (inl stands) =
         ap (λ (v : BookValue). v.firm) (reads told start stands).value ∙ (opened_is_fresh (tells.size area) start).firm
     found_is told start (inr starts) =
         ap (λ (v : BookValue). v.firm) (anew told starts.0).value ∙ (opened_is_fresh (tells.size area) []).firm ∙ sym starts.1
 
     -- what was found begins what was firm once it had served
-    served_front : Told tells → (start : List HistoryEntry) → StandsOrStarts (header_for tells area of)
+    served_front : Told tells → (start : List HistoryEntry) → StandsOrStarts (header_at tells area of.ip)
         (tells.octets area) start
         → Begins start (value_of book').firm
     served_front told start found = subst (λ (h : List HistoryEntry). Begins h (value_of book').firm)
@@ -265,7 +284,7 @@ module _ {A F : Type 0} (tells : areas.Ghosts A) (files : shelves.Ghosts F) (of 
     -- what any crash leaves stands for a history that begins with what is firm, and with what was firm before the
     -- settling
     abbrev LeftBehind : List ℕ → Type 0
-    LeftBehind c = (history : List HistoryEntry) × StandsFitFor (header_for tells area of) c history
+    LeftBehind c = (history : List HistoryEntry) × StandsFitFor (header_at tells area of.ip) c history
         × Begins (value_of book'').firm history × Begins (value_of book').firm history
 
     left_behind : Told tells → (c : List ℕ) → tells.may_leave (area_of book'') c → LeftBehind c
@@ -275,7 +294,7 @@ module _ {A F : Type 0} (tells : areas.Ghosts A) (files : shelves.Ghosts F) (of 
         stands_for ((value_of book'').firm ++ (value_of book'').rest) ((value_of book'').rest, refl) s)
         (leaves.any told c may)
       where
-        named : header_of book'' ≡ header_for tells area of
+        named : header_of book'' ≡ header_at tells area of.ip
         named = settles.stays.0.header ∙ serves.stays.name ∙ opens.named
 
         stands_for : (history : List HistoryEntry) → Begins (value_of book'').firm history → StandsFitFor
@@ -287,7 +306,7 @@ module _ {A F : Type 0} (tells : areas.Ghosts A) (files : shelves.Ghosts F) (of 
           begins_then (value_of book').firm (value_of book'').firm history (settles.grows told) begins,
         )
 
-    goes_on_in : Told tells → (start : List HistoryEntry) → StandsOrStarts (header_for tells area of)
+    goes_on_in : Told tells → (start : List HistoryEntry) → StandsOrStarts (header_at tells area of.ip)
         (tells.octets area) start
         → (c : List ℕ) → tells.may_leave (area_of book'') c → GoesOnIn tells of area (area_of book'') links links'
         start c
@@ -313,7 +332,7 @@ module _ {A F : Type 0} (tells : areas.Ghosts A) (files : shelves.Ghosts F) (of 
     module _ (setup : Setup) (stay : ItemsStay) (grow : FilesGrow) (fresh : is_broken writer ≡ true)
         (by : settings_in writer ≡ files_at of setup) where
       filed_in : Told tells → IsTrue files.tells_files → (start : List HistoryEntry) → StandsOrStarts
-          (header_for tells area of) (tells.octets area) start
+          (header_at tells area of.ip) (tells.octets area) start
           → HasFirstFiles (files_at of setup) start (files.files shelf) → (c : List ℕ) → tells.may_leave
           (area_of book'') c
           → IsFiledIn tells files of setup area (shelf_of writer'') start c

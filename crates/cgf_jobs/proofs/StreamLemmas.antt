@@ -11,7 +11,7 @@ use Rattle.gtpp_stream.specs.declared.frame.FrameKind.{FrameKind}
 use Rattle.gateway_book.specs.declared.book.Book.{Book}
 use Rattle.gw_base.specs.Written.{AppendsFront}
 use Rattle.cgf_jobs.specs.StreamEnds.{end_by, most_stream, rest_end, rest_place, stream_end}
-use Rattle.cgf_jobs.specs.StreamSteps.{HasGoneTo, HasServed, IsBegunOn, IsGoingOn, StopsIn, end_of_result}
+use Rattle.cgf_jobs.specs.StreamSteps.{HasGoneTo, HasServedStream, IsBegunOn, IsGoingOn, StopsIn, end_of_result}
 use Rattle.cgf_jobs.specs.declared.connection.Connection.{Connection}
 use Rattle.cgf_jobs.specs.declared.input_kind.InputKind.TheVariants as input
 use Rattle.cgf_jobs.specs.declared.status.Status.{Status}
@@ -34,7 +34,11 @@ module _ {A : Type 0} (tells : areas.Ghosts A) where
       start = omega (arith, begun.start, begun.came, ap (λ (s : Stream). length s.octets) begun.deframer_is);
       within = omega (arith, begun.came);
     };
-    answers = λ told. (record { tried = []; octets_are = refl; sent_are = refl; cuts = inl (omega arith) }, refl);
+    answers = λ told. (
+      record { tried = []; octets_are = refl; sent_are = refl; cuts = inl (omega arith) },
+      refl,
+      begun.last,
+    );
     stays = record { size = refl; header = refl; open_time = refl };
     cuts = record { later = omega arith; cuts = inl (omega arith) };
   }
@@ -116,14 +120,14 @@ module _ {A : Type 0} (tells : areas.Ghosts A) (opened : Book A tells) (given se
   bounded = omega (arith, length_is, goes.steady.within)
 
   -- the source failed
-  pub served_read : (rest' : Option (List ℕ)) → Keeps rest rest' → HasServed tells opened c left rest' before now (Err status.Read)
+  pub served_read : (rest' : Option (List ℕ)) → Keeps rest rest' → HasServedStream tells opened c left rest' before now (Err status.Read)
   served_read rest' kept = record {
     text = given;
     consumed = consumes_kept left rest rest' given consumed kept;
     bounded = bounded;
     sent = sent;
     ok = λ is. absurd (cc);
-    err = ((all_gone tells opened given sent c goes).0, refl);
+    err = ((all_gone tells opened given sent c goes).0, refl, refl);
     refused = λ place kind is. absurd (cc);
     front = λ is. absurd (cc);
     cut = λ is. absurd (cc);
@@ -132,7 +136,7 @@ module _ {A : Type 0} (tells : areas.Ghosts A) (opened : Book A tells) (given se
 
   -- the stream came to its end
   pub served_end : (result : Result Unit Status) → IsAtEnd rest → stream_end given ≡ end_of_result result
-      → IfErr result (λ ended. (place : ℕ) × (ended ≡ status.Input place input.Rest)) → HasServed tells opened c left rest before now result
+      → IfErr result (λ ended. (place : ℕ) × (ended ≡ status.Input place input.Rest)) → HasServedStream tells opened c left rest before now result
   served_end (Ok done) at_end says why = record {
     text = given;
     consumed = consumed;
@@ -145,13 +149,13 @@ module _ {A : Type 0} (tells : areas.Ghosts A) (opened : Book A tells) (given se
     cut = tt;
     whole = tt;
   }
-  served_end (Err ended) at_end says why = subst (λ (e : Status). HasServed tells opened c left rest before now (Err e)) (sym why.1) (record {
+  served_end (Err ended) at_end says why = subst (λ (e : Status). HasServedStream tells opened c left rest before now (Err e)) (sym why.1) (record {
     text = given;
     consumed = consumed;
     bounded = bounded;
     sent = sent;
     ok = λ is. absurd (cc);
-    err = ((all_gone tells opened given sent c goes).0, refl);
+    err = ((all_gone tells opened given sent c goes).0, refl, refl);
     refused = λ place kind is. (
       (all_gone tells opened given sent c goes).0,
       refl,
@@ -164,14 +168,14 @@ module _ {A : Type 0} (tells : areas.Ghosts A) (opened : Book A tells) (given se
   })
 
   -- it has as many octets as are read
-  pub served_full : most_stream ≤ c.came → HasServed tells opened c left rest before now (Err (status.Input most_stream input.TooLong))
+  pub served_full : most_stream ≤ c.came → HasServedStream tells opened c left rest before now (Err (status.Input most_stream input.TooLong))
   served_full full = record {
     text = given;
     consumed = consumed;
     bounded = bounded;
     sent = sent;
     ok = λ is. absurd (cc);
-    err = ((all_gone tells opened given sent c goes).0, refl);
+    err = ((all_gone tells opened given sent c goes).0, refl, refl);
     refused = λ place kind is. (
       (all_gone tells opened given sent c goes).0,
       refl,
@@ -186,14 +190,14 @@ module _ {A : Type 0} (tells : areas.Ghosts A) (opened : Book A tells) (given se
 -- a piece of it ended the serving
 pub served_stop : {A : Type 0} (tells : areas.Ghosts A) (opened : Book A tells) (text sent : List ℕ) (c : Connection A tells)
     (left rest before now after : Option (List ℕ)) (ended : Status) → Consumes left rest text → length text ≤ most_stream
-    → Appends before now sent → StopsIn tells opened text sent c now after ended → HasServed tells opened c left rest before after (Err ended)
+    → Appends before now sent → StopsIn tells opened text sent c now after ended → HasServedStream tells opened c left rest before after (Err ended)
 served_stop tells opened text sent c left rest before now after (status.Input place kind) consumed short written stops = record {
   text = text;
   consumed = consumed;
   bounded = short;
   sent = sent;
   ok = λ is. absurd (cc);
-  err = (stops.0, refl);
+  err = (stops.0, refl, stops.1);
   refused = λ at why is. (
     stops.0,
     stops.1,
@@ -214,7 +218,7 @@ served_stop tells opened text sent c left rest before now after status.Write con
   bounded = short;
   sent = sent ++ stops.0;
   ok = λ is. absurd (cc);
-  err = (stops.1, refl);
+  err = (stops.1, refl, tt);
   refused = λ at why is. absurd (cc);
   front = λ is. front_two before now after sent stops.0 written stops.2;
   cut = λ is. record {
@@ -234,10 +238,10 @@ served_stop tells opened text sent c left rest before now after status.Link cons
   bounded = short;
   sent = sent;
   ok = λ is. absurd (cc);
-  err = (stops.0, refl);
+  err = (stops.0, refl, stops.1);
   refused = λ at why is. absurd (cc);
   front = λ is. absurd (cc);
   cut = λ is. absurd (cc);
-  whole = λ no. subst (λ (o : Option (List ℕ)). Appends before o sent) (sym stops.1) written;
+  whole = λ no. subst (λ (o : Option (List ℕ)). Appends before o sent) (sym stops.2) written;
 }
 served_stop tells opened text sent c left rest before now after _ consumed short written stops = absurd stops

@@ -32,9 +32,9 @@ use Rattle.route_filter.specs.declared.rule.Rule.{Rule}
 use Rattle.cgf_jobs.specs.Job.{Job}
 use Rattle.cgf_jobs.specs.Kinds.{of_frame}
 use Rattle.cgf_jobs.specs.ServeSteps.{status_by}
-use Rattle.cgf_jobs.specs.Served.{HoldsHistory}
-use Rattle.cgf_jobs.specs.StreamEnds.{EndsAsSaid, IsStreamRead, IsUnopened, KeepsAnswers, Streams, end_by, header_at, most_stream, rest_place, stream_end, stream_settings}
-use Rattle.cgf_jobs.specs.StreamSteps.{CausesStop, HasClosed, HasGoneTo, HasServed, HasSettledStream, IsGoingOn, LeavesBehind, SettlesAs}
+use Rattle.cgf_jobs.specs.Served.{HoldsHistory, header_at}
+use Rattle.cgf_jobs.specs.StreamEnds.{EndsAsSaid, IsStreamRead, IsUnopened, KeepsAnswers, Streams, end_by, most_stream, rest_place, stream_end, stream_settings}
+use Rattle.cgf_jobs.specs.StreamSteps.{CausesStop, HasClosed, HasGoneTo, HasServedStream, HasSettledStream, IsGoingOn, LeavesBehind, SettlesAs}
 use Rattle.cgf_jobs.specs.declared.connection.Connection.{Connection}
 use Rattle.cgf_jobs.specs.declared.status.Status.{Status}
 use Rattle.cgf_jobs.specs.declared.status.Status.TheVariants as status
@@ -370,6 +370,7 @@ module _ {A F : Type 0} (tells : areas.Ghosts A) (files : shelves.Ghosts F) (of 
       front = λ told is. absurd (cc is);
       first = λ told no. inr (
         answered tells files of job area area' shelf shelf' clock clock' book c open_time sized opens node later text sent consumed told gone status.Done,
+        refl,
         written_all tells files of job area area' shelf shelf' clock clock' book c open_time sized opens node later text sent consumed told gone status.Done written,
         kept later keeps closes text sent consumed told gone status.Done,
       );
@@ -390,6 +391,7 @@ module _ {A F : Type 0} (tells : areas.Ghosts A) (files : shelves.Ghosts F) (of 
       front = λ told is. absurd (cc is);
       first = λ told no. inr (
         answered tells files of job area area' shelf shelf' clock clock' book c open_time sized opens node later text sent consumed told gone status.Memory,
+        refl,
         written_all tells files of job area area' shelf shelf' clock clock' book c open_time sized opens node later text sent consumed told gone status.Memory written,
         kept later keeps closes text sent consumed told gone status.Memory,
       );
@@ -410,6 +412,7 @@ module _ {A F : Type 0} (tells : areas.Ghosts A) (files : shelves.Ghosts F) (of 
       front = λ told is. absurd (cc is);
       first = λ told no. inr (
         answered tells files of job area area' shelf shelf' clock clock' book c open_time sized opens node later text sent consumed told gone (status.Store fault.Device),
+        refl,
         written_all tells files of job area area' shelf shelf' clock clock' book c open_time sized opens node later text sent consumed told gone (status.Store fault.Device) written,
         kept later keeps closes text sent consumed told gone (status.Store fault.Device),
       );
@@ -428,7 +431,7 @@ module _ {A F : Type 0} (tells : areas.Ghosts A) (files : shelves.Ghosts F) (of 
 
   -- something else ended it
   module _ (later : tells.faults (area_of c.book) ≤ tells.faults area') (keeps : Holds) (closes : Closes) where
-    pub ends_badly : (why : Status) → HasServed tells book c job.left job.rest job.before job.after (Err why)
+    pub ends_badly : (why : Status) → HasServedStream tells book c job.left job.rest job.before job.after (Err why)
         → CausesStop {X = Unit} job.read_before job.read_after job.written_before job.written_after clock clock' (Err why) → Ends why
     ends_badly (status.Input place kind) served causes = record {
       told = λ is told. (
@@ -445,6 +448,7 @@ module _ {A F : Type 0} (tells : areas.Ghosts A) (files : shelves.Ghosts F) (of 
       first = λ told no. inr (
         answered tells files of job area area' shelf shelf' clock clock' book c open_time sized opens node later served.text served.sent served.consumed told
             served.err.0 (status.Input place kind),
+        served.err.2,
         written_all tells files of job area area' shelf shelf' clock clock' book c open_time sized opens node later served.text served.sent served.consumed told
             served.err.0 (status.Input place kind) (served.whole no),
         kept later keeps closes served.text served.sent served.consumed told served.err.0 (status.Input place kind),
@@ -468,6 +472,7 @@ module _ {A F : Type 0} (tells : areas.Ghosts A) (files : shelves.Ghosts F) (of 
       first = λ told no. inr (
         answered tells files of job area area' shelf shelf' clock clock' book c open_time sized opens node later served.text served.sent served.consumed told
             served.err.0 status.Read,
+        served.err.2,
         written_all tells files of job area area' shelf shelf' clock clock' book c open_time sized opens node later served.text served.sent served.consumed told
             served.err.0 status.Read (served.whole no),
         kept later keeps closes served.text served.sent served.consumed told served.err.0 status.Read,
@@ -517,6 +522,7 @@ module _ {A F : Type 0} (tells : areas.Ghosts A) (files : shelves.Ghosts F) (of 
       first = λ told no. inr (
         answered tells files of job area area' shelf shelf' clock clock' book c open_time sized opens node later served.text served.sent served.consumed told
             served.err.0 status.Link,
+        served.err.2,
         written_all tells files of job area area' shelf shelf' clock clock' book c open_time sized opens node later served.text served.sent served.consumed told
             served.err.0 status.Link (served.whole no),
         kept later keeps closes served.text served.sent served.consumed told served.err.0 status.Link,
@@ -535,7 +541,7 @@ module _ {A F : Type 0} (tells : areas.Ghosts A) (files : shelves.Ghosts F) (of 
     ends_badly _ served causes = absurd (cc served.err.1)
 
   -- however it ended
-  pub ends_streams : (served : Result Unit Status) (ended : Status) → HasServed tells book c job.left job.rest job.before job.after served
+  pub ends_streams : (served : Result Unit Status) (ended : Status) → HasServedStream tells book c job.left job.rest job.before job.after served
       → CausesStop job.read_before job.read_after job.written_before job.written_after clock clock' served
       → HasSettledStream tells files c writer served ended area' shelf' → Ends ended
   ends_streams (Ok done) ended served causes settles =

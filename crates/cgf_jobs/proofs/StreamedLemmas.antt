@@ -35,8 +35,8 @@ use Rattle.node_session.specs.Writing as writing
 use Rattle.replay_gateway.specs.AtRest.{AreShut}
 use Rattle.cgf_jobs.specs.Job.{Job}
 use Rattle.cgf_jobs.specs.Replies.{Tried, after_all, after_message, sent_for, sent_for_all}
-use Rattle.cgf_jobs.specs.Served.{HasAllFiles, HasFirstFiles}
-use Rattle.cgf_jobs.specs.StreamEnds.{HasAnswered, HasAnsweredAll, HasClosedBehind, HasSettledBehind, IsCutInLast, IsStreamRead, KeepsAnswers, StandsBehind, header_at, octets_sent, stream_end, stream_settings}
+use Rattle.cgf_jobs.specs.Served.{HasAllFiles, HasFirstFiles, header_at, moment_of}
+use Rattle.cgf_jobs.specs.StreamEnds.{HasAnswered, HasAnsweredAll, HasClosedBehind, HasSettledBehind, IsCutInLast, IsStreamRead, KeepsAnswers, StandsBehind, octets_sent, stream_end, stream_settings}
 use Rattle.cgf_jobs.specs.StreamSteps.{AnswersAll, HasClosed, HasEnded, HasGoneTo, HasSettledStream, IsLastOf, LeavesBehind, SettlesAs}
 use Rattle.cgf_jobs.specs.declared.connection.Connection.{Connection}
 use Rattle.cgf_jobs.specs.declared.status.Status.{Status}
@@ -261,8 +261,11 @@ module _ {A F : Type 0} (tells : areas.Ghosts A) (files : shelves.Ghosts F) (of 
     base_is : base e.settled.drops (facts_of c.book) ≡ firmed
     base_is = base_firmed c.book e.settled.drops e.settled.whole ∙ ap (λ (v : BookValue). (after_commit (mending e.settled.drops) v).firm) value_gone
 
-    pub history_is : history ≡ closed_behind firmed e.now no_caller
-    history_is = e.settled.firm told ∙ ap (λ (l : Entries). closed_behind l e.now no_caller) base_is
+    abbrev close_at : ℕ
+    close_at = moment_of c.last
+
+    pub history_is : history ≡ closed_behind firmed close_at no_caller
+    history_is = e.settled.firm told ∙ ap (λ (l : Entries). closed_behind l close_at no_caller) base_is
 
     header_is : header_of e.book ≡ header_at tells area of.ip
     header_is = e.stays.header ∙ gone.stays.header ∙ opens.named
@@ -273,20 +276,21 @@ module _ {A F : Type 0} (tells : areas.Ghosts A) (files : shelves.Ghosts F) (of 
 
     pub front : Begins start history
     front = subst (λ (l : Entries). Begins start l) (sym history_is)
-        (begins_then start firmed (closed_behind firmed e.now no_caller)
+        (begins_then start firmed (closed_behind firmed close_at no_caller)
         (begins_then start left.firm firmed left_front (commit_front (mending e.settled.drops) left))
-        (closed_begins firmed e.now no_caller))
+        (closed_begins firmed close_at no_caller))
 
     pub closed_behind_them : (ended : Status)
         → HasClosedBehind tells files of job area area' shelf shelf' clock clock' ended (answered ended) history
     closed_behind_them ended = record {
       last = mending e.settled.drops;
-      now = e.now;
       mended = mended left e.settled.drops;
-      history_is = history_is;
+      history_is = history_is
+          ∙ ap (λ (o : Option ℕ). closed_behind firmed (moment_of o) no_caller) (gone.answers told).2;
       stands = leaves_whole (tells.octets area') (laws.holds area');
       crash = leaves_whole;
-      shut = shuts history (ap is_close_due (e.settled.firm told) ∙ none_due_behind (base e.settled.drops (facts_of c.book)) e.now no_caller);
+      shut = shuts history (ap is_close_due (e.settled.firm told)
+          ∙ none_due_behind (base e.settled.drops (facts_of c.book)) close_at no_caller);
     }
 
 -- It has answered all of them, and was settled.
@@ -340,7 +344,7 @@ module _ {A F : Type 0} (tells : areas.Ghosts A) (files : shelves.Ghosts F) (c :
     (book : Book A tells) (after : Writer F files) (area : A) (shelf : F) (is_area : area ≡ area_of book) (is_shelf : shelf ≡ shelf_of after)
     (stays : Stays c.book book × (settings_in after ≡ settings_in writer))
     (later : (tells.faults (area_of c.book) ≤ tells.faults (area_of book)) × (files.faults (shelf_of writer) ≤ files.faults (shelf_of after)))
-    (grows : Grows c.book book) (leaves : LeavesFit book) (now : ℕ)
+    (grows : Grows c.book book) (leaves : LeavesFit book) (now : ℕ) (moment : now ≡ moment_of c.last)
     (closes : ¬ (disk.Rose (tells.faults (area_of c.book)) (tells.faults (area_of book))) → IsSettled c.book book now
     no_caller)
     (stay : ItemsStay) (files_stay : WhereTold (tells_lists tells)
@@ -370,8 +374,7 @@ module _ {A F : Type 0} (tells : areas.Ghosts A) (files : shelves.Ghosts F) (c :
   closed_by settled = record {
     book = book;
     area_is = is_area;
-    now = now;
-    settled = settled;
+    settled = subst (λ (n : ℕ). IsSettled c.book book n no_caller) moment settled;
     leaves = leaves;
     stays = stays.0;
   }

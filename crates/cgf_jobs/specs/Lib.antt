@@ -11,6 +11,7 @@ pub mod FeedReport
 pub mod ShowReport
 pub mod NetworkReport
 pub mod Serving
+pub mod Linked
 pub mod Served
 pub mod Shelved
 pub mod ServeEnds

@@ -1,6 +1,7 @@
 -- What a gateway answers to the messages of a stream, which all count as sent from one address: message after message,
 -- each at the history that the ones before it leave (3GPP TS 32.295, clauses 5.1.3 and 6.2, over a path of TCP).
-use Rattle.std.specs.Prelude.{◌≡◌, ℕ, if◌then◌else◌, List, [], ◌∷◌, ◌++◌, map}
+use Rattle.std.specs.Prelude.{◌≡◌, ℕ, if◌then◌else◌, List, [], ◌∷◌, ◌++◌, map, Option, None, Some}
+use Rattle.std.specs.Option.{option_or}
 use Rattle.gw_base.specs.declared.address.Addr.{Addr}
 use Rattle.gw_base.specs.declared.history.HistoryEntry.{HistoryEntry}
 use Rattle.gateway_answer.specs.Answer.{Decided, Says, Silent, decided}
@@ -47,6 +48,11 @@ pub record Tried : Type 0 where
   pub now : ℕ
   pub taking : Fortune
   pub committing : Fortune
+
+-- the moment at which the last of messages is taken, where there is one
+abbrev pub last_moment : List Tried → Option ℕ
+last_moment [] = None
+last_moment (m ∷ messages) = option_or (last_moment messages) (Some m.now)
 
 -- the message alone
 abbrev pub message_of : Tried → Timed

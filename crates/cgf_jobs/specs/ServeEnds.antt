@@ -18,9 +18,9 @@ use Rattle.world_script.specs.declared.line.Line.{Line}
 use Rattle.cgf_jobs.specs.Ending.{HasCause}
 use Rattle.cgf_jobs.specs.Job.{Job}
 use Rattle.cgf_jobs.specs.Kinds.{of_line}
+use Rattle.cgf_jobs.specs.Linked.{StandStill, TakesAllTurns, UsesLinks}
 use Rattle.cgf_jobs.specs.Run.{IsRead, TakesUpTo}
-use Rattle.cgf_jobs.specs.Served.{HasServed, LosesNothing, SettlesStill, header_for, served_line}
-use Rattle.cgf_jobs.specs.Serving.{address_in}
+use Rattle.cgf_jobs.specs.Served.{HasServed, LosesNothing, SettlesStill, header_at, served_line}
 use Rattle.cgf_jobs.specs.Shelved.{KeepsShelf}
 use Rattle.cgf_jobs.specs.declared.input_kind.InputKind.{InputKind}
 use Rattle.cgf_jobs.specs.declared.serving.Serving.{Serving}
@@ -94,19 +94,19 @@ module _ {A F : Type 0} (tells : areas.Ghosts A) (files : shelves.Ghosts F) (of 
   EndsBy (Err refusal) =
       (ended ≡ status.Memory) ⊎ (ended ≡ status.Input refusal.place (of_line refusal.kind))
   EndsBy (Ok lines) =
-      ((h : List HistoryEntry) → StandsOrStarts (header_for tells area of) (tells.octets area) h →
+      ((h : List HistoryEntry) → StandsOrStarts (header_at tells area of.ip) (tells.octets area) h →
       (ended ≡ status.Memory) ⊎ (ended ≡ status.Done))
-      × ((at : ℕ) → IsNotOurs (header_for tells area of) (tells.octets area) at →
+      × ((at : ℕ) → IsNotOurs (header_at tells area of.ip) (tells.octets area) at →
       (ended ≡ status.Memory) ⊎ (ended ≡ status.Store (fault.NotOurs at)))
 
   -- What a gateway that serves does, as a whole.
   pub record Serves (played : Option Played) : Type 0 where
     -- At `Done` the gateway took so many turns of its link, and the counts of its history are written, and nothing else.
     pub done : ended ≡ status.Done → ServedBy (λ line. Appends job.before job.after line)
-        × (links'.turns (address_in of) ≡ links.turns (address_in of) + of.turns)
+        × TakesAllTurns of links links' clock clock'
     -- At `Write` it did too, and a front of these is written.
     pub front : ended ≡ status.Write → ServedBy (λ line. AppendsFront job.before job.after line)
-        × (links'.turns (address_in of) ≡ links.turns (address_in of) + of.turns)
+        × TakesAllTurns of links links' clock clock'
     -- However it ends, nothing is lost of the history that its area held, nor of what it answered.
     pub keeps : LosesNothing tells of area area' links links'
     -- So it is of the files, by the settings that are read: the shelf has the first ones of a history that goes on.
@@ -120,17 +120,19 @@ module _ {A F : Type 0} (tells : areas.Ghosts A) (files : shelves.Ghosts F) (of 
     pub accepted : (ended ≡ status.Link) ⊎ ((why : StoreFault) × (ended ≡ status.Store why)) →
         (text : List ℕ) × IsRead (most_text + 1) job.left job.rest text
         × ((lines : List Line) × (script_in kind.Serve text ≡ Ok lines))
-    -- At `Store` a device failed; or the area is another's, at the place that shows it. Then it stays as it was, as the
-    -- files and the links do, and the clock didn't fail.
-    pub device : ended ≡ status.Store fault.Device →
-        disk.Rose (tells.faults area) (tells.faults area') ⊎ disk.Rose (files.faults shelf) (files.faults shelf')
+    -- At `Store` a device failed, and neither a link nor the clock; or the area is another's, at the place that shows
+    -- it. Then it stays as it was, as the files and the links do, and the clock didn't fail.
+    pub device : ended ≡ status.Store fault.Device → StandStill links links' clock clock'
+        × (disk.Rose (tells.faults area) (tells.faults area') ⊎ disk.Rose (files.faults shelf) (files.faults shelf'))
     pub foreign : (at : ℕ) → ended ≡ status.Store (fault.NotOurs at) → Keeps links links'
-        × (links'.faults ≡ links.faults) × (clock' ≡ clock) × (files.files shelf' ≡ files.files shelf) × (Told tells →
-        IsNotOurs (header_for tells area of) (tells.octets area) at × (tells.octets area' ≡ tells.octets area))
+        × StandStill links links' clock clock' × (files.files shelf' ≡ files.files shelf) × (Told tells →
+        IsNotOurs (header_at tells area of.ip) (tells.octets area) at × (tells.octets area' ≡ tells.octets area))
     -- At `Link` a link failed, or the clock. The area was the gateway's own, and it settled all the same, unless the
     -- area's device failed.
     pub link : ended ≡ status.Link → Rose links.faults links'.faults ⊎ Rose clock clock'
     pub closed : ended ≡ status.Link → SettlesStill tells of area area' links links'
+    -- However it ends, it takes no more turns than were asked for, at its own address alone.
+    pub uses : UsesLinks of links links'
     -- At `Read` the source failed, at `Write` the sink, and at no other end did these.
     pub cause : HasCause ended job.read_before job.read_after job.written_before job.written_after
     -- It ends in one of these ways, takes no octet of settings past the first 16,777,217, and hands no network back.

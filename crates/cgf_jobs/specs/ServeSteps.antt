@@ -30,8 +30,9 @@ use Rattle.world_script.specs.Script.{Refusal, most_text, script_in}
 use Rattle.world_script.specs.declared.kind.ScriptKind.TheVariants as kind
 use Rattle.world_script.specs.declared.line.Line.{Line}
 use Rattle.cgf_jobs.specs.Kinds.{of_line}
+use Rattle.cgf_jobs.specs.Linked.{StandStill, UsesLinks}
 use Rattle.cgf_jobs.specs.Run.{IsRead}
-use Rattle.cgf_jobs.specs.Served.{HasReplied, header_for, moment_of, served_line}
+use Rattle.cgf_jobs.specs.Served.{HasReplied, header_at, moment_of, served_line}
 use Rattle.cgf_jobs.specs.Serving.{address_in}
 use Rattle.cgf_jobs.specs.declared.serve.FileSettings.{FileSettings}
 use Rattle.cgf_jobs.specs.declared.serving.Serving.{Serving}
@@ -96,9 +97,12 @@ module _ {A F : Type 0} (tells : areas.Ghosts A) (files : shelves.Ghosts F) wher
     pub stays : StaysAs (facts_of book) (facts_of book')
     pub kept : KeepsWriter files (tells_lists tells) (value_of book').firm writer writer'
     pub turns : service.stop ≡ None → links'.turns (address_in of) ≡ links.turns (address_in of) + of.turns
+    pub uses : UsesLinks of links links'
     pub later : (links.faults ≤ links'.faults) × (clock ≤ clock')
     pub link : service.stop ≡ Some stop.Link → Rose links.faults links'.faults
     pub time : service.stop ≡ Some stop.Clock → Rose clock clock'
+    pub link_stood : service.stop ≡ None → links'.faults ≡ links.faults
+    pub time_stood : service.stop ≡ None → clock' ≡ clock
 
   -- A gateway was settled behind its service, and the line is that of its history: all of it is firm, and its writer has
   -- taken all its items.
@@ -113,9 +117,9 @@ module _ {A F : Type 0} (tells : areas.Ghosts A) (files : shelves.Ghosts F) wher
   abbrev pub HasNoLine : Service → Book A tells → Book A tells → Writer F files → Writer F files → Status → Type 0
   HasNoLine service book book' writer writer' status.Link =
       (service.stop ≡ Some stop.Link) ⊎ (service.stop ≡ Some stop.Clock)
-  HasNoLine service book book' writer writer' (status.Store fault.Device) =
-      disk.Rose (tells.faults (area_of book)) (tells.faults (area_of book'))
-      ⊎ disk.Rose (files.faults (shelf_of writer)) (files.faults (shelf_of writer'))
+  HasNoLine service book book' writer writer' (status.Store fault.Device) = (service.stop ≡ None)
+      × (disk.Rose (tells.faults (area_of book)) (tells.faults (area_of book'))
+      ⊎ disk.Rose (files.faults (shelf_of writer)) (files.faults (shelf_of writer')))
   HasNoLine service book book' writer writer' status.Memory = ⊤
   HasNoLine service book book' writer writer' _ = ⊥
 
@@ -133,25 +137,26 @@ module _ {A F : Type 0} (tells : areas.Ghosts A) (files : shelves.Ghosts F) wher
 module _ {A F : Type 0} (tells : areas.Ghosts A) (files : shelves.Ghosts F) (of : Serving) (area area' : A)
     (shelf shelf' : F) (links links' : LinksState) (clock clock' : ℕ) where
   abbrev pub StopsServing : Status → Type 0
-  StopsServing (status.Store fault.Device) =
-      disk.Rose (tells.faults area) (tells.faults area') ⊎ disk.Rose (files.faults shelf) (files.faults shelf')
-  StopsServing (status.Store (fault.NotOurs at)) = Keeps links links' × (links'.faults ≡ links.faults)
-      × (clock' ≡ clock) × (files.files shelf' ≡ files.files shelf) × (Told tells →
-      IsNotOurs (header_for tells area of) (tells.octets area) at × (tells.octets area' ≡ tells.octets area))
+  StopsServing (status.Store fault.Device) = StandStill links links' clock clock'
+      × (disk.Rose (tells.faults area) (tells.faults area') ⊎ disk.Rose (files.faults shelf) (files.faults shelf'))
+  StopsServing (status.Store (fault.NotOurs at)) = Keeps links links' × StandStill links links' clock clock'
+      × (files.files shelf' ≡ files.files shelf) × (Told tells →
+      IsNotOurs (header_at tells area of.ip) (tells.octets area) at × (tells.octets area' ≡ tells.octets area))
   StopsServing status.Link = Rose links.faults links'.faults ⊎ Rose clock clock'
   StopsServing status.Memory = ⊤
   StopsServing _ = ⊥
 
-  -- no count falls, and the area keeps its length
+  -- no count falls, the area keeps its length, and no more turns are taken than were asked for
   pub record NeverFalls : Type 0 where
     pub device : tells.faults area ≤ tells.faults area'
     pub shelf_too : files.faults shelf ≤ files.faults shelf'
     pub link : links.faults ≤ links'.faults
     pub time : clock ≤ clock'
     pub size : tells.size area' ≡ tells.size area
+    pub uses : UsesLinks of links links'
 
 -- an area that is another's is refused at its place, unless its device fails or memory runs out
 abbrev pub RefusesAsForeign : {A X : Type 0} (tells : areas.Ghosts A) → Serving → A → Result X Status → Type 0
-RefusesAsForeign tells of area result = (at : ℕ) → IsNotOurs (header_for tells area of) (tells.octets area) at
+RefusesAsForeign tells of area result = (at : ℕ) → IsNotOurs (header_at tells area of.ip) (tells.octets area) at
     → (result ≡ Err (status.Store (fault.NotOurs at)))
     ⊎ ((result ≡ Err (status.Store fault.Device)) ⊎ (result ≡ Err status.Memory))

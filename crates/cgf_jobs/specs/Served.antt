@@ -80,9 +80,9 @@ pub record HasReplied (size : ℕ) (history : List HistoryEntry) (before now : �
   pub each : IfSome sent (All (IsReply (links'.received at) size history before now))
   pub in_turn : ReplyInTurn size history before now (links'.received at) sent
 
--- the header of the journal of a gateway that serves on this area
-abbrev pub header_for : {A : Type 0} (tells : areas.Ghosts A) → A → Serving → List ℕ
-header_for tells area of = header (tells.size area) of.ip 0
+-- the header of the journal on this area of a gateway at this address
+abbrev pub header_at : {A : Type 0} (tells : areas.Ghosts A) → A → ℕ → List ℕ
+header_at tells area ip = header (tells.size area) ip 0
 
 module _ {A : Type 0} (tells : areas.Ghosts A) (of : Serving) (area area' : A) (links links' : LinksState) where
   -- The area handed in stood for a history, or started, and had none; the one handed back stands for one that has grown
@@ -90,9 +90,9 @@ module _ {A : Type 0} (tells : areas.Ghosts A) (of : Serving) (area area' : A) (
   -- that is open.
   pub record LeavesClosed (history : List HistoryEntry) : Type 0 where
     pub start : List HistoryEntry
-    pub found : StandsOrStarts (header_for tells area of) (tells.octets area) start
-    pub stands : StandsFitFor (header_for tells area of) (tells.octets area') history
-    pub crash : (c : List ℕ) → tells.may_leave area' c → StandsFitFor (header_for tells area of) c history
+    pub found : StandsOrStarts (header_at tells area of.ip) (tells.octets area) start
+    pub stands : StandsFitFor (header_at tells area of.ip) (tells.octets area') history
+    pub crash : (c : List ℕ) → tells.may_leave area' c → StandsFitFor (header_at tells area of.ip) c history
     pub grown : HasGrown (tells.size area) (links'.received (address_in of)) start history
     pub replies : HasReplied (tells.size area) history (tells.faults area) (tells.faults area') (address_in of) links links'
     pub shut : AreShut (items_of history)
@@ -100,7 +100,7 @@ module _ {A : Type 0} (tells : areas.Ghosts A) (of : Serving) (area area' : A) (
   -- The area was the gateway's own, and where its device didn't fail the gateway was settled.
   abbrev pub SettlesStill : Type 0
   SettlesStill = Told tells →
-      ((start : List HistoryEntry) × StandsOrStarts (header_for tells area of) (tells.octets area) start)
+      ((start : List HistoryEntry) × StandsOrStarts (header_at tells area of.ip) (tells.octets area) start)
       × (¬ (Rose (tells.faults area) (tells.faults area')) → (history : List HistoryEntry) × LeavesClosed history)
 
 module _ {A F : Type 0} (tells : areas.Ghosts A) (files : shelves.Ghosts F) (of : Serving) (setup : Setup)
@@ -122,7 +122,7 @@ module _ {A : Type 0} (tells : areas.Ghosts A) (of : Serving) (area area' : A) (
   -- sent is a reply that rests on the history for which they stand.
   pub record GoesOnIn (start : List HistoryEntry) (octets : List ℕ) : Type 0 where
     pub history : List HistoryEntry
-    pub stands : StandsOrStarts (header_for tells area of) octets history
+    pub stands : StandsOrStarts (header_at tells area of.ip) octets history
     pub begins : Begins start history
     pub replies : HasReplied (tells.size area) history (tells.faults area) (tells.faults area') (address_in of) links links'
 
@@ -133,7 +133,7 @@ module _ {A : Type 0} (tells : areas.Ghosts A) (of : Serving) (area area' : A) (
 
   -- Nothing is lost, however the gateway ends: neither the history that the area held, nor what was answered.
   abbrev pub LosesNothing : Type 0
-  LosesNothing = Told tells → (start : List HistoryEntry) → HoldsHistory tells (header_for tells area of) area start
+  LosesNothing = Told tells → (start : List HistoryEntry) → HoldsHistory tells (header_at tells area of.ip) area start
       → KeepsHistory start
 
 -- what is written of a history: its counts

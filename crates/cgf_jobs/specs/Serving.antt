@@ -6,7 +6,7 @@ use Rattle.gw_base.specs.declared.address.Addr.{Addr}
 use Rattle.route_filter.specs.Words.{number_up_to, ◌>>=◌}
 use Rattle.world_script.specs.Values.{ip_of, number_between}
 use Rattle.cgf_jobs.specs.Words.{is_option}
-use Rattle.cgf_jobs.specs.declared.serving.Places.{Places}
+use Rattle.cgf_jobs.specs.declared.serving.ServePlaces.{ServePlaces}
 use Rattle.cgf_jobs.specs.declared.serving.Serving.{Serving}
 
 -- the most turns that a gateway may be asked to serve for
@@ -43,19 +43,19 @@ pub record IsServingWithin (of : Serving) : Type 0 where
 
 -- The outside of a gateway that serves: the length of its journal's area, the path of the area's file, and that of the
 -- folder of its files.
-pub record PlacesValue : Type 0 where
+pub record ServePlacesValue : Type 0 where
   pub length : ℕ
   pub area : List ℕ
   pub folder : List ℕ
 
-abbrev pub places_in : List (List ℕ) → Serving → PlacesValue
-places_in (name ∷ ip ∷ port ∷ turns ∷ length ∷ area ∷ folder ∷ words) of =
+abbrev pub serve_places_in : List (List ℕ) → Serving → ServePlacesValue
+serve_places_in (name ∷ ip ∷ port ∷ turns ∷ length ∷ area ∷ folder ∷ words) of =
     record { length = of.length; area = area; folder = folder }
-places_in words of = record { length = of.length; area = []; folder = [] }
+serve_places_in words of = record { length = of.length; area = []; folder = [] }
 
 -- the outside that the words ask for, where they are those of `serve`
-abbrev pub places_of : List (List ℕ) → Option PlacesValue
-places_of words = option_map (places_in words) (serving_of words)
+abbrev pub serve_places_of : List (List ℕ) → Option ServePlacesValue
+serve_places_of words = option_map (serve_places_in words) (serving_of words)
 
-abbrev pub places_seen : Option Places → Option PlacesValue
-places_seen found = option_map (λ p. record { length = p.length; area = p.area.now; folder = p.folder.now }) found
+abbrev pub serve_places_seen : Option ServePlaces → Option ServePlacesValue
+serve_places_seen found = option_map (λ p. record { length = p.length; area = p.area.now; folder = p.folder.now }) found

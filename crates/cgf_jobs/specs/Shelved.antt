@@ -7,7 +7,7 @@ use Rattle.gateway_book.specs.Opened.{StandsOrStarts}
 use Rattle.gw_base.specs.Owes.{Begins}
 use Rattle.gw_base.specs.declared.history.HistoryEntry.{HistoryEntry}
 use Rattle.replay_gateway.specs.Setup.{Setup}
-use Rattle.cgf_jobs.specs.Served.{HasFirstFiles, HoldsHistory, files_at, header_for}
+use Rattle.cgf_jobs.specs.Served.{HasFirstFiles, HoldsHistory, files_at, header_at}
 use Rattle.cgf_jobs.specs.declared.serving.Serving.{Serving}
 
 module _ {A F : Type 0} (tells : areas.Ghosts A) (files : shelves.Ghosts F) (of : Serving) (setup : Setup) (area : A)
@@ -16,7 +16,7 @@ module _ {A F : Type 0} (tells : areas.Ghosts A) (files : shelves.Ghosts F) (of 
   -- first ones of the files that it closes, and no others.
   pub record IsFiledIn (start : List HistoryEntry) (octets : List ℕ) : Type 0 where
     pub history : List HistoryEntry
-    pub stands : StandsOrStarts (header_for tells area of) octets history
+    pub stands : StandsOrStarts (header_at tells area of.ip) octets history
     pub begins : Begins start history
     pub filed : HasFirstFiles (files_at of setup) history (files.files shelf')
 
@@ -26,7 +26,7 @@ module _ {A F : Type 0} (tells : areas.Ghosts A) (files : shelves.Ghosts F) (of 
   -- in the area that is handed back, and in what any crash leaves of it.
   abbrev pub KeepsShelf : Type 0
   KeepsShelf = Told tells → IsTrue files.tells_files → (start : List HistoryEntry)
-      → HoldsHistory tells (header_for tells area of) area start
+      → HoldsHistory tells (header_at tells area of.ip) area start
       → HasFirstFiles (files_at of setup) start (files.files shelf)
       → IsFiledIn tells files of setup area shelf' start (tells.octets area')
       × ((c : List ℕ) → tells.may_leave area' c → IsFiledIn tells files of setup area shelf' start c)

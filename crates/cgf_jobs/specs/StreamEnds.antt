@@ -1,10 +1,9 @@
 -- How `stream` ends, and why, and what it leaves.
-use Rattle.std.specs.Prelude.{◌≡◌, ◌≢◌, ◌⊎◌, ℕ, ◌+◌, ◌-◌, ◌≤◌, ◌^◌, nat_lt, Bool, true, false, if◌then◌else◌, IsTrue, List, [], ◌∷◌, ◌++◌, length, map, take, Option, Some, None}
+use Rattle.std.specs.Prelude.{◌≡◌, ◌≢◌, ◌⊎◌, ℕ, ◌+◌, ◌-◌, ◌≤◌, ◌^◌, nat_lt, Bool, true, false, if◌then◌else◌, IsTrue, List, [], ◌∷◌, ◌++◌, length, map, take, Option, Some, None, ⊤}
 use Rattle.std.specs.Io.KnownBytes.{Appends, Consumes, IsAtEnd}
 use Rattle.area_disk.specs.Disk as disk
 use Rattle.area_disk.specs.declared.area.Area as areas
 use Rattle.cdr_shelf.specs.declared.shelf.Shelf as shelves
-use Rattle.gate_journal.specs.Format.{header}
 use Rattle.gate_journal.specs.Moments.{Told}
 use Rattle.gateway_answer.specs.Answered.{no_caller}
 use Rattle.gateway_answer.specs.FitHistory.{StandsFitFor}
@@ -25,10 +24,10 @@ use Rattle.file_writer.specs.Streams.{Settings}
 use Rattle.cgf_jobs.specs.Ending.{HasCause}
 use Rattle.cgf_jobs.specs.Job.{Job}
 use Rattle.cgf_jobs.specs.Kinds.{of_frame}
-use Rattle.cgf_jobs.specs.Replies.{Tried, after_all, message_of, replies, sent_for, sent_for_all}
+use Rattle.cgf_jobs.specs.Replies.{Tried, after_all, last_moment, message_of, replies, sent_for, sent_for_all}
 use Rattle.cgf_jobs.specs.Run.{TakesUpTo, is_reported}
 use Rattle.cgf_jobs.specs.ServeEnds.{IsGatewayEnd, may_have_opened}
-use Rattle.cgf_jobs.specs.Served.{HasAllFiles, HasFirstFiles, HoldsHistory}
+use Rattle.cgf_jobs.specs.Served.{HasAllFiles, HasFirstFiles, HoldsHistory, header_at, moment_of}
 use Rattle.cgf_jobs.specs.declared.input_kind.InputKind.TheVariants as input
 use Rattle.cgf_jobs.specs.declared.serving.Serving.{Serving}
 use Rattle.cgf_jobs.specs.declared.status.Status.{Status}
@@ -72,9 +71,12 @@ pub record IsStreamRead (left rest : Option (List ℕ)) (text : List ℕ) : Type
   pub bounded : length text ≤ most_stream
   pub whole : first_fault (rest_of text) ≡ None → (length text ≡ most_stream) ⊎ IsAtEnd rest
 
--- the header of the journal of a gateway at this address
-abbrev pub header_at : {A : Type 0} (tells : areas.Ghosts A) → A → ℕ → List ℕ
-header_at tells area ip = header (tells.size area) ip 0
+-- Which whole messages of what was read aren't answered where a stream ends so: at `Link` that for which the clock was
+-- asked, and all behind it; at `Write` those behind the one whose reply was cut; at every other end none.
+abbrev pub LeavesUnanswered : Status → List (List ℕ) → Type 0
+LeavesUnanswered status.Link unanswered = unanswered ≢ []
+LeavesUnanswered status.Write unanswered = ⊤
+LeavesUnanswered _ unanswered = unanswered ≡ []
 
 -- the settings of its files: the defaults
 abbrev pub stream_settings : ℕ → Settings
@@ -121,13 +123,14 @@ module _ {A F : Type 0} (tells : areas.Ghosts A) (files : shelves.Ghosts F) (of 
   abbrev pub octets_sent : HasAnswered → List ℕ
   octets_sent s = sent_for_all (tells.size area) of.node (opening s.start) s.tried
 
-  -- The gateway was closed behind them: torn entries were taken in or dropped, and a Close was made where one was due. The
-  -- area handed back stands for that history, now and after any crash. Its files have all records, and none is open.
+  -- The gateway was closed behind them: torn entries were taken in or dropped, and a Close was made where one was due,
+  -- at the moment of the last message, and at 0 where none was answered. The area handed back stands for that history,
+  -- now and after any crash. Its files have all records, and none is open.
   pub record HasClosedBehind (s : HasAnswered) (history : List HistoryEntry) : Type 0 where
     pub last : Fortune
-    pub now : ℕ
     pub mended : (after_commit last (value_left s)).is_broken ≡ false
-    pub history_is : history ≡ closed_behind (after_commit last (value_left s)).firm now no_caller
+    pub history_is : history
+        ≡ closed_behind (after_commit last (value_left s)).firm (moment_of (last_moment s.tried)) no_caller
     pub stands : StandsFitFor (header_at tells area of.ip) (tells.octets area') history
     pub crash : (c : List ℕ) → tells.may_leave area' c → StandsFitFor (header_at tells area of.ip) c history
     pub shut : AreShut (items_of history)
@@ -206,12 +209,13 @@ module _ {A F : Type 0} (tells : areas.Ghosts A) (files : shelves.Ghosts F) (of 
     pub decided : is_reported ended ≡ true →
         (text : List ℕ) × IsStreamRead job.left job.rest text × (ended ≡ stream_end text)
     -- At `Write` a front of the replies is written, which ends in that to the last message that was answered; at every
-    -- other end whole ones of the first messages, and nothing else; or the gateway wasn't opened. However it ends,
-    -- nothing is lost of what was answered, and the gateway settles.
+    -- other end whole ones, of all messages of what was read, at `Link` of the first ones, and nothing else; or the
+    -- gateway wasn't opened. However it ends, nothing is lost of what was answered, and the gateway settles.
     pub front : Told tells → ended ≡ status.Write →
         (s : HasAnswered) × AppendsFront job.before job.after (octets_sent s) × IsCutInLast s × KeepsAnswers s
     pub first : Told tells → ended ≢ status.Write →
-        IsUnopened ⊎ ((s : HasAnswered) × Appends job.before job.after (octets_sent s) × KeepsAnswers s)
+        IsUnopened ⊎ ((s : HasAnswered) × LeavesUnanswered ended s.unanswered
+        × Appends job.before job.after (octets_sent s) × KeepsAnswers s)
     -- At `Memory`, and at `Store` without a place, nothing was read, or the stream had ended well.
     pub behind : (ended ≡ status.Memory) ⊎ (ended ≡ status.Store fault.Device) →
         (job.rest ≡ job.left) ⊎ ((text : List ℕ) × IsStreamRead job.left job.rest text × (stream_end text ≡ status.Done))

@@ -24,9 +24,9 @@ use Rattle.gw_base.specs.declared.address.Addr.{Addr}
 use Rattle.gw_base.specs.declared.history.HistoryEntry.{HistoryEntry}
 use Rattle.node_session.specs.Settling.{HasTakenAll, IsSettled}
 use Rattle.node_session.specs.Writing.{HoldsFilesOf, KeepsFiles}
-use Rattle.cgf_jobs.specs.Replies.{Tried, after_all, after_message, sent_for, sent_for_all}
-use Rattle.cgf_jobs.specs.Served.{HasFirstFiles}
-use Rattle.cgf_jobs.specs.StreamEnds.{IsStreamRead, most_stream, stream_end}
+use Rattle.cgf_jobs.specs.Replies.{Tried, after_all, after_message, last_moment, sent_for, sent_for_all}
+use Rattle.cgf_jobs.specs.Served.{HasFirstFiles, moment_of}
+use Rattle.cgf_jobs.specs.StreamEnds.{IsStreamRead, LeavesUnanswered, most_stream, stream_end}
 use Rattle.cgf_jobs.specs.declared.connection.Connection.{Connection}
 use Rattle.cgf_jobs.specs.declared.input_kind.InputKind.{InputKind}
 use Rattle.cgf_jobs.specs.declared.status.Status.{Status}
@@ -64,10 +64,12 @@ module _ {A : Type 0} (tells : areas.Ghosts A) where
     pub cuts : (new.cuts + tells.faults (area_of old) ≤ old.cuts + tells.faults (area_of new))
         ⊎ (last_count ≤ tells.faults (area_of new))
 
-  -- A message from this address was answered, and a commit was tried behind it: this is to be sent.
-  pub record Answers (from : Addr) (message : List ℕ) (old new : Book A tells) (sent : List ℕ) : Type 0 where
+  -- A message from this address was answered, at this moment, and a commit was tried behind it: this is to be sent.
+  pub record Answers (from : Addr) (message : List ℕ) (old new : Book A tells) (last : Option ℕ) (sent : List ℕ)
+      : Type 0 where
     pub tried : Tried
     pub octets_are : tried.octets ≡ message
+    pub last_is : last ≡ Some tried.now
     pub value : value_of new ≡ after_message (size_of old) from (value_of old) tried
     pub sent_is : sent ≡ sent_for (size_of old) from (value_of old) tried
 
@@ -101,7 +103,7 @@ module _ {A : Type 0} (tells : areas.Ghosts A) where
 
   -- The message that stands was answered, this is to be sent, and the next message begins behind it.
   pub record HasAnsweredOne (old new : Connection A tells) (sent : List ℕ) : Type 0 where
-    pub answers : Told tells → Answers old.node old.deframer.octets old.book new.book sent
+    pub answers : Told tells → Answers old.node old.deframer.octets old.book new.book new.last sent
     pub deframer_is : new.deframer ≡ record old.deframer { octets = []; is_whole = false }
     pub node_is : new.node ≡ old.node
     pub came_is : new.came ≡ old.came
@@ -109,9 +111,10 @@ module _ {A : Type 0} (tells : areas.Ghosts A) where
 
   -- Why a message isn't answered, or its reply not written, and what was written.
   abbrev pub StopsAtMessage : Connection A tells → Connection A tells → Option (List ℕ) → Option (List ℕ) → Status → Type 0
-  StopsAtMessage old new before after status.Link = (after ≡ before) × (new.book ≡ old.book)
+  StopsAtMessage old new before after status.Link = (after ≡ before) × (new.book ≡ old.book) × (new.last ≡ old.last)
   StopsAtMessage old new before after status.Write = (sent : List ℕ)
-      × (Told tells → Answers old.node old.deframer.octets old.book new.book sent) × AppendsFront before after sent
+      × (Told tells → Answers old.node old.deframer.octets old.book new.book new.last sent)
+      × AppendsFront before after sent
   StopsAtMessage old new before after _ = ⊥
 
   -- A connection on which nothing came yet.
@@ -119,6 +122,7 @@ module _ {A : Type 0} (tells : areas.Ghosts A) where
     pub deframer_is : c.deframer ≡ no_stream
     pub came : c.came ≡ 0
     pub start : c.start ≡ 0
+    pub last : c.last ≡ None
 
   -- Since a gateway was opened so, these octets of a stream came, each whole message of them was answered, and this was
   -- sent. A message begins behind them.
@@ -128,6 +132,7 @@ module _ {A : Type 0} (tells : areas.Ghosts A) where
     pub steady : IsSteady c
     pub answers : Told tells → (a : AnswersAll c.node opened messages sent (tells.faults (area_of c.book)))
         × (value_of c.book ≡ after_all (size_of opened) c.node (value_of opened) a.tried)
+        × (c.last ≡ last_moment a.tried)
     pub stays : Stays opened c.book
     pub cuts : CutsByFaults opened c.book
 
@@ -138,6 +143,7 @@ module _ {A : Type 0} (tells : areas.Ghosts A) where
     pub frames_are : frames given ≡ messages ++ unanswered
     pub answers : Told tells → (a : AnswersAll c.node opened messages sent (tells.faults (area_of c.book)))
         × (value_of c.book ≡ after_all (size_of opened) c.node (value_of opened) a.tried)
+        × (c.last ≡ last_moment a.tried)
     pub stays : Stays opened c.book
     pub cuts : CutsByFaults opened c.book
 
@@ -150,7 +156,8 @@ module _ {A : Type 0} (tells : areas.Ghosts A) where
   StopsIn opened given sent c before after status.Write =
       (more : List ℕ) × (s : HasGoneTo opened given (sent ++ more) c) × AppendsFront before after more
       × ((told : Told tells) → IsLastOf c.node opened (s.answers told).0.tried sent more)
-  StopsIn opened given sent c before after status.Link = HasGoneTo opened given sent c × (after ≡ before)
+  StopsIn opened given sent c before after status.Link =
+      (s : HasGoneTo opened given sent c) × (s.unanswered ≢ []) × (after ≡ before)
   StopsIn opened given sent c before after _ = ⊥
 
   -- The reply to the last message was cut: those to the others were written, and a front of it.
@@ -165,7 +172,7 @@ module _ {A : Type 0} (tells : areas.Ghosts A) where
     pub written : Appends before after (earlier ++ take count more)
 
   -- How the serving of a stream ended, of which this was left and is left now.
-  pub record HasServed (opened : Book A tells) (c : Connection A tells) (left rest before after : Option (List ℕ))
+  pub record HasServedStream (opened : Book A tells) (c : Connection A tells) (left rest before after : Option (List ℕ))
       (result : Result Unit Status) : Type 0 where
     pub text : List ℕ
     pub consumed : Consumes left rest text
@@ -173,19 +180,20 @@ module _ {A : Type 0} (tells : areas.Ghosts A) where
     pub sent : List ℕ
     pub ok : result ≡ Ok tt → IsGoingOn opened text sent c × (stream_end text ≡ status.Done)
         × IsStreamRead left rest text × Appends before after sent
-    pub err : IfErr result (λ ended. HasGoneTo opened text sent c × (ends_serving ended ≡ true))
+    pub err : IfErr result (λ ended. (s : HasGoneTo opened text sent c) × (ends_serving ended ≡ true)
+        × LeavesUnanswered ended s.unanswered)
     pub refused : IfErr result (λ ended. (place : ℕ) (kind : InputKind) → ended ≡ status.Input place kind →
         (s : HasGoneTo opened text sent c) × (s.unanswered ≡ []) × (stream_end text ≡ ended) × IsStreamRead left rest text)
     pub front : IfErr result (λ ended. ended ≡ status.Write → AppendsFront before after sent)
     pub cut : IfErr result (λ ended. ended ≡ status.Write → IsCutIn opened c text sent before after)
     pub whole : IfErr result (λ ended. ended ≢ status.Write → Appends before after sent)
 
-  -- A gateway was closed behind a stream, and its area was handed back: all of its history is firm.
+  -- A gateway was closed behind a stream, at the moment of its last message, and its area was handed back: all of its
+  -- history is firm.
   pub record HasClosed (c : Connection A tells) (area : A) : Type 0 where
     pub book : Book A tells
     pub area_is : area ≡ area_of book
-    pub now : ℕ
-    pub settled : IsSettled c.book book now no_caller
+    pub settled : IsSettled c.book book (moment_of c.last) no_caller
     pub leaves : LeavesFit book
     pub stays : Stays c.book book
 

@@ -1,5 +1,5 @@
 //! The messages of a stream, one after the other: each is answered, and the answer is firm before it is written.
-ghost use Rattle.std.specs.Prelude.{◌≡◌, ◌≢◌, ◌+◌, ◌<◌, ◌≤◌, ◌++◌, ℕ, List, IfErr, IfOk, Ok, Option, length, take, true};
+ghost use Rattle.std.specs.Prelude.{◌≡◌, ◌≢◌, ◌+◌, ◌<◌, ◌≤◌, ◌++◌, ℕ, List, IfErr, IfOk, Ok, Option, Some, length, take, true};
 ghost use Rattle.std.specs.Io.KnownBytes.{Appends};
 ghost use Rattle.gate_journal.specs.Moments.{Told};
 ghost use Rattle.gateway_book.specs.Book.{Stays};
@@ -33,7 +33,7 @@ pub(crate) struct Connection<A: Area> {
 /// Answers a message, and makes the answer firm: the reply, where there is one. Where the device fails, a request is told
 /// so.
 fn answer<A: Area>(book: &mut Book<A>, from: Addr, message: &[u8], now: Moment) -> Option<Short>
-    ensures answers { Told A.Area → Answers A.Area from message.now book.old book.new (reply_of result) }
+    ensures answers { Told A.Area → Answers A.Area from message.now book.old book.new (Some now) (reply_of result) }
     ensures stays { Stays book.old book.new }
     ensures cuts { CutsByFaults A.Area book.old book.new }
 {

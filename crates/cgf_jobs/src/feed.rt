@@ -156,7 +156,7 @@ impl Feed {
         let (shelf, records) = write_files(alloc, settings, rules, &mut gateway)?;
         let counts = gateway.counts();
         drop(gateway);
-        print_files(&mut printed, &shelf)?;
+        print_files(alloc, &mut printed, &shelf)?;
         print_counts(alloc, &mut printed, counts, records)?;
         Ok(Report {
             printed,
@@ -167,14 +167,14 @@ impl Feed {
 }
 
 /// Appends the lines of the sealed files of a shelf, stream after stream.
-fn print_files(printed: &mut Vec<u8>, shelf: &QuietShelf) -> Result<(), NoMemory>
+fn print_files(alloc: Global, printed: &mut Vec<u8>, shelf: &QuietShelf) -> Result<(), NoMemory>
     ensures { (setup : Setup) (items : List ItemValue) → ((s : ℕ) → s < stream_count →
         in_stream s (⟦<QuietShelf as Shelf>⟧.files shelf.now) ≡ stream_files (files_in setup 0) s items) →
         OnOk result (printed.new.items ≡ printed.old.items ++ file_lines setup 0 items) }
 {
     make_room(printed, shelf)?;
     for stream in 0..STREAMS {
-        print_stream(printed, shelf, stream)?;
+        print_stream(alloc, printed, shelf, stream)?;
     }
     Ok(())
 }

@@ -22,7 +22,7 @@ use replay_gateway::Settings;
 use route_filter::Rules;
 use std::alloc::Global;
 
-/// How many items a writer is told at once. They stay near the processor until it has taken them, and the entry of a
+/// How many items a writer is given at once. They stay near the processor until it has taken them, and the entry of a
 /// long release isn't read for each few of its items.
 const PART: u32 = 4096;
 
@@ -54,12 +54,12 @@ pub fn write_files(
         Err(ShelfFault::NoMemory) => return Err(NoMemory),
         Err(ShelfFault::Device) => unreachable!(),
     }
-    let records = tell_all(alloc, gateway, &mut writer)?;
+    let records = give_all(alloc, gateway, &mut writer)?;
     Ok((writer.into_shelf(), records))
 }
 
-/// A writer that recovered is told all items of a gateway, and how many records these have is answered.
-fn tell_all(
+/// Gives a writer that recovered all items of a gateway, and says how many records these have.
+fn give_all(
     alloc: Global,
     gateway: &mut Gateway,
     writer: &mut Writer<QuietShelf>,
@@ -67,7 +67,7 @@ fn tell_all(
     requires ready { is_broken writer.old ≡ false }
     requires none { taken_of writer.old ≡ 0 }
     requires at { IsAt writer.old (λ s. 0) [] }
-    ensures told { OnOk result (HasAdvanced ⟦<QuietShelf as Shelf>⟧ (λ s. 0) (items_of gateway.old.history)
+    ensures given { OnOk result (HasAdvanced ⟦<QuietShelf as Shelf>⟧ (λ s. 0) (items_of gateway.old.history)
         writer.old writer.new) }
     ensures records { IfOk result (λ records. records ≡ length (filed gateway.old.history)) }
     ensures settings { settings_in writer.new ≡ settings_in writer.old }

@@ -3,10 +3,13 @@ use crate::status::Status;
 use area_disk::Area;
 use cdr_shelf::Shelf;
 
-/// How it ended, and the area and the shelf that were handed in, as it left them.
+/// How it ended, and what it hands back.
 #[derive(Drop)]
 pub struct GatewayEnd<A: Area, F: Shelf> {
+    /// How its job ended.
     pub status: Status,
+    /// The area that was handed in, as the gateway left it.
     pub area: A,
+    /// The shelf that was handed in, as the gateway left it.
     pub shelf: F,
 }

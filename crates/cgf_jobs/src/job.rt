@@ -26,8 +26,9 @@ use world_script::{InputFault, Script};
 /// How a job over files ended, and what it ran.
 #[derive(Drop)]
 pub struct JobEnd {
+    /// How it ended.
     pub status: Status,
-    /// The network of a `replay` or a `drill` that is done.
+    /// The network of a `replay` or a `drill` that is done; none of another job.
     pub played: Option<Played>,
 }
 

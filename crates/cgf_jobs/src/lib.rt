@@ -36,7 +36,7 @@ pub use job::{JobEnd, do_job};
 pub use output::write_all;
 pub use replay_world::Played;
 pub use serve::serve_gateway;
-pub use serving::{Places, Serving, number_between, serve_places};
+pub use serving::{ServePlaces, Serving, serve_places};
 pub use status::{Status, StoreFault};
 pub use stream::stream_gateway;
 pub use streaming::{StreamPlaces, Streaming, stream_places, tcp_address};

@@ -2,13 +2,13 @@
 ghost use Rattle.std.specs.Prelude.{◌≡◌, ◌+◌, ◌-◌, ◌*◌, ◌^◌, ◌≤◌, ◌++◌, ◌∷◌, [], OnOk, length, min, vec_capacity};
 ghost use Rattle.std.specs.List.{flat_map};
 ghost use Rattle.cdr_shelf.specs.Files.{file_of, in_stream};
-ghost use Rattle.replay_gateway.specs.GatewayReport.{counts_text, digits, file_line, file_name};
+ghost use Rattle.replay_gateway.specs.GatewayReport.{counts_text, file_line, file_name};
 ghost use Rattle.cgf_jobs.specs.FeedReport.{lines_size, octets_line};
 ghost use Rattle.cgf_jobs.specs.Steps.{outcome_line};
 
 use cdr_shelf::{FileName, QuietShelf, Shelf};
 use gateway_book::{Counts, Outcome};
-use gw_base::NoMemory;
+use gw_base::{NoMemory, Octets};
 use std::alloc::Global;
 
 /// The digits of numbers in hexadecimal.
@@ -80,13 +80,18 @@ fn line_size(octets: usize) -> usize
 }
 
 /// Appends the lines of the sealed files of a stream, in the order in which they were sealed.
-pub fn print_stream(printed: &mut Vec<u8>, shelf: &QuietShelf, stream: u8) -> Result<(), NoMemory>
+pub fn print_stream(
+    alloc: Global,
+    printed: &mut Vec<u8>,
+    shelf: &QuietShelf,
+    stream: u8,
+) -> Result<(), NoMemory>
     ensures { OnOk result (printed.new.items ≡
         printed.old.items ++ flat_map (file_line 0) (in_stream stream (⟦<QuietShelf as Shelf>⟧.files shelf.now))) }
 {
     let mut at = 0;
     while let Some((name, octets)) = shelf.nth(at) {
-        print_if_in(printed, stream, name, octets)?;
+        print_if_in(alloc, printed, stream, name, octets)?;
         at += 1;
     }
     Ok(())
@@ -94,6 +99,7 @@ pub fn print_stream(printed: &mut Vec<u8>, shelf: &QuietShelf, stream: u8) -> Re
 
 /// Appends the line of a file, where it is one of the stream.
 fn print_if_in(
+    alloc: Global,
     printed: &mut Vec<u8>,
     stream: u8,
     name: FileName,
@@ -103,46 +109,38 @@ fn print_if_in(
         printed.old.items ++ flat_map (file_line 0) (in_stream stream (file_of name octets.now ∷ []))) }
 {
     if name.stream == stream {
-        print_file(printed, name, octets)?;
+        print_file(alloc, printed, name, octets)?;
     }
     Ok(())
 }
 
 /// Appends the line of a file.
-fn print_file(printed: &mut Vec<u8>, name: FileName, octets: &[u8]) -> Result<(), NoMemory>
+fn print_file(
+    alloc: Global,
+    printed: &mut Vec<u8>,
+    name: FileName,
+    octets: &[u8],
+) -> Result<(), NoMemory>
     ensures { OnOk result (printed.new.items ≡ printed.old.items ++ file_line 0 (file_of name octets.now)) }
 {
     printed.extend_from_slice(b"file 1 ")?;
-    print_name(printed, name)?;
+    print_name(alloc, printed, name)?;
     printed.push(b' ')?;
     print_octets(printed, octets)?;
     Ok(())
 }
 
 /// Appends the name of a file.
-fn print_name(printed: &mut Vec<u8>, name: FileName) -> Result<(), NoMemory>
+fn print_name(alloc: Global, printed: &mut Vec<u8>, name: FileName) -> Result<(), NoMemory>
     ensures { OnOk result (printed.new.items ≡ printed.old.items ++ file_name name) }
 {
-    print_digits(printed, 2, u32::from(name.stream))?;
-    printed.push(b'-')?;
-    print_digits(printed, 10, name.sequence)?;
-    printed.extend_from_slice(b".cdr")?;
+    let mut text = Octets::from_vec(Vec::new(alloc));
+    replay_gateway::print_name(&mut text, name)?;
+    printed.extend_from_slice(text.octets())?;
     Ok(())
 }
 
-/// Appends so many of the last decimal digits of a number.
-fn print_digits(printed: &mut Vec<u8>, count: u32, number: u32) -> Result<(), NoMemory>
-    ensures { OnOk result (printed.new.items ≡ printed.old.items ++ digits count number) }
-{
-    if count == 0 {
-        return Ok(());
-    }
-    print_digits(printed, count - 1, number / 10)?;
-    printed.push(b'0' + (number % 10) as u8)?;
-    Ok(())
-}
-
-/// Appends the line of a gateway's counts, with so many filed records.
+/// Appends the line of a gateway's counts, with so many filed records. The only gateway is the first.
 pub fn print_counts(
     alloc: Global,
     printed: &mut Vec<u8>,
@@ -158,11 +156,8 @@ pub fn print_counts(
         stranded,
         ..
     } = counts;
-    // The only gateway is the first.
-    let place: u32 = 1;
-    let line = format!(in alloc;
-        "gateway {place} entries {entries} records {records} held {held} stranded {stranded}\n"
-    )?;
-    printed.extend_from_slice(line.as_bytes())?;
+    let mut line = Octets::from_vec(Vec::new(alloc));
+    replay_gateway::print_counts(alloc, &mut line, 0, entries, records, held, stranded)?;
+    printed.extend_from_slice(line.octets())?;
     Ok(())
 }

@@ -10,6 +10,7 @@ ghost use Rattle.cgf_jobs.specs.ServeEnds.{IsUntouched, Serves, may_have_opened}
 ghost use Rattle.cgf_jobs.specs.ServeSteps.{AreOf, CausesRead, IsSetBy, RefusesSettings, RefusesText, WritesLine};
 ghost use Rattle.cgf_jobs.specs.Serving.{IsServingWithin};
 
+use crate::command::MOST_SCRIPT_READ;
 use crate::gateway_end::GatewayEnd;
 use crate::input::{ReadEnd, read_input};
 use crate::input_kind::InputKind;
@@ -29,9 +30,6 @@ use std::sync::Wait;
 use std::thread::Threads;
 use std::time::Clock;
 use world_script::{InputFault, Script, ScriptKind, read};
-
-/// One octet more than the text of a script may have.
-const MOST_READ: usize = 16_777_217;
 
 /// What decides the files of a gateway that serves.
 #[derive(Drop)]
@@ -119,7 +117,7 @@ fn read_settings<S: Source>(alloc: Global, source: &mut S) -> Result<FileSetting
     ensures cause { CausesRead (S.faults source.old) (S.faults source.new) result }
     ensures taken { TakesUpTo (most_text + 1) (S.left source.old) (S.left source.new) }
 {
-    let octets = match read_input(alloc, source, MOST_READ) {
+    let octets = match read_input(alloc, source, MOST_SCRIPT_READ) {
         Ok(octets) => octets,
         Err(ReadEnd::Failed) => return Err(Status::Read),
         Err(ReadEnd::NoMemory) => return Err(Status::Memory),

@@ -2,19 +2,20 @@
 ghost use Rattle.std.specs.Prelude.{◌≡◌, ◌≤◌, ◌∷◌, ℕ, [], false, IfSome, List, map, string_bytes};
 ghost use Rattle.gate_journal.specs.Format.{fewest_octets, most_octets};
 ghost use Rattle.world_script.specs.Values.{number_between};
-ghost use Rattle.cgf_jobs.specs.Serving.{IsServingWithin, places_of, places_seen, serving_by, serving_of};
+ghost use Rattle.cgf_jobs.specs.Serving.{IsServingWithin, serve_places_of, serve_places_seen, serving_by, serving_of};
 ghost use Rattle.cgf_jobs.specs.Words.{is_option};
 
 use crate::words::is_option;
 use route_filter::number;
-use world_script::ipv4;
+use world_script::{ipv4, number_between};
 
 /// The numbers of `serve IP PORT TURNS LENGTH AREA FOLDER`: where a gateway serves, for how many turns of its link, and
 /// how many octets its journal's area has.
 #[derive(Clone, Copy)]
 pub struct Serving {
-    /// The address that its links are made at.
+    /// The IPv4 address that its links are made at.
     pub ip: u32,
+    /// The port there.
     pub port: u16,
     /// From 1 to 1,099,511,627,776.
     pub turns: u64,
@@ -25,7 +26,7 @@ pub struct Serving {
 /// The outside of `serve`: the length of the area of its journal, the path of the area's file, and that of the folder of
 /// its files.
 #[derive(Clone, Copy)]
-pub struct Places<'a> {
+pub struct ServePlaces<'a> {
     /// From 100 to 268,435,456.
     pub length: u64,
     /// A file that is made where there is none.
@@ -62,15 +63,15 @@ impl Serving {
 }
 
 /// The outside of `serve`, for whoever makes it: there exactly where the words are those of `serve`.
-pub fn serve_places(words: &[String]) -> Option<Places<'_>>
-    ensures seen { places_seen result ≡ places_of (map string_bytes words.now) }
+pub fn serve_places(words: &[String]) -> Option<ServePlaces<'_>>
+    ensures seen { serve_places_seen result ≡ serve_places_of (map string_bytes words.now) }
     ensures within { IfSome result (λ places. (fewest_octets ≤ places.length) × (places.length ≤ most_octets)) }
 {
     let [_, _, _, _, _, area, folder, ..] = words else {
         return None;
     };
     let serving = Serving::of(words)?;
-    Some(Places {
+    Some(ServePlaces {
         length: serving.length,
         area: area.as_str(),
         folder: folder.as_str(),
@@ -111,7 +112,7 @@ fn by_numbers(ip: &[u8], port: &[u8], turns: &[u8], length: &[u8]) -> Option<Ser
     Some(Serving {
         ip: ipv4(ip)?,
         port: number(port, 65_535)? as u16,
-        turns: number_between(turns, 1, MOST_TURNS)?,
+        turns: number_between(1, MOST_TURNS, turns)?,
         length: length_of_area(length)?,
     })
 }
@@ -121,14 +122,5 @@ pub(crate) fn length_of_area(word: &[u8]) -> Option<u64>
     ensures said { result ≡ number_between fewest_octets most_octets word.now }
     ensures within { IfSome result (λ n. (fewest_octets ≤ n) × (n ≤ most_octets)) }
 {
-    number_between(word, FEWEST_OCTETS, MOST_OCTETS)
-}
-
-/// The number that a word says in decimal, from `least` to `most`.
-pub fn number_between(word: &[u8], least: u64, most: u64) -> Option<u64>
-    ensures said { result ≡ number_between least most word.now }
-    ensures within { IfSome result (λ n. (least ≤ n) × (n ≤ most)) }
-{
-    let number = number(word, most)?;
-    if number < least { None } else { Some(number) }
+    number_between(FEWEST_OCTETS, MOST_OCTETS, word)
 }

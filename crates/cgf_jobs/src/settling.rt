@@ -1,5 +1,5 @@
 //! A gateway that serves, from the opening of its journal to its settling.
-ghost use Rattle.std.specs.Prelude.{◌≡◌, ◌+◌, ◌≤◌, ◌<◌, ◌^◌, List, [], false, Err, IfErr, IfOk, None, OnOk, length, true};
+ghost use Rattle.std.specs.Prelude.{◌≡◌, ◌≤◌, ◌<◌, ◌^◌, List, [], false, Err, IfErr, IfOk, None, OnOk, length, true};
 ghost use Rattle.area_disk.specs.Disk.{Rose};
 ghost use Rattle.cgf_journal.specs.Trail.{is_closed};
 ghost use Rattle.file_writer.specs.Writer.{is_broken};
@@ -17,9 +17,10 @@ ghost use Rattle.replay_gateway.specs.Settings.{AreSound};
 ghost use Rattle.replay_gateway.specs.Setup.{Setup as SetupValue};
 ghost use Rattle.node_session.specs.Settling.{IsSettled};
 ghost use Rattle.node_session.specs.Writing.{IsWriterOf};
+ghost use Rattle.cgf_jobs.specs.Linked.{TakesAllTurns};
 ghost use Rattle.cgf_jobs.specs.Served.{HasServed, LosesNothing, SettlesStill, moment_of, served_line};
 ghost use Rattle.cgf_jobs.specs.ServeSteps.{AreOf, FailsBy, HasServedAt, HasSettledAll, NeverFalls, RefusesAsForeign, StopsServing, status_by};
-ghost use Rattle.cgf_jobs.specs.Serving.{IsServingWithin, address_in};
+ghost use Rattle.cgf_jobs.specs.Serving.{IsServingWithin};
 ghost use Rattle.cgf_jobs.specs.Shelved.{KeepsShelf};
 
 use crate::printing::print_counts;
@@ -80,8 +81,8 @@ where
     ensures ok { Told A.Area → (setup : SetupValue) → AreOf setup by → IfOk result.0 (λ line.
         (history : List HistoryEntry) × HasServed A.Area F.Shelf serving setup area result.1 shelf result.2
         (L.state links.old) (L.state links.new) history × (line.items ≡ served_line history)) }
-    ensures turns { OnOk result.0 ((L.state links.new).turns (address_in serving)
-        ≡ (L.state links.old).turns (address_in serving) + serving.turns) }
+    ensures turns { OnOk result.0 (TakesAllTurns serving (L.state links.old) (L.state links.new) (C.faults clock.old)
+        (C.faults clock.new)) }
     ensures keeps { LosesNothing A.Area serving area result.1 (L.state links.old) (L.state links.new) }
     ensures files { (setup : SetupValue) → AreOf setup by →
         KeepsShelf A.Area F.Shelf serving setup area result.1 shelf result.2 }
@@ -126,8 +127,8 @@ where
     ensures ok { Told A.Area → (setup : SetupValue) → AreOf setup by → IfOk result.0 (λ line.
         (history : List HistoryEntry) × HasServed A.Area F.Shelf serving setup area result.1 shelf result.2
         (L.state links.old) (L.state links.new) history × (line.items ≡ served_line history)) }
-    ensures turns { OnOk result.0 ((L.state links.new).turns (address_in serving)
-        ≡ (L.state links.old).turns (address_in serving) + serving.turns) }
+    ensures turns { OnOk result.0 (TakesAllTurns serving (L.state links.old) (L.state links.new) (C.faults clock.old)
+        (C.faults clock.new)) }
     ensures keeps { LosesNothing A.Area serving area result.1 (L.state links.old) (L.state links.new) }
     ensures files { (setup : SetupValue) → AreOf setup by →
         KeepsShelf A.Area F.Shelf serving setup area result.1 shelf result.2 }

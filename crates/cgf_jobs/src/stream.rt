@@ -8,7 +8,7 @@ ghost use Rattle.gw_base.specs.Faults.{Rose};
 ghost use Rattle.node_session.specs.Writing.{IsWriterOf};
 ghost use Rattle.cgf_jobs.specs.Job.{job_of};
 ghost use Rattle.cgf_jobs.specs.StreamEnds.{Streams};
-ghost use Rattle.cgf_jobs.specs.StreamSteps.{CausesStop, HasServed, HasSettledStream, IsBegunOn};
+ghost use Rattle.cgf_jobs.specs.StreamSteps.{CausesStop, HasServedStream, HasSettledStream, IsBegunOn};
 ghost use Rattle.cgf_jobs.specs.Streaming.{IsStreamingWithin};
 
 use crate::connection::Connection;
@@ -124,7 +124,7 @@ fn serve<S: Source, K: Sink, A: Area, C: gw_base::Clock>(
     clock: &mut C,
 ) -> Result<(), Status>
     requires { IsBegunOn A.Area connection.old }
-    ensures served { HasServed A.Area connection.old.book connection.new (S.left source.old) (S.left source.new)
+    ensures served { HasServedStream A.Area connection.old.book connection.new (S.left source.old) (S.left source.new)
         (K.written sink.old) (K.written sink.new) result }
     ensures cause { CausesStop (S.faults source.old) (S.faults source.new) (K.faults sink.old) (K.faults sink.new)
         (C.faults clock.old) (C.faults clock.new) result }

@@ -13,7 +13,9 @@ use world_script::{address, ipv4};
 /// which each message counts as sent, and how many octets the area of the gateway's journal has.
 #[derive(Clone, Copy)]
 pub struct Streaming {
+    /// The gateway's IPv4 address.
     pub ip: u32,
+    /// The address from which each message counts as sent.
     pub node: Addr,
     /// From 100 to 268,435,456.
     pub length: u64,

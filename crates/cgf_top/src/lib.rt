@@ -31,10 +31,10 @@ use crate::looping::{loop_back, looping_of};
 use crate::watch::Nobody;
 use area_disk::Area;
 use cdr_shelf::Shelf;
-use cgf_jobs::{GatewayEnd, JobEnd, do_job, serve_gateway, stream_gateway};
+use cgf_jobs::{GatewayEnd, JobEnd, Serving, Streaming, do_job, serve_gateway, stream_gateway};
 pub use cgf_jobs::{
-    InputKind, NodeTurn, Places, Played, Serving, Status, StoreFault, StreamPlaces, Streaming,
-    Watch, serve_places, stream_places, tcp_address,
+    InputKind, NodeTurn, Played, ServePlaces, Status, StoreFault, StreamPlaces, Watch,
+    serve_places, stream_places, tcp_address,
 };
 use gw_base::{Sink, Source};
 pub use loop_run::Looped;
@@ -47,9 +47,11 @@ use std::time::Clock;
 /// How a job ended, and what it ran.
 #[derive(Drop)]
 pub struct Ended<A: Area, F: Shelf> {
+    /// How it ended.
     pub status: Status,
-    /// The area and the shelf that were handed in, as the job left them. `serve` and `stream` alone use them.
+    /// The area that was handed in, as the job left it. `serve` and `stream` alone use it.
     pub area: A,
+    /// The shelf that was handed in, in the same way.
     pub shelf: F,
     /// The books and the nodes of a loop that ran, also where its report wasn't written. Both lists are empty for every
     /// other job, where a link failed, and where there was no memory for the loop.

@@ -7,14 +7,18 @@ ghost use Rattle.cgf_top.specs.Looping.{looping_by, looping_of};
 ghost use Rattle.cgf_jobs.specs.Run.{may_have_written};
 
 use crate::watch::LoopWatch;
-use cgf_jobs::{Status, Watch, number_between, write_all};
-use gw_base::{NoMemory, Sink};
+use cgf_jobs::{Status, Watch, write_all};
+use gw_base::{NoMemory, Octets, Sink};
 use loop_run::{GatewaySum, LoopEnd, LoopSetup, Looped, NodeSum, run_loop_watched};
 use net_link::Links;
+use node_core::NodeCounts;
+use replay_gateway::print_counts;
+use replay_world::print_node;
 use std::alloc::Global;
 use std::sync::Wait;
 use std::thread::Threads;
 use std::time::Clock;
+use world_script::number_between;
 
 /// The loop that the words ask for, where they are those of `loopback`.
 pub(crate) fn looping_of(words: &[String]) -> Option<LoopSetup>
@@ -58,10 +62,10 @@ fn by_numbers(gateways: &[u8], nodes: &[u8], packets: &[u8], turns: &[u8]) -> Op
     ensures within { IfSome result IsLoop }
 {
     Some(LoopSetup {
-        gateways: number_between(gateways, 1, 4)? as u8,
-        nodes: number_between(nodes, 1, 8)? as u8,
-        packets: number_between(packets, 1, 1_000)? as u32,
-        turns: number_between(turns, 1, 10_000_000)?,
+        gateways: number_between(1, 4, gateways)? as u8,
+        nodes: number_between(1, 8, nodes)? as u8,
+        packets: number_between(1, 1_000, packets)? as u32,
+        turns: number_between(1, 10_000_000, turns)?,
     })
 }
 
@@ -138,74 +142,70 @@ fn write_sums<K: Sink>(
     let Ok(text) = sums_text(alloc, nodes, gateways) else {
         return Status::Memory;
     };
-    match write_all(sink, &text) {
+    match write_all(sink, text.octets()) {
         Ok(()) => Status::Done,
         Err(_) => Status::Write,
     }
 }
 
 /// The lines of what nodes and gateways count, and that the audit is fine.
-fn sums_text(alloc: Global, nodes: &[NodeSum], gateways: &[GatewaySum]) -> Result<Vec<u8>, NoMemory>
-    ensures { IfOk result (λ text. text.items ≡ sums_text nodes.now gateways.now) }
+fn sums_text(alloc: Global, nodes: &[NodeSum], gateways: &[GatewaySum]) -> Result<Octets, NoMemory>
+    ensures { IfOk result (λ text. text ≡ sums_text nodes.now gateways.now) }
 {
-    let mut text = Vec::new(alloc);
+    let mut text = Octets::from_vec(Vec::new(alloc));
     print_nodes(alloc, &mut text, nodes)?;
     print_gateways(alloc, &mut text, gateways)?;
-    text.extend_from_slice(b"audit fine\n")?;
+    text.append(b"audit fine\n")?;
     Ok(text)
 }
 
 /// Appends the lines of what nodes count.
-fn print_nodes(alloc: Global, text: &mut Vec<u8>, nodes: &[NodeSum]) -> Result<(), NoMemory>
-    ensures { OnOk result (text.new.items ≡ text.old.items ++ lines_from node_sum_text 0 nodes.now) }
+fn print_nodes(alloc: Global, text: &mut Octets, nodes: &[NodeSum]) -> Result<(), NoMemory>
+    ensures { OnOk result (text.new ≡ text.old ++ lines_from node_sum_text 0 nodes.now) }
 {
     for at in 0..nodes.len() {
-        print_node(alloc, text, at, nodes[at])?;
+        print_node_sum(alloc, text, at, nodes[at])?;
     }
     Ok(())
 }
 
 /// Appends the lines of what gateways count.
-fn print_gateways(
-    alloc: Global,
-    text: &mut Vec<u8>,
-    gateways: &[GatewaySum],
-) -> Result<(), NoMemory>
-    ensures { OnOk result (text.new.items ≡ text.old.items ++ lines_from gateway_sum_text 0 gateways.now) }
+fn print_gateways(alloc: Global, text: &mut Octets, gateways: &[GatewaySum]) -> Result<(), NoMemory>
+    ensures { OnOk result (text.new ≡ text.old ++ lines_from gateway_sum_text 0 gateways.now) }
 {
     for at in 0..gateways.len() {
-        print_gateway(alloc, text, at, gateways[at])?;
+        print_gateway_sum(alloc, text, at, gateways[at])?;
     }
     Ok(())
 }
 
 /// Appends the line of what the node in this place counts, from 0.
-fn print_node(alloc: Global, text: &mut Vec<u8>, at: usize, sum: NodeSum) -> Result<(), NoMemory>
+fn print_node_sum(alloc: Global, text: &mut Octets, at: usize, sum: NodeSum) -> Result<(), NoMemory>
     requires { at + 1 < 2 ^ 64 }
-    ensures { OnOk result (text.new.items ≡ text.old.items ++ node_sum_text at sum) }
+    ensures { OnOk result (text.new ≡ text.old ++ node_sum_text at sum) }
 {
     let NodeSum {
         packets,
         resolved,
         done,
     } = sum;
-    let place = at + 1;
-    let line = format!(in alloc;
-        "node {place} packets {packets} resolved {resolved} done {done}\n"
-    )?;
-    text.extend_from_slice(line.as_bytes())?;
-    Ok(())
+    let counts = NodeCounts {
+        packets,
+        resolved,
+        done,
+    };
+    print_node(alloc, text, at, counts)
 }
 
 /// Appends the line of what the gateway in this place counts, from 0.
-fn print_gateway(
+fn print_gateway_sum(
     alloc: Global,
-    text: &mut Vec<u8>,
+    text: &mut Octets,
     at: usize,
     sum: GatewaySum,
 ) -> Result<(), NoMemory>
     requires { at + 1 < 2 ^ 64 }
-    ensures { OnOk result (text.new.items ≡ text.old.items ++ gateway_sum_text at sum) }
+    ensures { OnOk result (text.new ≡ text.old ++ gateway_sum_text at sum) }
 {
     let GatewaySum {
         entries,
@@ -213,10 +213,5 @@ fn print_gateway(
         held,
         stranded,
     } = sum;
-    let place = at + 1;
-    let line = format!(in alloc;
-        "gateway {place} entries {entries} records {records} held {held} stranded {stranded}\n"
-    )?;
-    text.extend_from_slice(line.as_bytes())?;
-    Ok(())
+    print_counts(alloc, text, at, entries, records as usize, held, stranded)
 }

@@ -1,12 +1,11 @@
 //! How many records a book has filed.
-ghost use Rattle.std.specs.Prelude.{◌≡◌, ◌≤◌, Err, IfOk, List, count_by, length};
-ghost use Rattle.area_disk.specs.Disk.{Rose};
+ghost use Rattle.std.specs.Prelude.{◌≡◌, IfOk, List, count_by, length};
 ghost use Rattle.gate_journal.specs.Moments.{Told};
 ghost use Rattle.gw_base.specs.declared.history.HistoryEntry.{HistoryEntry};
-ghost use Rattle.gateway_book.specs.Book.{area_of, value_of};
+ghost use Rattle.gateway_book.specs.Book.{value_of};
 ghost use Rattle.gateway_answer.specs.Filed.{filed};
 ghost use Rattle.gateway_answer.specs.Items.{is_part, items_of, part_count};
-ghost use Rattle.gateway_book.specs.Read.{IsUnchanged};
+ghost use Rattle.gateway_book.specs.Read.{HasReadCause, IsUnchanged};
 
 use crate::ItemsFault;
 use crate::book::Book;
@@ -22,13 +21,12 @@ const PIECE: u32 = 4096;
 /// A history has no more items than the longest area has octets.
 const MOST_ITEMS: u64 = 268_435_456;
 
-/// How many records the firm entries of a book have filed. It reads the area, and leaves the book as it was.
-/// `Device`: a read failed. `NoMemory`: there was no memory for the items.
+/// How many records the firm entries of a gateway's history have filed. It reads the area, and ends at the first read
+/// that fails. After `Device`, for which the count of the device's faults rose, or `NoMemory` the book is as before.
 pub fn count_records<A: Area>(alloc: Global, book: &mut Book<A>) -> Result<usize, ItemsFault>
     ensures records { Told A.Area → IfOk result (λ n. n ≡ part_count (items_of (value_of book.old).firm)) }
-    ensures device { result ≡ Err ItemsFault.Device →
-        Rose (A.faults (area_of book.old)) (A.faults (area_of book.new)) }
-    ensures same { IsUnchanged book.old book.new × (A.faults (area_of book.old) ≤ A.faults (area_of book.new)) }
+    ensures cause { HasReadCause book.old book.new result }
+    ensures same { IsUnchanged book.old book.new }
 {
     a_book_is_within_the_limits::<A>();
     let mut from = 0u64;

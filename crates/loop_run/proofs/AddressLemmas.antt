@@ -20,8 +20,8 @@ pub ports_apart : (p q : ℕ) → node_at p First ≢ node_at q Second
 ports_apart p q e = let ports : 40001 ≡ 40002 = ap (λ (a : Addr). a.port) e in absurd (omega (arith, ports))
 
 not_served : (port : Port) → 3386 ≢ port_number port
-not_served First e = absurd (omega (arith, e))
-not_served Second e = absurd (omega (arith, e))
+not_served First e = absurd (omega arith)
+not_served Second e = absurd (omega arith)
 
 pub gateway_no_node : (p q : ℕ) (port : Port) → gateway_at p ≢ node_at q port
 gateway_no_node p q port e = not_served port (ap (λ (a : Addr). a.port) e)

@@ -15,14 +15,13 @@ Shown = BookValue × (ℕ × List ℕ)
 shown_set : (books : List LoopBook) (k : ℕ) (new d : LoopBook) → shown new ≡ shown (get_or books k d)
     → map shown (slice_set books k new) ≡ map shown books
 shown_set [] k new d e = refl
-shown_set (book ∷ books) zero new d e = ap (λ (s : Shown). s ∷ map shown books) e
-shown_set (book ∷ books) (suc k) new d e = ap (λ (l : List Shown). shown book ∷ l) (shown_set books k new d e)
+shown_set (book ∷ books) zero new d e = cc
+shown_set (book ∷ books) (suc k) new d e = cc (shown_set books k new d e)
 
 -- one of them was looked at
 pub alike_set : (old books : List LoopBook) (k : ℕ) (new book : LoopBook) → AreAlike old books → book ≡ get_or books k book
     → shown new ≡ shown book → AreAlike old (slice_set books k new)
-alike_set old books k new book alike is same =
-    shown_set books k new book (same ∙ ap (λ (b : LoopBook). shown b) is) ∙ alike
+alike_set old books k new book alike is same = shown_set _ k new _ (same ∙ ap shown is) ∙ alike
 
 head_or : Shown → List Shown → Shown
 head_or d [] = d
@@ -32,31 +31,27 @@ rest_of : List Shown → List Shown
 rest_of [] = []
 rest_of (s ∷ list) = list
 
-none_alike : (s : Shown) (list : List Shown) → [] ≡ s ∷ list → ⊥
-none_alike s list e = cc e
-
 by_place : (old books : List LoopBook) (k : ℕ) (d : LoopBook) → map shown books ≡ map shown old → k < length old
     → shown (get_or books k d) ≡ shown (get_or old k d)
 unfolding head_or rest_of
-by_place [] books k d e less = absurd (omega (arith, less))
-by_place (o ∷ old) [] k d e less = absurd (none_alike (shown o) (map shown old) e)
-by_place (o ∷ old) (b ∷ books) zero d e less = ap (λ (l : List Shown). head_or (shown d) l) e
-by_place (o ∷ old) (b ∷ books) (suc k) d e less =
-    by_place old books k d (ap (λ (l : List Shown). rest_of l) e) (omega (arith, less))
+by_place [] books k d e less = absurd (omega arith)
+by_place (o ∷ old) [] k d e less = absurd (cc)
+by_place (o ∷ old) (b ∷ books) zero d e less = cc
+by_place (o ∷ old) (b ∷ books) (suc k) d e less = by_place old books k d (cc) (omega arith)
 
 abbrev sum_of : LoopBook → GatewaySum
 sum_of book = gateway_sum (value_of book)
 
 sums_both : (xs ys : List LoopBook) → map sum_of (xs ++ ys) ≡ map sum_of xs ++ map sum_of ys
 sums_both [] ys = refl
-sums_both (x ∷ xs) ys = ap (λ (l : List GatewaySum). sum_of x ∷ l) (sums_both xs ys)
+sums_both (x ∷ xs) ys = cc (sums_both xs ys)
 
 -- with the next one
 pub counted_next : (old books : List LoopBook) (k : ℕ) (book : LoopBook) → AreAlike old books → k < length old
     → book ≡ get_or books k book
     → map (λ (b : LoopBook). gateway_sum (value_of b)) (take k old) ++ gateway_sum (value_of book) ∷ []
     ≡ map (λ (b : LoopBook). gateway_sum (value_of b)) (take (k + 1) old)
-counted_next old books k book alike less is = sym (ap (λ (l : List LoopBook). map sum_of l) (take_more old k book less)
+counted_next old books k book alike less is = sym (ap (map sum_of) (take_more old k book less)
     ∙ sums_both (take k old) (get_or old k book ∷ [])
     ∙ ap (λ (s : Shown). map sum_of (take k old) ++ gateway_sum s.0 ∷ [])
-    (sym (by_place old books k book alike less) ∙ ap (λ (b : LoopBook). shown b) (sym is)))
+    (sym (by_place old _ k book alike less) ∙ ap shown (sym is)))

@@ -1,5 +1,5 @@
 -- What a commit leaves of a book whose area never fails, and what an opening of one comes to.
-use Rattle.std.proofs.Common.{◌≡◌, ◌∙◌, inl, inr, ℕ, zero, suc, ◌≤◌, Bool, true, false, true≢false, List, [], ◌∷◌, ◌++◌, take, refl, sym, ap, subst, arith}
+use Rattle.std.proofs.Common.{◌≡◌, ◌∙◌, inl, inr, ℕ, zero, suc, ◌≤◌, Bool, true, false, List, [], ◌∷◌, ◌++◌, take, refl, sym, ap, arith}
 use Rattle.std.proofs.lemmas.List.{append-nil}
 use Rattle.std.specs.Prelude.{slice_index}
 use Rattle.area_disk.specs.Disk.{zeros}
@@ -7,7 +7,7 @@ use Rattle.cgf_journal.specs.Trail as trail
 use Rattle.gate_journal.specs.Format.{Starts, header, spelled}
 use Rattle.gateway_book.specs.Book.{Stays, fortune_of, header_of, reopening_of, size_of, value_of}
 use Rattle.gateway_book.specs.Opened.{IsNotOurs}
-use Rattle.gateway_answer.specs.Value.{BookValue, Fortune, after_commit, opened, standing_for}
+use Rattle.gateway_answer.specs.Value.{BookValue, Fortune, after_commit, opened}
 use Rattle.gw_base.specs.Owes.{Begins}
 use Rattle.gw_base.specs.declared.history.HistoryEntry.{HistoryEntry}
 use Rattle.loop_run.specs.Addresses.{gateway_at}
@@ -31,20 +31,20 @@ committed_with firm rest true true = record {
   history = firm ++ rest;
   value = refl;
   more = (rest, refl);
-  within = begins_self (firm ++ rest);
-  whole = λ whole. absurd (true≢false whole);
+  within = begins_self _;
+  whole = λ whole. cc;
 }
 committed_with firm rest true false = record {
   history = firm;
   value = refl;
-  more = begins_self firm;
+  more = begins_self _;
   within = (rest, refl);
-  whole = λ whole. absurd (true≢false whole);
+  whole = λ whole. cc;
 }
 committed_with firm [] false stands = record {
   history = firm;
   value = refl;
-  more = begins_self firm;
+  more = begins_self _;
   within = ([], append-nil (firm ++ []));
   whole = λ whole. sym (append-nil firm);
 }
@@ -59,19 +59,13 @@ committed_with firm (e ∷ rest) false stands = record {
 pub has_committed : (old new : LoopBook) → old.cuts ≤ 0 → Stays old new → trail.is_closed new.trail ≡ false
     → value_of new ≡ after_commit (fortune_of old new) (value_of old) → HasCommitted old new
 has_committed old new uncut stays whole is = record {
-  value = subst (λ (w : BookValue). IsCommitted (value_of old) w) (sym is)
-      (subst (λ (b : Bool). IsCommitted (value_of old)
-      (after_commit (record { fails = b; reopening = reopening_of b (trail.torn_stands old.trail) }) (value_of old)))
-      (sym whole)
-      (subst (λ (n : ℕ). IsCommitted (with_cuts n) (after_commit (fortune_with (trail.torn_stands old.trail)) (with_cuts n)))
-      (sym none)
-      (committed_with (value_of old).firm (value_of old).rest (value_of old).is_broken (trail.torn_stands old.trail))));
+  value = rw is (rw whole (rw none (committed_with _ _ _ _)));
   size = stays.size;
   name = stays.header;
 }
   where
     none : old.cuts ≡ 0
-    none = omega (arith, uncut)
+    none = omega arith
 
     with_cuts : ℕ → BookValue
     with_cuts n = record (value_of old) { cuts = n }
@@ -86,7 +80,7 @@ zeros_first (suc n) = refl
 
 -- an area of zeros starts
 pub zeros_start : (name octets : List ℕ) (n : ℕ) → octets ≡ zeros n → Starts name octets
-zeros_start name octets n is = inl (ap (λ (o : List ℕ). slice_index o 0) is ∙ zeros_first n)
+zeros_start name octets n is = inl (cc (zeros_first n))
 
 -- so that it isn't another's
 header_first : (size address : ℕ) (octets : List ℕ) → slice_index (header size address 0 ++ octets) 0 ≡ 67
@@ -101,7 +95,7 @@ front_first (suc at) (x ∷ octets) is = is
 
 pub zeros_ours : (size address : ℕ) (octets : List ℕ) (n at : ℕ) → octets ≡ zeros n
     → IsNotOurs (header size address 0) octets at → ⊥
-zeros_ours size address octets n at is (inl differs) = differs.begun (zeros_start (header size address 0) octets n is)
+zeros_ours size address octets n at is (inl differs) = differs.begun (zeros_start _ _ n is)
 zeros_ours size address octets n at is (inr spoiled) =
     let same : 67 ≡ 0 = sym (header_first size address (spelled spoiled.batches))
     ∙ ap (λ (o : List ℕ). slice_index o 0) (sym spoiled.before.front)
@@ -112,9 +106,7 @@ zeros_ours size address octets n at is (inr spoiled) =
 pub opened_begun : (place : ℕ) (mid new : LoopBook) → value_of mid ≡ opened area_length [] → HasCommitted mid new
     → size_of mid ≡ area_length → header_of mid ≡ header area_length (gateway_at place).ip 0 → IsBegun place new
 opened_begun place mid new is committed size name = record {
-  value = committed.value.value ∙ ap (λ (h : List HistoryEntry). standing_for h)
-      (committed.value.whole (ap (λ (v : BookValue). v.is_broken) first)
-      ∙ ap (λ (v : BookValue). v.firm ++ v.rest) first);
+  value = cc (committed.value.value, committed.value.whole (cc first), first);
   size = committed.size ∙ size;
   name = committed.name ∙ name;
 }

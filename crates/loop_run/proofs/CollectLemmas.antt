@@ -8,9 +8,6 @@ use Rattle.gw_base.specs.Faults.{Rose}
 use Rattle.gw_base.specs.declared.address.Addr.{Addr}
 use Rattle.net_link.specs.Making.{LinksState}
 use Rattle.net_link.specs.declared.link.Link as paths
-use Rattle.node_run.specs.declared.linked.NodeEnd.{NodeEnd}
-use Rattle.node_run.specs.declared.linked.NodeEnd.TheVariants as end
-use Rattle.session_run.specs.Running.{HasStopCause}
 use Rattle.session_run.specs.declared.stop.Stop.{Stop}
 use Rattle.session_run.specs.declared.stop.Stop.TheVariants as stop
 use Rattle.loop_run.specs.Addresses.{IsLoop}
@@ -26,12 +23,9 @@ use Rattle.loop_run.proofs.LeftLemmas.{HaveLeft, KeepAll, NoneOpen, gateway_left
 use Rattle.loop_run.proofs.ListLemmas.{get_before, get_last, length_pushed, some_none}
 use Rattle.loop_run.proofs.StillLemmas.{rose_before, rose_still}
 
-not_failed : ◌≡◌ {A = NodeEnd} end.Done end.Link → ⊥
-not_failed e = cc e
-
 none_rose : Rose 0 0 → ⊥
-none_rose (inl less) = omega (arith, less)
-none_rose (inr last) = omega (arith, last)
+none_rose (inl less) = omega arith
+none_rose (inr last) = omega arith
 
 module _ {L : Type 0} (tells : paths.Ghosts L) where
   -- what is known stays known
@@ -44,13 +38,13 @@ module _ {L : Type 0} (tells : paths.Ghosts L) where
 
   pub first_can : (s : LinksState) (all rest : List (Seat L)) (one : Seat L) → all ≡ one ∷ rest
       → All (CanLeave tells s) all → CanLeave tells s one
-  first_can s all rest one is can = All-head (CanLeave tells s) one rest (subst (λ (l : List (Seat L)). All (CanLeave tells s) l) is can)
+  first_can s all rest one is can = All-head (CanLeave tells s) one rest (rw is at can)
 
   pub rest_can : (old new : LinksState) (all rest : List (Seat L)) (one : Seat L) → all ≡ one ∷ rest → GrowsOn old new
       → All (CanLeave tells old) all → All (CanLeave tells new) rest
-  rest_can old new all rest one is on can = All-weaker (CanLeave tells old) (CanLeave tells new)
-      (λ s c. leaves_on s old new on c) rest
-      (All-tail (CanLeave tells old) one rest (subst (λ (l : List (Seat L)). All (CanLeave tells old) l) is can))
+  rest_can old new all rest one is on can =
+      All-weaker (CanLeave tells old) (CanLeave tells new) (λ s c. leaves_on s old new on c) rest
+      (All-tail (CanLeave tells old) one rest (rw is at can))
 
   module _ (old new : LinksState) (was now : Looped) (why : Option Stop) where
     pub grows_on : (s : Seat L) → Leaves tells s old new was now why → GrowsOn old new
@@ -59,23 +53,21 @@ module _ {L : Type 0} (tells : paths.Ghosts L) where
 
     link_rose : (s : Seat L) → CanLeave tells old s → Leaves tells s old new was now why → why ≡ Some stop.Link
         → Rose old.faults new.faults
-    link_rose (seat.Node linked) can left is = absurd (not_failed (left.link is))
+    link_rose (seat.Node linked) can left is = absurd (cc (left.link is, left.link is))
     link_rose (seat.RanNode ended linked) can left is = left.failed (can.1 (left.link is))
     link_rose (seat.Gateway g) can left is = absurd (none-some stop.Link (left.link is))
-    link_rose (seat.RanGateway stops g) can left is = left.failed
-        (subst (λ (o : Option Stop). HasStopCause tells 0 0 g.links.items o) (left.link is) can.1)
+    link_rose (seat.RanGateway stops g) can left is = left.failed (rw (left.link is) at can.1)
     link_rose seat.Empty can left is = absurd (none-some stop.Link (sym left.2 ∙ is))
 
     no_clock : (s : Seat L) → CanLeave tells old s → Leaves tells s old new was now why → why ≢ Some stop.Clock
     no_clock (seat.Gateway g) can left is = none-some stop.Clock (left.clock is)
-    no_clock (seat.RanGateway stops g) can left is = none_rose
-        (subst (λ (o : Option Stop). HasStopCause tells 0 0 g.links.items o) (left.clock is) can.1)
+    no_clock (seat.RanGateway stops g) can left is = none_rose (rw (left.clock is) at can.1)
     no_clock seat.Empty can left is = none-some stop.Clock (sym left.2 ∙ is)
     no_clock _ can left is = left.no_clock is
 
-  all_before : (setup : LoopSetup) (seats : List (Seat L)) (s : Seat L) → AllRan tells setup (seats ++ s ∷ [])
+  all_before : {setup : _} (seats : List (Seat L)) (s : Seat L) → AllRan tells setup (seats ++ s ∷ [])
       → AllRan tells setup seats
-  all_before setup seats s ran place other at = ran place other (get_before seats (s ∷ []) place other at)
+  all_before seats s ran place other at = ran place other (get_before seats (s ∷ []) place {y = other} at)
 
   -- These seats were taken apart. Where all had run, and nothing stopped one, all of them are handed out.
   pub record IsLeftSo (setup : LoopSetup) (old now : LinksState) (seats : List (Seat L)) (looped : Looped)
@@ -102,9 +94,9 @@ module _ {L : Type 0} (tells : paths.Ghosts L) where
           → HaveLeft setup old mid (length seats) was → Leaves tells s mid new was now None
           → HaveLeft setup old new (suc (length seats)) now
       one_left (seat.RanNode ended linked) few (less, ran) had left =
-          node_left tells setup within old mid new few was now (length seats) had keep none linked ended less ran left
+          node_left _ _ within old mid new few was now _ had keep none _ _ less ran left
       one_left (seat.RanGateway stops g) few (behind, served) had left =
-          gateway_left tells setup within old mid new few was now (length seats) had stay reply g stops behind served left
+          gateway_left _ _ within old mid new few was now _ had stay reply g _ behind served left
       one_left (seat.Node linked) few ran had left = absurd ran
       one_left _ few ran had left = absurd ran
 
@@ -112,18 +104,22 @@ module _ {L : Type 0} (tells : paths.Ghosts L) where
       pub left_more : (s : Seat L) (before why : Option Stop) → IsLeftSo setup old mid seats was before → CanLeave tells mid s
           → Leaves tells s mid new was now why → IsLeftSo setup old new (seats ++ s ∷ []) now (option_or before why)
       left_more s (Some first) why so can left = record {
-        later = let a = so.later in let b = (grows_on mid new was now why s left).later in omega (arith, a, b);
-        link = λ is. rose_still old.faults mid.faults new.faults so.later (grows_on mid new was now why s left).later
+        later = let b = (grows_on mid new was now why s left).later in omega (arith, so.later);
+        link = λ is. rose_still _ _ _ so.later (grows_on mid new was now why s left).later
             (so.link is);
         no_clock = λ is. so.no_clock is;
-        left = λ ran few is. absurd (some_none first is);
+        left = λ ran few is. absurd (some_none _ is);
       }
       left_more s None why so can left = record {
-        later = let a = so.later in let b = (grows_on mid new was now why s left).later in omega (arith, a, b);
+        later =
+            let a = so.later in
+            let b = (grows_on mid new was now why s left).later in
+            omega (arith, a, b);
         link = λ is. rose_before old.faults mid.faults new.faults so.later
             (link_rose mid new was now why s can left is);
         no_clock = λ is. no_clock mid new was now why s can left is;
         left = λ ran few is. subst (λ (n : ℕ). HaveLeft setup old new n now) (sym (length_pushed seats s))
-            (one_left s few (ran (length seats) s (get_last seats s)) (so.left (all_before setup seats s ran) few refl)
+            (one_left s few (ran (length seats) s (get_last seats s))
+            (so.left (all_before {setup = setup} seats s ran) few refl)
             (subst (λ (o : Option Stop). Leaves tells s mid new was now o) is left));
       }

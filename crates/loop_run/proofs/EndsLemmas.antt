@@ -6,21 +6,16 @@ use Rattle.std.proofs.lemmas.Option.{same_Some}
 use Rattle.gateway_book.specs.Book.{value_of}
 use Rattle.gateway_answer.specs.Value.{BookValue, history_of}
 use Rattle.gw_base.specs.declared.address.Addr.{Addr}
-use Rattle.gw_base.specs.declared.history.HistoryEntry.{HistoryEntry}
-use Rattle.loop_audit.specs.Audit.{audit_of}
-use Rattle.net_link.specs.Datagrams.{Datagram}
-use Rattle.net_link.specs.Making.{GrowsBy, Keeps, LinksState}
+use Rattle.net_link.specs.Making.{Keeps, LinksState}
 use Rattle.net_link.specs.declared.link.Link as paths
 use Rattle.node_core.specs.Value.{NodeValue}
-use Rattle.node_core.specs.declared.port.Port.{Port}
 use Rattle.node_core.specs.declared.port.Port.TheVariants.{First, Second}
-use Rattle.node_run.specs.Running.{Turn, heard_at, sent_from}
 use Rattle.session_run.specs.declared.stop.Stop.{Stop}
 use Rattle.loop_run.specs.Addresses.{gateway_at, node_at}
 use Rattle.loop_run.specs.Collecting.{HasCollected}
 use Rattle.loop_run.specs.Ending.{CountsAs, EndsAs, HasTakenAll, gateway_sum, verdict}
 use Rattle.loop_run.specs.Finishing.{AreAlike, Finishes, shown}
-use Rattle.loop_run.specs.Looped.{CarriedAt, IsLoopBook, IsLoopNode, IsLooped, node_made}
+use Rattle.loop_run.specs.Looped.{CarriedAt, IsLoopBook, IsLoopNode, IsLooped}
 use Rattle.loop_run.specs.Making.{MakesSeats}
 use Rattle.loop_run.specs.Seats.{AllRan, LoopBook}
 use Rattle.loop_run.specs.declared.collecting.Collected.{Collected}
@@ -32,77 +27,65 @@ use Rattle.loop_run.specs.declared.setup.LoopSetup.{LoopSetup}
 
 -- What was told before it was made was told before it ran.
 module _ (setup : LoopSetup) (old mid new : LinksState) (keeps : Keeps old mid) where
-  carried_from : (place : ℕ) (turns : List Turn) (port : Port) → CarriedAt setup mid new place turns port
+  carried_from : {place turns port : _} → CarriedAt setup mid new place turns port
       → CarriedAt setup old new place turns port
-  carried_from place turns port was = record {
-    turns_are =
-        let same = keeps.turns (node_at place port) in
-        let is = was.turns_are in omega (arith, same, is);
-    received = subst (λ (o : Option (List Datagram)). GrowsBy o (Some (heard_at port turns))
-        (new.received (node_at place port))) (keeps.received (node_at place port)) was.received;
-    sent = subst (λ (o : Option (List Datagram)). GrowsBy o
-        (Some (sent_from setup.packets (node_made setup place) port turns)) (new.sent (node_at place port)))
-        (keeps.sent (node_at place port)) was.sent;
+  carried_from {place} {port} was = record {
+    turns_are = omega (arith, (keeps.turns (node_at place port)), was.turns_are);
+    received = rw (keeps.received (node_at place port)) at was.received;
+    sent = rw (keeps.sent (node_at place port)) at was.sent;
   }
 
-  node_from : (place : ℕ) (node : NodeValue) → IsLoopNode setup mid new place node → IsLoopNode setup old new place node
-  node_from place node was = record {
+  node_from : {place node : _} → IsLoopNode setup mid new place node → IsLoopNode setup old new place node
+  node_from was = record {
     turns = was.turns;
     node_is = was.node_is;
     most = was.most;
     had_more = was.had_more;
-    by_first = carried_from place was.turns First was.by_first;
-    by_second = carried_from place was.turns Second was.by_second;
+    by_first = carried_from was.by_first;
+    by_second = carried_from was.by_second;
   }
 
-  book_from : (place : ℕ) (book : LoopBook) → IsLoopBook mid new place book → IsLoopBook old new place book
-  book_from place book was = record {
+  book_from : {place : ℕ} {book : LoopBook} → IsLoopBook mid new place book → IsLoopBook old new place book
+  book_from {place} was = record {
     history = was.history;
     value = was.value;
     heard = was.heard;
-    was_heard = subst (λ (o : Option (List Datagram)). GrowsBy o was.heard (new.received (gateway_at place)))
-        (keeps.received (gateway_at place)) was.was_heard;
+    was_heard = rw (keeps.received (gateway_at place)) at was.was_heard;
     jobs = was.jobs;
     answers = was.answers;
     sent = was.sent;
-    was_sent = subst (λ (o : Option (List Datagram)). GrowsBy o was.sent (new.sent (gateway_at place)))
-        (keeps.sent (gateway_at place)) was.was_sent;
+    was_sent = rw (keeps.sent (gateway_at place)) at was.was_sent;
     replies = was.replies;
     size = was.size;
     name = was.name;
   }
 
-  pub looped_from : (books : List LoopBook) (nodes : List NodeValue) → IsLooped setup mid new books nodes
+  pub looped_from : {books : List LoopBook} {nodes : List NodeValue} → IsLooped setup mid new books nodes
       → IsLooped setup old new books nodes
-  looped_from books nodes was = record {
+  looped_from was = record {
     book_count = was.book_count;
     node_count = was.node_count;
-    each_book = λ place book at. book_from place book (was.each_book place book at);
-    each_node = λ place node at. node_from place node (was.each_node place node at);
+    each_book = λ place book at. book_from (was.each_book place book at);
+    each_node = λ place node at. node_from (was.each_node place node at);
   }
 
   pub taken_from : (nodes : List NodeValue) → HasTakenAll setup mid new nodes → HasTakenAll setup old new nodes
   taken_from nodes was place node at some =
-      let one = keeps.turns (node_at place First) in
-      let other = keeps.turns (node_at place Second) in
-      let all = was place node at some in
-      omega (arith, one, other, all)
+      omega (arith, (keeps.turns (node_at place First)), (keeps.turns (node_at place Second)), (was place node at some))
 
 -- Books of which the same is told.
 
 map_by : {X : Type 0} (g : BookValue → X) (books : List LoopBook)
     → map (λ (book : LoopBook). g (value_of book)) books ≡ map (λ (s : BookValue × (ℕ × List ℕ)). g s.0) (map shown books)
 map_by g [] = refl
-map_by g (book ∷ books) = ap (λ l. g (value_of book) ∷ l) (map_by g books)
+map_by g (book ∷ books) = cc (map_by g books)
 
 alike_by : {X : Type 0} (g : BookValue → X) (old new : List LoopBook) → AreAlike old new
     → map (λ (book : LoopBook). g (value_of book)) new ≡ map (λ (book : LoopBook). g (value_of book)) old
-alike_by g old new alike =
-    map_by g new ∙ ap (λ (l : List (BookValue × (ℕ × List ℕ))). map (λ s. g s.0) l) alike ∙ sym (map_by g old)
+alike_by g old new alike = cc (map_by g new, map_by g old)
 
 pub alike_length : (old new : List LoopBook) → AreAlike old new → length new ≡ length old
-alike_length old new alike =
-    sym (length-map new shown) ∙ ap (λ (l : List (BookValue × (ℕ × List ℕ))). length l) alike ∙ length-map old shown
+alike_length old new alike = cc (length-map new shown, length-map old shown)
 
 -- what a list shows in a place is shown by what stands there
 record ShownAt (books : List LoopBook) (place : ℕ) (s : BookValue × (ℕ × List ℕ)) : Type 0 where
@@ -110,18 +93,18 @@ record ShownAt (books : List LoopBook) (place : ℕ) (s : BookValue × (ℕ × L
   at : slice_get books place ≡ Some book
   is : shown book ≡ s
 
-shown_at : (books : List LoopBook) (place : ℕ) (s : BookValue × (ℕ × List ℕ)) → slice_get (map shown books) place ≡ Some s
+shown_at : (books : List LoopBook) (place : ℕ) {s : _} → slice_get (map shown books) place ≡ Some s
     → ShownAt books place s
-shown_at [] place s e = absurd (cc e)
-shown_at (book ∷ books) zero s e = record { book = book; at = refl; is = same_Some (shown book) s e }
-shown_at (book ∷ books) (suc place) s e =
-    let rest = shown_at books place s e in record { book = rest.book; at = rest.at; is = rest.is }
+shown_at [] place e = absurd (cc e)
+shown_at (book ∷ books) zero {s} e = record { book = book; at = refl; is = same_Some (shown book) s e }
+shown_at (book ∷ books) (suc place) e =
+    let rest = shown_at books place e in record { book = rest.book; at = rest.at; is = rest.is }
 
-shows_at : (books : List LoopBook) (place : ℕ) (book : LoopBook) → slice_get books place ≡ Some book
+shows_at : (books : List LoopBook) (place : ℕ) {book : _} → slice_get books place ≡ Some book
     → slice_get (map shown books) place ≡ Some (shown book)
-shows_at [] place book e = absurd (cc e)
-shows_at (b ∷ books) zero book e = ap (λ (x : LoopBook). Some (shown x)) (same_Some b book e)
-shows_at (b ∷ books) (suc place) book e = shows_at books place book e
+shows_at [] place e = cc
+shows_at (b ∷ books) zero {book} e = cc (same_Some b book e)
+shows_at (b ∷ books) (suc place) e = shows_at books place e
 
 module _ (setup : LoopSetup) (links links' : LinksState) (old new : List LoopBook) (nodes : List NodeValue)
     (alike : AreAlike old new) where
@@ -130,9 +113,9 @@ module _ (setup : LoopSetup) (links links' : LinksState) (old new : List LoopBoo
     book_count = alike_length old new alike ∙ was.book_count;
     node_count = was.node_count;
     each_book = λ place book at.
-        let there = shown_at old place (shown book)
+        let there = shown_at old place {s = shown book}
         (subst (λ (l : List (BookValue × (ℕ × List ℕ))). slice_get l place ≡ Some (shown book)) alike
-        (shows_at new place book at)) in
+        (shows_at new place {book = book} at)) in
         let before = was.each_book place there.book there.at in
         record {
           history = before.history;
@@ -151,8 +134,7 @@ module _ (setup : LoopSetup) (links links' : LinksState) (old new : List LoopBoo
   }
 
   same_verdict : verdict new nodes ≡ verdict old nodes
-  same_verdict = ap (λ (h : List (List HistoryEntry)). audit_of h nodes)
-      (alike_by (λ (v : BookValue). history_of v) old new alike)
+  same_verdict = cc (alike_by (λ (v : BookValue). history_of v) old new alike)
 
   pub alike_counts : (how : LoopEnd) → CountsAs setup old nodes how → CountsAs setup new nodes how
   alike_counts (end.Fine node_sums gateway_sums) (none, fine, sums) = (
@@ -172,9 +154,7 @@ module _ (setup : LoopSetup) (old mid new : LinksState) (keeps : Keeps old mid) 
     (has : HasCollected setup mid new collected) (now : Looped) where
   out : AreAlike collected.looped.books.items now.books.items → now.nodes.items ≡ collected.looped.nodes.items
       → IsLooped setup old new now.books.items now.nodes.items
-  out alike nodes = subst (λ (l : List NodeValue). IsLooped setup old new now.books.items l) (sym nodes)
-      (alike_looped setup old new collected.looped.books.items now.books.items collected.looped.nodes.items alike
-      (looped_from setup old mid new keeps collected.looped.books.items collected.looped.nodes.items has.hands))
+  out alike nodes = rw nodes (alike_looped _ old new _ _ _ alike (looped_from _ old mid new keeps has.hands))
 
   pub ends_finished : (how : LoopEnd) → Finishes setup collected.looped now how → EndsAs setup old new now how
   ends_finished (end.Fine node_sums gateway_sums) (counts, alike, nodes) = (
@@ -213,4 +193,4 @@ pub collected_of : {L : Type 0} (tells : paths.Ghosts L) (setup : LoopSetup) (ol
     → collected.stop ≡ None → HasCollected setup mid new collected
 collected_of tells setup old mid new seats ran why collected makes none few have_run long collects =
     let all = makes.all none in
-    collects have_run (long ∙ all.0) (λ a. let same = all.1.turns a in let was = few a in omega (arith, same, was))
+    collects have_run (long ∙ all.0) (λ a. omega (arith, (all.1.turns a), (few a)))

@@ -1,16 +1,15 @@
 -- The book of a gateway that served, once it is committed and the links are given back.
-use Rattle.std.proofs.Common.{◌≡◌, ◌∙◌, ℕ, ◌+◌, List, [], ◌∷◌, ◌++◌, length, append_assoc, length-append, Option, None, Some, refl, sym, ap, subst, arith}
+use Rattle.std.proofs.Common.{◌≡◌, ◌∙◌, ℕ, ◌+◌, List, [], ◌∷◌, ◌++◌, length, append_assoc, length-append, Option, None, Some, subst, arith}
 use Rattle.std.specs.Prelude.{All, IfSome}
 use Rattle.std.proofs.lemmas.List.{append-nil, nil_from_length}
 use Rattle.std.proofs.lemmas.List.Elements.{All-head, All-tail, All-weaker}
 use Rattle.area_disk.specs.Disk.{Rose}
 use Rattle.gateway_book.specs.Turning.{facts_of}
-use Rattle.gateway_answer.specs.Value.{BookValue, history_of, standing_for, torn_of}
 use Rattle.gw_base.specs.Facts.{joined as whole_of}
 use Rattle.gw_base.specs.Owes.{Begins}
 use Rattle.gw_base.specs.declared.address.Addr.{Addr}
 use Rattle.gw_base.specs.declared.history.HistoryEntry.{HistoryEntry}
-use Rattle.net_link.specs.Datagrams.{Datagram, IsEmpty, joined}
+use Rattle.net_link.specs.Datagrams.{IsEmpty, joined}
 use Rattle.net_link.specs.Making.{GrowsBy, LinksState}
 use Rattle.net_link.specs.declared.link.Link as paths
 use Rattle.session_run.specs.Desks.{HearsNothing}
@@ -32,7 +31,7 @@ module _ {L : Type 0} (tells : paths.Ghosts L) where
   -- links that heard nothing add nothing
   none_heard : (told : Told) (links : List L) → All (λ l. IsEmpty (tells.state l).received) links
       → IfSome (received_with tells told links) (λ list. told ≡ Some list)
-  none_heard told [] none = same_told told
+  none_heard told [] none = same_told _
   none_heard told (link ∷ links) none = by (received_with tells told links) (tells.state link).received
       (none_heard told links (All-tail (λ l. IsEmpty (tells.state l).received) link links none))
       (All-head (λ l. IsEmpty (tells.state l).received) link links none)
@@ -40,19 +39,20 @@ module _ {L : Type 0} (tells : paths.Ghosts L) where
       by : (rest own : Told) → IfSome rest (λ list. told ≡ Some list) → IsEmpty own → IfSome (joined rest own) (λ list. told ≡ Some list)
       by None own was is = tt
       by (Some xs) None was is = tt
-      by (Some xs) (Some ys) was is = was ∙ ap (λ (l : List Datagram). Some l) (sym (ap (λ (l : List Datagram). xs ++ l) is ∙ append-nil xs))
+      by (Some xs) (Some ys) was is = cc (append-nil xs)
 
   -- what the first link heard is told of the address, behind what was told before
   heard_there : (at : Addr) (told there : Told) (links : List L) → AreFiveOf tells at links
       → IfSome there (λ list. received_with tells told links ≡ Some list) → GrowsBy told (heard_by tells links) there
   heard_there at told there [] five e = absurd five
   heard_there at told there (link ∷ links) five e =
-      grows_before told (received_with tells told links) there (tells.state link).received
-      (none_heard told links (All-weaker (λ l. HearsNothing at (tells.state l)) (λ l. IsEmpty (tells.state l).received) (λ l h. h.received) links five.2)) e
+      grows_before told _ _ (tells.state link).received
+      (none_heard told links
+      (All-weaker (λ l. HearsNothing at (tells.state l)) (λ l. IsEmpty (tells.state l).received) (λ l h. h.received)
+      links five.2)) e
 
 same_heard : (told : Told) → GrowsBy (Some []) told told
-same_heard None = tt
-same_heard (Some list) = refl
+same_heard told = grind arith
 
 -- Beginnings.
 
@@ -63,16 +63,15 @@ abbrev tail_of : Entries → Entries
 tail_of [] = []
 tail_of (e ∷ es) = es
 
-both_begin : (xs ys : Entries) → Begins xs ys → Begins ys xs → ys ≡ xs
-both_begin xs ys one other =
-    let long : length ys ≡ length xs + length one.0 = ap (λ (l : Entries). length l) one.1 ∙ length-append xs one.0 in
-    let short : length xs ≡ length ys + length other.0 = ap (λ (l : Entries). length l) other.1 ∙ length-append ys other.0 in
-    let none : one.0 ≡ [] = nil_from_length one.0 (omega (arith, long, short)) in
-    one.1 ∙ ap (λ (l : Entries). xs ++ l) none ∙ append-nil xs
+both_begin : {xs ys : _} → Begins xs ys → Begins ys xs → ys ≡ xs
+both_begin {xs} {ys} one other =
+    let long : length ys ≡ length xs + length one.0 = cc (one.1, length-append xs one.0) in
+    let short : length xs ≡ length ys + length other.0 = cc (other.1, length-append ys other.0) in
+    let none : one.0 ≡ [] = nil_from_length one.0 (omega arith) in
+    cc (one.1, append-nil xs)
 
-begins_then : (xs ys zs : Entries) → Begins xs ys → Begins ys zs → Begins xs zs
-begins_then xs ys zs one other =
-    (one.0 ++ other.0, other.1 ∙ ap (λ (l : Entries). l ++ other.0) one.1 ∙ append_assoc xs one.0 other.0)
+begins_then : (xs : Entries) {ys zs : _} → Begins xs ys → Begins ys zs → Begins xs zs
+begins_then xs one other = (one.0 ++ other.0, cc (other.1, one.1, append_assoc xs one.0 other.0))
 
 -- the laws of what is in turn
 abbrev pub StaysInTurn : Type 0
@@ -89,34 +88,32 @@ ReplyLater = (size : ℕ) (firm later : Entries) (before now before' now' : ℕ)
 module _ {L : Type 0} (tells : paths.Ghosts L) (stay : StaysInTurn) (reply : ReplyLater) (place : ℕ) (stops : Option Stop)
     (g : LoopGateway L) (served : HasServedAt tells place stops g) where
   start_whole : whole_of (facts_of served.start) ≡ begun
-  start_whole = ap (λ (v : BookValue). history_of v ++ torn_of v) served.begun.value
+  start_whole = cc served.begun.value
 
   start_firm : (facts_of served.start).firm ≡ begun
-  start_firm = ap (λ (v : BookValue). v.firm) served.begun.value
+  start_firm = cc served.begun.value
 
   stood_begun : served.history.goes.stood ≡ begun
-  stood_begun = both_begin begun served.history.goes.stood
-      (subst (λ (l : Entries). Begins l served.history.goes.stood) start_firm served.history.goes.firm)
-      (subst (λ (l : Entries). Begins served.history.goes.stood l) start_whole served.history.goes.stood_is)
+  stood_begun = both_begin (rw start_firm at served.history.goes.firm) (rw start_whole at served.history.goes.stood_is)
 
   now_whole : whole_of (facts_of g.book) ≡ begun ++ served.history.goes.tail
-  now_whole = served.history.goes.whole ∙ ap (λ (l : Entries). l ++ served.history.goes.tail) stood_begun
+  now_whole = cc (served.history.goes.whole, stood_begun)
 
   now_begun : Begins begun (facts_of g.book).firm
-  now_begun = subst (λ (l : Entries). Begins l (facts_of g.book).firm) start_firm served.history.goes.begins
+  now_begun = rw start_firm at served.history.goes.begins
 
   module _ (old mid new : LinksState) (still : StillAt (gateway_at place) old mid) (book : LoopBook) (committed : HasCommitted g.book book)
       (back : IfSome (new.received g.address) (λ list. received_with tells (mid.received g.address) g.links.items ≡ Some list))
       (sent : GrowsBy (mid.sent g.address) (sent_by tells g.links.items) (new.sent g.address)) where
     abbrev whole_begun : Begins begun committed.value.history
-    whole_begun = begins_then begun (facts_of g.book).firm committed.value.history now_begun committed.value.more
+    whole_begun =
+        begins_then begun {ys = (facts_of g.book).firm} {zs = committed.value.history} now_begun committed.value.more
 
     abbrev rest : Entries
     rest = whole_begun.0
 
     tail_is : served.history.goes.tail ≡ rest ++ committed.value.within.0
-    tail_is = ap (λ (l : Entries). tail_of l)
-        (sym now_whole ∙ committed.value.within.1 ∙ ap (λ (l : Entries). l ++ committed.value.within.0) whole_begun.1)
+    tail_is = cc (now_whole, committed.value.within.1, whole_begun.1)
 
     abbrev heard : Told
     heard = heard_by tells g.links.items
@@ -125,56 +122,46 @@ module _ {L : Type 0} (tells : paths.Ghosts L) (stay : StaysInTurn) (reply : Rep
     at_address a = GrowsBy (mid.received a) heard (new.received a) × GrowsBy (mid.sent a) (sent_by tells g.links.items) (new.sent a)
 
     grew : at_address (gateway_at place)
-    grew = subst at_address served.address (
-      heard_there tells (gateway_at place) (mid.received g.address) (new.received g.address) g.links.items served.links back,
-      sent,
-    )
+    grew = subst at_address served.address (heard_there _ _ _ _ _ served.links back, sent)
 
     answers : AnswerInTurn area_length heard served.history.jobs (placed begun rest)
     answers = stay area_length heard served.history.jobs begun rest committed.value.within.0
-        (subst (λ (l : Entries). AnswerInTurn area_length heard served.history.jobs (placed begun l)) tail_is
-        (subst (λ (l : Entries). AnswerInTurn area_length heard served.history.jobs (placed l served.history.goes.tail)) stood_begun
-        (subst (λ (n : ℕ). AnswerInTurn n heard served.history.jobs (placed served.history.goes.stood served.history.goes.tail))
-        served.begun.size served.history.answers)))
+        (rw tail_is at (rw stood_begun at (rw served.begun.size at served.history.answers)))
 
     replies : ReplyInTurn area_length (begun ++ rest) 0 0 heard (sent_by tells g.links.items)
-    replies = subst (λ (l : Entries). ReplyInTurn area_length l 0 0 heard (sent_by tells g.links.items)) whole_begun.1
-        (reply area_length (facts_of g.book).firm committed.value.history 0 0 0 0 (Some []) heard heard (sent_by tells g.links.items)
-        committed.value.more (λ rose. rose) (same_heard heard)
-        (subst (λ (n : ℕ). ReplyInTurn n (facts_of g.book).firm 0 0 heard (sent_by tells g.links.items)) served.begun.size
-        served.replies.in_turn))
+    replies =
+        rw whole_begun.1 at
+        (reply area_length (facts_of g.book).firm committed.value.history 0 0 0 0 (Some []) heard heard
+        (sent_by tells g.links.items) committed.value.more (λ rose. rose) (same_heard _)
+        (rw served.begun.size at served.replies.in_turn))
 
     pub served_book : IsLoopBook old new place book
     served_book = record {
       history = rest;
-      value = committed.value.value ∙ ap (λ (l : Entries). standing_for l) whole_begun.1;
+      value = cc (committed.value.value, whole_begun.1);
       heard = heard;
-      was_heard = grows_before (old.received (gateway_at place)) (mid.received (gateway_at place)) (new.received (gateway_at place)) heard
-          still.received grew.0;
+      was_heard = grows_before (old.received (gateway_at place)) _ _ heard still.received grew.0;
       jobs = served.history.jobs;
       answers = answers;
       sent = sent_by tells g.links.items;
-      was_sent = grows_before (old.sent (gateway_at place)) (mid.sent (gateway_at place)) (new.sent (gateway_at place))
-          (sent_by tells g.links.items) still.sent grew.1;
+      was_sent = grows_before (old.sent (gateway_at place)) _ _ (sent_by tells g.links.items) still.sent grew.1;
       replies = replies;
       size = committed.size ∙ served.stays.size ∙ served.begun.size;
       name = committed.name ∙ served.stays.name ∙ served.begun.name;
     }
 
 -- a book that stands so does still where no more is told of its address
-pub book_still : (place : ℕ) (old mid new : LinksState) (book : LoopBook) → StillAt (gateway_at place) mid new
+pub book_still : {place : ℕ} {old mid new : LinksState} {book : LoopBook} → StillAt (gateway_at place) mid new
     → IsLoopBook old mid place book → IsLoopBook old new place book
-book_still place old mid new book still was = record {
+book_still still was = record {
   history = was.history;
   value = was.value;
   heard = was.heard;
-  was_heard = still_holds (λ list. joined (old.received (gateway_at place)) was.heard ≡ Some list) (new.received (gateway_at place))
-      (mid.received (gateway_at place)) still.received was.was_heard;
+  was_heard = still_holds _ _ _ still.received was.was_heard;
   jobs = was.jobs;
   answers = was.answers;
   sent = was.sent;
-  was_sent = still_holds (λ list. joined (old.sent (gateway_at place)) was.sent ≡ Some list) (new.sent (gateway_at place))
-      (mid.sent (gateway_at place)) still.sent was.was_sent;
+  was_sent = still_holds _ _ _ still.sent was.was_sent;
   replies = was.replies;
   size = was.size;
   name = was.name;

@@ -1,7 +1,6 @@
 -- A node of a loop that ran keeps all its packets; where it counts all as done, none is open.
-use Rattle.std.proofs.Common.{◌≡◌, ◌∙◌, ℕ, zero, suc, ◌+◌, ◌<◌, ◌≤◌, ◌^◌, ◌==◌, Bool, true, false, true≢false, not, if◌then◌else◌, IsTrue, List, [], ◌∷◌, length, map, refl, sym, ap, subst, arith}
+use Rattle.std.proofs.Common.{◌≡◌, ◌∙◌, ℕ, zero, suc, ◌+◌, ◌<◌, ◌≤◌, ◌^◌, ◌==◌, Bool, true, false, not, if◌then◌else◌, IsTrue, List, [], ◌∷◌, length, map, refl, sym, ap, arith}
 use Rattle.std.specs.Prelude.{All, filter, slice_index_or}
-use Rattle.std.specs.List.{range_with_len}
 use Rattle.std.proofs.lemmas.Bool.{eqb-true, eqb-false}
 use Rattle.std.proofs.lemmas.List.{length-map}
 use Rattle.std.proofs.lemmas.List.Elements.{All-cons, All-head, All-nil, All-tail, All-weaker}
@@ -10,15 +9,13 @@ use Rattle.std.proofs.lemmas.List.Sums.{count_by-le-length, sum_by-cons}
 use Rattle.gw_base.specs.declared.address.Addr.{Addr}
 use Rattle.node_core.specs.Counting.{counts_of, phase_among, phase_of, phase_of_copies}
 use Rattle.node_core.specs.Log.{Began, LogEntry, NodeSetup, done_among, peers_of}
-use Rattle.node_core.specs.Packets.{PacketState, is_done as are_done, is_resolved as are_resolved}
+use Rattle.node_core.specs.Packets.{PacketState, is_done as are_done}
 use Rattle.node_core.specs.Reached.{NodeCall, log_of, reached}
 use Rattle.node_core.specs.Roles.{IsSingle}
 use Rattle.node_core.specs.Value.{NodeValue, node_of}
 use Rattle.node_core.specs.declared.copy.PacketCopy.{PacketCopy}
-use Rattle.node_core.specs.declared.counts.Phase.{Phase}
 use Rattle.node_core.specs.declared.counts.Phase.TheVariants as phase
 use Rattle.node_core.specs.declared.counts.Tally.{Tally}
-use Rattle.node_core.specs.declared.peer.Peer.{Peer}
 use Rattle.node_run.specs.Keeping.{KeepsPackets}
 use Rattle.node_run.specs.Running.{Turn, all_done, node_after}
 use Rattle.loop_audit.specs.Standing.{KeepsAll}
@@ -31,12 +28,12 @@ use Rattle.loop_run.proofs.PigeonLemmas.{pigeonhole}
 -- Copies.
 
 -- a packet has no more copies than there are gateways
-few_copies : (peers : List Peer) (packet : PacketState) → IsSingle peers packet → length packet.copies ≤ length peers
-few_copies peers packet single = by_copies packet.copies refl
+few_copies : {peers packet : _} → IsSingle peers packet → length packet.copies ≤ length peers
+few_copies {peers} {packet} single = by_copies packet.copies refl
   where
     by_copies : (copies : List PacketCopy) → packet.copies ≡ copies → length packet.copies ≤ length peers
-    by_copies [] e = let none : length packet.copies ≡ 0 = ap (λ (l : List PacketCopy). length l) e in omega (arith, none)
-    by_copies (copy ∷ copies) e = pigeonhole (length packet.copies) (length peers) gateway into one
+    by_copies [] e = let none : length packet.copies ≡ 0 = cc in omega arith
+    by_copies (copy ∷ copies) e = pigeonhole _ _ _ into one
       where
         gateway : ℕ → ℕ
         gateway k = (slice_index_or packet.copies k copy).gateway
@@ -73,7 +70,7 @@ module _ (called : AreCalled) (single : AreSingle) (kept : AreKept) (keep : Keep
   ran = node_after setup.packets (node_made setup place) turns
 
   few_packets : setup.packets < 2 ^ 32
-  few_packets = let most = within.most_packets in omega (arith, most)
+  few_packets = omega (arith, within.most_packets)
 
   at_some : length (gateways_of setup.gateways) ≡ setup.gateways
   at_some = length-map-range_with_len gateway_at 0 setup.gateways
@@ -87,24 +84,20 @@ module _ (called : AreCalled) (single : AreSingle) (kept : AreKept) (keep : Keep
   few_peers : length (reached (node_setup setup place) calls).gateways ≤ 255
   few_peers =
       let same = keep (gateways_of setup.gateways) (log_of (node_setup setup place) calls) in
-      let most = within.most_gateways in
-      let at = at_some in omega (arith, same, most, at)
+      omega (arith, within.most_gateways, at_some)
 
   all_few : All (λ (packet : PacketState). length packet.copies ≤ 255) (reached (node_setup setup place) calls).packets
-  all_few = All-weaker (IsSingle (reached (node_setup setup place) calls).gateways)
-      (λ (packet : PacketState). length packet.copies ≤ 255)
-      (λ packet one.
-      let few = few_copies (reached (node_setup setup place) calls).gateways packet one in
-      let peers = few_peers in omega (arith, few, peers))
-      (reached (node_setup setup place) calls).packets
-      (single (node_setup setup place) calls
-      (let some = within.some_gateways in let at = at_some in omega (arith, some, at)))
+  all_few =
+      All-weaker (IsSingle (reached (node_setup setup place) calls).gateways)
+      (λ (packet : PacketState). length packet.copies ≤ 255) (λ packet one.
+      let few = few_copies one in
+      omega (arith, few_peers)) (reached (node_setup setup place) calls).packets
+      (single (node_setup setup place) calls (omega (arith, within.some_gateways, at_some)))
 
   pub keeps_all : KeepsAll ran
   keeps_all = record {
     numbers = (kept (node_setup setup place) setup.packets turns few_packets).numbers;
-    few = subst (λ (node : NodeValue). All (λ (packet : PacketState). length packet.copies ≤ 255) node.packets)
-        (sym ran_is) all_few;
+    few = rw ran_is all_few;
   }
 
 -- Packets that are done.
@@ -122,32 +115,31 @@ each_done (p ∷ packets) all = by_first (are_done p.copies) refl
     by_first : (b : Bool) → are_done p.copies ≡ b → done_among packets ≤ length packets
         → (done_among packets ≡ length packets → All IsDone packets)
         → (if b then 1 else 0) + done_among packets ≡ suc (length packets) → All IsDone (p ∷ packets)
-    by_first true is most rest e = All-cons IsDone p packets is (rest (omega (arith, e)))
-    by_first false is most rest e = absurd (omega (arith, e, most))
+    by_first true is most rest e = All-cons IsDone p packets is (rest (omega arith))
+    by_first false is most rest e = absurd (omega arith)
 
 done_phase : (packet : PacketState) → IsDone packet → phase_of_copies packet.copies ≡ phase.Done
-done_phase packet is =
-    ap (λ (b : Bool). if b then phase.Done else if are_resolved packet.copies then phase.Resolved else phase.Open) is
+done_phase packet is = cc
 
 -- each number of a packet among these, all of which are done, is that of one that is done
 found_done : (packets : List PacketState) → All IsDone packets → (k : ℕ) (d : ℕ) → k < length packets
     → is_done (phase_among packets (slice_index_or (map (λ (packet : PacketState). packet.number) packets) k d)) ≡ true
-found_done [] all k d less = absurd (omega (arith, less))
+found_done [] all k d less = absurd (omega arith)
 found_done (p ∷ packets) all zero d less = by_same (p.number == p.number) refl
   where
     by_same : (b : Bool) → (p.number == p.number) ≡ b → is_done (phase_among (p ∷ packets) p.number) ≡ true
-    by_same true same = cc (same, done_phase p (All-head IsDone p packets all))
+    by_same true same = cc (done_phase p (All-head IsDone p packets all))
     by_same false other = absurd (eqb-false p.number p.number other refl)
-found_done (p ∷ packets) all (suc k) d less = by_same (p.number == n) refl
-    (found_done packets (All-tail IsDone p packets all) k d (omega (arith, less)))
+found_done (p ∷ packets) all (suc k) d less =
+    by_same (p.number == n) refl (found_done packets (All-tail IsDone p packets all) k d (omega arith))
   where
     n : ℕ
     n = slice_index_or (map (λ (packet : PacketState). packet.number) packets) k d
 
     by_same : (b : Bool) → (p.number == n) ≡ b → is_done (phase_among packets n) ≡ true
         → is_done (phase_among (p ∷ packets) n) ≡ true
-    by_same true same rest = cc (same, done_phase p (All-head IsDone p packets all))
-    by_same false other rest = cc (other, rest)
+    by_same true same rest = cc (done_phase p (All-head IsDone p packets all))
+    by_same false other rest = cc
 
 filter_none : (test : ℕ → Bool) (xs : List ℕ) → All (λ x. test x ≡ false) xs → filter test xs ≡ []
 filter_none test [] none = refl
@@ -155,39 +147,34 @@ filter_none test (x ∷ xs) none = by_first (test x) (All-head (λ y. test y ≡
     (filter_none test xs (All-tail (λ y. test y ≡ false) x xs none))
   where
     by_first : (b : Bool) → b ≡ false → filter test xs ≡ [] → (if b then x ∷ filter test xs else filter test xs) ≡ []
-    by_first true is rest = absurd (true≢false is)
+    by_first true is rest = cc
     by_first false is rest = rest
-
-not_done : (p : Phase) → is_done p ≡ true → not (is_done p) ≡ false
-not_done p is = ap (λ (b : Bool). not b) is
 
 -- Where a node counts as many packets done as it may have, none is open.
 pub none_open : (packets : ℕ) (node : NodeValue) → KeepsPackets packets node → IsTrue (all_done packets node)
     → open_numbers packets node ≡ []
 none_open packets node kept all =
-    subst (λ (n : ℕ). filter (λ number. not (is_done (phase_of node number))) (range_with_len 1 n) ≡ []) submitted
-    (subst (λ (ns : List ℕ). filter (λ number. not (is_done (phase_of node number))) ns ≡ []) kept.numbers
+    rw submitted at
+    (rw kept.numbers at
     (filter_none (λ number. not (is_done (phase_of node number)))
     (map (λ (packet : PacketState). packet.number) node.packets)
-    (λ k d less. not_done (phase_of node (slice_index_or (map (λ (packet : PacketState). packet.number) node.packets) k d))
-    (found_done node.packets each k d
-    (let same = length-map node.packets (λ (packet : PacketState). packet.number) in omega (arith, less, same))))))
+    (λ k d less. ap not
+    (found_done _ each k d (omega (arith, (length-map node.packets (λ (packet : PacketState). packet.number))))))))
   where
     long : length node.packets ≡ node.submissions
     long = sym (length-map node.packets (λ (packet : PacketState). packet.number))
-        ∙ ap (λ (l : List ℕ). length l) kept.numbers ∙ length-range_with_len 1 node.submissions
+        ∙ ap length kept.numbers ∙ length-range_with_len 1 node.submissions
 
     counted : (counts_of node).done ≡ packets
     counted = eqb-true (counts_of node).done packets all
 
     among : done_among node.packets ≡ packets
-    among = let anew = ap (λ (t : Tally). t.done) kept.anew in let c = counted in omega (arith, anew, c)
+    among = omega (arith, (ap (λ (t : Tally). t.done) kept.anew), counted)
 
     submitted : node.submissions ≡ packets
     submitted =
         let most = count_by-le-length (λ (packet : PacketState). are_done packet.copies) node.packets in
-        let within = kept.within in
-        let a = among in let l = long in omega (arith, most, within, a, l)
+        omega (arith, kept.within, among, long)
 
     each : All IsDone node.packets
-    each = each_done node.packets (let a = among in let l = long in let s = submitted in omega (arith, a, l, s))
+    each = each_done _ (omega (arith, among, long, submitted))

@@ -1,6 +1,5 @@
 -- One who took part, taken apart.
-use Rattle.std.proofs.Common.{◌≡◌, ◌≢◌, List, [], ◌∷◌, ◌++◌, Option, None, Some, refl, subst}
-use Rattle.std.specs.Prelude.{IfSome}
+use Rattle.std.proofs.Common.{◌≡◌, ◌≢◌, List, [], ◌∷◌, ◌++◌, Option, None, Some, refl}
 use Rattle.net_link.specs.Datagrams.{joined}
 use Rattle.net_link.specs.Making.{LinksState, TakesBack}
 use Rattle.net_link.specs.declared.link.Link as paths
@@ -28,10 +27,10 @@ module _ {L : Type 0} (tells : paths.Ghosts L) where
       → (why ≡ None → now.nodes.items ≡ was.nodes.items ++ linked.node ∷ []) → now.books.items ≡ was.books.items
       → StopsAs ended why → LeavesNode tells linked ended old new was now why
   node_leaves linked ended old mid new was now why one two nodes books so = record {
-    only = both_only old mid new (tells.state linked.first) (tells.state linked.second) one two;
-    first = both_first old mid new (tells.state linked.first) (tells.state linked.second) one two;
-    second = both_second old mid new (tells.state linked.first) (tells.state linked.second) one two;
-    failed = both_failed old mid new (tells.state linked.first) (tells.state linked.second) one two;
+    only = both_only old mid new _ _ one two;
+    first = both_first old mid new _ _ one two;
+    second = both_second old mid new _ _ one two;
+    failed = both_failed old mid new _ _ one two;
     nodes = nodes;
     books = books;
     stops = so.stops;
@@ -40,12 +39,12 @@ module _ {L : Type 0} (tells : paths.Ghosts L) where
   }
 
   pub for_memory : (ended : NodeEnd) → StopsAs ended (Some stop.NoMemory)
-  for_memory ended = record { stops = λ is. absurd (cc is); link = λ is. absurd (cc is); no_clock = λ is. cc is }
+  for_memory ended = record { stops = λ is. cc; link = λ is. cc; no_clock = λ is. cc }
 
   pub at_end : (ended : NodeEnd) → StopsAs ended (stop_of_node ended)
-  at_end end.Link = record { stops = λ is. absurd (cc is); link = λ is. refl; no_clock = λ is. cc is }
-  at_end end.NoMemory = record { stops = λ is. absurd (cc is); link = λ is. absurd (cc is); no_clock = λ is. cc is }
-  at_end _ = record { stops = λ is. refl; link = λ is. absurd (cc is); no_clock = λ is. cc is }
+  at_end end.Link = record { stops = λ is. cc; link = λ is. refl; no_clock = λ is. cc }
+  at_end end.NoMemory = record { stops = λ is. cc; link = λ is. cc; no_clock = λ is. cc }
+  at_end _ = record { stops = λ is. refl; link = λ is. cc; no_clock = λ is. cc }
 
   pub gateway_leaves : (g : LoopGateway L) (stops : Option Stop) (old new : LinksState) (was now : Looped)
       (why : Option Stop) → ((told : Told) (links : List L) → sent_with tells told links ≡ joined told (sent_by tells links))
@@ -63,7 +62,7 @@ module _ {L : Type 0} (tells : paths.Ghosts L) where
       };
     };
     received = gave.received;
-    sent = subst (λ (o : Told). IfSome (new.sent g.address) (λ list. o ≡ Some list)) (all_sent (old.sent g.address) g.links.items) gave.sent;
+    sent = rw (all_sent (old.sent g.address) g.links.items) at gave.sent;
     failed = gave.failed;
     books = books;
     nodes = nodes;

@@ -58,32 +58,30 @@ pub none_left : (setup : LoopSetup) (old : LinksState) (looped : Looped) → loo
 none_left setup old looped books nodes = record {
   node_count = let none = ap (λ (l : List NodeValue). length l) nodes in omega (arith, none);
   book_count = let none = ap (λ (l : List LoopBook). length l) books in omega (arith, none);
-  each_node = λ place node at. absurd (none_get place node
+  each_node = λ place node at. absurd (none_get place {x = node}
       (subst (λ (l : List NodeValue). slice_get l place ≡ Some node) nodes at));
-  each_book = λ place book at. absurd (none_get place book
+  each_book = λ place book at. absurd (none_get place {x = book}
       (subst (λ (l : List LoopBook). slice_get l place ≡ Some book) books at));
   still = λ place port le less. still_same (node_at place port) old;
   still_books = λ place le. still_same (gateway_at place) old;
 }
 
 -- a node that was taken apart is so still
-left_node_still : (setup : LoopSetup) (old mid new : LinksState) (place : ℕ) (node : NodeValue)
+left_node_still : {setup old mid : _} (new : LinksState) {place node : _}
     → ((port : Port) → StillAt (node_at place port) mid new) → IsLeftNode setup old mid place node
     → IsLeftNode setup old new place node
-left_node_still setup old mid new place node still was = record {
-  is = node_still setup old mid new place node still was.is;
+left_node_still new still was = record {
+  is = node_still still was.is;
   kept = was.kept;
   taken = λ some.
       let one = (still First).turns in
       let other = (still Second).turns in
-      let all = was.taken some in
-      omega (arith, one, other, all);
+      omega (arith, (was.taken some));
 }
 
-left_book_still : (old mid new : LinksState) (place : ℕ) (book : LoopBook) → StillAt (gateway_at place) mid new
+left_book_still : {old mid new place book : _} → StillAt (gateway_at place) mid new
     → IsLeftBook old mid place book → IsLeftBook old new place book
-left_book_still old mid new place book still was =
-    record { is = book_still place old mid new book still was.is; firm = was.firm }
+left_book_still still was = record { is = book_still still was.is; firm = was.firm }
 
 -- what the laws of nodes say of those of the loop
 abbrev pub KeepAll : LoopSetup → Type 0
@@ -111,76 +109,61 @@ module _ {L : Type 0} (tells : paths.Ghosts L) (setup : LoopSetup) (within : IsL
     apart e = ports_apart place place (sym ran.first ∙ e ∙ ran.second)
 
     grew_first : GrewAt (node_at place First) (tells.state linked.first) old new
-    grew_first = still_grew (node_at place First) (tells.state linked.first) old mid new
+    grew_first = still_grew {at = node_at place First} {link = tells.state linked.first} {a = old} {b = mid} {c = new}
         (had.still place First (omega arith) less)
         (subst (λ (a : Addr). GrewAt a (tells.state linked.first) mid new) ran.first (left.first apart))
 
     grew_second : GrewAt (node_at place Second) (tells.state linked.second) old new
-    grew_second = still_grew (node_at place Second) (tells.state linked.second) old mid new
+    grew_second =
+        still_grew {at = node_at place Second} {link = tells.state linked.second} {a = old} {b = mid} {c = new}
         (had.still place Second (omega arith) less)
         (subst (λ (a : Addr). GrewAt a (tells.state linked.second) mid new) ran.second (left.second apart))
 
-    kept_of : (turns : List Turn) → HasRun tells setup.packets (node_made setup place) turns linked
-        → KeepsAll linked.node
-    kept_of turns run = subst (λ (node : NodeValue). KeepsAll node) (sym run.node_is) (keep place turns)
+    kept_of : {turns : _} → HasRun tells setup.packets (node_made setup place) turns linked → KeepsAll linked.node
+    kept_of {turns} run = rw run.node_is (keep place turns)
 
     by_end : (how : NodeEnd) → EndsSo tells (work_of setup) (node_made setup place) linked how
         → stop_of_node how ≡ None → IsLeftNode setup old new place linked.node
     by_end end.Done (run, done, most) is = record {
-      is = ran_node tells setup within place linked run most old new few grew_first grew_second;
-      kept = kept_of run.0 run.1;
+      is = ran_node _ _ within _ _ run most old new few grew_first grew_second;
+      kept = kept_of run.1;
       taken = λ some.
-          let no : open_numbers setup.packets linked.node ≡ [] =
-          subst (λ (node : NodeValue). open_numbers setup.packets node ≡ []) (sym run.1.node_is)
-          (none place run.0 (subst (λ (node : NodeValue). IsTrue (all_done setup.packets node)) run.1.node_is done)) in
-          let zero_long = ap (λ (l : List ℕ). length l) no in absurd (omega (arith, zero_long, some));
+          let no = rw (← run.1.node_is) at (none place run.0 (rw run.1.node_is at done)) in
+          absurd (omega (arith, (ap length no)));
     }
     by_end end.Spent (run, more, exact) is = record {
-      is = ran_node tells setup within place linked run (omega (arith, exact)) old new few grew_first grew_second;
-      kept = kept_of run.0 run.1;
-      taken = λ some. ran_turns tells setup within place linked run (omega (arith, exact)) old new few grew_first
-          grew_second exact;
+      is = ran_node _ _ within _ _ run (omega arith) old new few grew_first grew_second;
+      kept = kept_of run.1;
+      taken = λ some. ran_turns _ _ within _ _ run (omega arith) old new few grew_first grew_second exact;
     }
-    by_end end.Link failed is = absurd (cc is)
-    by_end end.NoMemory failed is = absurd (cc is)
+    by_end end.Link failed is = cc
+    by_end end.NoMemory failed is = cc
 
     left_now : IsLeftNode setup old new place linked.node
-    left_now = by_end ended ran.ends (left.stops refl)
+    left_now = by_end _ ran.ends (left.stops refl)
 
     here : length was.nodes.items ≡ place
-    here = let count = had.node_count in omega (arith, count, less)
+    here = omega (arith, had.node_count)
 
     pub node_left : HaveLeft setup old new (suc place) now
     node_left = record {
-      node_count =
-          let long = ap (λ (l : List NodeValue). length l) (left.nodes refl) in
-          let more = length_pushed was.nodes.items linked.node in
-          let at = here in omega (arith, long, more, at, less);
-      book_count =
-          let same = ap (λ (l : List LoopBook). length l) left.books in
-          let count = had.book_count in omega (arith, same, count, less);
-      each_node = λ p node at. ⊎_elim
-          (λ (before : slice_get was.nodes.items p ≡ Some node).
+      node_count = omega (arith, (ap length (left.nodes refl)), (length_pushed was.nodes.items linked.node), here);
+      book_count = omega (arith, (ap length left.books), had.book_count);
+      each_node = λ p node at. ⊎_elim (λ (before : slice_get was.nodes.items p ≡ Some node).
           let inside = slice_get_within was.nodes.items p node before in
           let at_place = here in
-          left_node_still setup old mid new p node
-          (λ (port : Port). elsewhere (node_at p port)
-          (nodes_apart p place port First (λ (e : p ≡ place). omega (arith, e, inside, at_place)))
-          (nodes_apart p place port Second (λ (e : p ≡ place). omega (arith, e, inside, at_place))))
-          (had.each_node p node before))
-          (λ (last : (p ≡ length was.nodes.items) × (node ≡ linked.node)).
-          subst (λ (q : ℕ). IsLeftNode setup old new q node) (sym (last.0 ∙ here))
-          (subst (λ (n : NodeValue). IsLeftNode setup old new place n) (sym last.1) left_now))
-          (get_pushed was.nodes.items linked.node p node
-          (subst (λ (l : List NodeValue). slice_get l p ≡ Some node) (left.nodes refl) at));
-      each_book = λ p book at. left_book_still old mid new p book
+          left_node_still new
+          (λ (port : Port). elsewhere _ (nodes_apart p place port First (λ (e : p ≡ place). omega arith))
+          (nodes_apart p place port Second (λ (e : p ≡ place). omega arith))) (had.each_node p node before))
+          (λ (last : (p ≡ length was.nodes.items) × (node ≡ linked.node)). rw (last.0 ∙ here) (rw last.1 left_now))
+          (get_pushed _ _ p (rw (left.nodes refl) at at));
+      each_book = λ p book at. left_book_still
           (elsewhere (gateway_at p) (gateway_no_node p place First) (gateway_no_node p place Second))
-          (had.each_book p book (subst (λ (l : List LoopBook). slice_get l p ≡ Some book) left.books at));
-      still = λ p port le inside. still_then (node_at p port) old mid new (had.still p port (omega (arith, le)) inside)
-          (elsewhere (node_at p port)
-          (nodes_apart p place port First (λ (e : p ≡ place). omega (arith, e, le)))
-          (nodes_apart p place port Second (λ (e : p ≡ place). omega (arith, e, le))));
-      still_books = λ p le. still_then (gateway_at p) old mid new (had.still_books p (omega (arith, less)))
+          (had.each_book p book (rw left.books at at));
+      still = λ p port le inside. still_then (had.still p port (omega arith) inside)
+          (elsewhere (node_at p port) (nodes_apart p place port First (λ (e : p ≡ place). omega arith))
+          (nodes_apart p place port Second (λ (e : p ≡ place). omega arith)));
+      still_books = λ p le. still_then (had.still_books p (omega arith))
           (elsewhere (gateway_at p) (gateway_no_node p place First) (gateway_no_node p place Second));
     }
 
@@ -209,32 +192,22 @@ module _ {L : Type 0} (tells : paths.Ghosts L) (setup : LoopSetup) (within : IsL
 
     pub gateway_left : HaveLeft setup old new (suc place) now
     gateway_left = record {
-      node_count =
-          let same = ap (λ (l : List NodeValue). length l) left.nodes in
-          let count = had.node_count in omega (arith, same, count, behind);
-      book_count =
-          let long = ap (λ (l : List LoopBook). length l) pushed in
-          let more = length_pushed was.books.items book in
-          let count = had.book_count in omega (arith, long, more, count, behind);
-      each_node = λ p node at. left_node_still setup old mid new p node
-          (λ (port : Port). besides (node_at p port) (λ e. gateway_no_node (place - setup.nodes) p port (sym e)))
-          (had.each_node p node (subst (λ (l : List NodeValue). slice_get l p ≡ Some node) left.nodes at));
-      each_book = λ p b at. ⊎_elim
-          (λ (before : slice_get was.books.items p ≡ Some b).
-          let inside = slice_get_within was.books.items p b before in
-          let count = had.book_count in
-          left_book_still old mid new p b
-          (besides (gateway_at p) (gateways_apart p (place - setup.nodes)
-          (λ (e : p ≡ place - setup.nodes). omega (arith, e, inside, count))))
-          (had.each_book p b before))
-          (λ (last : (p ≡ length was.books.items) × (b ≡ book)).
-          subst (λ (q : ℕ). IsLeftBook old new q b) (sym (last.0 ∙ had.book_count))
-          (subst (λ (x : LoopBook). IsLeftBook old new (place - setup.nodes) x) (sym last.1) book_now))
-          (get_pushed was.books.items book p b
-          (subst (λ (l : List LoopBook). slice_get l p ≡ Some b) pushed at));
-      still = λ p port le inside. absurd (omega (arith, le, inside, behind));
-      still_books = λ p le. still_then (gateway_at p) old mid new (had.still_books p (omega (arith, le, behind)))
-          (besides (gateway_at p) (gateways_apart p (place - setup.nodes) (λ (e : p ≡ place - setup.nodes). omega (arith, e, le, behind))));
+      node_count = omega (arith, (ap length left.nodes), had.node_count);
+      book_count = omega (arith, (ap length pushed), (length_pushed was.books.items book), had.book_count);
+      each_node = λ p node at. left_node_still new
+          (λ (port : Port). besides _ (λ e. gateway_no_node (place - setup.nodes) p port (sym e)))
+          (had.each_node p node (rw left.nodes at at));
+      each_book = λ p b at. ⊎_elim (λ (before : slice_get was.books.items p ≡ Some b). left_book_still
+          (besides (gateway_at p)
+          (gateways_apart p (place - setup.nodes)
+          (λ (e : p ≡ place - setup.nodes). omega
+          (arith, (slice_get_within was.books.items p b before), had.book_count)))) (had.each_book p b before))
+          (λ (last : (p ≡ length was.books.items) × (b ≡ book)). rw (last.0 ∙ had.book_count) (rw last.1 book_now))
+          (get_pushed _ _ p (rw pushed at at));
+      still = λ p port le inside. absurd (omega arith);
+      still_books = λ p le. still_then (had.still_books p (omega arith))
+          (besides (gateway_at p)
+          (gateways_apart p (place - setup.nodes) (λ (e : p ≡ place - setup.nodes). omega arith)));
     }
 
 -- All of them.
@@ -243,13 +216,12 @@ pub all_collected : (setup : LoopSetup) (old new : LinksState) (count : ℕ) (co
     → HasCollected setup old new collected
 all_collected setup old new count collected all left = record {
   hands = record {
-    book_count = let n = left.book_count in omega (arith, n, all);
-    node_count = let n = left.node_count in omega (arith, n, all);
+    book_count = omega (arith, left.book_count);
+    node_count = omega (arith, left.node_count);
     each_book = λ place book at. (left.each_book place book at).is;
     each_node = λ place node at. (left.each_node place node at).is;
   };
-  firm = all_by_place (λ (book : LoopBook). value_of book ≡ standing_for (value_of book).firm)
-      collected.looped.books.items (λ place book at. (left.each_book place book at).firm);
-  kept = all_by_place KeepsAll collected.looped.nodes.items (λ place node at. (left.each_node place node at).kept);
+  firm = all_by_place _ _ (λ place book at. (left.each_book place book at).firm);
+  kept = all_by_place _ _ (λ place node at. (left.each_node place node at).kept);
   taken = λ place node at some. (left.each_node place node at).taken some;
 }

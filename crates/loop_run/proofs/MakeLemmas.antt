@@ -14,11 +14,8 @@ keeps_then a b c one two = record {
   sent = λ at. two.sent at ∙ one.sent at;
 }
 
-pub grows_then : (a b c : LinksState) → GrowsOn a b → GrowsOn b c → GrowsOn a c
-grows_then a b c one two = record {
-  made = λ at m. two.made at (one.made at m);
-  later = let f = one.later in let s = two.later in omega (arith, f, s);
-}
+pub grows_then : {a b c : _} → GrowsOn a b → GrowsOn b c → GrowsOn a c
+grows_then one two = record { made = λ at m. two.made at (one.made at m); later = omega (arith, one.later, two.later) }
 
-pub makes_grows : (a b : LinksState) → MakesOn a b → GrowsOn a b
-makes_grows a b on = record { made = on.keeps.made; later = on.later }
+pub makes_grows : {a b : _} → MakesOn a b → GrowsOn a b
+makes_grows on = record { made = on.keeps.made; later = on.later }

@@ -1,5 +1,5 @@
 -- Packets that aren't done, found one after the other.
-use Rattle.std.proofs.Common.{◌≡◌, ◌∙◌, ℕ, zero, suc, ◌+◌, ◌<◌, ◌≤◌, Bool, true, false, not, if◌then◌else◌, List, [], ◌∷◌, ◌++◌, length, map, get_or, take, Option, None, Some, refl, sym, ap, arith}
+use Rattle.std.proofs.Common.{◌≡◌, ◌∙◌, ℕ, zero, suc, ◌+◌, ◌<◌, ◌≤◌, Bool, true, false, not, if◌then◌else◌, List, [], ◌∷◌, ◌++◌, length, map, get_or, take, Option, None, Some, sym, ap, arith}
 use Rattle.std.specs.Prelude.{filter, slice_get}
 use Rattle.std.specs.List.{range_with_len}
 use Rattle.std.proofs.lemmas.Grind.{flat_map-append}
@@ -20,47 +20,45 @@ open_upto node n = packets_open n node
 
 filter_more : (test : ℕ → Bool) (xs : List ℕ) (x : ℕ) (b : Bool) → test x ≡ b
     → filter test (xs ++ x ∷ []) ≡ filter test xs ++ (if b then x ∷ [] else [])
-filter_more test [] x true is = ap (λ (b : Bool). if b then x ∷ [] else []) is
-filter_more test [] x false is = ap (λ (b : Bool). if b then x ∷ [] else []) is
+filter_more test [] x true is = cc
+filter_more test [] x false is = cc
 filter_more test (y ∷ xs) x b is = by_first (test y) (filter_more test xs x b is)
   where
     by_first : (t : Bool) → filter test (xs ++ x ∷ []) ≡ filter test xs ++ (if b then x ∷ [] else [])
         → (if t then y ∷ filter test (xs ++ x ∷ []) else filter test (xs ++ x ∷ []))
         ≡ (if t then y ∷ filter test xs else filter test xs) ++ (if b then x ∷ [] else [])
-    by_first true rest = ap (λ (l : List ℕ). y ∷ l) rest
+    by_first true rest = cc
     by_first false rest = rest
 
 range_more : (a n k : ℕ) → k ≡ a + n → range_with_len a (suc n) ≡ range_with_len a n ++ k ∷ []
-range_more a zero k e = ap (λ (m : ℕ). m ∷ []) (omega (arith, e))
-range_more a (suc n) k e = ap (λ (ns : List ℕ). a ∷ ns) (range_more (a + 1) n k (omega (arith, e)))
+range_more a zero k e = ap (λ m. m ∷ []) (omega arith)
+range_more a (suc n) k e = cc (range_more (a + 1) n k (omega arith))
 
 module _ (node : NodeValue) (n : ℕ) where
   abbrev is_open : ℕ → Bool
   is_open number = not (is_done (phase_of node number))
 
-  numbers_more : (b : Bool) → is_open (n + 1) ≡ b
+  numbers_more : {b : _} → is_open (n + 1) ≡ b
       → open_numbers (suc n) node ≡ open_numbers n node ++ (if b then (n + 1) ∷ [] else [])
-  numbers_more b is = ap (λ (ns : List ℕ). filter is_open ns) (range_more 1 n (n + 1) (omega arith))
-      ∙ filter_more is_open (range_with_len 1 n) (n + 1) b is
+  numbers_more {b} is = cc (range_more 1 n (n + 1) (omega arith), filter_more is_open (range_with_len 1 n) _ b is)
 
   -- the next one is open, or isn't
   pub upto_open : is_open (n + 1) ≡ true
       → open_upto node (suc n) ≡ open_upto node n ++ record { node = id_of node; number = n + 1 } ∷ []
-  upto_open is = ap (λ (ns : List ℕ). map (λ number. record { node = id_of node; number = number }) ns) (numbers_more true is)
+  upto_open is = ap (map (λ number. record { node = id_of node; number = number })) (numbers_more is)
       ∙ map-append (λ number. record { node = id_of node; number = number }) (open_numbers n node) ((n + 1) ∷ [])
 
   pub upto_done : is_open (n + 1) ≡ false → open_upto node (suc n) ≡ open_upto node n
-  upto_done is = ap (λ (ns : List ℕ). map (λ number. record { node = id_of node; number = number }) ns)
-      (numbers_more false is ∙ append-nil (open_numbers n node))
+  upto_done is = cc (numbers_more is, append-nil (open_numbers n node))
 
 -- of all
 
 pub open_any : (all : List PacketId) (one : Open) → Some one ≡ open_of all
     → (slice_get all 0 ≡ Some one.first) × (one.count ≡ length all)
-open_any [] one e = absurd (cc e)
+open_any [] one e = cc
 open_any (p ∷ all) one e = (
-  sym (ap (λ (o : Option Open). first_or o) e),
-  ap (λ (o : Option Open). count_or o) e,
+  cc,
+  cc,
 )
   where
     first_or : Option Open → Option PacketId
@@ -73,25 +71,16 @@ open_any (p ∷ all) one e = (
 
 -- with the next number
 pub upto_more : (node : NodeValue) (n : ℕ) → open_upto node (n + 1) ≡ open_upto node n ++ open_at node (n + 1)
-upto_more node n =
-    let next : n + 1 ≡ suc n = omega arith in
-    ap (λ (m : ℕ). open_upto node m) next ∙ by_done (is_done (phase_of node (n + 1))) refl
-  where
-    by_done : (b : Bool) → is_done (phase_of node (n + 1)) ≡ b → open_upto node (suc n)
-        ≡ open_upto node n ++ (if b then [] else record { node = id_of node; number = n + 1 } ∷ [])
-    by_done true is = upto_done node n (ap (λ (b : Bool). not b) is) ∙ sym (append-nil (open_upto node n))
-    by_done false is = upto_open node n (ap (λ (b : Bool). not b) is)
+upto_more node n = grind (arith, append-nil, upto_done, upto_open)
 
 -- with the next node
 pub nodes_more : (packets : ℕ) (nodes : List NodeValue) (k : ℕ) (node : NodeValue) → k < length nodes
     → node ≡ get_or nodes k node
     → open_packets packets (take (k + 1) nodes) ≡ open_packets packets (take k nodes) ++ packets_open packets node
 nodes_more packets nodes k node less is =
-    ap (λ (l : List NodeValue). open_packets packets l)
-    (take_more nodes k node less ∙ ap (λ (n : NodeValue). take k nodes ++ n ∷ []) (sym is))
+    ap (open_packets packets) (take_more nodes k node less ∙ ap (λ n. take k nodes ++ n ∷ []) (sym is))
     ∙ flat_map-append (packets_open packets) (take k nodes) (node ∷ [])
-    ∙ ap (λ (l : List PacketId). open_packets packets (take k nodes) ++ l) (append-nil (packets_open packets node))
+    ∙ ap (λ l. open_packets packets (take k nodes) ++ l) (append-nil (packets_open packets node))
 
 pub up_to_more : (n m : ℕ) (found : Option Open) → n ≤ m → UpTo n found → UpTo m found
-up_to_more n m None le up = tt
-up_to_more n m (Some o) le up = omega (arith, le, up)
+up_to_more n m found le up = grind arith

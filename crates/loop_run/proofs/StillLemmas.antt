@@ -1,9 +1,9 @@
 -- What is told of an address when links of it, and of others, are given back one after the other.
-use Rattle.std.proofs.Common.{◌≡◌, ◌≢◌, ◌⊎◌, ⊎_elim, inl, inr, ℕ, zero, suc, ◌<◌, ◌≤◌, List, Option, None, Some, refl, sym, ap, subst, ◌∙◌, arith}
+use Rattle.std.proofs.Common.{◌≡◌, ◌≢◌, ◌⊎◌, ⊎_elim, inl, inr, ℕ, zero, suc, ◌<◌, ◌≤◌, List, Option, None, Some, refl, sym, ◌∙◌, arith}
 use Rattle.std.specs.Prelude.{IfSome}
 use Rattle.gw_base.specs.Faults.{Rose}
 use Rattle.gw_base.specs.declared.address.Addr.{Addr}
-use Rattle.net_link.specs.Datagrams.{Datagram, LinkState, added, joined}
+use Rattle.net_link.specs.Datagrams.{Datagram, LinkState, joined}
 use Rattle.net_link.specs.Making.{LinksState, RoseBy, TakesBack}
 use Rattle.loop_run.specs.Collecting.{GivesOnly, GrewAt, StillAt}
 
@@ -16,61 +16,53 @@ Told = Option (List Datagram)
 pub still_holds : (P : List Datagram → Type 0) (new mid : Told) → IfSome new (λ list. mid ≡ Some list) → IfSome mid P
     → IfSome new P
 still_holds P None mid e f = tt
-still_holds P (Some list) mid e f = subst (λ (o : Told). IfSome o P) e f
+still_holds P (Some list) mid e f = rw e at f
 
 pub same_told : (told : Told) → IfSome told (λ list. told ≡ Some list)
-same_told None = tt
-same_told (Some list) = refl
+same_told told = grind arith
 
 none_joined : (r : Told) (list : List Datagram) → joined None r ≡ Some list → ⊥
-none_joined (Some r) list e = cc e
-none_joined None list e = cc e
+none_joined r list e = grind arith
 
 -- a list grows as the one did that it was before
 pub grows_before : (old mid new more : Told) → IfSome mid (λ list. old ≡ Some list)
     → IfSome new (λ list. joined mid more ≡ Some list) → IfSome new (λ list. joined old more ≡ Some list)
-grows_before old mid None more was grew = tt
-grows_before old (Some list) (Some all) more was grew = ap (λ (o : Told). joined o more) was ∙ grew
-grows_before old None (Some all) more was grew = absurd (none_joined more all grew)
+grows_before old mid new more was grew = grind (arith, none_joined)
 
 -- Addresses.
 
 pub still_same : (at : Addr) (s : LinksState) → StillAt at s s
-still_same at s = record { turns = refl; received = same_told (s.received at); sent = same_told (s.sent at) }
+still_same at s = record { turns = refl; received = same_told _; sent = same_told _ }
 
-pub still_then : (at : Addr) (a b c : LinksState) → StillAt at a b → StillAt at b c → StillAt at a c
-still_then at a b c first next = record {
+pub still_then : {at a b c : _} → StillAt at a b → StillAt at b c → StillAt at a c
+still_then first next = record {
   turns = next.turns ∙ first.turns;
-  received = still_holds (λ list. a.received at ≡ Some list) (c.received at) (b.received at) next.received first.received;
-  sent = still_holds (λ list. a.sent at ≡ Some list) (c.sent at) (b.sent at) next.sent first.sent;
+  received = still_holds _ _ _ next.received first.received;
+  sent = still_holds _ _ _ next.sent first.sent;
 }
 
-pub grew_still : (at : Addr) (link : LinkState) (a b c : LinksState) → GrewAt at link a b → StillAt at b c
-    → GrewAt at link a c
-grew_still at link a b c grew next = record {
+pub grew_still : {at link a b c : _} → GrewAt at link a b → StillAt at b c → GrewAt at link a c
+grew_still grew next = record {
   turns = next.turns ∙ grew.turns;
-  received = still_holds (λ list. joined (a.received at) link.received ≡ Some list) (c.received at) (b.received at)
-      next.received grew.received;
-  sent = still_holds (λ list. joined (a.sent at) link.sent ≡ Some list) (c.sent at) (b.sent at) next.sent grew.sent;
+  received = still_holds _ _ _ next.received grew.received;
+  sent = still_holds _ _ _ next.sent grew.sent;
 }
 
-pub still_grew : (at : Addr) (link : LinkState) (a b c : LinksState) → StillAt at a b → GrewAt at link b c
-    → GrewAt at link a c
-still_grew at link a b c first grew = record {
-  turns = grew.turns ∙ ap (λ (n : ℕ). added n link.turns) first.turns;
-  received = grows_before (a.received at) (b.received at) (c.received at) link.received first.received grew.received;
-  sent = grows_before (a.sent at) (b.sent at) (c.sent at) link.sent first.sent grew.sent;
+pub still_grew : {at link a b c : _} → StillAt at a b → GrewAt at link b c → GrewAt at link a c
+still_grew {at} {link} {a} first grew = record {
+  turns = cc (grew.turns, first.turns);
+  received = grows_before (a.received at) _ _ link.received first.received grew.received;
+  sent = grows_before (a.sent at) _ _ link.sent first.sent grew.sent;
 }
 
 -- One link that is given back.
 
-back_grew : (old : LinksState) (link : LinkState) (new : LinksState) → TakesBack old link new
-    → GrewAt link.address link old new
-back_grew old link new back = record { turns = back.turns; received = back.received; sent = back.sent }
+back_grew : {old link new : _} → TakesBack old link new → GrewAt link.address link old new
+back_grew back = record { turns = back.turns; received = back.received; sent = back.sent }
 
-back_still : (at : Addr) (old : LinksState) (link : LinkState) (new : LinksState) → at ≢ link.address
+back_still : (at : Addr) {old : LinksState} {link : LinkState} {new : LinksState} → at ≢ link.address
     → TakesBack old link new → StillAt at old new
-back_still at old link new other back = record {
+back_still at other back = record {
   turns = back.others_turns at other;
   received = back.others_received at other;
   sent = back.others_sent at other;
@@ -81,27 +73,25 @@ back_still at old link new other back = record {
 pub le_or : (b c : ℕ) → b ≤ c → (b ≡ c) ⊎ (b < c)
 le_or zero zero h = inl refl
 le_or zero (suc c) h = inr (omega arith)
-le_or (suc b) zero h = absurd (omega (arith, h))
-le_or (suc b) (suc c) h =
-    ⊎_elim (λ (e : b ≡ c). inl (ap (λ (n : ℕ). suc n) e)) (λ (l : b < c). inr (omega (arith, l)))
-    (le_or b c (omega (arith, h)))
+le_or (suc b) zero h = absurd (omega arith)
+le_or (suc b) (suc c) h = ⊎_elim (λ (e : b ≡ c). inl (cc)) (λ (l : b < c). inr (omega arith)) (le_or b c (omega arith))
 
 -- a count that rose has risen still
 pub rose_still : (a b c : ℕ) → a ≤ b → b ≤ c → Rose a b → Rose a c
-rose_still a b c up later (inl less) = inl (omega (arith, later, less))
+rose_still a b c up later (inl less) = inl (omega arith)
 rose_still a b c up later (inr last) =
-    ⊎_elim (λ (e : b ≡ c). inr (sym e ∙ last)) (λ (l : b < c). inl (omega (arith, up, l))) (le_or b c later)
+    ⊎_elim (λ (e : b ≡ c). inr (sym e ∙ last)) (λ (l : b < c). inl (omega arith)) (le_or b c later)
 
 -- a count that rose after it stood has risen from an earlier value
 pub rose_before : (a b c : ℕ) → a ≤ b → Rose b c → Rose a c
-rose_before a b c up (inl less) = inl (omega (arith, up, less))
+rose_before a b c up (inl less) = inl (omega arith)
 rose_before a b c up (inr last) = inr last
 
 -- a count rose by that of a link that failed
 rose_by : (b f c : ℕ) → Rose 0 f → RoseBy b f c → Rose b c
 rose_by b f c some (inr last) = inr last
-rose_by b f c (inl some) (inl more) = inl (omega (arith, some, more))
-rose_by b f c (inr last) (inl more) = inl (omega (arith, last, more))
+rose_by b f c (inl some) (inl more) = inl (omega arith)
+rose_by b f c (inr last) (inl more) = inl (omega arith)
 
 -- Two links that are given back.
 module _ (old mid new : LinksState) (first second : LinkState) (one : TakesBack old first mid)
@@ -110,22 +100,17 @@ module _ (old mid new : LinksState) (first second : LinkState) (one : TakesBack 
   both_only = record {
     on = record {
       made = λ a made. two.made a (one.made a made);
-      later = let f = one.never_falls in let s = two.never_falls in omega (arith, f, s);
+      later = omega (arith, one.never_falls, two.never_falls);
     };
-    others = λ a none. still_then a old mid new (back_still a old first mid (λ e. none (inl e)) one)
-        (back_still a mid second new (λ e. none (inr e)) two);
+    others = λ a none. still_then (back_still a (λ e. none (inl e)) one) (back_still a (λ e. none (inr e)) two);
   }
 
   pub both_first : first.address ≢ second.address → GrewAt first.address first old new
-  both_first apart = grew_still first.address first old mid new (back_grew old first mid one)
-      (back_still first.address mid second new apart two)
+  both_first apart = grew_still (back_grew one) (back_still first.address apart two)
 
   pub both_second : first.address ≢ second.address → GrewAt second.address second old new
-  both_second apart = still_grew second.address second old mid new
-      (back_still second.address old first mid (λ e. apart (sym e)) one) (back_grew mid second new two)
+  both_second apart = still_grew (back_still second.address (λ e. apart (sym e)) one) (back_grew two)
 
   pub both_failed : Rose 0 first.faults ⊎ Rose 0 second.faults → Rose old.faults new.faults
-  both_failed (inl rose) = rose_still old.faults mid.faults new.faults one.never_falls two.never_falls
-      (rose_by old.faults first.faults mid.faults rose one.faults)
-  both_failed (inr rose) = rose_before old.faults mid.faults new.faults one.never_falls
-      (rose_by mid.faults second.faults new.faults rose two.faults)
+  both_failed (inl rose) = rose_still _ _ _ one.never_falls two.never_falls (rose_by _ _ _ rose one.faults)
+  both_failed (inr rose) = rose_before _ _ _ one.never_falls (rose_by _ _ _ rose two.faults)

@@ -86,6 +86,7 @@ pub takes_back : (old new : UdpNet) (link : LinkState) → CountsMore link.addre
 takes_back old new link counts fits faults = record {
   never_falls = omega arith;
   faults = rose old.faults link.faults new.faults faults;
+  stood = λ none. omega (arith, none, fits, faults);
   made = λ a made. subst (λ (l : List Addr). Contains l a) (sym counts.places) made;
   turns = counts.turns;
   received = tt;

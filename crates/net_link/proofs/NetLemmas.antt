@@ -79,6 +79,7 @@ module _ (old new : MemoryNet) (link : MemoryPath) (counts : CountsMore link.add
       record {
         never_falls = omega arith;
         faults = rose old.faults link.faults new.faults faults;
+        stood = λ none. omega (arith, none, fits, faults);
         made = λ a made. subst (λ (l : List Addr). Contains l a) (sym counts.places) made;
         turns = counts.turns;
         received = grows old.are_all new.are_all _ _ _ all received;
@@ -95,6 +96,7 @@ module _ (old new : MemoryNet) (link : MemoryPath) (counts : CountsMore link.add
   takes_back_untold untold = record {
     never_falls = omega arith;
     faults = rose old.faults link.faults new.faults faults;
+    stood = λ none. omega (arith, none, fits, faults);
     made = λ a made. subst (λ (l : List Addr). Contains l a) (sym counts.places) made;
     turns = counts.turns;
     received = subst (λ (b : Bool). GrowsBy (told_if old.are_all (received_at link.address old.links))

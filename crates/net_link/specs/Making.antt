@@ -38,10 +38,12 @@ GrowsBy old more new = IfSome new (λ list. joined old more ≡ Some list)
 abbrev pub RoseBy : ℕ → ℕ → ℕ → Type 0
 RoseBy before more after = (before + more ≤ after) ⊎ (after ≡ 2 ^ 64 - 1)
 
--- A link is taken back: what is told at its address grows by the link's, and the faults by at least its faults.
+-- A link is taken back: what is told at its address grows by the link's, and the faults by at least its faults. One
+-- that never failed adds none.
 pub record TakesBack (old : LinksState) (link : LinkState) (new : LinksState) : Type 0 where
   pub never_falls : old.faults ≤ new.faults
   pub faults : RoseBy old.faults link.faults new.faults
+  pub stood : link.faults ≡ 0 → new.faults ≡ old.faults
   pub made : (a : Addr) → old.IsMade a → new.IsMade a
   pub turns : new.turns link.address ≡ added (old.turns link.address) link.turns
   pub received : GrowsBy (old.received link.address) link.received (new.received link.address)

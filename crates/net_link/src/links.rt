@@ -21,7 +21,7 @@ pub trait Links {
         ensures new { IfOk result (λ link. IsNewAt at (Self.Link.state link)) }
         ensures made { Makes Self.Link (state self.old) at result (state self.new) };
 
-    /// Takes a link back whose address was made. It takes no memory.
+    /// Takes a link back whose address was made. It takes no memory, and one that never failed adds no fault.
     fn back(&mut self, link: Self::Link)
         requires { (state self.old).IsMade (Self.Link.state link).address }
         ensures { TakesBack (state self.old) (Self.Link.state link) (state self.new) };

@@ -1,5 +1,5 @@
 // Who receives.
-ghost use Rattle.std.specs.Prelude.{◌≡◌, ◌≤◌, ◌<◌, IfErr, IfOk, length};
+ghost use Rattle.std.specs.Prelude.{◌≡◌, ◌≢◌, ◌≤◌, ◌<◌, IfErr, IfOk, length};
 ghost use Rattle.net_link.specs.Steps.{most_octets};
 
 use crate::dispatched::Dispatched;
@@ -69,6 +69,7 @@ impl Dispatcher {
             (C.faults clock.old) (C.faults clock.new) result }
         ensures later { ((L.state link.old).faults ≤ (L.state link.new).faults)
             × (C.faults clock.old ≤ C.faults clock.new) }
+        ensures stood { result ≢ Dispatched.Clock → C.faults clock.new ≡ C.faults clock.old }
     {
         match link.receive(self.buffer.as_mut_slice()) {
             Ok(Heard::Datagram { from, length }) => self.dispatch(rt, from, length, clock, inboxes),
@@ -91,6 +92,7 @@ impl Dispatcher {
         requires count { count ≤ most_octets }
         ensures own { AreOfEach inboxes.now (passes_of self.new) }
         ensures later { C.faults clock.old ≤ C.faults clock.new }
+        ensures stood { result ≢ Dispatched.Clock → C.faults clock.new ≡ C.faults clock.old }
         ensures comes { ComesOf inboxes.now (λ job. (job.from ≡ from) × (job.octets ≡ take count self.old.buffer.items))
             self.old self.new (C.faults clock.old) (C.faults clock.new) result }
     {

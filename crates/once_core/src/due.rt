@@ -5,7 +5,8 @@ use crate::message::{Message, Waiting};
 use gw_base::NoMemory;
 use std::alloc::Global;
 
-/// The messages of these answers whose front is firm, in their order, and the other answers.
+/// The messages of these answers that rest on no more entries than are firm, `firm` of them, in their order, and the
+/// other answers. After `NoMemory` all are lost.
 pub fn parted(
     alloc: Global,
     firm: u64,
@@ -43,7 +44,7 @@ fn part(
     Ok(())
 }
 
-/// Messages, and others behind them.
+/// Messages, and others behind them. After `NoMemory` all are lost.
 pub fn joined(first: Vec<Message>, later: Vec<Message>) -> Result<Vec<Message>, NoMemory>
     ensures { IfOk result (λ all. all.items ≡ first.items ++ later.items) }
 {

@@ -1,4 +1,4 @@
--- How a writer is told all items of a gateway, in parts.
+-- How a writer is given all items of a gateway, in parts.
 use Rattle.std.specs.Prelude.{◌≡◌, ℕ, ◌<◌, ◌^◌, List, [], length, Result, IfOk}
 use Rattle.cdr_shelf.specs.declared.memory.MemoryShelf.{MemoryShelf}
 use Rattle.file_writer.specs.Advancing.{Advances}
@@ -13,9 +13,9 @@ pub record IsPart (from most : ℕ) (all items : List Item) : Type 0 where
   pub is : items ≡ part_of from most all
   pub few : length all < 2 ^ 31
 
--- A writer was told all of them, and took them, or had a fault.
-pub record IsTold (all : List Item) (first last : Writer MemoryShelf shelf_tells) (told : Result ℕ ShelfFault)
+-- A writer was given all of them, and took them, or had a fault.
+pub record IsGivenAll (all : List Item) (first last : Writer MemoryShelf shelf_tells) (given : Result ℕ ShelfFault)
     : Type 0 where
   pub few : length all < 2 ^ 31
-  pub goes : Advances shelf_tells (λ s. 0) [] all first last told
-  pub count : IfOk told (λ n. n ≡ length all)
+  pub goes : Advances shelf_tells (λ s. 0) [] all first last given
+  pub count : IfOk given (λ n. n ≡ length all)

@@ -9,7 +9,7 @@ ghost use Rattle.gw_base.specs.declared.item.Item.{Item as ItemValue};
 
 use crate::plans::calm;
 use crate::site::Site;
-use crate::writing::tell_all;
+use crate::writing::give_all;
 use area_disk::Plan;
 use area_disk::laws::{arms_fail, arms_nothing, arms_stop};
 use cdr_shelf::MemoryShelf;
@@ -108,7 +108,8 @@ impl Files {
         }
     }
 
-    /// It begins the items of a gateway anew, and takes all that its site tells.
+    /// A writer that has to recover does so, and takes all items of a site's gateway, from the first. After `Failed`,
+    /// `Stopped` and `NoMemory` it has to recover again.
     pub fn begin(&mut self, alloc: Global, site: &mut Site) -> Result<Wrote, NoMemory>
         requires taken { self.old.taken ≡ None }
         ensures { (setup : Setup) (place : ℕ) (g : Gateway) (m : Machine) (settings : Settings) (f : Filing) →
@@ -126,7 +127,7 @@ impl Files {
             // No read is planned to fail.
             Err(fault) => return self.broken(alloc, fault),
         }
-        match tell_all(alloc, site, &mut self.writer)? {
+        match give_all(alloc, site, &mut self.writer)? {
             Ok(taken) => {
                 self.taken = Some(taken);
                 Ok(Wrote::All)

@@ -1,5 +1,5 @@
 // The report of a gateway.
-ghost use Rattle.std.specs.Prelude.{◌≡◌, ◌<◌, ◌++◌, ℕ, IfOk, OnOk, false, take, true};
+ghost use Rattle.std.specs.Prelude.{◌≡◌, ◌+◌, ◌<◌, ◌^◌, ◌++◌, ℕ, IfOk, OnOk, false, take, true};
 ghost use Rattle.std.specs.List.{flat_map};
 ghost use Rattle.file_writer.specs.Files.{stream_files};
 ghost use Rattle.file_writer.specs.Streams.{stream_count};
@@ -46,7 +46,15 @@ impl Machine {
     {
         self.report_files(alloc, place, out)?;
         let tally = self.tally(alloc)?;
-        print_counts(alloc, out, place, tally)
+        print_counts(
+            alloc,
+            out,
+            usize::from(place),
+            tally.entries,
+            tally.records,
+            tally.held,
+            tally.stranded,
+        )
     }
 
     /// What it counts. One that is down is opened for this, and its area is left as it was. `NoMemory`: there was no
@@ -172,8 +180,9 @@ fn print_file(
     Ok(())
 }
 
-/// The name of a file.
-fn print_name(out: &mut Octets, name: FileName) -> Result<(), NoMemory>
+/// Appends the name of a file: its stream in two digits, and its number in ten. `NoMemory`: a part of it may have been
+/// appended.
+pub fn print_name(out: &mut Octets, name: FileName) -> Result<(), NoMemory>
     ensures { OnOk result (out.new ≡ out.old ++ file_name name) }
 {
     print_digits(out, 2, u32::from(name.stream))?;
@@ -195,18 +204,21 @@ fn print_digits(out: &mut Octets, count: u32, number: u32) -> Result<(), NoMemor
     Ok(())
 }
 
-/// The line of a gateway's counts.
-fn print_counts(alloc: Global, out: &mut Octets, place: u8, tally: Tally) -> Result<(), NoMemory>
-    ensures { OnOk result (out.new ≡ out.old
-        ++ counts_text place tally.entries tally.records tally.held tally.stranded) }
+/// Appends the line of what the gateway in this place counts, from 0: its entries, the records that they file, and the
+/// copies that are held and stranded. `NoMemory`: a part of it may have been appended.
+pub fn print_counts(
+    alloc: Global,
+    out: &mut Octets,
+    place: usize,
+    entries: u64,
+    records: usize,
+    held: u64,
+    stranded: u64,
+) -> Result<(), NoMemory>
+    requires { place + 1 < 2 ^ 64 }
+    ensures { OnOk result (out.new ≡ out.old ++ counts_text place entries records held stranded) }
 {
-    let number = u64::from(place) + 1;
-    let Tally {
-        entries,
-        records,
-        held,
-        stranded,
-    } = tally;
+    let number = place + 1;
     let line = format!(in alloc;
         "gateway {number} entries {entries} records {records} held {held} stranded {stranded}\n"
     )?;

@@ -6,7 +6,7 @@ ghost use Rattle.file_writer.specs.Writer.{IsAt, is_broken, settings_in, taken_o
 ghost use Rattle.gateway_answer.specs.Items.{items_of};
 ghost use Rattle.gw_base.specs.declared.item.Item.{Item as ItemValue};
 ghost use Rattle.once_core.specs.Gateway.{Gateway};
-ghost use Rattle.replay_gateway.specs.Parts.{IsPart, IsTold};
+ghost use Rattle.replay_gateway.specs.Parts.{IsGivenAll, IsPart};
 ghost use Rattle.replay_gateway.specs.Setup.{Setup};
 ghost use Rattle.replay_gateway.specs.Standing.{MachineStands, SiteStands, StandsUp};
 ghost use Rattle.replay_gateway.specs.Machine.{Filing, Machine as MachineValue};
@@ -115,23 +115,24 @@ pub(crate) fn items_from(
     }
 }
 
-/// How many items a writer is told at once. They stay near the processor until it has taken them.
+/// How many items a writer is given at once. They stay near the processor until it has taken them.
 const PART: u32 = 64;
 
-/// A writer that recovered is told all items of a site's gateway, and answers how many it has taken.
-pub(crate) fn tell_all(
+/// Gives a writer that recovered all items of a site's gateway, and says how many it has taken. The inner error is the
+/// writer's, which is broken then. The outer one is that there was no memory to read the items.
+pub(crate) fn give_all(
     alloc: Global,
     site: &mut Site,
     writer: &mut Writer<MemoryShelf>,
 ) -> Result<Result<u64, ShelfFault>, NoMemory>
     requires ready { is_broken writer.old ≡ false }
     requires none { taken_of writer.old ≡ 0 }
-    ensures told { (setup : Setup) (place : ℕ) (g : Gateway) (m : MachineValue) → g.is_down ≡ false →
-        SiteStands setup place g m (Some site.old) → IsAt writer.old (λ s. 0) [] → IfOk result (λ told.
-        IsTold (items_of g.book.firm) writer.old writer.new told × SiteStands setup place g m (Some site.new)) }
+    ensures given { (setup : Setup) (place : ℕ) (g : Gateway) (m : MachineValue) → g.is_down ≡ false →
+        SiteStands setup place g m (Some site.old) → IsAt writer.old (λ s. 0) [] → IfOk result (λ given.
+        IsGivenAll (items_of g.book.firm) writer.old writer.new given × SiteStands setup place g m (Some site.new)) }
     ensures settings { settings_in writer.new ≡ settings_in writer.old }
-    ensures count { IfOk result (λ told. IfOk told (λ n. (taken_of writer.new ≡ n) × (n < 2 ^ 31))) }
-    ensures ready { IfOk result (λ told. IfOk told (λ n. is_broken writer.new ≡ false)) }
+    ensures count { IfOk result (λ given. IfOk given (λ n. (taken_of writer.new ≡ n) × (n < 2 ^ 31))) }
+    ensures ready { IfOk result (λ given. IfOk given (λ n. is_broken writer.new ≡ false)) }
 {
     parts_go_as_one::<MemoryShelf>();
     let mut taken = 0;

@@ -26,4 +26,5 @@ mod summary;
 
 pub use lines::LineEnd;
 pub use replay::{Played, Replay};
+pub use report::print_node;
 pub use summary::{GatewaySums, NodeSums, Summary, print_summary};

@@ -1,5 +1,5 @@
 // The report.
-ghost use Rattle.std.specs.Prelude.{◌≡◌, ◌<◌, ◌++◌, OnOk, length};
+ghost use Rattle.std.specs.Prelude.{◌≡◌, ◌+◌, ◌<◌, ◌^◌, ◌++◌, OnOk, length};
 ghost use Rattle.std.specs.List.{enumerate_from, flat_map, range_with_len};
 ghost use Rattle.replay_world.specs.Report.{gateway_lines, node_line, node_text, report_of};
 ghost use Rattle.replay_world.specs.Stands.{Stands};
@@ -54,22 +54,23 @@ impl Replay {
             (enumerate_from 0 v.world.nodes)) }
     {
         for index in 0..self.nodes.len() {
-            print_node(alloc, out, octet(index), self.nodes[index].counts())?;
+            print_node(alloc, out, index, self.nodes[index].counts())?;
         }
         Ok(())
     }
 }
 
-/// The line of a node's counts.
-fn print_node(
+/// Appends the line of what the node in this place counts, from 0. `NoMemory`: a part of it may have been appended.
+pub fn print_node(
     alloc: Global,
     out: &mut Octets,
-    place: u8,
+    place: usize,
     counts: NodeCounts,
 ) -> Result<(), NoMemory>
+    requires { place + 1 < 2 ^ 64 }
     ensures { OnOk result (out.new ≡ out.old ++ node_text place counts) }
 {
-    let number = u64::from(place) + 1;
+    let number = place + 1;
     let (packets, resolved, done) = (counts.packets, counts.resolved, counts.done);
     let line = format!(in alloc;
         "node {number} packets {packets} resolved {resolved} done {done}\n"

@@ -64,6 +64,7 @@ module _ {L : Type 0} (tells : paths.Ghosts L) (told : Bool) (at : Addr) (start 
     replies = λ y. none_sent (hand_at desk).taken (known_at desk) (link_at tells desk).sent new.sent;
     link = record { address = new.at; turns = new.turns; received = new.received };
     cause = λ is. absurd (cc (sym fresh.runs ∙ is));
+    calm = λ none. new.faults;
     no_clock = λ is. cc (sym fresh.runs ∙ is);
   }
 
@@ -85,6 +86,7 @@ counts_begun : {L : Type 0} (tells : paths.Ghosts L) (at : Addr) (reception : Re
     → IsNewAt at (link_of tells reception) → CountsTurns tells n reception
 counts_begun tells at reception n few left over new = record {
   few = few;
+  most = let a = new.turns in omega (arith, a, left);
   turns = λ none. let a = new.turns in omega (arith, a, left);
   over = λ is. absurd (cc (sym over ∙ is));
 }

@@ -31,7 +31,7 @@ use Rattle.turn_cell.specs.Knowing.{Saw, kept}
 use Rattle.turn_cell.specs.Passes.{Took}
 use Rattle.turn_cell.specs.declared.knowing.KeptTurn.{KeptTurn}
 use Rattle.turn_cell.specs.declared.knowing.Knowledge.{Knowledge}
-use Rattle.session_run.specs.Desks.{AreRepliesTo, HasFailedSince, HearsNothing, IsSince, RepliesTo}
+use Rattle.session_run.specs.Desks.{AreRepliesTo, HasFailedSince, HearsNothing, IsSince, RepliesTo, stop_of}
 use Rattle.session_run.specs.History.{IsAnswered, TellsFailure, datagram_of}
 use Rattle.session_run.proofs.InTurnLemmas.{in_turn_both, in_turn_more, in_turn_weaker}
 
@@ -303,6 +303,14 @@ module _ (told : Bool) (session : ℕ) (job : Job) (between : List KeptTurn) (be
   fails_still served.Lost l rose = as_failed (lost_path (failure_reply (prepared_of job.octets)) l.sent).1 rose
   fails_still served.Link f rose = rose_since 0 old.faults new.faults (omega arith) f.rose
   fails_still _ same rose = as_failed (ap (λ (s : LinkState). s.faults) same) rose
+
+  -- a link that didn't stop the session has failed no more often
+  pub calm_on : (result : Served) → TellsOf result → stop_of result ≡ None → new.faults ≡ old.faults
+  calm_on (served.Replied cause front) r is = ap (λ (s : LinkState). s.faults) r.sent
+  calm_on (served.Dropped why) d is = ap (λ (s : LinkState). s.faults) d.unsent
+  calm_on served.Lost l is = (lost_path (failure_reply (prepared_of job.octets)) l.sent).1
+  calm_on served.Link f is = absurd (cc is)
+  calm_on _ same is = ap (λ (s : LinkState). s.faults) same
 
   pub failed_on : TellsOf served.Link → Rose 0 new.faults
   failed_on f = rose_since 0 old.faults new.faults (omega arith) f.rose

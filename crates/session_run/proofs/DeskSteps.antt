@@ -1,5 +1,5 @@
 -- A session's desk behind jobs that it served together.
-use Rattle.std.proofs.Common.{◌≡◌, ◌≢◌, ⊎_elim, ℕ, Bool, true, List, [], ◌∷◌, ◌++◌, Option, Some, refl, sym, ap, subst, ◌∙◌, append_assoc}
+use Rattle.std.proofs.Common.{◌≡◌, ◌≢◌, ⊎_elim, ℕ, Bool, true, List, [], ◌∷◌, ◌++◌, Option, None, Some, refl, sym, ap, subst, ◌∙◌, append_assoc}
 use Rattle.std.specs.Prelude.{All}
 use Rattle.std.specs.List.{Contains}
 use Rattle.std.specs.Option.{option_or}
@@ -19,15 +19,15 @@ use Rattle.node_session.specs.declared.served.Served.TheVariants as served
 use Rattle.turn_cell.specs.Placed.{added_by}
 use Rattle.turn_cell.specs.declared.knowing.KeptTurn.{KeptTurn}
 use Rattle.turn_cell.specs.declared.knowing.Knowledge.{Knowledge}
-use Rattle.session_run.specs.Desks.{AreRepliesTo, Began, HasWorked, HearsNothing, IsSince, first_stop, hand_at, known_at, link_at, with_all_taken}
+use Rattle.session_run.specs.Desks.{AreRepliesTo, Began, HasWorked, HearsNothing, IsSince, first_stop, hand_at, known_at, link_at, stop_of, with_all_taken}
 use Rattle.session_run.specs.History.{AnswersJob, InTurn}
 use Rattle.session_run.specs.Latest.{later_of, latest}
 use Rattle.session_run.specs.declared.desk.Desk.{Desk}
 use Rattle.session_run.specs.declared.stop.Stop.TheVariants as stop
 use Rattle.session_run.proofs.AddedLemmas.{added_on}
-use Rattle.session_run.proofs.DeskLemmas.{OnFrom, begins_then, failed_on, fails_still, hears_on, more_turns, on_served, replies_stay, sent_on}
+use Rattle.session_run.proofs.DeskLemmas.{OnFrom, begins_then, calm_on, failed_on, fails_still, hears_on, more_turns, on_served, replies_stay, sent_on}
 use Rattle.session_run.proofs.LatestLemmas.{latest_of_both}
-use Rattle.session_run.proofs.StopLemmas.{never_clock, one_of}
+use Rattle.session_run.proofs.StopLemmas.{never_clock, none_of, one_of}
 
 from_then : (told : Bool) (one two three : Knowledge) → GoesFrom told one two → GoesFrom told two three → GoesFrom told one three
 from_then told one two three p q = record {
@@ -116,6 +116,16 @@ module _ (told : Bool) (session : ℕ) where
   each_failed (job ∷ jobs) (_ ∷ results) before taken after old new each is =
       each_failed jobs results each.0 each.1 after each.2 new each.4 is
 
+  -- the link has failed no more often where nothing stopped the session
+  each_calm : (jobs : List Job) (results : List Served) (before taken after : Knowledge) (old new : LinkState)
+      → Each jobs results before taken after old new → first_stop results ≡ None → new.faults ≡ old.faults
+  each_calm [] results before taken after old new each is = ap (λ (s : LinkState). s.faults) each.2
+  each_calm (job ∷ jobs) [] before taken after old new each is = absurd each
+  each_calm (job ∷ jobs) (r ∷ results) before taken after old new each is =
+      let both = none_of (stop_of r) (first_stop results) is in
+      each_calm jobs results each.0 each.1 after each.2 new each.4 both.1
+      ∙ calm_on told session job each.3.between before each.1 old each.2 r each.3.tells both.0
+
 module _ {A L : Type 0} (device : area.Ghosts A) (tells : Ghosts L) (may : ℕ → ℕ → Go → Type 0) (session : ℕ) (jobs : List Job)
     (old new : Desk L) (results : List Served)
     (took : hand_at new ≡ with_all_taken jobs (hand_at old))
@@ -176,6 +186,13 @@ module _ {A L : Type 0} (device : area.Ghosts A) (tells : Ghosts L) (may : ℕ �
       (λ (now : first_stop results ≡ Some stop.Clock). never_clock results now)
       (one_of old.stop (first_stop results) stop.Clock (sym stops ∙ is))
 
+  still_calm : new.stop ≡ None → (link_at tells new).faults ≡ 0
+  still_calm is =
+      let both = none_of old.stop (first_stop results) (sym stops ∙ is) in
+      each_calm (tells_lists device) session jobs results (known_at old) told.taken (known_at new) (link_at tells old)
+      (link_at tells new) told.each both.1
+      ∙ w.calm both.0
+
   pub worked_on : HasWorked tells (tells_lists device) at began new
   worked_on = record {
     number = keeps.number ∙ w.number;
@@ -189,5 +206,6 @@ module _ {A L : Type 0} (device : area.Ghosts A) (tells : Ghosts L) (may : ℕ �
     replies = λ y. subst (λ (js : List Job). AreRepliesTo js (known_at new) (link_at tells new).sent) (sym taken_is) (sent_all y (w.replies y));
     link = each_hears (tells_lists device) session at jobs results (known_at old) told.taken (known_at new) (link_at tells old) (link_at tells new) told.each w.link;
     cause = link_failed;
+    calm = still_calm;
     no_clock = not_clock;
   }

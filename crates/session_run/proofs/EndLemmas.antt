@@ -1,6 +1,6 @@
 -- What a gateway hands back that served, or that had no memory to.
-use Rattle.std.proofs.Common.{◌≡◌, inl, inr, ℕ, Bool, true, false, if◌then◌else◌, List, [], ◌∷◌, ◌++◌, length, Option, None, Some, refl, sym, ap, subst, ◌∙◌, arith}
-use Rattle.std.specs.Prelude.{All, IfSome, slice_index_or}
+use Rattle.std.proofs.Common.{◌≡◌, ◌≤◌, inl, inr, ℕ, Bool, true, false, if◌then◌else◌, List, [], ◌∷◌, ◌++◌, length, Option, None, Some, refl, sym, ap, subst, ◌∙◌, arith}
+use Rattle.std.specs.Prelude.{All, IfSome, slice_index_or, ⊤}
 use Rattle.std.specs.Option.{option_or}
 use Rattle.std.proofs.lemmas.List.{append-nil}
 use Rattle.std.proofs.lemmas.List.Elements.{All-cons, All-head, All-nil, All-tail}
@@ -8,7 +8,6 @@ use Rattle.cdr_shelf.specs.declared.shelf.Shelf as shelves
 use Rattle.file_writer.specs.declared.writer.Writer.{Writer}
 use Rattle.gateway_answer.specs.Value.{BookValue, history_of, torn_of}
 use Rattle.gw_base.specs.Facts.{Facts, joined}
-use Rattle.gw_base.specs.Faults.{Rose}
 use Rattle.gw_base.specs.Owes.{Begins}
 use Rattle.gw_base.specs.declared.address.Addr.{Addr}
 use Rattle.gw_base.specs.declared.history.HistoryEntry.{HistoryEntry}
@@ -26,8 +25,8 @@ use Rattle.turn_cell.specs.declared.cell.TurnCell.{TurnCell}
 use Rattle.session_run.specs.Desks.{HasWorked, HearsNothing, began_at}
 use Rattle.session_run.specs.Ending.{AreAllSettled, ArePassesFor, AreSettledWith, known_among, links_of}
 use Rattle.session_run.specs.History.{GoesOn, GoesOnUntil, InTurn, IsCalledFor, IsJobOf, IsReply, IsReplyTo, those_of}
-use Rattle.session_run.specs.Reception.{CountsTurns, HasDispatched, IfTurns}
-use Rattle.session_run.specs.Running.{AnyOf, AreFiveOf, AreNewAt, AreReplies, HasFailed, HasStopCause, HaveReplied, sent_by, turns_by}
+use Rattle.session_run.specs.Reception.{CountsTurns, HasDispatched, IfTurns, TellsOfClock, link_of}
+use Rattle.session_run.specs.Running.{AnyOf, AreFiveOf, AreNewAt, AreReplies, HasFailed, HasStopCause, HaveReplied, NoneFailed, TakesAtMost, sent_by, turns_by}
 use Rattle.session_run.specs.Team.{AreDesksOf, HaveServed, Pair, TeamWorksOn, stop_among}
 use Rattle.session_run.specs.declared.desk.Desk.{Desk}
 use Rattle.session_run.specs.declared.reception.Reception.{Reception}
@@ -36,6 +35,8 @@ use Rattle.session_run.specs.declared.stop.Stop.{Stop}
 use Rattle.session_run.specs.declared.stop.Stop.TheVariants as stop
 use Rattle.session_run.specs.declared.until.Until.{Until}
 use Rattle.session_run.specs.declared.until.Until.TheVariants as until
+use Rattle.session_run.proofs.ReceptionLemmas.{never_by_clock}
+use Rattle.session_run.proofs.StopLemmas.{none_of}
 
 module _ {F L : Type 0} (files : shelves.Ghosts F) (tells : paths.Ghosts L) (told : Bool) (at : Addr) (start : Facts) (writer : Writer F files) where
   -- what all have done they have done still
@@ -69,9 +70,12 @@ module _ {F L : Type 0} (files : shelves.Ghosts F) (tells : paths.Ghosts L) (tol
     -- the turns that were to be taken were taken, unless something stopped it
     pub turns_taken : (ends : Until) → IfTurns ends (λ n. CountsTurns tells n r) → (result : Option Stop)
         → result ≡ option_or r.stop (stop_among team) → (r.stop ≡ None → stop_among team ≡ None → r.is_over ≡ true)
-        → IfTurns ends (λ n. result ≡ None → turns_by tells links ≡ n)
+        → IfTurns ends (TakesAtMost tells links result)
     turns_taken (until.QuietAfter count all) counts result is over = tt
-    turns_taken (until.Turns n) counts result is over = λ none. taken (sym is ∙ none) r.stop (stop_among team) refl refl
+    turns_taken (until.Turns n) counts result is over = (
+      let most = counts.most in omega (arith, most),
+      λ none. taken (sym is ∙ none) r.stop (stop_among team) refl refl,
+    )
       where
         taken : option_or r.stop (stop_among team) ≡ None → (a b : Option Stop) → r.stop ≡ a → stop_among team ≡ b → turns_by tells links ≡ n
         taken none None None ra rb =
@@ -79,9 +83,32 @@ module _ {F L : Type 0} (files : shelves.Ghosts F) (tells : paths.Ghosts L) (tol
         taken none None (Some x) ra rb = absurd (cc (sym (ap (λ (a : Option Stop). option_or a (stop_among team)) ra ∙ rb) ∙ none))
         taken none (Some x) b ra rb = absurd (cc (sym (ap (λ (a : Option Stop). option_or a (stop_among team)) ra) ∙ none))
 
-    module _ (clock clock' : ℕ) (by_clock : r.stop ≡ Some stop.Clock → Rose clock clock') where
+    module _ (clock clock' : ℕ) (by_clock : TellsOfClock clock clock' r.stop)
+        (still : r.stop ≡ None → (link_of tells r).faults ≡ 0) where
+      -- where nothing stopped any of them, nothing failed
+      calm : option_or r.stop (stop_among team) ≡ None → (clock' ≡ clock) × NoneFailed tells links
+      calm none =
+          let a = team.first.0 in
+          let b = team.first.1 in
+          let c = team.second.0 in
+          let d = team.second.1 in
+          let Still : L → Type 0 = λ link. (tells.state link).faults ≡ 0 in
+          let all = none_of r.stop (stop_among team) none in
+          let abcd = none_of (option_or (option_or a.stop b.stop) c.stop) d.stop all.1 in
+          let abc = none_of (option_or a.stop b.stop) c.stop abcd.0 in
+          let ab = none_of a.stop b.stop abc.0 in (
+            by_clock.1 (never_by_clock r.stop all.0),
+            All-cons Still r.link (a.link ∷ b.link ∷ c.link ∷ d.link ∷ []) (still all.0)
+                (All-cons Still a.link (b.link ∷ c.link ∷ d.link ∷ []) (s.one.calm ab.0)
+                (All-cons Still b.link (c.link ∷ d.link ∷ []) (s.two.calm ab.1)
+                (All-cons Still c.link (d.link ∷ []) (s.three.calm abc.1)
+                (All-cons Still d.link [] (s.four.calm abcd.1) (All-nil Still))))),
+          )
+
+      -- what stopped one of them, if anything did
       abbrev Caused : Option Stop → Type 0
-      Caused result = HasStopCause tells clock clock' links result
+      Caused None = ⊤
+      Caused (Some why) = HasStopCause tells clock clock' links (Some why)
 
       by_desk : (began : _) (desk : Desk L) → HasWorked tells told at began desk → (HasFailed tells desk.link → AnyOf (HasFailed tells) links)
           → Caused desk.stop
@@ -95,15 +122,17 @@ module _ {F L : Type 0} (files : shelves.Ghosts F) (tells : paths.Ghosts L) (tol
 
       by_reception : (s : Option Stop) → r.stop ≡ s → Caused s
       by_reception (Some stop.Link) is = inl (s.dispatched.cause is)
-      by_reception (Some stop.Clock) is = by_clock is
+      by_reception (Some stop.Clock) is = by_clock.0 is
       by_reception _ is = tt
 
       or_other : (a b : Option Stop) → Caused a → Caused b → Caused (option_or a b)
       or_other None b ca cb = cb
       or_other (Some x) b ca cb = ca
 
-      pub has_cause : (result : Option Stop) → result ≡ option_or r.stop (stop_among team) → Caused result
-      has_cause result is = subst Caused (sym is)
+      pub has_cause : (result : Option Stop) → result ≡ option_or r.stop (stop_among team)
+          → HasStopCause tells clock clock' links result
+      has_cause None is = calm (sym is)
+      has_cause (Some why) is = subst Caused (sym is)
           (or_other r.stop (stop_among team) (by_reception r.stop refl)
           (or_other (option_or (option_or team.first.0.stop team.first.1.stop) team.second.0.stop) team.second.1.stop
           (or_other (option_or team.first.0.stop team.first.1.stop) team.second.0.stop
@@ -208,9 +237,15 @@ module _ {L : Type 0} (tells : paths.Ghosts L) (at : Addr) where
         hear_nothing others (All-tail IsNew link others are.new),
       )
 
--- who had no memory isn't one whom nothing stopped
-pub never_served : (stopped : Option Stop) → stopped ≡ Some stop.NoMemory → (n m : ℕ) → stopped ≡ None → n ≡ m
-never_served stopped is n m none = absurd (cc (sym is ∙ none))
+-- who had no memory took no turn, and isn't one whom nothing stopped
+pub never_served : {L : Type 0} (tells : paths.Ghosts L) (at : Addr) (all links : List L) → AreNewAt tells at all
+    → links ≡ all → (stopped : Option Stop) → stopped ≡ Some stop.NoMemory → (n : ℕ) → TakesAtMost tells links stopped n
+never_served {L = L} tells at all links new same stopped is n =
+    subst (λ (l : List L). TakesAtMost tells l stopped n) (sym same) (few all new, λ none. absurd (cc (sym is ∙ none)))
+  where
+    few : (l : List L) → AreNewAt tells at l → turns_by tells l ≤ n
+    few [] are = omega arith
+    few (link ∷ others) are = let first = (are.new 0 link (omega arith)).turns in omega (arith, first)
 
 -- ---- how what served is taken apart
 

@@ -77,6 +77,7 @@ module _ {L : Type 0} (tells : paths.Ghosts L) where
     sent = same_told (s.sent at);
     later = omega arith;
     failed = λ none. absurd none;
+    calm = λ none. refl;
     made = λ a made. made;
     others_turns = λ a other. refl;
     others_received = λ a other. same_told (s.received a);
@@ -94,6 +95,8 @@ module _ {L : Type 0} (tells : paths.Ghosts L) where
         (λ (own : Rose 0 state.faults). rose_by old.faults mid.faults state.faults new.faults gave.later own back.faults)
         (λ (others : AnyOf (HasFailed tells) links). rose_still old.faults mid.faults new.faults gave.later back.never_falls (gave.failed others))
         any;
+    calm = λ none. back.stood (All-head (λ (l : L). (tells.state l).faults ≡ 0) link links none)
+        ∙ gave.calm (All-tail (λ (l : L). (tells.state l).faults ≡ 0) link links none);
     made = λ a made. back.made a (gave.made a made);
     others_turns = λ a other. back.others_turns a (elsewhere a other) ∙ gave.others_turns a other;
     others_received = λ a other. still_told (new.received a) (mid.received a) (old.received a)

@@ -53,6 +53,7 @@ module _ {L : Type 0} (tells : paths.Ghosts L) (at : Addr) where
         later = let same = known.1 in omega (arith, same);
         cause = λ why. inr (subst (λ (ls : List L). AnyOf (HasFailed tells) ls) (sym is)
             (any_last (HasFailed tells) made last (cause why at is_new)));
+        calm = λ none. known.1;
         no_clock = clock;
       }
 

@@ -1,5 +1,5 @@
 -- What who receives has done behind one more step of its dispatcher.
-use Rattle.std.proofs.Common.{◌≡◌, Bool, false, true, inl, ℕ, zero, suc, ◌+◌, ◌-◌, ◌<◌, List, [], ◌∷◌, ◌++◌, length, replicate, Option, None, Some, refl, sym, ap, subst, ◌∙◌, arith}
+use Rattle.std.proofs.Common.{◌≡◌, ◌≢◌, Bool, false, true, inl, ℕ, zero, suc, ◌+◌, ◌-◌, ◌<◌, ◌≤◌, List, [], ◌∷◌, ◌++◌, length, replicate, Option, None, Some, refl, sym, ap, subst, ◌∙◌, arith}
 use Rattle.std.specs.Prelude.{IfSome}
 use Rattle.std.proofs.lemmas.Bool.{true≢false}
 use Rattle.gw_base.specs.Faults.{Rose, next_count}
@@ -17,8 +17,9 @@ use Rattle.node_session.specs.declared.dispatched.Dispatched.{Dispatched}
 use Rattle.node_session.specs.declared.dispatched.Dispatched.TheVariants as dispatched
 use Rattle.node_session.specs.declared.dispatcher.Dispatcher.{Dispatcher}
 use Rattle.session_run.specs.History.{InTurn, datagram_of}
-use Rattle.session_run.specs.Reception.{ArePushed, CountsTurns, HasDispatched, IsOneFor, PushedOf, TakesTurn, link_of, stop_behind, turns_of, was_quiet}
+use Rattle.session_run.specs.Reception.{ArePushed, CountsTurns, HasDispatched, IsOneFor, PushedOf, TakesTurn, TellsOfClock, link_of, stop_behind, turns_of, was_quiet}
 use Rattle.session_run.specs.declared.reception.Reception.{Reception}
+use Rattle.session_run.specs.declared.stop.Stop.{Stop}
 use Rattle.session_run.specs.declared.stop.Stop.TheVariants as stop
 use Rattle.session_run.proofs.DeskLemmas.{rose_since}
 use Rattle.session_run.proofs.InTurnLemmas.{in_turn_both, in_turn_more}
@@ -138,6 +139,22 @@ module _ (inboxes : List Inbox) (old new : Dispatcher) (link_old link_new : Link
   turn_on dispatched.NoMemory t other = ap (λ (l : LinkState). l.turns) t.0.1
   turn_on _ t other = ap (λ (l : LinkState). l.turns) t.made.is
 
+  -- one turn at most was taken
+  pub most_on : (d : Dispatched) → Told d → link_new.turns ≤ link_old.turns + 1
+  most_on dispatched.Link t = let same = ap (λ (l : LinkState). l.turns) t.0.rest in omega (arith, same)
+  most_on dispatched.Quiet t = let next = ap (λ (l : LinkState). l.turns) t.0 in omega (arith, next)
+  most_on dispatched.Clock t = let next = ap (λ (l : LinkState). l.turns) t.0.1 in omega (arith, next)
+  most_on dispatched.NoMemory t = let next = ap (λ (l : LinkState). l.turns) t.0.1 in omega (arith, next)
+  most_on _ t = let next = ap (λ (l : LinkState). l.turns) t.made.is in omega (arith, next)
+
+  -- the link has failed no more often unless it failed in this step
+  pub calm_on : (d : Dispatched) → Told d → (d ≡ dispatched.Link → ⊥) → link_new.faults ≡ link_old.faults
+  calm_on dispatched.Quiet t other = ap (λ (l : LinkState). l.faults) t.0
+  calm_on dispatched.Link t other = absurd (other refl)
+  calm_on dispatched.Clock t other = ap (λ (l : LinkState). l.faults) t.0.1
+  calm_on dispatched.NoMemory t other = ap (λ (l : LinkState). l.faults) t.0.1
+  calm_on _ t other = ap (λ (l : LinkState). l.faults) t.made.is
+
   pub failed_on : (d : Dispatched) → Told d → d ≡ dispatched.Link → Rose 0 link_new.faults
   failed_on dispatched.Link t is = rose_since 0 link_old.faults link_new.faults (omega arith) t.0.rose
   failed_on _ t is = absurd (cc is)
@@ -191,22 +208,47 @@ module _ {L : Type 0} (tells : paths.Ghosts L) (inboxes : List Inbox) (old new :
   turn_taken is_quiet tells_quiet = record {
     turns = λ none. turn_on inboxes old.dispatcher new.dispatcher (link_of tells old) (link_of tells new) clock clock' d told
         (not_link d (sym stops ∙ none));
+    most = most_on inboxes old.dispatcher new.dispatcher (link_of tells old) (link_of tells new) clock clock' d told;
     quiet = λ is. quiet_on inboxes old.dispatcher new.dispatcher (link_of tells old) (link_of tells new) clock clock' d told
         (sym tells_quiet ∙ is);
     heard = λ is none. heard_on inboxes old.dispatcher new.dispatcher (link_of tells old) (link_of tells new) clock clock' d told
         (sym tells_quiet ∙ is) (sym stops ∙ none);
+    calm = λ none. calm_on inboxes old.dispatcher new.dispatcher (link_of tells old) (link_of tells new) clock clock' d
+        told (not_link d (sym stops ∙ none));
   }
 
-  pub stopped_by_clock : new.stop ≡ Some stop.Clock → Rose clock clock'
-  stopped_by_clock is = clock_on inboxes old.dispatcher new.dispatcher (link_of tells old) (link_of tells new) clock clock' d told
-      (clock_stopped d (sym stops ∙ is))
+  pub clock_told : (d ≢ dispatched.Clock → clock' ≡ clock) → TellsOfClock clock clock' new.stop
+  clock_told stood = (
+    λ is. clock_on inboxes old.dispatcher new.dispatcher (link_of tells old) (link_of tells new) clock clock' d told
+        (clock_stopped d (sym stops ∙ is)),
+    λ other. stood (λ is. other (stops ∙ ap (λ (x : Dispatched). stop_behind x) is)),
+  )
+
+-- What is told of the clock, over several steps.
+
+-- nothing stopped the reception, so the clock didn't
+pub never_by_clock : (stops : Option Stop) → stops ≡ None → stops ≢ Some stop.Clock
+never_by_clock stops none is = cc (sym none ∙ is)
+
+-- its count stood before the last of them
+pub clock_then : (stops : Option Stop) (a b c : ℕ) → b ≡ a → TellsOfClock b c stops → TellsOfClock a c stops
+clock_then stops a b c same tells = subst (λ (n : ℕ). TellsOfClock n c stops) same tells
+
+-- it stood in all of them
+pub clock_stands : (stops : Option Stop) (a b c : ℕ) → stops ≡ None → b ≡ a → TellsOfClock b c stops → c ≡ a
+clock_stands stops a b c none same tells = tells.1 (never_by_clock stops none) ∙ same
+
+pub clock_still : (stops : Option Stop) (a b : ℕ) → stops ≡ None → b ≡ a → TellsOfClock a b stops
+clock_still stops a b none same = (λ is. absurd (never_by_clock stops none is), λ other. same)
 
 -- one turn less is left of those that are counted
 pub counts_on : {L : Type 0} (tells : paths.Ghosts L) (n : ℕ) (old new : Reception L) → CountsTurns tells n old → old.stop ≡ None → 0 < old.left
     → new.left ≡ old.left - 1 → new.is_over ≡ old.is_over
-    → (new.stop ≡ None → turns_of tells new ≡ next_count (turns_of tells old)) → CountsTurns tells n new
-counts_on tells n old new c runs some left over turned = record {
+    → (new.stop ≡ None → turns_of tells new ≡ next_count (turns_of tells old))
+    → turns_of tells new ≤ turns_of tells old + 1 → CountsTurns tells n new
+counts_on tells n old new c runs some left over turned at_most = record {
   few = c.few;
+  most = let a = c.most in omega (arith, a, at_most, some, left);
   turns = λ none. let a = c.turns runs in let b = turned none in let few = c.few in omega (arith, a, b, few, some, left);
   over = λ is. let z = c.over (sym over ∙ is) in absurd (omega (arith, z, some));
 }
@@ -220,4 +262,4 @@ module _ {L : Type 0} (tells : paths.Ghosts L) where
   -- it is over once no turn is left
   pub counts_over : (n : ℕ) (r : Reception L) (is_over : Bool) → (is_over ≡ true → r.left ≡ 0) → CountsTurns tells n r
       → CountsTurns tells n (record r { is_over = is_over })
-  counts_over n r is_over over c = record { few = c.few; turns = c.turns; over = over }
+  counts_over n r is_over over c = record { few = c.few; most = c.most; turns = c.turns; over = over }

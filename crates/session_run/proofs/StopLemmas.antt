@@ -43,6 +43,11 @@ never_clock (served.Link ∷ results) is = absurd (cc is)
 never_clock (served.NoMemory ∷ results) is = absurd (cc is)
 never_clock (_ ∷ results) is = never_clock results is
 
+-- nothing stops where neither of two causes does
+pub none_of : (one other : Option Stop) → option_or one other ≡ None → (one ≡ None) × (other ≡ None)
+none_of None other is = (refl, is)
+none_of (Some x) other is = absurd (cc is)
+
 -- the first of two causes is one of them
 pub one_of : (one other : Option Stop) (s : Stop) → option_or one other ≡ Some s → (one ≡ Some s) ⊎ (other ≡ Some s)
 one_of None other s is = inr is

@@ -111,4 +111,5 @@ module _ {L : Type 0} (tells : Ghosts L) (told : Bool) (at : Addr) (began : Bega
     pub replies : WhereTold told (AreRepliesTo (hand_at desk).taken (known_at desk) (link_at tells desk).sent)
     pub link : HearsNothing at (link_at tells desk)
     pub cause : desk.stop ≡ Some stop.Link → Rose 0 (link_at tells desk).faults
+    pub calm : desk.stop ≡ None → (link_at tells desk).faults ≡ 0
     pub no_clock : desk.stop ≢ Some stop.Clock

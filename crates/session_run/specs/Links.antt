@@ -1,5 +1,5 @@
 -- Links of one address that are made for a gateway, and given back.
-use Rattle.std.specs.Prelude.{◌≡◌, ◌≢◌, ◌⊎◌, ℕ, ◌≤◌, ◌<◌, List, [], ◌∷◌, All, length, Option, Some, IfSome}
+use Rattle.std.specs.Prelude.{◌≡◌, ◌≢◌, ◌⊎◌, ℕ, ◌≤◌, ◌<◌, List, [], ◌∷◌, All, length, Option, None, Some, IfSome}
 use Rattle.gw_base.specs.Faults.{Rose}
 use Rattle.gw_base.specs.declared.address.Addr.{Addr}
 use Rattle.net_link.specs.Datagrams.{Datagram, IsEmpty, LinkState, added, joined}
@@ -7,7 +7,7 @@ use Rattle.net_link.specs.Making.{Keeps, LinksState}
 use Rattle.net_link.specs.declared.link.Link as paths
 use Rattle.net_link.specs.declared.link.LinkStop.{LinkStop}
 use Rattle.net_link.specs.declared.link.LinkStop.TheVariants as of_link
-use Rattle.session_run.specs.Running.{AnyOf, HasFailed}
+use Rattle.session_run.specs.Running.{AnyOf, HasFailed, NoneFailed}
 use Rattle.session_run.specs.declared.stop.Stop.{Stop}
 use Rattle.session_run.specs.declared.stop.Stop.TheVariants as stop
 
@@ -25,13 +25,14 @@ pub record IsIdleAt (at : Addr) (link : LinkState) : Type 0 where
 
 module _ {L : Type 0} (tells : paths.Ghosts L) where
   -- Links of an address were made, and what made them keeps the rest. Where a link stopped it, the count of what makes
-  -- them rose, or that of a link.
+  -- them rose, or that of a link; where nothing did, it stands.
   pub record HasMade (at : Addr) (old new : LinksState) (made : List L) (stops : Option Stop) : Type 0 where
     pub idle : All (λ link. IsIdleAt at (tells.state link)) made
     pub keeps : Keeps old new
     pub known : 0 < length made → new.IsMade at
     pub later : old.faults ≤ new.faults
     pub cause : stops ≡ Some stop.Link → Rose old.faults new.faults ⊎ AnyOf (HasFailed tells) made
+    pub calm : stops ≡ None → new.faults ≡ old.faults
     pub no_clock : stops ≢ Some stop.Clock
 
   -- what was told of an address, with what these links tell, the last of which was given back first
@@ -54,6 +55,7 @@ module _ {L : Type 0} (tells : paths.Ghosts L) where
     pub sent : IfSome (new.sent at) (λ list. sent_with (old.sent at) links ≡ Some list)
     pub later : old.faults ≤ new.faults
     pub failed : AnyOf (HasFailed tells) links → Rose old.faults new.faults
+    pub calm : NoneFailed tells links → new.faults ≡ old.faults
     pub made : (a : Addr) → old.IsMade a → new.IsMade a
     pub others_turns : (a : Addr) → a ≢ at → new.turns a ≡ old.turns a
     pub others_received : (a : Addr) → a ≢ at → IfSome (new.received a) (λ list. old.received a ≡ Some list)

@@ -1,5 +1,5 @@
 -- What who receives has done: what its link heard was pushed, and nothing else.
-use Rattle.std.specs.Prelude.{◌≡◌, ℕ, suc, ◌+◌, ◌%◌, ◌<◌, ◌^◌, Bool, false, true, List, [], ◌∷◌, Option, None, Some, IfSome, length, ⊤}
+use Rattle.std.specs.Prelude.{◌≡◌, ◌≢◌, ℕ, suc, ◌+◌, ◌%◌, ◌<◌, ◌≤◌, ◌^◌, Bool, false, true, List, [], ◌∷◌, Option, None, Some, IfSome, length, ⊤}
 use Rattle.gw_base.specs.Faults.{Rose, next_count}
 use Rattle.gw_base.specs.declared.address.Addr.{Addr}
 use Rattle.job_inbox.specs.declared.hand.Hand.{Hand}
@@ -24,6 +24,11 @@ stop_behind dispatched.NoMemory = Some stop.NoMemory
 stop_behind dispatched.Pushed = None
 stop_behind dispatched.Full = None
 stop_behind dispatched.Quiet = None
+
+-- The clock's count of faults rose where the clock stopped the reception, and stands at any other end.
+abbrev pub TellsOfClock : ℕ → ℕ → Option Stop → Type 0
+TellsOfClock clock clock' stops =
+    (stops ≡ Some stop.Clock → Rose clock clock') × (stops ≢ Some stop.Clock → clock' ≡ clock)
 
 -- whether nothing came in a step
 abbrev pub was_quiet : Dispatched → Bool
@@ -66,15 +71,23 @@ module _ {L : Type 0} (tells : Ghosts L) where
     pub unsent : IsEmpty (link_of reception).sent
     pub cause : reception.stop ≡ Some stop.Link → Rose 0 (link_of reception).faults
 
+  -- unless it stopped, its link has failed no more often
+  abbrev pub StaysCalm : Reception L → Reception L → Type 0
+  StaysCalm old new = new.stop ≡ None → (link_of new).faults ≡ (link_of old).faults
+
   -- The link took a turn, unless it stopped: a quiet one, in which nothing came, or one that heard a datagram.
   pub record TakesTurn (is_quiet : Bool) (old new : Reception L) : Type 0 where
     pub turns : new.stop ≡ None → turns_of new ≡ next_count (turns_of old)
+    pub most : turns_of new ≤ turns_of old + 1
     pub quiet : is_quiet ≡ true → link_of new ≡ record (link_of old) { turns = next_count (turns_of old) }
     pub heard : is_quiet ≡ false → new.stop ≡ None → HasHeardOne (link_of old) (link_of new)
+    pub calm : StaysCalm old new
 
-  -- Of so many turns those are left that the link didn't take, unless it stopped; it is over where none is.
+  -- Of so many turns those are left that the link didn't take, unless it stopped, and no more; it is over where none
+  -- is.
   pub record CountsTurns (n : ℕ) (reception : Reception L) : Type 0 where
     pub few : n < 2 ^ 63
+    pub most : turns_of reception + reception.left ≤ n
     pub turns : reception.stop ≡ None → turns_of reception + reception.left ≡ n
     pub over : reception.is_over ≡ true → reception.left ≡ 0
 

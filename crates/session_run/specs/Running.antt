@@ -52,6 +52,10 @@ module _ {L : Type 0} (tells : Ghosts L) where
   turns_by [] = 0
   turns_by (link ∷ links) = (tells.state link).turns
 
+  -- the first link took no more turns than so many, and unless something stopped it all of them
+  abbrev pub TakesAtMost : List L → Option Stop → ℕ → Type 0
+  TakesAtMost links stops n = (turns_by links ≤ n) × (stops ≡ None → turns_by links ≡ n)
+
   -- five links of the address: the first has sent nothing, and the others have taken no turn and heard nothing
   abbrev pub AreFiveOf : Addr → List L → Type 0
   AreFiveOf at [] = ⊥
@@ -77,9 +81,14 @@ module _ {L : Type 0} (tells : Ghosts L) where
   abbrev pub HasFailed : L → Type 0
   HasFailed link = Rose 0 (tells.state link).faults
 
-  -- why it stopped: a link that failed, the clock, whose count rose, or want of memory
+  -- none of the links failed since it was made
+  abbrev pub NoneFailed : List L → Type 0
+  NoneFailed links = All (λ link. (tells.state link).faults ≡ 0) links
+
+  -- why it stopped: a link that failed, the clock, whose count rose, or want of memory; where nothing stopped it,
+  -- neither the clock nor a link failed
   abbrev pub HasStopCause : ℕ → ℕ → List L → Option Stop → Type 0
-  HasStopCause clock_old clock_new links None = ⊤
+  HasStopCause clock_old clock_new links None = (clock_new ≡ clock_old) × NoneFailed links
   HasStopCause clock_old clock_new links (Some stop.Link) = AnyOf HasFailed links
   HasStopCause clock_old clock_new links (Some stop.Clock) = Rose clock_old clock_new
   HasStopCause clock_old clock_new links (Some stop.NoMemory) = ⊤

@@ -1,10 +1,8 @@
 // How long is received.
-ghost use Rattle.std.specs.Prelude.{◌≡◌, ◌<◌, ◌≤◌, ℕ, None, Some, length};
-ghost use Rattle.gw_base.specs.Faults.{Rose};
+ghost use Rattle.std.specs.Prelude.{◌≡◌, ◌<◌, ◌≤◌, ℕ, None, length};
 ghost use Rattle.gw_base.specs.declared.address.Addr.{Addr};
 ghost use Rattle.node_session.specs.Receiving.{AreOfEach, passes_of};
-ghost use Rattle.session_run.specs.Reception.{CountsTurns, HasDispatched, IfTurns};
-ghost use Rattle.session_run.specs.declared.stop.Stop.TheVariants as stop;
+ghost use Rattle.session_run.specs.Reception.{CountsTurns, HasDispatched, IfTurns, StaysCalm, TellsOfClock};
 
 use crate::beside::Task;
 use crate::pace::Pace;
@@ -69,7 +67,8 @@ fn receive<L: Link, C: gw_base::Clock, R: Wait + Clock>(
     ensures dispatched { (at : Addr) → HasDispatched L.Link at reception → HasDispatched L.Link at result }
     ensures turns { IfTurns until.now (λ n. CountsTurns L.Link n reception → CountsTurns L.Link n result) }
     ensures clock { C.faults clock.old ≤ C.faults clock.new }
-    ensures cause { result.stop ≡ Some stop.Clock → Rose (C.faults clock.old) (C.faults clock.new) }
+    ensures cause { TellsOfClock (C.faults clock.old) (C.faults clock.new) result.stop }
+    ensures calm { StaysCalm L.Link reception result }
 {
     let reception = match until {
         Until::Turns(_) => receive_turns(rt, inboxes, signals, reception, clock),
@@ -99,7 +98,8 @@ fn receive_turns<L: Link, C: gw_base::Clock, R: Wait + Clock>(
     ensures dispatched { (at : Addr) → HasDispatched L.Link at reception → HasDispatched L.Link at result }
     ensures turns { (n : ℕ) → CountsTurns L.Link n reception → CountsTurns L.Link n result }
     ensures clock { C.faults clock.old ≤ C.faults clock.new }
-    ensures cause { result.stop ≡ Some stop.Clock → Rose (C.faults clock.old) (C.faults clock.new) }
+    ensures cause { TellsOfClock (C.faults clock.old) (C.faults clock.new) result.stop }
+    ensures calm { StaysCalm L.Link reception result }
 {
     let mut reception = reception;
     let mut pace = Pace::new();
@@ -132,7 +132,8 @@ fn receive_until_quiet<L: Link, C: gw_base::Clock, R: Wait>(
     ensures own { AreOfEach inboxes.now (passes_of result.dispatcher) }
     ensures dispatched { (at : Addr) → HasDispatched L.Link at reception → HasDispatched L.Link at result }
     ensures clock { C.faults clock.old ≤ C.faults clock.new }
-    ensures cause { result.stop ≡ Some stop.Clock → Rose (C.faults clock.old) (C.faults clock.new) }
+    ensures cause { TellsOfClock (C.faults clock.old) (C.faults clock.new) result.stop }
+    ensures calm { StaysCalm L.Link reception result }
 {
     let mut reception = reception;
     for _ in rt.forever() {

@@ -1,10 +1,8 @@
 // Who receives, with what it has of its own.
-ghost use Rattle.std.specs.Prelude.{◌≡◌, ◌<◌, ◌≤◌, None, Some, length};
-ghost use Rattle.gw_base.specs.Faults.{Rose};
+ghost use Rattle.std.specs.Prelude.{◌≡◌, ◌<◌, ◌≤◌, length};
 ghost use Rattle.gw_base.specs.declared.address.Addr.{Addr};
 ghost use Rattle.node_session.specs.Receiving.{AreOfEach, passes_of};
-ghost use Rattle.session_run.specs.Reception.{HasDispatched, TakesTurn, stop_behind, was_quiet};
-ghost use Rattle.session_run.specs.declared.stop.Stop.TheVariants as stop;
+ghost use Rattle.session_run.specs.Reception.{HasDispatched, TakesTurn, TellsOfClock, stop_behind, was_quiet};
 
 use crate::stop::Stop;
 use job_inbox::Inbox;
@@ -57,7 +55,7 @@ impl<L: Link> Reception<L> {
         ensures turn { TakesTurn L.Link result self.old self.new }
         ensures rest { (self.new.left ≡ self.old.left) × (self.new.is_over ≡ self.old.is_over) }
         ensures clock { C.faults clock.old ≤ C.faults clock.new }
-        ensures cause { self.new.stop ≡ Some stop.Clock → Rose (C.faults clock.old) (C.faults clock.new) }
+        ensures cause { TellsOfClock (C.faults clock.old) (C.faults clock.new) self.new.stop }
     {
         let dispatched = self.dispatcher.step(rt, &mut self.link, clock, inboxes);
         self.stop = stop_of(dispatched);

@@ -1,13 +1,11 @@
 // The threads on which a gateway serves.
-ghost use Rattle.std.specs.Prelude.{◌≡◌, ◌≤◌, ◌<◌, ℕ, None, Some, false, length, true};
+ghost use Rattle.std.specs.Prelude.{◌≡◌, ◌≤◌, ◌<◌, ℕ, None, false, length, true};
 ghost use Rattle.gateway_book.specs.Turning.{tells_lists};
-ghost use Rattle.gw_base.specs.Faults.{Rose};
 ghost use Rattle.gw_base.specs.declared.address.Addr.{Addr};
 ghost use Rattle.node_session.specs.Receiving.{AreOfEach, passes_of};
 ghost use Rattle.node_session.specs.Writing.{IsActorOf};
-ghost use Rattle.session_run.specs.Reception.{CountsTurns, HasDispatched, IfTurns};
+ghost use Rattle.session_run.specs.Reception.{CountsTurns, HasDispatched, IfTurns, StaysCalm, TellsOfClock};
 ghost use Rattle.session_run.specs.Team.{AreDesksOf, ArePairOf, IsReady, IsTeamOf, PairWorksOn, TeamWorksOn, WritesOn, last_among, stop_among};
-ghost use Rattle.session_run.specs.declared.stop.Stop.TheVariants as stop;
 
 use crate::beside::{beside, take_back};
 use crate::desk::{Desk, later};
@@ -186,7 +184,8 @@ fn serve_once<
     ensures dispatched { (at : Addr) → HasDispatched L.Link at served.0 → HasDispatched L.Link at result.0 }
     ensures turns { IfTurns until.now (λ n. CountsTurns L.Link n served.0 → CountsTurns L.Link n result.0) }
     ensures clock { C.faults clock.old ≤ C.faults clock.new }
-    ensures cause { result.0.stop ≡ Some stop.Clock → Rose (C.faults clock.old) (C.faults clock.new) }
+    ensures cause { TellsOfClock (C.faults clock.old) (C.faults clock.new) result.0.stop }
+    ensures calm { StaysCalm L.Link served.0 result.0 }
 {
     let signals = Signals::new();
     let told = &signals;
@@ -252,7 +251,8 @@ pub(crate) fn serve<
     ensures dispatched { (at : Addr) → HasDispatched L.Link at served.0 → HasDispatched L.Link at result.0 }
     ensures turns { IfTurns until.now (λ n. CountsTurns L.Link n served.0 → CountsTurns L.Link n result.0) }
     ensures clock { C.faults clock.old ≤ C.faults clock.new }
-    ensures cause { result.0.stop ≡ Some stop.Clock → Rose (C.faults clock.old) (C.faults clock.new) }
+    ensures cause { TellsOfClock (C.faults clock.old) (C.faults clock.new) result.0.stop }
+    ensures calm { StaysCalm L.Link served.0 result.0 }
     ensures over { result.0.stop ≡ None → stop_among result.1 ≡ None → result.0.is_over ≡ true }
 {
     let mut served = served;

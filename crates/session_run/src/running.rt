@@ -14,7 +14,7 @@ ghost use Rattle.session_run.specs.Filing.{KeepsWriter};
 ghost use Rattle.session_run.specs.History.{GoesOnUntil};
 ghost use Rattle.session_run.specs.Making.{HasRoomForTwo, HasTwo, pops_in};
 ghost use Rattle.session_run.specs.Reception.{IfTurns};
-ghost use Rattle.session_run.specs.Running.{AreFiveOf, AreNewAt, HasStopCause, HaveReplied, IsFew, StaysAs, heard_by, turns_by};
+ghost use Rattle.session_run.specs.Running.{AreFiveOf, AreNewAt, HasStopCause, HaveReplied, IsFew, StaysAs, TakesAtMost, heard_by};
 ghost use Rattle.session_run.specs.Team.{IsTeamOf, last_among, stop_among};
 ghost use Rattle.session_run.specs.declared.stop.Stop.TheVariants as stop;
 
@@ -71,12 +71,13 @@ pub fn run<
         result.gateway.links.items) }
     ensures book { StaysAs (facts_of gateway.book) (facts_of result.gateway.book) }
     ensures links { AreFiveOf L.Link gateway.address result.gateway.links.items }
-    // Unless something stopped it, its first link took the turns.
-    ensures turns { IfTurns until.entry (λ n. result.stop ≡ None → turns_by L.Link result.gateway.links.items ≡ n) }
+    // Its first link took no more turns than these, and unless something stopped it all of them.
+    ensures turns { IfTurns until.entry (TakesAtMost L.Link result.gateway.links.items result.stop) }
     ensures writer { KeepsWriter F.Shelf (tells_lists A.Area) (value_of result.gateway.book).firm gateway.writer
         result.gateway.writer }
     ensures clock { C.faults clock.old ≤ C.faults clock.new }
-    // What stopped it is a fault of a link that is handed back, or of the clock, or want of memory.
+    // What stopped it is a fault of a link that is handed back, or of the clock, or want of memory. Where nothing did,
+    // neither a link nor the clock failed.
     ensures cause { HasStopCause L.Link (C.faults clock.old) (C.faults clock.new) result.gateway.links.items
         result.stop }
 {

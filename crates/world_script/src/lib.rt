@@ -39,4 +39,4 @@ pub use records::Records;
 pub use samples::sample;
 pub use script::{Script, read};
 pub use text::{TextLine, first_line, is_blank};
-pub use values::{address, ipv4};
+pub use values::{address, ipv4, number_between};

@@ -11,7 +11,8 @@ use std::alloc::Global;
 
 /// The number that a word says in decimal, where it is from `least` to `most`.
 pub fn number_between(least: u64, most: u64, word: &[u8]) -> Option<u64>
-    ensures { result ≡ number_between least most word.now }
+    ensures value { result ≡ number_between least most word.now }
+    ensures within { IfSome result (λ number. (least ≤ number) × (number ≤ most)) }
 {
     let number = number(word, most)?;
     if least <= number { Some(number) } else { None }

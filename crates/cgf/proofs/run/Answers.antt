@@ -1,6 +1,6 @@
 use Rattle.std.proofs.Common.{◌∙◌, ap, map, option_map, string_bytes, Option}
 use Rattle.cgf_top.specs.Looping.{looping_of}
-use Rattle.cgf_jobs.specs.Serving.{places_in, serving_of}
+use Rattle.cgf_jobs.specs.Serving.{serve_places_in, serving_of}
 use Rattle.cgf_jobs.specs.Streaming.{stream_places_in, streaming_of}
 use Rattle.cgf_jobs.specs.declared.serving.Serving.{Serving}
 use Rattle.cgf_jobs.specs.declared.streaming.Streaming.{Streaming}
@@ -10,7 +10,7 @@ use Rattle.cgf.proofs.run.Goals as goal
 -- where there are places, the words are those of a gateway that serves
 pub returns-in-Some-clause-told : goal.returns-in-Some-clause-told
 returns-in-Some-clause-told g c asked files =
-    absurd (not_both _ (c.in-Some.ensures.seen ∙ ap (λ (o : Option Serving). option_map (places_in (map string_bytes c.args.words.now)) o)
+    absurd (not_both _ (c.in-Some.ensures.seen ∙ ap (λ (o : Option Serving). option_map (serve_places_in (map string_bytes c.args.words.now)) o)
     (no_serve (serving_of (map string_bytes c.args.words.now)) (streaming_of (map string_bytes c.args.words.now))
     (looping_of (map string_bytes c.args.words.now)) files)))
 

@@ -1,12 +1,12 @@
 use Rattle.std.proofs.Common.{sym, ap, arith, map, option_map, string_bytes, Option}
-use Rattle.cgf_jobs.specs.Serving.{places_in}
+use Rattle.cgf_jobs.specs.Serving.{serve_places_in}
 use Rattle.cgf_jobs.specs.declared.serving.Serving.{Serving}
 use Rattle.cgf_jobs.proofs.ServingWords.{other_words, places_there}
 use Rattle.cgf_jobs.proofs.serving.serve_places.Goals as goal
 
 pub returns-in_default-clause-seen : goal.returns-in_default-clause-seen
 returns-in_default-clause-seen c =
-    sym (ap (λ (o : Option Serving). option_map (places_in (map string_bytes c.args.words.now)) o)
+    sym (ap (λ (o : Option Serving). option_map (serve_places_in (map string_bytes c.args.words.now)) o)
     (other_words string_bytes c.args.words.now (λ seven. omega (arith, seven, c.in_default.len_below))))
 
 pub returns-clause-seen : goal.returns-clause-seen

@@ -18,7 +18,7 @@ pub returns-in-Ok-clause-later : goal.returns-in-Ok-clause-later
 returns-in-Ok-clause-later g c = never_fell_before _ _ _ _ _ _ _ _ _ _ _ _ c.in-Ok.ensures.cause.ok c.serve_on.ensures.later
 
 pub returns-in-Err-clause-err : goal.returns-in-Err-clause-err
-returns-in-Err-clause-err g c = inr c.in-Err.ensures.cause.failed
+returns-in-Err-clause-err g c = ((refl, refl), inr c.in-Err.ensures.cause.failed)
 
 pub returns-in-Err-clause-foreign : goal.returns-in-Err-clause-foreign
 returns-in-Err-clause-foreign g c told at foreign = inr (inl refl)

@@ -1,6 +1,6 @@
 use Rattle.std.proofs.Common.{◌∙◌}
 use Rattle.cgf_jobs.proofs.ServedLemmas.{settings_at}
-use Rattle.cgf_jobs.proofs.SettledLemmas.{keeps_as, not_link, serves_as, settled_foreign, shelf_as, still_settled, stops_as, unopened_keeps, unopened_shelf, unopened_stops}
+use Rattle.cgf_jobs.proofs.SettledLemmas.{keeps_as, not_link, serves_as, settled_foreign, shelf_as, still_settled, stops_as, turns_as, unopened_keeps, unopened_shelf, unopened_stops}
 use Rattle.cgf_jobs.proofs.settling.serve_on.Goals as goal
 
 pub returns-in-Err-clause-err : goal.returns-in-Err-clause-err
@@ -21,6 +21,11 @@ returns-clause-err g c =
     stops_as _ _ _ _ _ _ _ _ _ _ _ _ _ _ _ _ _ _ _ c.in-Ok.ensures.size c.in-Ok.ensures.ok c.new-writer.ensures.shelf
     c.serve_at-service.ensures c.settle_all-line.ensures.line
     c.into_area.result c.into_shelf.result c.into_area.ensures.area c.into_shelf.ensures
+
+pub returns-clause-turns : goal.returns-clause-turns
+returns-clause-turns g c =
+    turns_as _ _ _ _ _ _ _ _ _ _ _ _ _ _ _ _ _ _ _ c.in-Ok.ensures.size c.in-Ok.ensures.ok c.new-writer.ensures.shelf
+    c.serve_at-service.ensures c.settle_all-line.ensures.line
 
 pub returns-clause-foreign : goal.returns-clause-foreign
 returns-clause-foreign g c told =

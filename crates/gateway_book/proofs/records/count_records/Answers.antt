@@ -10,7 +10,8 @@ pub returns-then-len-clause-records : goal.returns-then-len-clause-records
 returns-then-len-clause-records g c told =
     let xs : List Item = items_of (value_of c.args.book.now).firm in
     let is : c.in_ok-items.items.items ≡ take 4096 (drop c.pieces.from xs) =
-    c.in_ok-items.ensures.items told ∙ ap (λ (v : BookValue). items_between c.pieces.from 4096 v.firm) (c.pieces.invariant.same.0.value told) in
+    c.in_ok-items.ensures.items told
+    ∙ ap (λ (v : BookValue). items_between c.pieces.from 4096 v.firm) (c.pieces.invariant.same.value told) in
     let few : length xs < 2 ^ 32 =
     omega (arith, c.a_book_is_within_the_limits.ensures.items told c.args.book.now, c.a_book_is_within_the_limits.ensures.short c.args.book.now) in
     counted_last xs c.in_ok-items.items.items c.pieces.records c.record_count.result c.saturating_add-records.result c.pieces.from c.saturating_add-records.ensures
@@ -19,14 +20,14 @@ returns-then-len-clause-records g c told =
 
 pub pieces-preserved : goal.pieces-preserved
 pieces-preserved g c = record {
-  same = (
-    unchanged_then c.args.book.now c.pieces.book c.items.new.self c.pieces.invariant.same.0 c.items.ensures.unchanged,
-    omega (arith, c.pieces.invariant.same.1, c.items.ensures.cause.later),
-  );
+  same = unchanged_then c.args.book.now c.pieces.book c.items.new.self c.pieces.invariant.same
+      c.items.ensures.unchanged;
+  still = c.in_ok-items.ensures.cause.still (λ is. cc is) ∙ c.pieces.invariant.still;
   counted = λ told.
       let xs : List Item = items_of (value_of c.args.book.now).firm in
       let is : c.in_ok-items.items.items ≡ take 4096 (drop c.pieces.from xs) =
-      c.in_ok-items.ensures.items told ∙ ap (λ (v : BookValue). items_between c.pieces.from 4096 v.firm) (c.pieces.invariant.same.0.value told) in
+      c.in_ok-items.ensures.items told
+      ∙ ap (λ (v : BookValue). items_between c.pieces.from 4096 v.firm) (c.pieces.invariant.same.value told) in
       let few : length xs < 2 ^ 32 =
       omega (arith, c.a_book_is_within_the_limits.ensures.items told c.args.book.now, c.a_book_is_within_the_limits.ensures.short c.args.book.now) in
       counted_more xs c.in_ok-items.items.items c.pieces.records c.record_count.result c.saturating_add-records.result c.pieces.from c.saturating_add-records.ensures
@@ -34,7 +35,8 @@ pieces-preserved g c = record {
   within = λ told.
       let xs : List Item = items_of (value_of c.args.book.now).firm in
       let is : c.in_ok-items.items.items ≡ take 4096 (drop c.pieces.from xs) =
-      c.in_ok-items.ensures.items told ∙ ap (λ (v : BookValue). items_between c.pieces.from 4096 v.firm) (c.pieces.invariant.same.0.value told) in
+      c.in_ok-items.ensures.items told
+      ∙ ap (λ (v : BookValue). items_between c.pieces.from 4096 v.firm) (c.pieces.invariant.same.value told) in
       goes_on_within xs c.in_ok-items.items.items c.pieces.from 4096 is (omega (arith, c.if-len.false, c.len.ensures, c.in_ok-items.items.ok.0)) (c.pieces.invariant.within told);
   small = omega (arith, c.pieces-test.true);
 }

@@ -8,7 +8,8 @@ use Rattle.gateway_book.proofs.records.count_records.Given as goal
 -- the items up to a place were counted
 abbrev pub invariant-pieces : goal.invariant-pieces
 invariant-pieces g l = record {
-  same : IsUnchanged l.initial.book l.book × (g.A.Area.faults (area_of l.initial.book) ≤ g.A.Area.faults (area_of l.book));
+  same : IsUnchanged l.initial.book l.book;
+  still : g.A.Area.faults (area_of l.book) ≡ g.A.Area.faults (area_of l.initial.book);
   counted : Told g.A.Area → l.records ≡ part_count (take l.from (items_of (value_of l.initial.book).firm));
   within : Told g.A.Area → l.from ≤ length (items_of (value_of l.initial.book).firm);
   small : l.from ≤ 2 ^ 28 + 4096;

@@ -5,4 +5,4 @@ pub returns : goal.returns
 returns c =
     let next : c.args.place + 1 ≡ suc c.args.place = omega arith in
     rw (c.in_ok-append.ensures.ok, c.as_bytes.ensures.value, c.in_ok-line.ensures.ok)
-    (simp (append_assoc, c.from.ensures, next))
+    (simp (append_assoc, next))

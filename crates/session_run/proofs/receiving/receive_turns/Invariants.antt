@@ -1,7 +1,7 @@
-use Rattle.std.proofs.Common.{◌≡◌, ◌≤◌, ℕ, None}
+use Rattle.std.proofs.Common.{◌≡◌, ℕ, None}
 use Rattle.gw_base.specs.declared.address.Addr.{Addr}
 use Rattle.node_session.specs.Receiving.{AreOfEach, passes_of}
-use Rattle.session_run.specs.Reception.{CountsTurns, HasDispatched}
+use Rattle.session_run.specs.Reception.{CountsTurns, HasDispatched, link_of}
 use Rattle.session_run.proofs.receiving.receive_turns.Given as goal
 
 abbrev pub invariant-loop-reception : goal.invariant-loop-reception
@@ -10,7 +10,8 @@ invariant-loop-reception g l = record {
   runs : l.reception.stop ≡ None;
   dispatched : (at : Addr) → HasDispatched g.L.Link at l.fn.reception → HasDispatched g.L.Link at l.reception;
   turns : (n : ℕ) → CountsTurns g.L.Link n l.fn.reception → CountsTurns g.L.Link n l.reception;
-  clock : g.C.Clock.faults l.fn.clock ≤ g.C.Clock.faults l.clock;
+  clock : g.C.Clock.faults l.clock ≡ g.C.Clock.faults l.fn.clock;
+  calm : (link_of g.L.Link l.reception).faults ≡ (link_of g.L.Link l.fn.reception).faults;
 }
 
 abbrev pub decreases-loop-reception : goal.decreases-loop-reception

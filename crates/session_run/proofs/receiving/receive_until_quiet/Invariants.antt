@@ -1,7 +1,7 @@
-use Rattle.std.proofs.Common.{◌≡◌, ◌≤◌, None}
+use Rattle.std.proofs.Common.{◌≡◌, None}
 use Rattle.gw_base.specs.declared.address.Addr.{Addr}
 use Rattle.node_session.specs.Receiving.{AreOfEach, passes_of}
-use Rattle.session_run.specs.Reception.{HasDispatched}
+use Rattle.session_run.specs.Reception.{HasDispatched, link_of}
 use Rattle.session_run.proofs.receiving.receive_until_quiet.Given as goal
 
 abbrev pub invariant-loop : goal.invariant-loop
@@ -9,5 +9,6 @@ invariant-loop g l = record {
   own : AreOfEach l.inboxes (passes_of l.reception.dispatcher);
   runs : l.reception.stop ≡ None;
   dispatched : (at : Addr) → HasDispatched g.L.Link at l.fn.reception → HasDispatched g.L.Link at l.reception;
-  clock : g.C.Clock.faults l.fn.clock ≤ g.C.Clock.faults l.clock;
+  clock : g.C.Clock.faults l.clock ≡ g.C.Clock.faults l.fn.clock;
+  calm : (link_of g.L.Link l.reception).faults ≡ (link_of g.L.Link l.fn.reception).faults;
 }

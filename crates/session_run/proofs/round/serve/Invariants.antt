@@ -1,8 +1,8 @@
-use Rattle.std.proofs.Common.{◌≡◌, ◌≤◌, None}
+use Rattle.std.proofs.Common.{◌≡◌, None}
 use Rattle.gateway_book.specs.Turning.{tells_lists}
 use Rattle.gw_base.specs.declared.address.Addr.{Addr}
 use Rattle.node_session.specs.Receiving.{AreOfEach, passes_of}
-use Rattle.session_run.specs.Reception.{CountsTurns, HasDispatched, IfTurns}
+use Rattle.session_run.specs.Reception.{CountsTurns, HasDispatched, IfTurns, link_of}
 use Rattle.session_run.specs.Team.{IsReady, IsTeamOf, TeamWorksOn}
 use Rattle.session_run.proofs.round.serve.Given as goal
 
@@ -15,5 +15,6 @@ invariant-loop g l = record {
   worked : TeamWorksOn g.F.Shelf g.L.Link (tells_lists g.A.Area) l.fn.served.1 l.served.1;
   dispatched : (at : Addr) → HasDispatched g.L.Link at l.fn.served.0 → HasDispatched g.L.Link at l.served.0;
   turns : IfTurns l.until (λ n. CountsTurns g.L.Link n l.fn.served.0 → CountsTurns g.L.Link n l.served.0);
-  clock : g.C.Clock.faults l.fn.clock ≤ g.C.Clock.faults l.clock;
+  clock : g.C.Clock.faults l.clock ≡ g.C.Clock.faults l.fn.clock;
+  calm : (link_of g.L.Link l.served.0).faults ≡ (link_of g.L.Link l.fn.served.0).faults;
 }

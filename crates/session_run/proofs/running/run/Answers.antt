@@ -1,4 +1,4 @@
-use Rattle.std.proofs.Common.{◌≡◌, ℕ, List, None, ap, arith, subst, sym, ◌∙◌}
+use Rattle.std.proofs.Common.{◌≡◌, ℕ, List, ap, arith, subst, sym, ◌∙◌}
 use Rattle.gateway_book.specs.Book.{value_of}
 use Rattle.gateway_book.specs.Turning.{facts_of, tells_lists}
 use Rattle.gateway_book.specs.declared.book.Book.{Book}
@@ -11,7 +11,7 @@ use Rattle.session_run.specs.Filing.{KeepsWriter}
 use Rattle.session_run.specs.History.{GoesOnUntil}
 use Rattle.session_run.specs.Making.{pops_in}
 use Rattle.session_run.specs.Reception.{IfTurns}
-use Rattle.session_run.specs.Running.{AreFiveOf, HasStopCause, HaveReplied, heard_by, turns_by}
+use Rattle.session_run.specs.Running.{AreFiveOf, HasStopCause, HaveReplied, TakesAtMost, heard_by}
 use Rattle.session_run.specs.Team.{HaveServed}
 use Rattle.session_run.specs.declared.gateway.Gateway.{Gateway}
 use Rattle.session_run.proofs.BegunLemmas.{all_begun, counted, five_of, is_ready, numbered, receiver_new, team_of}
@@ -58,11 +58,23 @@ returns-in-Err-clause-replies g c = λ told.
     (sym (ap (λ (x : Gateway _ _ _ g.A.Area g.F.Shelf). x.links.items) c.unserved-in-Err.ensures.gateway))
     (none_have_replied g.L.Link w.address (heard_by g.L.Link result.links.items) (facts_of w.book) (facts_of result.book) w.links.items c.requires.links.new)
 
+pub returns-in_default-clause-turns : goal.returns-in_default-clause-turns
+returns-in_default-clause-turns g c =
+    let w = c.args.gateway in
+    let links = c.unserved.result.gateway.links.items in
+    if_turns c.args.until (TakesAtMost g.L.Link links c.unserved.result.stop)
+    (never_served g.L.Link w.address w.links.items links c.requires.links
+    (ap (λ (x : Gateway _ _ _ g.A.Area g.F.Shelf). x.links.items) c.unserved.ensures.gateway)
+    c.unserved.result.stop c.unserved.ensures.stop)
+
 pub returns-in-Err-clause-turns : goal.returns-in-Err-clause-turns
 returns-in-Err-clause-turns g c =
+    let w = c.args.gateway in
     let links = c.unserved-in-Err.result.gateway.links.items in
-    if_turns c.args.until (λ n. c.unserved-in-Err.result.stop ≡ None → turns_by g.L.Link links ≡ n)
-    (λ n. never_served c.unserved-in-Err.result.stop c.unserved-in-Err.ensures.stop (turns_by g.L.Link links) n)
+    if_turns c.args.until (TakesAtMost g.L.Link links c.unserved-in-Err.result.stop)
+    (never_served g.L.Link w.address w.links.items links c.requires.links
+    (ap (λ (x : Gateway _ _ _ g.A.Area g.F.Shelf). x.links.items) c.unserved-in-Err.ensures.gateway)
+    c.unserved-in-Err.result.stop c.unserved-in-Err.ensures.stop)
 
 pub returns-in-Err-clause-links : goal.returns-in-Err-clause-links
 returns-in-Err-clause-links g c =
@@ -122,6 +134,8 @@ returns-in-Ok-new g c =
     let ended : HasEnded (tells_lists g.A.Area) start now team =
     subst (λ (b : Book _ g.A.Area). HasEnded (tells_lists g.A.Area) (facts_of b) now team) made.ensures.cell.1 c.end.ensures.ended in
     let last = c.end.result.last in
+    let begins_new = receiver_new g.F.Shelf g.L.Link w.address made.passes.items w.links.items (pops_in hall.pops)
+    w.writer seats c.seat-seats.ensures.seated c.requires.links.new in
     record {
       history = subst (λ (l : List _). WhereTold (tells_lists g.A.Area) (GoesOnUntil (heard_by g.L.Link l) start now last)) (sym c.end.ensures.links)
           (run_goes_on g.F.Shelf g.L.Link (tells_lists g.A.Area) w.address start now w.writer r team s ended c.end.ensures.settled
@@ -131,12 +145,12 @@ returns-in-Ok-new g c =
       book = run_stays g.F.Shelf g.L.Link (tells_lists g.A.Area) w.address start now w.writer r team s ended c.end.ensures.settled;
       links = subst (λ (l : List _). AreFiveOf g.L.Link w.address l) (sym c.end.ensures.links)
           (are_five g.F.Shelf g.L.Link (tells_lists g.A.Area) w.address start w.writer r team s);
-      turns = subst (λ (l : List _). IfTurns c.args.until (λ n. c.end.result.stop ≡ None → turns_by g.L.Link l ≡ n)) (sym c.end.ensures.links)
+      turns = subst (λ (l : List _). IfTurns c.args.until (TakesAtMost g.L.Link l c.end.result.stop))
+          (sym c.end.ensures.links)
           (turns_taken g.F.Shelf g.L.Link (tells_lists g.A.Area) w.address start w.writer r team s c.args.until
           (counted g.L.Link w.address seats.reception r c.args.until c.requires.few
           (subst (λ (k : ℕ). IfTurns c.args.until (λ n. k ≡ n)) (sym c.seat-seats.ensures.reception.1) c.turns_in-turns.ensures)
-          c.seat-seats.ensures.reception.2 (receiver_new g.F.Shelf g.L.Link w.address made.passes.items w.links.items (pops_in hall.pops) w.writer seats
-          c.seat-seats.ensures.seated c.requires.links.new) c.serve-served.ensures.turns)
+          c.seat-seats.ensures.reception.2 begins_new c.serve-served.ensures.turns)
           c.end.result.stop c.end.ensures.stop c.serve-served.ensures.over);
       writer = subst (λ (x : Writer _ g.F.Shelf). KeepsWriter g.F.Shelf (tells_lists g.A.Area) now.firm w.writer x) (sym c.end.ensures.writer.0)
           (run_writer g.F.Shelf g.L.Link (tells_lists g.A.Area) w.address start now w.writer r team s ended c.end.ensures.settled c.filed_records_stay.ensures.items);
@@ -144,5 +158,6 @@ returns-in-Ok-new g c =
       cause = subst (λ (l : List _). HasStopCause g.L.Link (g.C.Clock.faults c.args.clock.now) (g.C.Clock.faults c.serve-served.new.clock) l c.end.result.stop)
           (sym c.end.ensures.links)
           (has_cause g.F.Shelf g.L.Link (tells_lists g.A.Area) w.address start w.writer r team s (g.C.Clock.faults c.args.clock.now)
-          (g.C.Clock.faults c.serve-served.new.clock) c.serve-served.ensures.cause c.end.result.stop c.end.ensures.stop);
+          (g.C.Clock.faults c.serve-served.new.clock) c.serve-served.ensures.cause
+          (λ none. c.serve-served.ensures.calm none ∙ begins_new.faults) c.end.result.stop c.end.ensures.stop);
     }

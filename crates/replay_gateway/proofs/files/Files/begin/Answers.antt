@@ -4,7 +4,7 @@ use Rattle.file_writer.specs.Streams.{Settings}
 use Rattle.file_writer.specs.Writer.{settings_in, shelf_of}
 use Rattle.file_writer.specs.declared.fault.ShelfFault.{ShelfFault}
 use Rattle.gateway_answer.specs.Items.{items_of}
-use Rattle.replay_gateway.specs.Parts.{IsTold}
+use Rattle.replay_gateway.specs.Parts.{IsGivenAll}
 use Rattle.replay_gateway.specs.Written.{FilesStand, HasWritten}
 use Rattle.replay_gateway.specs.declared.files.Wrote.TheVariants.{All}
 use Rattle.replay_gateway.proofs.CountedLemmas.{numbers_fit}
@@ -17,16 +17,16 @@ returns-in-Ok-2 c = λ setup place g m settings f runs site stands.
     let all = items_of g.book.firm in
     let set = c.in-Ok.ensures.settings ∙ stands.writes.holds.settings_are in
     let there = subst (λ (q : Settings). FilesStand q f all c.args.self.now) (sym set) stands in
-    let got = c.in_ok-taken.ensures.told setup place g m runs site c.in-Ok.ensures.recovered.at in
-    let told = subst (λ (r : Result ℕ ShelfFault). IsTold all c.recover.new.self c.tell_all.new.writer r)
+    let got = c.in_ok-taken.ensures.given setup place g m runs site c.in-Ok.ensures.recovered.at in
+    let given = subst (λ (r : Result ℕ ShelfFault). IsGivenAll all c.recover.new.self c.give_all.new.writer r)
     c.in-Ok-2.is got.0 in (
       by_settings (settings_in c.recover.new.self) settings all f All _ set
           (begun_all c.first_files_are_counted.ensures c.calls_seal_files_of_streams.ensures
           c.sealed_files_get_no_call.ensures c.shut_streams_come_to_open_files.ensures all f c.args.self.now
-          c.recover.new.self c.tell_all.new.writer
-          (λ s small. numbers_fit (settings_in c.recover.new.self) s all told.few) there c.requires.taken
-          c.in-Ok.ensures.asked c.in-Ok.ensures.recovered c.tell_all.ensures.settings _ told.goes _ refl
-          (ap (λ (n : ℕ). Some n) told.count) told.few),
+          c.recover.new.self c.give_all.new.writer
+          (λ s small. numbers_fit (settings_in c.recover.new.self) s all given.few) there c.requires.taken
+          c.in-Ok.ensures.asked c.in-Ok.ensures.recovered c.give_all.ensures.settings _ given.goes _ refl
+          (ap (λ (n : ℕ). Some n) given.count) given.few),
       got.1,
     )
 
@@ -42,16 +42,16 @@ returns-in-Err-2 c = λ setup place g m settings f runs site stands.
     let all = items_of g.book.firm in
     let set = c.in-Ok.ensures.settings ∙ stands.writes.holds.settings_are in
     let there = subst (λ (q : Settings). FilesStand q f all c.args.self.now) (sym set) stands in
-    let got = c.in_ok-taken.ensures.told setup place g m runs site c.in-Ok.ensures.recovered.at in
-    let told = subst (λ (r : Result ℕ ShelfFault). IsTold all c.recover.new.self c.tell_all.new.writer r)
+    let got = c.in_ok-taken.ensures.given setup place g m runs site c.in-Ok.ensures.recovered.at in
+    let given = subst (λ (r : Result ℕ ShelfFault). IsGivenAll all c.recover.new.self c.give_all.new.writer r)
     c.in-Err-2.is got.0 in
     IfOk-weaker c.broken-in-Err-2.result _ _ (λ wrote breaks. (
       subst (λ (q : Settings). HasWritten q all f wrote c.broken-in-Err-2.new.self) set
           (broken_anew c.first_files_are_counted.ensures c.calls_seal_files_of_streams.ensures
           c.sealed_files_get_no_call.ensures c.shut_streams_come_to_open_files.ensures all f c.args.self.now
-          c.recover.new.self c.tell_all.new.writer
-          (λ s small. numbers_fit (settings_in c.recover.new.self) s all told.few) there c.requires.taken
-          c.in-Ok.ensures.asked c.in-Ok.ensures.recovered c.tell_all.ensures.settings c.in-Err-2.fault told.goes _
+          c.recover.new.self c.give_all.new.writer
+          (λ s small. numbers_fit (settings_in c.recover.new.self) s all given.few) there c.requires.taken
+          c.in-Ok.ensures.asked c.in-Ok.ensures.recovered c.give_all.ensures.settings c.in-Err-2.fault given.goes _
           c.broken-in-Err-2.new.self wrote refl c.requires.taken breaks),
       got.1,
     )) c.broken-in-Err-2.ensures

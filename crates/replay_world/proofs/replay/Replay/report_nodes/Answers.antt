@@ -5,7 +5,7 @@ use Rattle.node_core.specs.Counting.{counts_of}
 use Rattle.node_core.specs.Value.{NodeValue}
 use Rattle.node_core.specs.declared.counts.NodeCounts.{NodeCounts}
 use Rattle.replay_world.specs.Report.{node_text}
-use Rattle.replay_world.proofs.AllLemmas.{all_nodes, lines_next, node_lines, node_there, small_place}
+use Rattle.replay_world.proofs.AllLemmas.{all_nodes, lines_next, node_lines, node_there}
 use Rattle.replay_world.proofs.RefusalLemmas.{node_at, nodes_count}
 use Rattle.replay_world.proofs.replay.Replay.report_nodes.Goals as goal
 
@@ -21,11 +21,8 @@ loop-index-preserved c = λ v stands.
     slice_get_read c.args.self.now.nodes.items (length c.args.self.now.nodes.items) k c.index.result.now refl within
     c.index.ensures in
     let here = node_at v c.args.self.now stands k c.index.result.now has in
-    let less : k < length v.world.nodes = omega (arith, within, nodes_count v c.args.self.now stands) in
     lines_next (node_lines v) k c.args.out.now c.loop-index.out c.print_node.new.out (c.loop-index.invariant v stands)
     (c.in_ok-print_node.ensures
-    ∙ ap (λ (p : ℕ). c.loop-index.out ++ node_text p c.counts.result)
-    (c.octet.ensures ∙ small_place k (length v.world.nodes) less stands.few_nodes)
     ∙ ap (λ (n : NodeCounts). c.loop-index.out ++ node_text k n)
     (c.counts.ensures ∙ ap (λ (n : NodeValue). counts_of n) here.is)
     ∙ ap (λ (text : List ℕ). c.loop-index.out ++ text) (node_there v k here.log here.has_log))

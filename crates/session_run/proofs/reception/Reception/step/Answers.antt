@@ -1,4 +1,4 @@
-use Rattle.session_run.proofs.ReceptionLemmas.{dispatched_on, stopped_by_clock, turn_taken}
+use Rattle.session_run.proofs.ReceptionLemmas.{clock_told, dispatched_on, turn_taken}
 use Rattle.session_run.proofs.reception.Reception.step.Goals as goal
 
 pub returns-clause-dispatched : goal.returns-clause-dispatched
@@ -20,7 +20,7 @@ returns-clause-turn g c =
 pub returns-clause-cause : goal.returns-clause-cause
 returns-clause-cause g c =
     let old = c.args.self.now in
-    stopped_by_clock g.L.Link c.args.inboxes.now old
+    clock_told g.L.Link c.args.inboxes.now old
     (record { dispatcher = c.step-dispatched.new.self; link = c.step-dispatched.new.link; left = old.left; is_over = old.is_over; stop = c.stop_of-self.result })
     c.step-dispatched.result (g.C.Clock.faults c.args.clock.now) (g.C.Clock.faults c.step-dispatched.new.clock)
-    c.step-dispatched.ensures.tells c.stop_of-self.ensures
+    c.step-dispatched.ensures.tells c.stop_of-self.ensures c.step-dispatched.ensures.stood

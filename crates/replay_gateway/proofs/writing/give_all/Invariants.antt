@@ -7,9 +7,9 @@ use Rattle.replay_gateway.specs.Setup.{Setup}
 use Rattle.replay_gateway.specs.Standing.{SiteStands}
 use Rattle.replay_gateway.specs.Machine.{Machine}
 use Rattle.replay_gateway.specs.Written.{shelf_tells}
-use Rattle.replay_gateway.proofs.writing.tell_all.Given as goal
+use Rattle.replay_gateway.proofs.writing.give_all.Given as goal
 
--- the items of the parts that were told are taken
+-- the items of the parts that were given are taken
 abbrev pub invariant-loop-count : goal.invariant-loop-count
 invariant-loop-count l = record {
   ready : is_broken l.writer ≡ false;

@@ -3,9 +3,9 @@ use Rattle.cdr_shelf.specs.contracts.quiet.QuietShelfShelf.TheImpl.{ghosts as sh
 use Rattle.file_writer.specs.Parts.{HasAdvanced}
 use Rattle.file_writer.specs.Writer.{is_broken, settings_in, taken_of}
 use Rattle.gateway_answer.specs.Items.{is_part, items_of}
-use Rattle.cgf_jobs.proofs.files.tell_all.Given as goal
+use Rattle.cgf_jobs.proofs.files.give_all.Given as goal
 
--- the items of the parts that were told are taken, and their records counted
+-- the items of the parts that were given are taken, and their records counted
 abbrev pub invariant-loop-count : goal.invariant-loop-count
 invariant-loop-count l = record {
   ready : is_broken l.writer ≡ false;
@@ -13,7 +13,7 @@ invariant-loop-count l = record {
   short : l.count ≤ 4096;
   settings : settings_in l.writer ≡ settings_in l.fn.writer;
   same : l.gateway ≡ l.fn.gateway;
-  told : HasAdvanced shelf_tells (λ s. 0) (take l.taken (items_of l.fn.gateway.history)) l.fn.writer l.writer;
+  given : HasAdvanced shelf_tells (λ s. 0) (take l.taken (items_of l.fn.gateway.history)) l.fn.writer l.writer;
   records : l.records ≡ count_by is_part (take l.taken (items_of l.fn.gateway.history));
   some : l.taken ≤ length (items_of l.fn.gateway.history);
   few : l.taken < 2 ^ 31;

@@ -7,7 +7,7 @@ use Rattle.gateway_answer.specs.Items.{is_part, items_of}
 use Rattle.gw_base.specs.declared.item.Item.{Item}
 use Rattle.cgf_jobs.specs.Gateway.{GatewayValue}
 use Rattle.cgf_jobs.proofs.FileLemmas.{counted_on, never_rose}
-use Rattle.cgf_jobs.proofs.files.tell_all.Goals as goal
+use Rattle.cgf_jobs.proofs.files.give_all.Goals as goal
 
 pub loop-count-init : goal.loop-count-init
 loop-count-init c = record {
@@ -16,7 +16,7 @@ loop-count-init c = record {
   short = omega arith;
   settings = refl;
   same = refl;
-  told = c.parts_go_as_one.ensures.none (λ s. 0) c.args.writer.now c.requires.at;
+  given = c.parts_go_as_one.ensures.none (λ s. 0) c.args.writer.now c.requires.at;
   records = refl;
   some = omega arith;
   few = omega arith;
@@ -67,13 +67,13 @@ loop-count-preserved c =
       short = omega (arith, count, long, c.from-taken.ensures);
       settings = c.in-Ok.ensures.settings ∙ c.loop-count.invariant.settings;
       same = c.in_ok-items.ensures.same ∙ c.loop-count.invariant.same;
-      told = subst (λ (k : ℕ). HasAdvanced shelf_tells (λ s. 0) (take (taken + k) all) c.args.writer.now c.advance.new.self)
+      given = subst (λ (k : ℕ). HasAdvanced shelf_tells (λ s. 0) (take (taken + k) all) c.args.writer.now c.advance.new.self)
           (sym count)
           (c.parts_go_as_one.ensures.more (λ s. 0) all taken 4096 c.in-Ok.field-0 c.args.writer.now c.loop-count.writer
-          c.advance.new.self c.loop-count.invariant.settings c.loop-count.invariant.told
+          c.advance.new.self c.loop-count.invariant.settings c.loop-count.invariant.given
           (subst (λ (xs : List Item). Advances shelf_tells (λ s. 0) (take taken all) xs c.loop-count.writer c.advance.new.self
           (Ok c.in-Ok.field-0)) is
-          (c.in-Ok.ensures.moves (λ s. 0) (take taken all) (c.loop-count.invariant.told 0).at)));
+          (c.in-Ok.ensures.moves (λ s. 0) (take taken all) (c.loop-count.invariant.given 0).at)));
       records = omega (
         arith,
         c.loop-count.invariant.records,
@@ -89,15 +89,15 @@ loop-count-preserved c =
 pub unreachable-requires : goal.unreachable-requires
 unreachable-requires c =
     let moved = c.in-Err-Device.ensures.moves (λ s. 0) (take c.loop-count.taken (items_of c.args.gateway.now.history))
-    (c.loop-count.invariant.told 0).at in
+    (c.loop-count.invariant.given 0).at in
     never_rose (moved.makes.faults.failed (ap ending_at c.in-Err-Device.field-0-is))
 
-pub returns-clause-told : goal.returns-clause-told
-returns-clause-told c =
+pub returns-clause-given : goal.returns-clause-given
+returns-clause-given c =
     let all : List Item = items_of c.args.gateway.now.history in
     subst (λ (xs : List Item). HasAdvanced shelf_tells (λ s. 0) xs c.args.writer.now c.loop-count.writer)
     (take_all c.loop-count.taken all (omega (arith, c.loop-count.invariant.all (omega (arith, c.loop-count.invariant.short, c.loop-count-test.false)))))
-    c.loop-count.invariant.told
+    c.loop-count.invariant.given
 
 pub returns-clause-records : goal.returns-clause-records
 returns-clause-records c =

@@ -4,7 +4,7 @@ use Rattle.file_writer.specs.Parts.{HasAdvanced, part_of}
 use Rattle.gateway_answer.specs.Items.{items_of}
 use Rattle.gw_base.specs.declared.item.Item.{Item}
 use Rattle.replay_gateway.specs.Written.{shelf_tells}
-use Rattle.replay_gateway.proofs.writing.tell_all.Goals as goal
+use Rattle.replay_gateway.proofs.writing.give_all.Goals as goal
 
 pub loop-count-init : goal.loop-count-init
 loop-count-init c = record {
@@ -55,8 +55,8 @@ loop-count-preserved c =
           );
     }
 
-pub returns-in-Err-clause-told : goal.returns-in-Err-clause-told
-returns-in-Err-clause-told c = λ setup place g m runs stands at.
+pub returns-in-Err-clause-given : goal.returns-in-Err-clause-given
+returns-in-Err-clause-given c = λ setup place g m runs stands at.
     let taken : ℕ = c.loop-count.taken in
     let all : List Item = items_of g.book.firm in
     let i = c.loop-count.invariant.goes setup place g m runs stands at in
@@ -74,8 +74,8 @@ returns-in-Err-clause-told c = λ setup place g m runs stands at.
       got.1,
     )
 
-pub returns-clause-told : goal.returns-clause-told
-returns-clause-told c = λ setup place g m runs stands at.
+pub returns-clause-given : goal.returns-clause-given
+returns-clause-given c = λ setup place g m runs stands at.
     let all : List Item = items_of g.book.firm in
     let i = c.loop-count.invariant.goes setup place g m runs stands at in
     let last = i.3 (omega (arith, c.loop-count.invariant.short, c.loop-count-test.false)) in (

@@ -1,4 +1,0 @@
-use Rattle.cgf_jobs.proofs.printing.+print_digits.Given as goal
-
-abbrev pub decreases-print_digits : goal.decreases-print_digits
-decreases-print_digits l = l.count
