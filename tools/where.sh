@@ -169,6 +169,8 @@ numbered() {
     show "constants that are $1" "$constants"
     show "definitions that are $1" "$names"
     show "fields that are $1" "$fields"
+    [ -z "$fields" ] || show "proved anew where a field of this crate changes" "$(cut -d / -f 2 <<<"$fields" | sort -u |
+        while read -r crate; do echo "$crate: $(above "$crate" | paste -sd ' ')"; done)"
     show documents "$(grep -rnwE --include='*.md' --include='cgf.1' -- \
         "$(rev <<<"$1" | sed -E 's/([0-9]{3})([0-9])/\1?,\2/g' | rev)" \
         README.md CONTRIBUTING.md docs | cut -c 1-110)"
@@ -227,7 +229,7 @@ reaching() {
             name = line; sub(/( staticlib)?:.*/, "", name); sub(/^[^:]*:/, "", line)
             n = split(line, beneath, " ")
             hit = name in of
-            for (i = 1; i <= n; i++) if (of[beneath[i]] == "pub") hit = 1
+            for (i = 1; i <= n; i++) if (beneath[i] in of && of[beneath[i]] == "pub") hit = 1
             if (hit) printf " %s ", name
         }' - crates.txt
 }

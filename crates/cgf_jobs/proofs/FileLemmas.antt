@@ -15,7 +15,7 @@ use Rattle.file_writer.specs.Streams.{Settings, closed_of, stream_count, stream_
 use Rattle.file_writer.specs.Writer.{Holds, sealed_in, settings_in, shelf_of}
 use Rattle.file_writer.specs.declared.writer.Writer.{Writer}
 use Rattle.gw_base.specs.declared.item.Item.{Item}
-use Rattle.replay_gateway.specs.Tally.{is_part}
+use Rattle.gateway_answer.specs.Items.{is_part}
 
 -- a count that is 0 didn't rise
 pub never_rose : Rose 0 0 → ⊥

@@ -11,7 +11,7 @@ use Rattle.gateway_answer.specs.Answered.{no_caller}
 use Rattle.gateway_book.specs.Book.{Stays, area_of, size_of, value_of}
 use Rattle.gateway_book.specs.Calls.{counts_of}
 use Rattle.gateway_answer.specs.Filed.{filed}
-use Rattle.gateway_answer.specs.Items.{items_of}
+use Rattle.gateway_answer.specs.Items.{is_part, items_of, part_count}
 use Rattle.gateway_book.specs.Read.{IsUnchanged}
 use Rattle.gateway_book.specs.Turning.{facts_of, tells_lists}
 use Rattle.gateway_answer.specs.Value.{BookValue}
@@ -25,7 +25,6 @@ use Rattle.node_session.specs.Writing.{KeepsFiles}
 use Rattle.node_session.specs.declared.settling.SettleFault.{SettleFault}
 use Rattle.node_session.specs.declared.settling.SettleFault.TheVariants as settle
 use Rattle.replay_gateway.specs.GatewayReport.{counts_text}
-use Rattle.replay_gateway.specs.Tally.{is_part, part_count}
 use Rattle.cgf_jobs.specs.ServeSteps.{FailsBy, HasLine, HasNoLine, HasSettledAll}
 use Rattle.cgf_jobs.specs.Served.{moment_of, served_line}
 use Rattle.cgf_jobs.specs.declared.settling.Service.{Service}

@@ -15,9 +15,10 @@ use crate::gateway::{GATEWAY, Gateway};
 use cdr_shelf::{QuietShelf, Shelf};
 use file_writer::laws::parts_go_as_one;
 use file_writer::{ShelfFault, Writer};
+use gateway_answer::laws::a_history_filed_its_parts;
+use gateway_book::record_count;
 use gw_base::NoMemory;
-use replay_gateway::laws::a_history_filed_its_parts;
-use replay_gateway::{Settings, record_count};
+use replay_gateway::Settings;
 use route_filter::Rules;
 use std::alloc::Global;
 

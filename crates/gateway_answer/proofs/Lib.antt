@@ -1,3 +1,4 @@
+pub mod CountLemmas
 pub mod FewItems
 pub mod FiledCounts
 pub mod FilingLemmas

@@ -10,7 +10,7 @@ use Rattle.gw_base.specs.Lists.{once}
 use Rattle.gw_base.specs.Nearest.{nearest}
 use Rattle.gw_base.specs.Observed.{Observed}
 use Rattle.transfer_cmd.specs.Lists.{is_held}
-use Rattle.gateway_answer.specs.Answer.{held_ones}
+use Rattle.gateway_answer.specs.Asked.{held_ones}
 use Rattle.gateway_answer.specs.Steps.{with_held, with_number}
 
 pub step_numbers : (top : Option ℕ) (numbers : List ℕ) (place number : ℕ) (front new : List ℕ) → place < length numbers →

@@ -14,7 +14,8 @@ use Rattle.transfer_cmd.specs.Lists.{is_held, verdict_cause, verdict_of}
 use Rattle.transfer_cmd.specs.Table.{answer_cause, state_given}
 use Rattle.transfer_cmd.specs.declared.decision.Ask.{Ask}
 use Rattle.gateway_index.specs.Windows.{AgreeWhereMeant, if_held, narrowed}
-use Rattle.gateway_answer.specs.Answer.{answer_within, asked_by, changes, listed, may_record, node_of, recorded_as, sending, sending_again, sent, tabled}
+use Rattle.gateway_answer.specs.Answer.{answer_within, asked_by, listed, may_record, node_of, sent, tabled}
+use Rattle.gateway_answer.specs.Asked.{changes, recorded_as, sending, sending_again}
 use Rattle.gateway_answer.specs.FitLaws.{nearest_in_window}
 use Rattle.gateway_answer.specs.Preparing.{PreparedValue, Request}
 

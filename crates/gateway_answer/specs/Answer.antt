@@ -1,14 +1,13 @@
 -- What a gateway answers to a datagram, by what is observed of its history (3GPP TS 32.295, clauses 5.1.3 and 6.2), and
 -- the act that the answer records. Which cause is answered, and the limits, are this project's profile.
-use Rattle.std.specs.Prelude.{ℕ, Bool, true, false, ◌==◌, ◌&&◌, if◌then◌else◌, List, [], ◌∷◌, map, filter, Option, Some, None}
+use Rattle.std.specs.Prelude.{ℕ, Bool, true, false, ◌&&◌, if◌then◌else◌, List, [], ◌∷◌, map, Option, Some, None}
 use Rattle.std.specs.Option.{option_map}
 use Rattle.gtpp_message.specs.Message.{MessageValue, TransferValue, Send, Possible, Cancel, Release, TransferResponse, VersionNotSupported}
-use Rattle.gtpp_message.specs.Packet.{PacketValue, Empty, Full, packet_octets}
+use Rattle.gtpp_message.specs.Packet.{packet_octets}
 use Rattle.gtpp_message.specs.PathMessages.{path_message, path_number}
 use Rattle.gtpp_message.specs.Writing.{written}
 use Rattle.gtpp_message.specs.declared.reading.Why.{Why}
 use Rattle.gtpp_message.specs.declared.reading.Why.TheVariants.{Device, NoRoom, Stray}
-use Rattle.gw_base.specs.Lists.{once}
 use Rattle.gw_base.specs.Nearest.{nearest}
 use Rattle.gw_base.specs.Observed.{Observed}
 use Rattle.gw_base.specs.declared.address.Addr.{Addr}
@@ -16,17 +15,14 @@ use Rattle.gw_base.specs.declared.address.NodeId.{NodeId}
 use Rattle.gw_base.specs.declared.cause.TheConstants.{NO_RESOURCES, SYSTEM_FAILURE}
 use Rattle.gw_base.specs.declared.history.HistoryAct.{HistoryAct}
 use Rattle.gw_base.specs.declared.history.HistoryAct.TheVariants as act
-use Rattle.gw_base.specs.declared.key_state.KeyState.{KeyState}
 use Rattle.path_mgmt.specs.GatewayPath.{heard_at_gateway}
 use Rattle.path_mgmt.specs.declared.event.PathAnswer.{PathAnswer}
 use Rattle.path_mgmt.specs.declared.event.PathEvent.{PathEvent}
-use Rattle.transfer_cmd.specs.Lists.{is_held, verdict_cause, verdict_of}
+use Rattle.transfer_cmd.specs.Lists.{verdict_cause, verdict_of}
 use Rattle.transfer_cmd.specs.Table.{answer_cause, state_given}
 use Rattle.transfer_cmd.specs.declared.decision.Ask.{Ask}
-use Rattle.transfer_cmd.specs.declared.decision.Ask.TheVariants as ask
-use Rattle.transfer_cmd.specs.declared.verdict.Verdict.{Verdict}
-use Rattle.transfer_cmd.specs.declared.verdict.Verdict.TheVariants.{Wrong, Before, Change}
 use Rattle.gateway_index.specs.Limits.{within_limits}
+use Rattle.gateway_answer.specs.Asked.{changes, held_ones, recorded_as, sending, sending_again}
 use Rattle.gateway_answer.specs.Preparing.{PreparedValue, Drop, OtherVersion, Refused, Path, Request}
 
 -- what is answered: nothing, or a message under a sequence number, and the act that is recorded with it
@@ -59,25 +55,6 @@ tabled may number cause (Some act) = recording may number cause act
 
 -- Requests that send a packet.
 
--- what a request that sends this packet asks
-abbrev pub sending : PacketValue → Ask
-sending Empty = ask.Empty
-sending (Full form value) = ask.Send
-
--- the same where the packet is possibly duplicated
-abbrev pub sending_again : PacketValue → Ask
-sending_again Empty = ask.Empty
-sending_again (Full form value) = ask.Possible
-
--- what a request that sends a packet is recorded as, where it gives its number a state
-abbrev pub act_of : Ask → NodeId → ℕ → List ℕ → HistoryAct
-act_of ask.Send node number packet = act.File node number packet
-act_of ask.Possible node number packet = act.Hold node number packet
-act_of ask.Empty node number packet = act.Seal node number
-
-abbrev pub recorded_as : Ask → NodeId → ℕ → List ℕ → Option KeyState → Option HistoryAct
-recorded_as asked node number packet given = option_map (λ state. act_of asked node number packet) given
-
 -- the answer by the state of the number that the request's sequence number means
 abbrev pub sent : Observed → (HistoryAct → Bool) → NodeId → ℕ → Ask → List ℕ → Given
 sent o may node number asked packet =
@@ -85,20 +62,6 @@ sent o may node number asked packet =
     tabled may number (answer_cause asked (o.state meant)) (recorded_as asked node meant packet (state_given asked (o.state meant)))
 
 -- Requests that name a list of numbers.
-
--- the held ones of these numbers, each once, in the order in which they are first named
-abbrev pub held_ones : Observed → List ℕ → List ℕ
-held_ones o numbers = once (λ x y. x == y) (filter (λ x. is_held (o.state x)) numbers)
-
-abbrev pub changing : Bool → NodeId → List ℕ → HistoryAct
-changing true node numbers = act.Release node numbers
-changing false node numbers = act.Cancel node numbers
-
--- what a list is recorded as by its verdict
-abbrev pub changes : Verdict → Bool → NodeId → List ℕ → Option HistoryAct
-changes Wrong release node numbers = None
-changes Before release node numbers = None
-changes Change release node numbers = Some (changing release node numbers)
 
 -- the answer to a list of the numbers that were meant, to release or else to cancel their packets
 abbrev pub judged : Observed → (HistoryAct → Bool) → NodeId → ℕ → Bool → List ℕ → Given

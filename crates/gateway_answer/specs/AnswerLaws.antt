@@ -22,7 +22,8 @@ use Rattle.transfer_cmd.specs.declared.decision.Ask.{Ask}
 use Rattle.transfer_cmd.specs.declared.decision.Ask.TheVariants as ask
 use Rattle.transfer_cmd.specs.declared.verdict.Verdict.{Verdict}
 use Rattle.transfer_cmd.specs.declared.verdict.Verdict.TheVariants.{Wrong, Before, Change}
-use Rattle.gateway_answer.specs.Answer.{Given, Drops, Replies, answer_by, asked_by, changes, held_ones, listed, node_of, opening_epoch, path_given, recorded_as, recording, replying, responding, tabled}
+use Rattle.gateway_answer.specs.Answer.{Given, Drops, Replies, answer_by, asked_by, listed, node_of, opening_epoch, path_given, recording, replying, responding, tabled}
+use Rattle.gateway_answer.specs.Asked.{changes, held_ones, recorded_as}
 use Rattle.gateway_answer.specs.Preparing.{PreparedValue, Drop, OtherVersion, Refused, Path, Request}
 use Rattle.gateway_answer.specs.Recording.{Accepts, IfRecords}
 

@@ -22,7 +22,8 @@ use Rattle.transfer_cmd.specs.declared.decision.Ask.{Ask}
 use Rattle.transfer_cmd.specs.declared.decision.Ask.TheVariants as ask
 use Rattle.transfer_cmd.specs.declared.verdict.Verdict.{Verdict}
 use Rattle.transfer_cmd.specs.declared.verdict.Verdict.TheVariants.{Wrong, Before, Change}
-use Rattle.gateway_answer.specs.Answer.{Given, Drops, act_of, asked_by, changes, held_ones, listed, node_of, opening_epoch, path_given, recorded_as, recording, replying, responding, sending, sending_again, sent, tabled}
+use Rattle.gateway_answer.specs.Answer.{Given, Drops, asked_by, listed, node_of, opening_epoch, path_given, recording, replying, responding, sent, tabled}
+use Rattle.gateway_answer.specs.Asked.{act_of, changes, held_ones, recorded_as, sending, sending_again}
 use Rattle.gateway_answer.specs.Marks.{is_mark}
 
 -- P holds of each kind of answer: a response by a cause that isn't system failure, where nothing is recorded or what is

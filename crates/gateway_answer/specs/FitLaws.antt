@@ -32,8 +32,9 @@ use Rattle.transfer_cmd.specs.declared.decision.Ask.{Ask}
 use Rattle.transfer_cmd.specs.declared.decision.Ask.TheVariants as ask
 use Rattle.transfer_cmd.specs.declared.verdict.Verdict.{Verdict}
 use Rattle.transfer_cmd.specs.declared.verdict.Verdict.TheVariants.{Wrong, Before, Change}
-use Rattle.gateway_answer.specs.Answer.{Given, Drops, Replies, answer_by, answer_within, asked_by, changes, held_ones, listed, may_record, node_of, opening_epoch, path_given, recorded_as, recording, replying, responding, sent, tabled}
+use Rattle.gateway_answer.specs.Answer.{Given, Drops, Replies, answer_by, answer_within, asked_by, listed, may_record, node_of, opening_epoch, path_given, recording, replying, responding, sent, tabled}
 use Rattle.gateway_answer.specs.Answered.{answer_to, entry_by, no_caller, room_for}
+use Rattle.gateway_answer.specs.Asked.{changes, held_ones, recorded_as}
 use Rattle.gateway_answer.specs.Fit.{IsFit, is_act_fit, is_act_lawful, is_first, is_fresh, is_in_window, is_new, is_packet_fit, latest_moment}
 use Rattle.gateway_index.specs.Limits.{has_place, is_in_range, may_hold, within_limits}
 use Rattle.gateway_answer.specs.ListFitLaws.{change_is_held, held_ones_fit}

@@ -1,13 +1,13 @@
 -- What public clauses cite.
 pub mod Answer
 pub mod Answered
+pub mod Asked
 pub mod Cases
 pub mod Decisions
 pub mod Filed
 pub mod Fit
 pub mod FitHistory
 pub mod Items
-pub mod Limits
 pub mod Marks
 pub mod Once
 pub mod Plain

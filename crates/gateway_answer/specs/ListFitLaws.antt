@@ -8,7 +8,7 @@ use Rattle.gw_base.specs.declared.key_state.KeyState.{KeyState}
 use Rattle.transfer_cmd.specs.Lists.{is_held, is_wrong, verdict_of}
 use Rattle.transfer_cmd.specs.declared.verdict.Verdict.{Verdict}
 use Rattle.transfer_cmd.specs.declared.verdict.Verdict.TheVariants.{Wrong, Before, Change}
-use Rattle.gateway_answer.specs.Answer.{held_ones}
+use Rattle.gateway_answer.specs.Asked.{held_ones}
 use Rattle.gateway_answer.specs.Fit.{are_distinct, is_list_fit}
 
 pub all_filtered : (p : ℕ → Bool) (xs : List ℕ) → list_all p (filter p xs) ≡ true

@@ -18,8 +18,9 @@ use Rattle.transfer_cmd.specs.declared.decision.Ask.{Ask}
 use Rattle.transfer_cmd.specs.declared.decision.Ask.TheVariants as ask
 use Rattle.transfer_cmd.specs.declared.verdict.Verdict.{Verdict}
 use Rattle.transfer_cmd.specs.declared.verdict.Verdict.TheVariants.{Wrong, Before, Change}
-use Rattle.gateway_answer.specs.Answer.{Given, answer_within, asked_by, changes, held_ones, listed, may_record, node_of, recorded_as, recording, responding, sending, sending_again, tabled}
+use Rattle.gateway_answer.specs.Answer.{Given, answer_within, asked_by, listed, may_record, node_of, recording, responding, tabled}
 use Rattle.gateway_answer.specs.Answered.{act_given}
+use Rattle.gateway_answer.specs.Asked.{changes, held_ones, recorded_as, sending, sending_again}
 use Rattle.gateway_index.specs.Limits.{has_place, is_in_range, may_hold, within_limits}
 use Rattle.gateway_answer.specs.Preparing.{Request}
 use Rattle.gateway_answer.specs.Recording.{HasRoomFor, IsWithinLimits, is_without_resources}

@@ -16,8 +16,9 @@ use Rattle.path_mgmt.specs.declared.event.PathEvent.TheVariants.{EchoAsked, Echo
 use Rattle.path_mgmt.specs.declared.event.PathEvent.{PathEvent}
 use Rattle.transfer_cmd.specs.Lists.{verdict_cause, verdict_of}
 use Rattle.transfer_cmd.specs.Table.{answer_cause, state_given}
-use Rattle.gateway_answer.specs.Answer.{Given, Drops, answer_within, asked_by, changes, held_ones, may_record, node_of, opening_epoch, path_given, recorded_as, recording, replying, responding, sending, sending_again, tabled}
+use Rattle.gateway_answer.specs.Answer.{Given, Drops, answer_within, asked_by, may_record, node_of, opening_epoch, path_given, recording, replying, responding, tabled}
 use Rattle.gateway_answer.specs.Answered.{act_given}
+use Rattle.gateway_answer.specs.Asked.{changes, held_ones, recorded_as, sending, sending_again}
 use Rattle.gateway_index.specs.Limits.{has_place, within_limits}
 use Rattle.gateway_answer.specs.Preparing.{PreparedValue, Drop, OtherVersion, Refused, Path, Request}
 

@@ -21,8 +21,9 @@ use Rattle.gw_base.specs.declared.history.HistoryEntry.{HistoryEntry}
 use Rattle.transfer_cmd.specs.Lists.{is_held, verdict_cause, verdict_of}
 use Rattle.transfer_cmd.specs.declared.verdict.Verdict.{Verdict}
 use Rattle.transfer_cmd.specs.declared.verdict.Verdict.TheVariants.{Wrong, Before, Change}
-use Rattle.gateway_answer.specs.Answer.{changes, changing, held_ones, listed, may_record, node_of, responding, tabled}
+use Rattle.gateway_answer.specs.Answer.{listed, may_record, node_of, responding, tabled}
 use Rattle.gateway_answer.specs.Answered.{answer_to, no_caller, room_for}
+use Rattle.gateway_answer.specs.Asked.{changes, changing, held_ones}
 use Rattle.gateway_answer.specs.Fit.{are_distinct, is_list_fit}
 use Rattle.gateway_answer.specs.ListFitLaws.{change_is_held, held_ones_fit}
 use Rattle.gateway_answer.specs.Preparing.{Request}

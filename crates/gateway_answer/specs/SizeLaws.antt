@@ -27,7 +27,8 @@ use Rattle.transfer_cmd.specs.declared.decision.Ask.{Ask}
 use Rattle.transfer_cmd.specs.declared.decision.Ask.TheVariants as ask
 use Rattle.transfer_cmd.specs.declared.verdict.Verdict.{Verdict}
 use Rattle.transfer_cmd.specs.declared.verdict.Verdict.TheVariants.{Wrong, Before, Change}
-use Rattle.gateway_answer.specs.Answer.{Drops, act_of, answer_by, asked_by, changes, held_ones, listed, node_of, opening_epoch, path_given, recorded_as, recording, replying, responding, sending, sending_again, sent, tabled}
+use Rattle.gateway_answer.specs.Answer.{Drops, answer_by, asked_by, listed, node_of, opening_epoch, path_given, recording, replying, responding, sent, tabled}
+use Rattle.gateway_answer.specs.Asked.{act_of, changes, held_ones, recorded_as, sending, sending_again}
 use Rattle.gateway_answer.specs.Preparing.{IsShort, PreparedValue, Drop, OtherVersion, Refused, Path, Request}
 use Rattle.gateway_answer.specs.Recording.{IfRecords}
 

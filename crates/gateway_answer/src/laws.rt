@@ -1,6 +1,6 @@
 //! Laws of what a gateway answers, records and files. Each stands on a function that does nothing.
 
-ghost use Rattle.std.specs.Prelude.{◌≡◌, ◌≢◌, ◌≤◌, [], ◌∷◌, ◌++◌, ℕ, Bool, true, false, List, Option, None, length};
+ghost use Rattle.std.specs.Prelude.{◌≡◌, ◌≢◌, ◌≤◌, [], ◌∷◌, ◌++◌, ℕ, Bool, true, false, List, Option, None, count_by, length};
 ghost use Rattle.entry_codec.specs.Room.{IsWithin, capacity_of, costs_of};
 ghost use Rattle.gtpp_message.specs.Message.{Cancel, Release, TransferResponse, TransferValue};
 ghost use Rattle.gw_base.specs.History.{is_close_due, last_moment};
@@ -20,7 +20,7 @@ ghost use Rattle.gateway_answer.specs.Answered.{answer_to, entry_by, room_for};
 ghost use Rattle.gateway_answer.specs.Filed.{along, filed, filed_by};
 ghost use Rattle.gateway_answer.specs.Fit.{IsFit, is_act_fit, latest_moment};
 ghost use Rattle.gateway_answer.specs.FitHistory.{AllFit, StandsFitFor};
-ghost use Rattle.gateway_answer.specs.Items.{items_by, items_of};
+ghost use Rattle.gateway_answer.specs.Items.{is_part, items_by, items_of};
 ghost use Rattle.gateway_index.specs.Limits.{most_nodes};
 ghost use Rattle.gateway_answer.specs.Once.{times_filed};
 ghost use Rattle.gateway_answer.specs.Preparing.{IsWhole, PreparedValue, Request, prepared_of};
@@ -116,6 +116,11 @@ pub fn each_number_is_sealed_once()
 pub fn filed_records_stay()
     ensures records { (h g : List HistoryEntry) → filed (h ++ g) ≡ filed h ++ along filed_by h g }
     ensures items { (h g : List HistoryEntry) → items_of (h ++ g) ≡ items_of h ++ along items_by h g }
+{}
+
+/// Of all items of a history as many are records as it filed.
+pub fn a_history_filed_its_parts()
+    ensures { (h : List HistoryEntry) → count_by is_part (items_of h) ≡ length (filed h) }
 {}
 
 /// A history makes no more items than its entries cost of a journal. So one that stands in an area makes no more than

@@ -11,6 +11,7 @@ ghost use Rattle.gw_base.specs.View.{stays_held};
 use crate::costs::{cost_of, costs_of};
 use crate::observe::Observe;
 use entry_codec::{capacity, promised};
+use gateway_index::{MOST_COPIES, MOST_NODES};
 use gw_base::{Absolute, Act, HistoryEntry, KeyState, NoMemory, NodeId, Opening, PacketKey, scan};
 use scan::HeldKey;
 use std::alloc::Global;
@@ -93,12 +94,6 @@ impl Observe for Listed<'_> {
         has_room(costs_of(self.history), cost_of(*act), promised, self.size)
     }
 }
-
-/// The most nodes that a gateway knows.
-const MOST_NODES: usize = 64;
-
-/// The most copies that a gateway holds.
-const MOST_COPIES: usize = 65_536;
 
 fn is_known(known: &[NodeId], node: NodeId) -> bool
     ensures { result ≡ is_known known.now node }

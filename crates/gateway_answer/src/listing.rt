@@ -2,7 +2,8 @@
 ghost use Rattle.std.specs.Prelude.{◌≡◌, ◌<◌, ◌≤◌, ◌+◌, ◌^◌, ℕ, [], ◌∷◌, ◌++◌, length, map, Option, IfOk, IfSome};
 ghost use Rattle.gw_base.specs.Entry.{act_view};
 ghost use Rattle.gw_base.specs.Nearest.{nearest};
-ghost use Rattle.gateway_answer.specs.Answer.{changing, decided, held_ones, listed, may_record};
+ghost use Rattle.gateway_answer.specs.Answer.{decided, listed, may_record};
+ghost use Rattle.gateway_answer.specs.Asked.{changing, held_ones};
 ghost use Rattle.gateway_answer.specs.Decisions.{decision_view};
 ghost use Rattle.gateway_answer.specs.Steps.{with_held};
 ghost use Rattle.gateway_answer.specs.WireMarks.{AreMarked};

@@ -6,7 +6,7 @@ use Rattle.gw_base.specs.declared.history.HistoryEntry.{HistoryEntry}
 use Rattle.gateway_answer.specs.FitHistory.{AllFit}
 use Rattle.gateway_answer.specs.FitHistoryLaws.{fit_front, fit_is_within, fit_knows_few}
 use Rattle.gateway_answer.specs.Items.{items_of}
-use Rattle.gateway_answer.specs.Limits.{most_nodes}
+use Rattle.gateway_index.specs.Limits.{most_nodes}
 
 -- its items are few
 pub front_few : ((h : List HistoryEntry) → length (items_of h) ≤ costs_of h) → (size : ℕ) (h more : List HistoryEntry) → AllFit size (h ++ more) → length (items_of h) ≤ capacity_of size

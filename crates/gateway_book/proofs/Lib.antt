@@ -15,6 +15,7 @@ pub mod MarkingLemmas
 pub mod OpeningPlans
 pub mod Openings
 pub mod Ours
+pub mod PieceLemmas
 pub mod ReadLemmas
 pub mod StandingLemmas
 pub mod TakingLemmas

@@ -53,10 +53,12 @@ module _ {A : Type 0} {tells : Ghosts A} (new : Book A tells) where
   abbrev pub receipt_of : List ℕ → Outcome
   receipt_of octets = Answer (record { reply = octets; cause = cause_in octets; front = length_of new.trail; faults = new.cuts })
 
-  -- a receipt tells the length of the history, and how many commits and openings again have failed
+  -- a receipt tells the length of the history, how many commits and openings again have failed, and the cause in its
+  -- reply
   abbrev pub IsCounted : Outcome → Type 0
   IsCounted (Drop why) = ⊤
-  IsCounted (Answer receipt) = (receipt.front ≡ length_of new.trail) × (receipt.faults ≡ new.cuts)
+  IsCounted (Answer receipt) =
+      (receipt.front ≡ length_of new.trail) × (receipt.faults ≡ new.cuts) × (receipt.cause ≡ cause_in receipt.reply)
 
   -- What the sender of a datagram is told: what the definition decides where the book goes on, and where it is broken
   -- then the answer of a failed device, which is told nowhere else.

@@ -1,7 +1,6 @@
 //! How a book's history is made firm, what has become of its answers, and how it ends.
-ghost use Rattle.std.specs.Prelude.{◌≡◌, ◌≤◌, ◌++◌, length, IsTrue, OnOk, is_err};
+ghost use Rattle.std.specs.Prelude.{◌≡◌, ◌≤◌, ◌++◌, IsTrue, OnOk, is_err};
 ghost use Rattle.area_disk.specs.declared.plan.Outcome3.{Outcome3};
-ghost use Rattle.entry_codec.specs.Content.{AreEntries, spelled};
 ghost use Rattle.gate_journal.specs.Format.{fewest_octets, most_octets};
 ghost use Rattle.gate_journal.specs.Moments.{Told};
 ghost use Rattle.cgf_journal.specs.Format.{StandsFor};
@@ -15,7 +14,7 @@ ghost use Rattle.gateway_answer.specs.Value.{after_commit};
 use crate::book::Book;
 use crate::{Broken, Counts, Settled};
 use area_disk::Area;
-use cgf_journal::{Device, Waiting};
+use cgf_journal::Device;
 use gateway_index::laws::an_index_tells_its_history;
 use gw_base::scan::held_keys_are_as_many_as_held_copies;
 
@@ -40,7 +39,7 @@ impl<A: Area> Book<A> {
         ensures cause { HasCause self.old self.new }
         ensures planned { AsPlanned self.old self.new (asked_to_commit (value_of self.old)) }
         // Over every area, also one that tells nothing.
-        ensures told { IsCommitTold self.new result }
+        ensures everywhere { IsCommitTold self.new result }
     {
         match self.firm_up() {
             Ok(()) => {
@@ -71,16 +70,6 @@ impl<A: Area> Book<A> {
             return Ok(());
         }
         self.make_firm()
-    }
-
-    /// The entries behind the firm ones as octets, one after the other, and how many octets spell the firm ones. Those
-    /// of a broken book are torn. It takes no memory.
-    pub fn waiting(&self) -> Waiting<'_>
-        ensures entries { AreEntries result.octets.now (value_of self.now).rest }
-        ensures counted { length result.octets.now ≡ waiting_octets self.now.trail }
-        ensures at { Told A.Area → result.at ≡ length (spelled (value_of self.now).firm) }
-    {
-        self.trail.waiting()
     }
 
     /// What has become of an answer with this front, given when so many commits and openings again had failed: both

@@ -31,12 +31,13 @@ mod opening;
 mod outcome;
 mod reading;
 mod readying;
+mod records;
 mod seen;
 mod taking;
 
 pub use book::Book;
-pub use cgf_journal::Waiting;
 pub use gateway_answer::{Key, Prepared, failure, prepare};
 pub use outcome::{
     BookFault, Broken, Counts, ItemsFault, Marked, Outcome, Receipt, Settled, Setup,
 };
+pub use records::{count_records, record_count};

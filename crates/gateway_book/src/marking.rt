@@ -45,7 +45,7 @@ impl<A: Area> Book<A> {
         ensures stays { Stays self.old self.new }
         ensures cause { HasCause self.old self.new }
         // Over every area, also one that tells nothing.
-        ensures told { IsMarkTold self.new result }
+        ensures everywhere { IsMarkTold self.new result }
         ensures planned { AsPlanned self.old self.new (asked_to_ready (value_of self.old)) }
     {
         match self.ready() {
@@ -67,7 +67,7 @@ impl<A: Area> Book<A> {
         ensures stays { Stays self.old self.new }
         ensures cause { HasCause self.old self.new }
         // Over every area, also one that tells nothing.
-        ensures told { IsMarkTold self.new result × (result ≢ Marked.NoRoom) }
+        ensures everywhere { IsMarkTold self.new result × (result ≢ Marked.NoRoom) }
         ensures planned { AsPlanned self.old self.new (asked_to_ready (value_of self.old)) }
     {
         match self.ready() {

@@ -23,12 +23,6 @@ use gateway_index::laws::an_index_tells_its_history;
 use gw_base::{Act, Caller, Entry};
 use std::alloc::Global;
 
-/// The caller of an entry that no session made.
-const NO_CALLER: Caller = Caller {
-    session: 0,
-    serial: 0,
-};
-
 impl<A: Area> Book<A> {
     /// Opens a gateway's history on an area, for its address, and adds a Start where there is room for one, which isn't
     /// firm yet. It makes one sync and reads; an area whose making began, or whose octet 0 is 0, is made anew with four
@@ -116,7 +110,7 @@ impl<A: Area> Book<A> {
         an_index_tells_its_history();
         let entry = Entry {
             moment: self.index.totals(false).moment,
-            caller: NO_CALLER,
+            caller: Caller::NONE,
             act: Act::Start,
         };
         if !self.trail.room(&entry) {

@@ -59,7 +59,7 @@ impl<A: Area> Book<A> {
         ensures cause { HasCause self.old self.new }
         ensures planned { AsPlanned self.old self.new (asked_to_ready (value_of self.old)) }
         // Over every area, also one that tells nothing.
-        ensures told { IsTold self.new from (prepared_of request.now) result }
+        ensures everywhere { IsTold self.new from (prepared_of request.now) result }
         // Where the device doesn't fail, no request is refused for want of resources that has room, and no release or
         // cancel is.
         ensures storage { Told A.Area → is_closed self.new.trail ≡ false →
@@ -137,7 +137,7 @@ impl<A: Area> Book<A> {
         ensures left { Told A.Area → IsLeft self.old self.new
             (left_by (value_of self.old) now who (decided
             (answer_to (history_of (value_of self.old)) from (case_value case.now) (size_of self.old)))) result }
-        ensures told { IsAnswered from (case_value case.now) result × IsCounted self.new result }
+        ensures everywhere { IsAnswered from (case_value case.now) result × IsCounted self.new result }
         ensures adds { OnlyAdds self.old self.new }
         ensures stays { Stays self.old self.new }
     {

@@ -9,7 +9,7 @@ use Rattle.gw_base.specs.declared.history.HistoryAct.TheVariants.{Start, Path, F
 use Rattle.gw_base.specs.declared.key_state.KeyState.{KeyState}
 use Rattle.gw_base.specs.declared.key_state.KeyState.TheVariants.{Fresh}
 use Rattle.transfer_cmd.specs.Lists.{is_held}
-use Rattle.gateway_index.specs.Limits.{has_place, is_in_range, may_hold}
+use Rattle.gateway_index.specs.Limits.{half, has_place, is_in_range, may_hold}
 
 abbrev pub is_fresh : KeyState → Bool
 is_fresh Fresh = true
@@ -17,7 +17,7 @@ is_fresh _ = false
 
 -- whether a number lies no more than 32,768 below the greatest one of the epoch, where that names one
 abbrev pub is_in_window : Option ℕ → ℕ → Bool
-is_in_window top number = option_map_or (λ h. nat_le h (number + 32768)) top true
+is_in_window top number = option_map_or (λ h. nat_le h (number + half)) top true
 
 -- whether a number may get its first state
 abbrev pub is_new : Observed → ℕ → Bool

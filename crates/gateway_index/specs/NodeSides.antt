@@ -3,6 +3,7 @@ use Rattle.std.specs.Prelude.{◌≡◌, ℕ, ◌<◌, Bool, true, false, [], le
 use Rattle.gw_base.specs.declared.address.NodeId.{NodeId}
 use Rattle.gw_base.specs.Known.{is_known}
 use Rattle.seq_window.specs.Seen.{nothing_seen}
+use Rattle.gateway_index.specs.Limits.{most_nodes}
 use Rattle.gateway_index.specs.Nodes.{known_at, opening_at, place_in}
 use Rattle.gateway_index.specs.Sides.{NodeSide}
 use Rattle.gateway_index.specs.WindowPairs.{seen_at}
@@ -23,7 +24,7 @@ pub record IsNodesStep (step : NodeSide → NodeSide) (old new : NodeTable) : Ty
 
 -- a node is known, or may become so
 abbrev pub MayBeKnown : NodeId → NodeSide → Type 0
-MayBeKnown node side = is_known side.known node ≡ false → length side.known < 64
+MayBeKnown node side = is_known side.known node ≡ false → length side.known < most_nodes
 
 -- No node is known, and nothing is kept of any.
 pub record AreNew (side : NodeSide) : Type 0 where

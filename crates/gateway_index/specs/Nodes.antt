@@ -3,6 +3,7 @@ use Rattle.std.specs.Prelude.{◌≡◌, ℕ, suc, ◌≤◌, ◌<◌, ◌==◌,
 use Rattle.gw_base.specs.declared.address.NodeId.{NodeId}
 use Rattle.gw_base.specs.declared.history.Opening.{Opening}
 use Rattle.gw_base.specs.Known.{is_known, with_node}
+use Rattle.gateway_index.specs.Limits.{most_nodes}
 use Rattle.gateway_index.specs.declared.nodes.Slot.{Slot}
 
 -- the opening that the firm side of a slot keeps, or else the live side
@@ -56,7 +57,7 @@ fresh_slot node = record { node = node; firm = None; live = None }
 -- So many of these slots, of at most 64, are known to the firm side.
 pub record AreSlots (firm : ℕ) (slots : List Slot) : Type 0 where
   pub within : firm ≤ length slots
-  pub bound : length slots ≤ 64
+  pub bound : length slots ≤ most_nodes
   pub unnamed : All IsNew (drop firm slots)
 
 -- The firm side knows all nodes, and of each what the live side does.

@@ -2,7 +2,7 @@
 use Rattle.std.specs.Prelude.{◌≡◌, ℕ, zero, suc, ◌≤◌, ◌==◌, ◌&&◌, nat_le, nat_lt, Bool, true, false, if◌then◌else◌, List, [], ◌∷◌, length}
 use Rattle.seq_window.specs.Seen.{Seen, nothing_seen}
 use Rattle.seq_window.specs.Stored.{seen_of}
-use Rattle.gateway_index.specs.Limits.{half}
+use Rattle.gateway_index.specs.Limits.{half, most_nodes}
 use Rattle.gateway_index.specs.declared.window_pair.WindowPair.{WindowPair}
 
 -- what the window of the firm side knows, or else that of the live side
@@ -44,6 +44,6 @@ pub record AreBlank (places : ℕ) (pairs : List WindowPair) : Type 0 where
 -- There are 64 of them, of which those behind the nodes of the firm side know no firm number, and those behind all
 -- nodes none.
 pub record AreBeside (firm nodes : ℕ) (pairs : List WindowPair) : Type 0 where
-  pub count : length pairs ≡ 64
+  pub count : length pairs ≡ most_nodes
   pub firm_behind : (k : ℕ) → firm ≤ k → seen_at true pairs k ≡ nothing_seen
   pub live_behind : (k : ℕ) → nodes ≤ k → seen_at false pairs k ≡ nothing_seen

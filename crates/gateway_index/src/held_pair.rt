@@ -7,12 +7,10 @@ ghost use Rattle.gateway_index.specs.CopySteps.{MayStep, MayStepEach, MayStepEac
 ghost use Rattle.gateway_index.specs.HeldRoom.{HasRoom};
 ghost use Rattle.gateway_index.specs.Sides.{no_place, without_copies};
 
+use crate::limits::MOST_COPIES;
 use dup_buffer::{Held, HoldFault};
 use gw_base::{Absolute, NoMemory, NodeId, Place};
 use std::alloc::Global;
-
-/// The most copies that a gateway holds.
-const MOST_COPIES: usize = 65_536;
 
 /// Where a copy lies isn't kept here: the items that are told find it by its entry.
 const NO_PLACE: Place = Place { at: 0, length: 0 };

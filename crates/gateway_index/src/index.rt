@@ -10,7 +10,8 @@ ghost use Rattle.gateway_index.specs.NodeSides.{nodes_in};
 ghost use Rattle.gateway_index.specs.Sides.{AreHeldIn, acted, copied, listed, numbered, opened, side_after};
 
 use crate::held_pair::HeldPair;
-use crate::nodes::{MOST_NODES, NodeTable};
+use crate::limits::{MOST_COPIES, MOST_NODES};
+use crate::nodes::NodeTable;
 use crate::totals::Totals;
 use gw_base::scan::{
     held_keys_are_as_many_as_held_copies, held_keys_are_those_in_that_state,
@@ -20,9 +21,6 @@ use gw_base::{Absolute, Act, Entry, KeyState, NoMemory, NodeId, Opening};
 use seq_window::laws::a_window_follows_its_history;
 use std::alloc::Global;
 use transfer_cmd::is_held;
-
-/// The most copies that a gateway holds.
-const MOST_COPIES: u64 = 65_536;
 
 /// What a gateway keeps of its history, so that it answers without reading it: of each known node the Path that opened
 /// its present epoch and a window of its numbers, the held copies, and some counts. It has a firm side, which follows
@@ -123,7 +121,7 @@ impl Index {
     pub fn may_hold(&self, firm: bool) -> bool
         ensures { (node : NodeId) → result ≡ may_hold (observed_by firm self.now node) }
     {
-        self.held(firm) < MOST_COPIES
+        self.held(firm) < MOST_COPIES as u64
     }
 
     // An entry gives a number its first state, which isn't that of a held one.

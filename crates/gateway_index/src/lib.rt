@@ -13,6 +13,7 @@
 mod held_pair;
 mod index;
 pub mod laws;
+mod limits;
 mod nodes;
 mod paths;
 mod totals;
@@ -20,4 +21,5 @@ mod window_pair;
 mod windows;
 
 pub use index::Index;
+pub use limits::{MOST_COPIES, MOST_NODES};
 pub use totals::Totals;

@@ -2,17 +2,15 @@
 ghost use Rattle.std.specs.Prelude.{◌≡◌, ◌≤◌, ◌+◌, ◌<◌, ◌^◌, ◌++◌, ◌&&◌, nat_lt, Bool, true, false, [], ◌∷◌, ◌==◌, length, slice_get, map, IfOk, IfSome, Some, vec_capacity};
 ghost use Rattle.std.specs.List.{list_any};
 ghost use Rattle.gw_base.specs.Known.{is_known};
-ghost use Rattle.gateway_index.specs.Limits.{half};
+ghost use Rattle.gateway_index.specs.Limits.{half, most_nodes};
 ghost use Rattle.gateway_index.specs.Nodes.{AreSame, AreSlots, IsLearnt, fresh_slot, kept_slots, opening_in, opening_at, nodes_of, place_in, reopened, settled_slot};
 ghost use Rattle.gateway_index.specs.Sides.{listed_nodes, numbered_nodes, opened_nodes};
 ghost use Rattle.gateway_index.specs.WindowPairs.{AreBeside};
 
+use crate::limits::MOST_NODES;
 use crate::windows::WindowTable;
 use gw_base::{Absolute, KeyState, NoMemory, NodeId, Opening};
 use std::alloc::Global;
-
-/// The most nodes that a gateway knows.
-pub(crate) const MOST_NODES: usize = 64;
 
 /// A node, and the Path that opened its present epoch, on the firm side and on the live side.
 #[derive(Clone, Copy)]
@@ -153,9 +151,9 @@ fn settle_all(slots: &mut Vec<Slot>, firm: bool)
 
 // Makes a node known, if it isn't, and answers its place.
 fn learn(slots: &mut Vec<Slot>, node: NodeId) -> usize
-    requires room { 64 ≤ vec_capacity slots.old }
-    requires place { is_known (nodes_of slots.old.items) node ≡ false → length slots.old.items < 64 }
-    requires bound { length slots.old.items ≤ 64 }
+    requires room { most_nodes ≤ vec_capacity slots.old }
+    requires place { is_known (nodes_of slots.old.items) node ≡ false → length slots.old.items < most_nodes }
+    requires bound { length slots.old.items ≤ most_nodes }
     ensures learnt { IsLearnt node result slots.old.items slots.new.items }
     ensures room { vec_capacity slots.old ≤ vec_capacity slots.new }
 {
@@ -184,7 +182,7 @@ pub(crate) struct NodeTable {
     firm: usize,
     /// Whether it knows all, and of each the opening that the live side knows.
     is_same: bool,
-    ghost room: { 64 ≤ vec_capacity slots },
+    ghost room: { most_nodes ≤ vec_capacity slots },
     ghost are_slots: { AreSlots firm slots.items },
     ghost same: { is_same ≡ true → AreSame firm slots.items },
     ghost beside: { AreBeside firm (length slots.items) windows.pairs.items },
@@ -211,7 +209,7 @@ impl NodeTable {
     #[tactic(auto, unfolding(crate::specs::NodeSides::nodes_in))]
     pub(crate) fn count(&self, firm: bool) -> usize
         ensures value { result ≡ length (nodes_in firm self.now).known }
-        ensures within { result ≤ 64 }
+        ensures within { result ≤ most_nodes }
     {
         if firm { self.firm } else { self.slots.len() }
     }

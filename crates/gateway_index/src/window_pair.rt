@@ -10,6 +10,9 @@ use gw_base::{Absolute, KeyState, NoMemory};
 use seq_window::Window;
 use std::alloc::Global;
 
+/// A window that reaches `half` below the greatest number.
+type NumberWindow = Window<32_768>;
+
 /// How many steps a pair notes at most. Behind more of them a whole window is copied.
 const MOST_NOTED: usize = 64;
 
@@ -25,8 +28,8 @@ pub(crate) struct StateGiven {
 /// It notes the last steps of the live side, so that the firm side can take them too, and no whole window is copied.
 #[derive(Drop)]
 pub(crate) struct WindowPair {
-    firm: Window<32_768>,
-    live: Window<32_768>,
+    firm: NumberWindow,
+    live: NumberWindow,
     /// The steps that the live side took since both were the same.
     given: Vec<StateGiven>,
     /// Whether it took others.
@@ -36,7 +39,7 @@ pub(crate) struct WindowPair {
 }
 
 // Lets a window take these steps.
-fn follow(window: &mut Window<32_768>, given: &[StateGiven])
+fn follow(window: &mut NumberWindow, given: &[StateGiven])
     requires { MaySetEach given.now (seen_of half window.old) }
     ensures { seen_of half window.new ≡ with_each given.now (seen_of half window.old) }
 {
@@ -61,8 +64,8 @@ fn note(given: &mut Vec<StateGiven>, changed: bool, step: StateGiven) -> bool
 
 // Makes both windows what one of them is. Where not more has changed than these steps, they are enough.
 fn make_same(
-    firm: &mut Window<32_768>,
-    live: &mut Window<32_768>,
+    firm: &mut NumberWindow,
+    live: &mut NumberWindow,
     given: &[StateGiven],
     changed: bool,
     keeps_firm: bool,

@@ -6,11 +6,10 @@ ghost use Rattle.loop_run.specs.Finishing.{AreAlike, shown};
 
 use crate::end::{GatewaySum, NodeSum};
 use area_disk::QuietArea;
-use gateway_book::{Book, Counts, ItemsFault};
+use gateway_answer::laws::a_history_filed_its_parts;
+use gateway_book::{Book, Counts, ItemsFault, count_records};
 use gw_base::NoMemory;
 use node_core::{Node, NodeCounts};
-use replay_gateway::count_records;
-use replay_gateway::laws::a_history_filed_its_parts;
 use std::alloc::Global;
 
 /// What each node counts.

@@ -48,13 +48,12 @@ use Rattle.node_session.proofs.AskingLemmas.{begins_then}
 
 -- what a receipt tells was decided
 says_of : (d : Decided) (receipt : Receipt) → turns.Tells d (outcome.Answer receipt)
-    → ((act : Option HistoryAct) × (d ≡ Says receipt.reply act)) × (receipt.cause ≡ cause_in receipt.reply)
+    → (act : Option HistoryAct) × (d ≡ Says receipt.reply act)
 says_of (Silent why) receipt told = absurd (cc told)
 says_of (Says octets act) receipt told =
     let same : receipt ≡ told.0 = cc told.1 in
     let reply : receipt.reply ≡ octets = ap (λ (r : Receipt). r.reply) same ∙ told.2 in
-    let cause : receipt.cause ≡ cause_in octets = ap (λ (r : Receipt). r.cause) same ∙ told.3 in
-    ((act, ap (λ (o : List ℕ). Says o act) (sym reply)), cause ∙ ap cause_in (sym reply))
+    (act, ap (λ (o : List ℕ). Says o act) (sym reply))
 
 -- ---- a pass that knows no less and keeps its turns
 
@@ -260,7 +259,7 @@ module _ {A : Type 0} (tells : Ghosts A) where
       counted receipt o = counted_by tells is.first receipt o
 
       said : (receipt : Receipt) → is.outcome ≡ outcome.Answer receipt → {d : Decided} → turns.Tells d is.outcome
-          → ((act : Option HistoryAct) × (d ≡ Says receipt.reply act)) × (receipt.cause ≡ cause_in receipt.reply)
+          → (act : Option HistoryAct) × (d ≡ Says receipt.reply act)
       said receipt o {d} tells = says_of d receipt (subst (λ (x : Outcome). turns.Tells d x) o tells)
 
       answers_of : (receipt : Receipt) → is.outcome ≡ outcome.Answer receipt → WhereTold told
@@ -268,7 +267,7 @@ module _ {A : Type 0} (tells : Ghosts A) where
       answers_of receipt o it_is =
           elim (is.first.does_so.answers it_is) [
             | inl taken ↦
-                let says = (said receipt o taken.tells).0 in
+                let says = said receipt o taken.tells in
                 inl (record {
                   whole = taken.whole;
                   act = says.0;
@@ -277,16 +276,13 @@ module _ {A : Type 0} (tells : Ghosts A) where
                   list = taken.list;
                 })
             | inr failed ↦
-                let says = (said receipt o failed.tells).0 in
+                let says = said receipt o failed.tells in
                 inr (record { act = says.0; rose = failed.rose; decides = says.1; adds = failed.adds })
           ]
 
-      cause_of : (receipt : Receipt) → is.outcome ≡ outcome.Answer receipt → WhereTold told (receipt.cause ≡ cause_in receipt.reply)
-      cause_of receipt o it_is =
-          elim (is.first.does_so.answers it_is) [
-            | inl taken ↦ (said receipt o taken.tells).1
-            | inr failed ↦ (said receipt o failed.tells).1
-          ]
+      cause_of : (receipt : Receipt) → is.outcome ≡ outcome.Answer receipt → receipt.cause ≡ cause_in receipt.reply
+      cause_of receipt o =
+          (subst (λ (x : Outcome). turns.IsCountedAt (book_facts is.first.left) x) o is.first.does_so.counts).2
 
       module _ (receipt : Receipt) (o : is.outcome ≡ outcome.Answer receipt) (on : Concludes tells job old new result now after receipt) where
         abbrev learnt : Learns told t now after on.settled

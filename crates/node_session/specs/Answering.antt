@@ -83,7 +83,7 @@ module _ (told : Bool) (session : ℕ) (job : Job) where
       pub reply : List ℕ
       pub sent : HasSent old new reply
       pub front_is : front ≡ first.left.entries
-      pub cause_is : WhereTold told (cause ≡ cause_in reply)
+      pub cause_is : cause ≡ cause_in reply
       pub answers : WhereTold told (IsReplyAt first reply ⊎ IsFaultAt first reply)
       pub long : WhereTold told (front ≡ length first.left.list)
       pub firm : WhereTold told (Begins first.left.list after.known)

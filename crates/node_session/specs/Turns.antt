@@ -46,9 +46,11 @@ Tells (Silent why) outcome = outcome ≡ Drop why
 Tells (Says octets act) outcome =
     (receipt : Receipt) × (outcome ≡ Answer receipt) × (receipt.reply ≡ octets) × (receipt.cause ≡ cause_in octets)
 
--- A receipt has the length of the history after the answer, and the count of commits and openings again that failed.
+-- A receipt has the length of the history after the answer, the count of commits and openings again that failed, and
+-- the cause in its reply.
 abbrev pub IsCountedAt : Facts → Outcome → Type 0
-IsCountedAt left (Answer receipt) = (receipt.front ≡ left.entries) × (receipt.faults ≡ left.cuts)
+IsCountedAt left (Answer receipt) =
+    (receipt.front ≡ left.entries) × (receipt.faults ≡ left.cuts) × (receipt.cause ≡ cause_in receipt.reply)
 IsCountedAt left (Drop why) = ⊤
 
 -- A datagram of this sender was taken, at this moment and by this caller.

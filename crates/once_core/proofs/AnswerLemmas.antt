@@ -14,8 +14,9 @@ use Rattle.gw_base.specs.declared.history.HistoryAct.TheVariants as act
 use Rattle.gw_base.specs.declared.history.HistoryEntry.{HistoryEntry}
 use Rattle.gw_base.specs.declared.key_state.KeyState.{KeyState}
 use Rattle.gw_base.specs.declared.key_state.KeyState.TheVariants.{Fresh, Filed, Sealed, Held, Released, Cancelled}
-use Rattle.gateway_answer.specs.Answer.{Given, changes, recorded_as, recording, responding, tabled}
+use Rattle.gateway_answer.specs.Answer.{Given, recording, responding, tabled}
 use Rattle.gateway_answer.specs.Answered.{act_given, entry_by, with_act}
+use Rattle.gateway_answer.specs.Asked.{changes, recorded_as}
 use Rattle.gateway_answer.specs.Fit.{is_fresh}
 use Rattle.node_core.specs.declared.copy.Order.TheVariants as order
 use Rattle.transfer_cmd.specs.Lists.{is_held, verdict_cause, verdict_of}

@@ -31,8 +31,9 @@ use Rattle.transfer_cmd.specs.declared.decision.Ask.{Ask}
 use Rattle.transfer_cmd.specs.declared.decision.Ask.TheVariants as ask
 use Rattle.transfer_cmd.specs.declared.verdict.Verdict.{Verdict}
 use Rattle.transfer_cmd.specs.declared.verdict.Verdict.TheVariants.{Change}
-use Rattle.gateway_answer.specs.Answer.{Decided, Given, answer_within, asked_by, changes, decided, held_ones, listed, may_record, node_of, opening_epoch, path_given, recorded_as, recording, tabled}
-use Rattle.gateway_answer.specs.Limits.{has_place, is_in_range, may_hold, numbers_end, least_number, within_limits}
+use Rattle.gateway_answer.specs.Answer.{Decided, Given, answer_within, asked_by, decided, listed, may_record, node_of, opening_epoch, path_given, recording, tabled}
+use Rattle.gateway_answer.specs.Asked.{changes, held_ones, recorded_as}
+use Rattle.gateway_index.specs.Limits.{has_place, is_in_range, may_hold, numbers_end, least_number, within_limits}
 use Rattle.gateway_answer.specs.Plain.{IsBounded, answer_view}
 use Rattle.gateway_answer.specs.Preparing.{PreparedValue, Path, Request}
 use Rattle.once_core.specs.Addresses.{first_node_ip}

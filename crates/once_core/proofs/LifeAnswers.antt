@@ -28,7 +28,8 @@ use Rattle.transfer_cmd.specs.declared.decision.Ask.{Ask}
 use Rattle.transfer_cmd.specs.declared.decision.Ask.TheVariants as ask
 use Rattle.transfer_cmd.specs.declared.verdict.Verdict.{Verdict}
 use Rattle.transfer_cmd.specs.declared.verdict.Verdict.TheVariants.{Change}
-use Rattle.gateway_answer.specs.Answer.{Given, Replies, answer_by, asked_by, changes, decided, failure_answer, held_ones, judged, opening_epoch, path_given, recorded_as, responding, sending, sending_again, tabled}
+use Rattle.gateway_answer.specs.Answer.{Given, Replies, answer_by, asked_by, decided, failure_answer, judged, opening_epoch, path_given, responding, tabled}
+use Rattle.gateway_answer.specs.Asked.{changes, held_ones, recorded_as, sending, sending_again}
 use Rattle.gateway_answer.specs.Answer as says
 use Rattle.gateway_answer.specs.Answered.{entry_by, no_caller}
 use Rattle.gateway_answer.specs.Preparing as of

@@ -8,7 +8,7 @@ use Rattle.gw_base.specs.declared.history.HistoryEntry.{HistoryEntry}
 use Rattle.gw_base.specs.declared.key_state.KeyState.{KeyState}
 use Rattle.gw_base.specs.declared.key_state.KeyState.TheVariants.{Fresh, Filed, Sealed, Held, Released, Cancelled}
 use Rattle.gateway_answer.specs.Fit.{is_act_fit, is_act_lawful}
-use Rattle.gateway_answer.specs.Limits.{within_limits}
+use Rattle.gateway_index.specs.Limits.{within_limits}
 use Rattle.gateway_answer.specs.Marks.{is_mark}
 use Rattle.once_core.specs.Epochs.{EachBehind}
 use Rattle.once_core.specs.Gateway.{Rules}

@@ -4,7 +4,7 @@ use Rattle.std.specs.Prelude.{◌-◌, ◌&&◌, nat_lt, Bool, true, List, ◌�
 use Rattle.std.specs.List.{list_all}
 use Rattle.std.specs.Option.{option_map_or}
 use Rattle.gateway_answer.specs.Answer.{Decided, Silent, Says}
-use Rattle.gateway_answer.specs.Limits.{numbers_end}
+use Rattle.gateway_index.specs.Limits.{numbers_end}
 use Rattle.gw_base.specs.declared.address.NodeId.{NodeId}
 use Rattle.gw_base.specs.declared.history.HistoryAct.{HistoryAct}
 use Rattle.gw_base.specs.declared.history.HistoryAct.TheVariants.{Start, Path, File, Hold, Seal, Release, Cancel, Tick, Close}

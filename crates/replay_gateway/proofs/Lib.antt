@@ -5,7 +5,6 @@ mod AreaLemmas
 mod AskedLemmas
 mod BookLemmas
 mod CallLemmas
-mod CountLemmas
 mod CountedLemmas
 mod DeliveredLemmas
 mod DigitLemmas
@@ -15,7 +14,6 @@ mod MetLemmas
 mod OpeningLemmas
 mod OutcomeLemmas
 mod PickLemmas
-mod PieceLemmas
 mod RangeLemmas
 mod ReadableLemmas
 mod RedirectLemmas

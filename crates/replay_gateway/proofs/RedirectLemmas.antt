@@ -4,7 +4,7 @@ use Rattle.std.specs.List.{cons_option, filter_map}
 use Rattle.std.proofs.lemmas.List.Elements.{All-head, All-tail}
 use Rattle.area_disk.specs.declared.memory.MemoryArea.{MemoryArea}
 use Rattle.gateway_book.specs.Book.{value_of}
-use Rattle.gateway_answer.specs.Limits.{most_nodes}
+use Rattle.gateway_index.specs.Limits.{most_nodes}
 use Rattle.gateway_answer.specs.Told.{path_of, paths_of}
 use Rattle.gateway_answer.specs.Value.{BookValue, history_of}
 use Rattle.gateway_book.specs.declared.book.Book.{Book}

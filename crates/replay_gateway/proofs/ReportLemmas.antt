@@ -75,35 +75,39 @@ opened_copies size h = started_by (room_for (history_of (standing_for h)) size S
 
 -- What is counted.
 
+-- so many entries and records, with the copies that a book counts
+abbrev pub tally_of : ℕ → ℕ → told.Counts → Tally
+tally_of entries records k =
+    record { entries = entries; records = records; held = k.held; stranded = k.stranded }
+
 module _ (setup : Setup) (place : ℕ) (g : Gateway) (m : Machine) where
   -- of one that is up
-  pub tallied_up : (tally : Tally) → g.is_down ≡ false → Tells g.book setup.size tally → IsTallied g tally
-  tallied_up tally runs tells =
-      subst (λ (b : BookValue). Counts b tally)
+  pub tallied_up : (n : ℕ) (k : told.Counts) → g.is_down ≡ false → Tells g.book setup.size n k →
+      IsTallied g (tally_of k.entries n k)
+  tallied_up n k runs tells =
+      subst (λ (b : BookValue). Counts b (tally_of k.entries n k))
       (sym (ap (λ (b : Bool). if b then standing_for (history_of g.book) else g.book) runs)) (record {
-        entries = tells.entries;
+        entries = ap (λ (c : told.Counts). c.entries) tells.counts;
         records = tells.records;
         held = ap (λ (c : told.Counts). c.held) tells.counts;
         stranded = ap (λ (c : told.Counts). c.stranded) tells.counts;
       })
 
   -- of one that is down
-  pub tallied_down : (t tally : Tally) → g.is_down ≡ true → Tells (reopened (rules_in setup) g).book setup.size t →
-      tally.entries ≡ t.counts.firm → tally.records ≡ t.records → tally.counts ≡ t.counts → IsTallied g tally
-  tallied_down t tally down tells entries records counts =
+  pub tallied_down : (n : ℕ) (k : told.Counts) → g.is_down ≡ true →
+      Tells (reopened (rules_in setup) g).book setup.size n k → IsTallied g (tally_of k.firm n k)
+  tallied_down n k down tells =
       let again : Gateway = reopened (rules_in setup) g in
       let h : List HistoryEntry = history_of g.book in
       let firm : again.book.firm ≡ h = firm_again setup place g m in
       let copies = opened_copies setup.size h in
-      subst (λ (b : BookValue). Counts b tally)
+      subst (λ (b : BookValue). Counts b (tally_of k.firm n k))
       (sym (ap (λ (b : Bool). if b then standing_for h else g.book) down)) (record {
-        entries = entries ∙ ap (λ (c : told.Counts). c.firm) tells.counts
+        entries = ap (λ (c : told.Counts). c.firm) tells.counts
             ∙ ap (λ (l : List HistoryEntry). length l) (firm ∙ sym (append-nil h));
-        records = records ∙ tells.records ∙ ap (λ (l : List HistoryEntry). length (filed l)) firm;
-        held = ap (λ (c : told.Counts). c.held) counts ∙ ap (λ (c : told.Counts). c.held) tells.counts
-            ∙ ap (λ (c : Copies). c.held) copies;
-        stranded = ap (λ (c : told.Counts). c.stranded) counts ∙ ap (λ (c : told.Counts). c.stranded) tells.counts
-            ∙ ap (λ (c : Copies). c.stranded) copies;
+        records = tells.records ∙ ap (λ (l : List HistoryEntry). length (filed l)) firm;
+        held = ap (λ (c : told.Counts). c.held) tells.counts ∙ ap (λ (c : Copies). c.held) copies;
+        stranded = ap (λ (c : told.Counts). c.stranded) tells.counts ∙ ap (λ (c : Copies). c.stranded) copies;
       })
 
   -- the book that was opened for it stays open
@@ -127,15 +131,15 @@ module _ (setup : Setup) (place : ℕ) (g : Gateway) (m : Machine) where
   -- the lines of its files, and then of its counts
   pub reported : (tally : Tally) (before middle after : List ℕ) → IsTallied g tally →
       middle ≡ before ++ sealed_lines setup place g m →
-      after ≡ middle ++ counts_text place tally.entries tally.records tally.counts.held tally.counts.stranded →
+      after ≡ middle ++ counts_text place tally.entries tally.records tally.held tally.stranded →
       after ≡ before ++ gateway_text setup place g m
   reported tally before middle after is files counts =
       counts
-      ∙ ap (λ (n : ℕ). middle ++ counts_text place n tally.records tally.counts.held tally.counts.stranded) is.entries
-      ∙ ap (λ (n : ℕ). middle ++ counts_text place (length (history_of (book_of g))) n tally.counts.held
-      tally.counts.stranded) is.records
+      ∙ ap (λ (n : ℕ). middle ++ counts_text place n tally.records tally.held tally.stranded) is.entries
+      ∙ ap (λ (n : ℕ). middle ++ counts_text place (length (history_of (book_of g))) n tally.held tally.stranded)
+      is.records
       ∙ ap (λ (n : ℕ). middle ++ counts_text place (length (history_of (book_of g))) (length (filed (book_of g).firm)) n
-      tally.counts.stranded) is.held
+      tally.stranded) is.held
       ∙ ap (λ (n : ℕ). middle ++ counts_text place (length (history_of (book_of g))) (length (filed (book_of g).firm))
       (copies_of (history_of (book_of g))).held n) is.stranded
       ∙ ap (λ (text : List ℕ). text ++ counts_line place (book_of g)) files

@@ -1,37 +1,25 @@
 -- What a report counts of a gateway.
-use Rattle.std.specs.Prelude.{◌≡◌, ℕ, Bool, true, false, List, count_by, length}
+use Rattle.std.specs.Prelude.{◌≡◌, ℕ, length}
 use Rattle.gateway_book.specs.Calls.{counts_of}
 use Rattle.gateway_answer.specs.Filed.{filed}
 use Rattle.gateway_answer.specs.Value.{BookValue, history_of}
+use Rattle.gateway_book.specs.declared.outcome.Counts as book_counts
 use Rattle.gw_base.specs.History.{copies_of}
-use Rattle.gw_base.specs.declared.item.Item.{Item}
-use Rattle.gw_base.specs.declared.item.Item.TheVariants as item
 use Rattle.once_core.specs.Gateway.{Gateway}
 use Rattle.replay_gateway.specs.GatewayReport.{book_of}
 use Rattle.replay_gateway.specs.declared.gateway_report.Tally.{Tally}
-
--- whether an item is a filed record
-abbrev pub is_part : Item → Bool
-is_part (item.Part kind tag octets moment) = true
-is_part (item.Tick moment) = false
-is_part (item.Close moment) = false
-
--- how many of these items are records
-abbrev pub part_count : List Item → ℕ
-part_count items = count_by is_part items
 
 -- so many entries and records a book has, and so many copies are held and stranded
 pub record Counts (book : BookValue) (tally : Tally) : Type 0 where
   pub entries : tally.entries ≡ length (history_of book)
   pub records : tally.records ≡ length (filed book.firm)
-  pub held : tally.counts.held ≡ (copies_of (history_of book)).held
-  pub stranded : tally.counts.stranded ≡ (copies_of (history_of book)).stranded
+  pub held : tally.held ≡ (copies_of (history_of book)).held
+  pub stranded : tally.stranded ≡ (copies_of (history_of book)).stranded
 
--- a book on so many octets tells this
-pub record Tells (book : BookValue) (size : ℕ) (tally : Tally) : Type 0 where
-  pub entries : tally.entries ≡ length (history_of book)
-  pub records : tally.records ≡ length (filed book.firm)
-  pub counts : tally.counts ≡ counts_of book size
+-- so many records the firm entries of a book have filed, and on so many octets it counts this
+pub record Tells (book : BookValue) (size n : ℕ) (told : book_counts.Counts) : Type 0 where
+  pub records : n ≡ length (filed book.firm)
+  pub counts : told ≡ counts_of book size
 
 -- of a gateway that is down its book is meant as it would be opened, but for its Start
 abbrev pub IsTallied : Gateway → Tally → Type 0

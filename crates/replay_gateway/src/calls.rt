@@ -126,8 +126,12 @@ impl Machine {
             record self.old { site = self.new.site; waiting = self.new.waiting; files = self.new.files } }
     {
         what_a_gateway_leaves::<MemoryArea>();
-        let Some(Site::Up(book)) = self.site.take() else {
-            return;
+        let book = match self.site.take() {
+            Some(Site::Up(book)) => book,
+            other => {
+                self.site = other;
+                return;
+            }
         };
         self.leave(alloc, book.into_area());
     }

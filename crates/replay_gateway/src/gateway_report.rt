@@ -1,24 +1,22 @@
 // The report of a gateway.
-ghost use Rattle.std.specs.Prelude.{◌≡◌, ◌+◌, ◌<◌, ◌^◌, ◌++◌, ℕ, IfOk, List, OnOk, count_by, false, length, take, true};
+ghost use Rattle.std.specs.Prelude.{◌≡◌, ◌+◌, ◌<◌, ◌^◌, ◌++◌, ℕ, IfOk, OnOk, false, take, true};
 ghost use Rattle.std.specs.List.{flat_map};
 ghost use Rattle.file_writer.specs.Files.{stream_files};
 ghost use Rattle.file_writer.specs.Streams.{stream_count};
 ghost use Rattle.gateway_book.specs.Calls.{counts_of};
-ghost use Rattle.gateway_answer.specs.Filed.{filed};
 ghost use Rattle.gateway_answer.specs.Items.{items_of};
-ghost use Rattle.gw_base.specs.declared.history.HistoryEntry.{HistoryEntry};
 ghost use Rattle.once_core.specs.Gateway.{Gateway};
 ghost use Rattle.replay_gateway.specs.GatewayReport.{counts_text, digits, file_line, file_name, gateway_text, sealed_lines};
 ghost use Rattle.replay_gateway.specs.Machine.{Machine as MachineValue};
 ghost use Rattle.replay_gateway.specs.Setup.{Setup, files_in};
 ghost use Rattle.replay_gateway.specs.Standing.{MachineStands, SiteStands};
-ghost use Rattle.replay_gateway.specs.Tally.{IsTallied, Tells, is_part};
+ghost use Rattle.replay_gateway.specs.Tally.{IsTallied, Tells};
 
 use crate::machine::Machine;
 use crate::site::Site;
 use cdr_shelf::FileName;
-use gateway_book::Counts;
-use gw_base::{Item, NoMemory, Octets};
+use gateway_book::{Counts, record_count};
+use gw_base::{NoMemory, Octets};
 use std::alloc::Global;
 
 /// How many streams a gateway has.
@@ -31,9 +29,10 @@ pub struct Tally {
     pub entries: u64,
     /// The records that its firm entries file.
     pub records: usize,
-    /// The counts of its book. One that is down is opened for them, so that their `entries` and `free` may have a Start
-    /// more. A clause tells `held` and `stranded` alone.
-    pub counts: Counts,
+    /// The copies that are held in present epochs.
+    pub held: u64,
+    /// Those of earlier epochs that were neither released nor cancelled.
+    pub stranded: u64,
 }
 
 impl Machine {
@@ -53,8 +52,8 @@ impl Machine {
             usize::from(place),
             tally.entries,
             tally.records,
-            tally.counts.held,
-            tally.counts.stranded,
+            tally.held,
+            tally.stranded,
         )
     }
 
@@ -68,10 +67,17 @@ impl Machine {
         if self.is_down() {
             return self.tally_down(alloc);
         }
-        self.tell(alloc)
+        let told = self.tell(alloc)?;
+        let (records, counts) = told;
+        Ok(Tally {
+            entries: counts.entries,
+            records,
+            held: counts.held,
+            stranded: counts.stranded,
+        })
     }
 
-    // The same of one that is down.
+    // The same of one that is down. The Start of the opening isn't firm, and doesn't count.
     fn tally_down(&mut self, alloc: Global) -> Result<Tally, NoMemory>
         ensures { (setup : Setup) (place : ℕ) (g : Gateway) (m : MachineValue) →
             MachineStands setup place g m self.old → g.is_down ≡ true →
@@ -80,27 +86,25 @@ impl Machine {
         self.open_book(alloc)?;
         let told = self.tell(alloc)?;
         self.close_book();
+        let (records, counts) = told;
         Ok(Tally {
-            entries: told.counts.firm,
-            records: told.records,
-            counts: told.counts,
+            entries: counts.firm,
+            records,
+            held: counts.held,
+            stranded: counts.stranded,
         })
     }
 
-    // What the book of one that is up tells.
-    fn tell(&mut self, alloc: Global) -> Result<Tally, NoMemory>
+    // How many records the firm entries of one that is up have filed, and what its book counts.
+    fn tell(&mut self, alloc: Global) -> Result<(usize, Counts), NoMemory>
         ensures told { (setup : Setup) (place : ℕ) (g : Gateway) (m : MachineValue) →
             SiteStands setup place g m self.old.site → g.is_down ≡ false →
-            IfOk result (λ tally. Tells g.book setup.size tally × SiteStands setup place g m self.new.site) }
+            IfOk result (λ told. Tells g.book setup.size told.0 told.1 × SiteStands setup place g m self.new.site) }
         ensures rest { self.new ≡ record self.old { site = self.new.site } }
     {
         let items = self.firm_items(alloc, 0)?;
         let counts = self.counts();
-        Ok(Tally {
-            entries: counts.entries,
-            records: record_count(&items),
-            counts,
-        })
+        Ok((record_count(&items), counts))
     }
 
     // What its book counts, of one that is up.
@@ -198,20 +202,6 @@ fn print_digits(out: &mut Octets, count: u32, number: u32) -> Result<(), NoMemor
     print_digits(out, count - 1, number / 10)?;
     out.append(&[b'0' + (number % 10) as u8])?;
     Ok(())
-}
-
-/// How many records there are among items: of all items of a history, how many it filed.
-pub fn record_count(items: &[Item]) -> usize
-    ensures parts { result ≡ count_by is_part items.now }
-    ensures records { (h : List HistoryEntry) → items.now ≡ items_of h → result ≡ length (filed h) }
-{
-    let mut records = 0;
-    for item in items {
-        if let Item::Part { .. } = item {
-            records += 1;
-        }
-    }
-    records
 }
 
 /// Appends the line of what the gateway in this place counts, from 0: its entries, the records that they file, and the

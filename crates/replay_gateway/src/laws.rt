@@ -1,9 +1,8 @@
 //! Laws of gateways, and of what scripts say of them. Each stands on a function that does nothing.
 
-ghost use Rattle.std.specs.Prelude.{◌≡◌, ◌≤◌, ℕ, List, Ok, count_by, false, length};
+ghost use Rattle.std.specs.Prelude.{◌≡◌, ◌≤◌, ℕ, List, Ok, false, length};
 ghost use Rattle.area_disk.specs.declared.memory.MemoryArea.{MemoryArea};
 ghost use Rattle.cdr_shelf.specs.declared.memory.MemoryShelf.{MemoryShelf};
-ghost use Rattle.gateway_answer.specs.Filed.{filed};
 ghost use Rattle.gateway_answer.specs.Items.{items_of};
 ghost use Rattle.gw_base.specs.History.{is_close_due};
 ghost use Rattle.gw_base.specs.declared.history.HistoryEntry.{HistoryEntry};
@@ -13,7 +12,6 @@ ghost use Rattle.replay_gateway.specs.GatewayReport.{book_of, gateway_report, ga
 ghost use Rattle.replay_gateway.specs.HandedOut.{IsHandedOut};
 ghost use Rattle.replay_gateway.specs.Machine.{Machine};
 ghost use Rattle.replay_gateway.specs.Setup.{Setup, files_in, setup_of};
-ghost use Rattle.replay_gateway.specs.Tally.{is_part};
 ghost use Rattle.world_script.specs.Script.{most_text, script_in};
 ghost use Rattle.world_script.specs.declared.kind.ScriptKind.{ScriptKind};
 ghost use Rattle.world_script.specs.declared.line.Line.{Line};
@@ -27,11 +25,6 @@ pub fn no_file_is_open_where_no_close_is_due()
     gateway_answer::laws::filed_records_stay();
     file_rotate::division_goes_on::<Octets>();
 }
-
-/// Of all items of a history as many are records as it filed.
-pub fn a_history_filed_its_parts()
-    ensures { (h : List HistoryEntry) → count_by is_part (items_of h) ≡ length (filed h) }
-{}
 
 /// The text of a script has no more octets than it may have, and it has no more lines than that.
 #[tactic(auto, using(crate::proofs::RangeLemmas::script_within, crate::proofs::RangeLemmas::script_few))]

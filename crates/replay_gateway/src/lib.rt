@@ -1,7 +1,6 @@
 //! A gateway of a replay, in memory: its book over an area, the writer of its files over a shelf, and the
 //! answers that wait. A failure or a stop may be armed for each call of the area and of the shelf. Beside it
-//! stands what feeds and gateways that serve use, too: the settings of a script (`Settings`, `rules_of`), and
-//! how many records a book has filed (`count_records`), or are among items (`record_count`).
+//! stands what feeds and gateways that serve use, too: the settings of a script (`Settings`, `rules_of`).
 //!
 //! The model is a `Gateway` of `once_core` with a `Machine` of `specs/Machine.antt`: what is armed and
 //! what is written. [`Machine`] stands for both by `specs/Standing.antt`. The contract is that of its
@@ -14,7 +13,6 @@
 #![tactic(auto)]
 
 mod calls;
-mod counting;
 mod fallen;
 mod files;
 mod gateway_report;
@@ -29,9 +27,8 @@ mod taking;
 mod writing;
 
 pub use calls::GatewayCall;
-pub use counting::count_records;
 pub use files::Wrote;
-pub use gateway_report::{Tally, print_counts, print_name, record_count};
+pub use gateway_report::{Tally, print_counts, print_name};
 pub use machine::{Came, Machine, Sent};
 pub use messages::Ends;
 pub use plans::{failing, stopping};

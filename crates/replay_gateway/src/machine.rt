@@ -1,5 +1,5 @@
 // A gateway as it runs: its book on an area, the writer of its files on a shelf, and the answers that wait.
-ghost use Rattle.std.specs.Prelude.{◌≡◌, ◌≤◌, ℕ, [], IfOk, List, MatchOption, OnOk, false, true};
+ghost use Rattle.std.specs.Prelude.{◌≡◌, ◌≤◌, ℕ, [], IfOk, List, MatchOption, Ok, OnOk, false, true};
 ghost use Rattle.area_disk.specs.Armed.{Armed};
 ghost use Rattle.file_writer.specs.Streams.{Settings as FileSettings};
 ghost use Rattle.gateway_book.specs.Up.{HoldsHistory};
@@ -56,7 +56,7 @@ pub struct Sent {
 #[derive(Drop)]
 pub struct Machine {
     pub(crate) setup: Setup,
-    /// Where it is: somewhere, between calls that are asked as their clauses suppose.
+    /// Where it is: between two calls always somewhere.
     pub(crate) site: Option<Site>,
     pub(crate) files: Files,
     /// The answers that wait for entries to be firm.
@@ -156,16 +156,22 @@ impl Machine {
         self.arm_shelf(calm(alloc));
     }
 
-    /// Stops it between two calls, of one that is up: it keeps what is firm.
+    /// Stops it between two calls: it keeps what is firm. One that is down is left as it is.
     pub fn stop(&mut self, alloc: Global)
-        ensures { (setup : SetupValue) (place : ℕ) (g : Gateway) (m : MachineValue) →
+        ensures stops { (setup : SetupValue) (place : ℕ) (g : Gateway) (m : MachineValue) →
             MachineStands setup place g m self.old →
             g.is_down ≡ false → MachineStands setup place
             (cut 0 g) (disarmed m) self.new }
+        ensures down { (setup : SetupValue) (place : ℕ) (g : Gateway) (m : MachineValue) →
+            MachineStands setup place g m self.old → g.is_down ≡ true → self.new ≡ self.old }
     {
         what_a_gateway_leaves::<MemoryArea>();
-        let Some(Site::Up(book)) = self.site.take() else {
-            return;
+        let book = match self.site.take() {
+            Some(Site::Up(book)) => book,
+            other => {
+                self.site = other;
+                return;
+            }
         };
         let mut area = book.into_area();
         area.stop(Outcome3::Old);
@@ -194,13 +200,18 @@ impl Machine {
         self.files.end(alloc);
     }
 
-    /// Opens it again, of one that is down. `NoMemory`: there was no memory for that, and it is down still.
+    /// Opens it again. One that is up is left as it is. `NoMemory`: there was no memory for that, and it is down still.
     pub fn open(&mut self, alloc: Global) -> Result<(), NoMemory>
-        ensures { (setup : SetupValue) (place : ℕ) (g : Gateway) (m : MachineValue) →
+        ensures opens { (setup : SetupValue) (place : ℕ) (g : Gateway) (m : MachineValue) →
             MachineStands setup place g m self.old →
             g.is_down ≡ true → OnOk result (MachineStands setup place
             (opened (rules_in setup) g) m self.new) }
+        ensures up { (setup : SetupValue) (place : ℕ) (g : Gateway) (m : MachineValue) →
+            MachineStands setup place g m self.old → g.is_down ≡ false → (result ≡ Ok tt) × (self.new ≡ self.old) }
     {
+        if !self.is_down() {
+            return Ok(());
+        }
         filed_records_stay();
         what_was_written_stays();
         self.open_book(alloc)?;
@@ -214,8 +225,12 @@ impl Machine {
             MachineStands setup place g m self.old →
             g.is_down ≡ true → OnOk result (IsOpenedForCounts setup place g self.old self.new) }
     {
-        let Some(Site::Down(fallen)) = self.site.take() else {
-            return Ok(());
+        let fallen = match self.site.take() {
+            Some(Site::Down(fallen)) => fallen,
+            other => {
+                self.site = other;
+                return Ok(());
+            }
         };
         let (site, opened) = reopened(alloc, fallen, self.setup);
         self.site = Some(site);
@@ -229,8 +244,12 @@ impl Machine {
             IsOpenedForCounts setup place g before self.old →
             MachineStands setup place g m self.new }
     {
-        let Some(Site::Up(book)) = self.site.take() else {
-            return;
+        let book = match self.site.take() {
+            Some(Site::Up(book)) => book,
+            other => {
+                self.site = other;
+                return;
+            }
         };
         let area = book.into_area();
         self.site = Some(Site::Down(Fallen { area }));

@@ -14,12 +14,10 @@ use crate::messages::kept;
 use crate::site::Site;
 use area_disk::MemoryArea;
 use gateway_book::laws::a_book_is_within_the_limits;
+use gateway_index::MOST_NODES;
 use gw_base::{Addr, NoMemory, NodeId};
 use once_core::{Message, node_id, port_at, redirection};
 use std::alloc::Global;
-
-/// How many nodes a gateway knows at most.
-const MOST_NODES: usize = 64;
 
 impl Machine {
     /// Asks all nodes that it has a path to to send elsewhere, for this cause, and to the gateway in the place `to`

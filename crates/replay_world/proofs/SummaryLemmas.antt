@@ -32,8 +32,8 @@ module _ (gs : List Gateway) (k : ℕ) (tally : Tally) (sums more : GatewaySums)
       sums ≡ gateway_sums (take k gs) →
       more ≡ record {
         records = sums.records + tally.records;
-        held = sums.held + tally.counts.held;
-        stranded = sums.stranded + tally.counts.stranded;
+        held = sums.held + tally.held;
+        stranded = sums.stranded + tally.stranded;
       } → more ≡ gateway_sums (take (k + 1) gs)
   sums_next tallied so_far added = by (slice_get gs k) refl tallied
     where
@@ -45,11 +45,11 @@ module _ (gs : List Gateway) (k : ℕ) (tally : Tally) (sums more : GatewaySums)
           let records : sums.records + tally.records ≡ sum_by filed_of (take (suc k) gs) =
           ap (λ (s : GatewaySums). s.records + tally.records) so_far
           ∙ ap (λ (n : ℕ). sum_by filed_of (take k gs) + n) told.records ∙ sum_next filed_of gs k g is in
-          let held : sums.held + tally.counts.held ≡ sum_by held_of (take (suc k) gs) =
-          ap (λ (s : GatewaySums). s.held + tally.counts.held) so_far
+          let held : sums.held + tally.held ≡ sum_by held_of (take (suc k) gs) =
+          ap (λ (s : GatewaySums). s.held + tally.held) so_far
           ∙ ap (λ (n : ℕ). sum_by held_of (take k gs) + n) told.held ∙ sum_next held_of gs k g is in
-          let stranded : sums.stranded + tally.counts.stranded ≡ sum_by stranded_of (take (suc k) gs) =
-          ap (λ (s : GatewaySums). s.stranded + tally.counts.stranded) so_far
+          let stranded : sums.stranded + tally.stranded ≡ sum_by stranded_of (take (suc k) gs) =
+          ap (λ (s : GatewaySums). s.stranded + tally.stranded) so_far
           ∙ ap (λ (n : ℕ). sum_by stranded_of (take k gs) + n) told.stranded ∙ sum_next stranded_of gs k g is in
           added ∙ (λ i. record { records = records i; held = held i; stranded = stranded i })
           ∙ ap (λ (n : ℕ). gateway_sums (take n gs)) next

@@ -126,15 +126,15 @@ fn with_tally(sums: GatewaySums, tally: &Tally) -> GatewaySums
     requires { AreGatewaySums (2 ^ 128 - 2 ^ 64) sums }
     ensures sums { result ≡ record {
       records = sums.records + tally.now.records;
-      held = sums.held + tally.now.counts.held;
-      stranded = sums.stranded + tally.now.counts.stranded;
+      held = sums.held + tally.now.held;
+      stranded = sums.stranded + tally.now.stranded;
     } }
     ensures few { (most : ℕ) → AreGatewaySums most sums → AreGatewaySums (most + 18446744073709551615) result }
 {
     GatewaySums {
         records: plus(sums.records, tally.records as u64),
-        held: plus(sums.held, tally.counts.held),
-        stranded: plus(sums.stranded, tally.counts.stranded),
+        held: plus(sums.held, tally.held),
+        stranded: plus(sums.stranded, tally.stranded),
     }
 }
 

@@ -3,9 +3,8 @@ use Rattle.cdr_shelf.specs.contracts.quiet.QuietShelfShelf.TheImpl.{ghosts as sh
 use Rattle.file_writer.specs.Advancing.{Advances}
 use Rattle.file_writer.specs.Making.{ending_at}
 use Rattle.file_writer.specs.Parts.{HasAdvanced, part_of}
-use Rattle.gateway_answer.specs.Items.{items_of}
+use Rattle.gateway_answer.specs.Items.{is_part, items_of}
 use Rattle.gw_base.specs.declared.item.Item.{Item}
-use Rattle.replay_gateway.specs.Tally.{is_part}
 use Rattle.cgf_jobs.specs.Gateway.{GatewayValue}
 use Rattle.cgf_jobs.proofs.FileLemmas.{counted_on, never_rose}
 use Rattle.cgf_jobs.proofs.files.give_all.Goals as goal

@@ -8,7 +8,7 @@ returns-in-Made-clause-ok g c =
     (c.a_turn_owes.ensures.close old new _ c.args.now c.args.who c.in-Made.ensures.stays c.in-Made.ensures.cause
     c.in-Made.ensures.closed)
     (c.a_turn_owes.ensures.behind old new) c.requires
-    (not_device _ _ c.in-Made.ensures.told.0.device (λ not. absurd (cc not)))
+    (not_device _ _ c.in-Made.ensures.everywhere.0.device (λ not. absurd (cc not)))
 
 pub returns-in-Made-clause-grows : goal.returns-in-Made-clause-grows
 returns-in-Made-clause-grows g c =

@@ -1,7 +1,7 @@
 use Rattle.std.proofs.Common.{◌≡◌, true, List, subst, sym}
 use Rattle.std.proofs.lemmas.Bool.{and_parts}
 use Rattle.gateway_answer.specs.Answered.{room_for}
-use Rattle.gateway_answer.specs.Limits.{within_limits}
+use Rattle.gateway_index.specs.Limits.{within_limits}
 use Rattle.gw_base.specs.History.{state_of}
 use Rattle.gw_base.specs.Observed.{observed}
 use Rattle.gw_base.specs.declared.history.HistoryEntry.{HistoryEntry}

@@ -41,20 +41,20 @@ returns-in-Ok-clause-taken g c = λ told.
     let was = c.respond.ensures.left told in
     record { value = was.value ∙ ap (λ (l : Left Outcome). l.value) left; answer = was.answer ∙ ap (λ (l : Left Outcome). l.answer) left }
 
-pub returns-in-Ok-clause-told : goal.returns-in-Ok-clause-told
-returns-in-Ok-clause-told g c =
-    let answered = subst (λ (d : PreparedValue). IsAnswered c.args.from d c.respond.result) c.case-case.ensures.value c.respond.ensures.told.0 in
+pub returns-in-Ok-clause-everywhere : goal.returns-in-Ok-clause-everywhere
+returns-in-Ok-clause-everywhere g c =
+    let answered = subst (λ (d : PreparedValue). IsAnswered c.args.from d c.respond.result) c.case-case.ensures.value c.respond.ensures.everywhere.0 in
     let goes : is_closed c.respond.new.self.trail ≡ false =
     c.respond.ensures.adds.stays.opened ∙ c.ready.ensures.closed ∙ ap is_err c.in-Ok.is in
     record {
       answered = λ runs. answered;
       failed = λ broken. absurd (false≢true (sym goes ∙ broken));
       fault = λ tells. absurd (running_is_sound c.args.from c.args.request.now c.respond.result answered tells);
-      counts = c.respond.ensures.told.1;
+      counts = c.respond.ensures.everywhere.1;
     }
 
-pub returns-in-Err-clause-told : goal.returns-in-Err-clause-told
-returns-in-Err-clause-told g c =
+pub returns-in-Err-clause-everywhere : goal.returns-in-Err-clause-everywhere
+returns-in-Err-clause-everywhere g c =
     let broken = c.ready.ensures.closed ∙ ap is_err c.in-Err.is in
     record {
       answered = λ runs. absurd (false≢true (sym runs ∙ broken));
@@ -75,7 +75,7 @@ returns-in-Ok-clause-storage g c = λ told runs.
     let same : v ≡ readied (record { fails = is_closed ready.trail; reopening = reopening_of (is_closed ready.trail) (torn_stands old.trail) }) (value_of old) = c.ready.ensures.moved told in
     let is_history : history_of v ≡ all_entries ready.trail = history_is ready.trail ready.cuts goes in
     let within : IsWithin (history_of v) size = subst (λ (h : List HistoryEntry). IsWithin h size) (sym is_history) (fit_is_within size (all_entries ready.trail) (ready.followed.fit told)) in
-    let answered = subst (λ (d : PreparedValue). IsAnswered from d c.respond.result) c.case-case.ensures.value c.respond.ensures.told.0 in
+    let answered = subst (λ (d : PreparedValue). IsAnswered from d c.respond.result) c.case-case.ensures.value c.respond.ensures.everywhere.0 in
     let stored : HasStorage (history_of v) from (case_value c.case-case.result.now) size c.respond.result = has_storage c.what_is_held_can_be_released.ensures.release c.what_is_held_can_be_released.ensures.cancel (history_of v) size from
     (case_value c.case-case.result.now) (recorded_if v c.args.now c.args.who (act_decided (decided (answer_to (history_of v) from (case_value c.case-case.result.now) size)))) c.respond.result within
     (c.respond.ensures.left told).answer (running_is_sound from c.args.request.now c.respond.result answered) in

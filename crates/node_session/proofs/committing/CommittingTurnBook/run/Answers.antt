@@ -36,6 +36,6 @@ returns-clause-does g c =
       [],
       (c.a_turn_owes.ensures.commit old new c.commit-committed.result None c.commit-committed.ensures.stays c.commit-committed.ensures.cause c.commit-committed.ensures.left).adds,
       inr (has_committed c.args.self.front c.args.self.faults old new c.settled.result c.commit-committed.result
-          c.commit-committed.ensures.left c.commit-committed.ensures.told c.commit-committed.ensures.broken c.commit-committed.ensures.cause
+          c.commit-committed.ensures.left c.commit-committed.ensures.everywhere c.commit-committed.ensures.broken c.commit-committed.ensures.cause
           c.in-NotYet.firm waited c.settled.ensures.told c.settled.ensures.counted),
     )

@@ -23,5 +23,5 @@ returns-clause-does g c =
       has_taken old new turn.from octets turn.now turn.who c.take.ensures.cause
           (c.a_turn_owes.ensures.behind old new)
           (λ broken. c.a_turn_owes.ensures.failed ready turn.from (prepared_of octets) (size_of old) broken)
-          c.take.result c.take.ensures.taken c.take.ensures.told,
+          c.take.result c.take.ensures.taken c.take.ensures.everywhere,
     )

@@ -14,6 +14,6 @@ returns c = λ setup g m stands.
       reported setup c.args.place g m tally c.args.out.now
           c.report_files.new.out c.print_counts.new.out tallied.0 (c.in_ok-report_files.ensures setup g m stands)
           (printed ∙ ap (λ (place : ℕ). c.report_files.new.out
-          ++ counts_text place tally.entries tally.records tally.counts.held tally.counts.stranded) c.from.ensures),
+          ++ counts_text place tally.entries tally.records tally.held tally.stranded) c.from.ensures),
     ))
     c.print_counts.ensures

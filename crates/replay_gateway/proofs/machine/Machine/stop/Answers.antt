@@ -1,4 +1,4 @@
-use Rattle.std.proofs.Common.{◌≡◌, refl, sym, ap, subst, ◌∙◌, ◌++◌, ◌&&◌, false, if◌then◌else◌, Option, Some}
+use Rattle.std.proofs.Common.{◌≡◌, refl, sym, ap, subst, ◌∙◌, ◌++◌, ◌&&◌, false, if◌then◌else◌, Option, Some, true≢false}
 use Rattle.area_disk.specs.declared.memory.MemoryArea.{MemoryArea}
 use Rattle.area_disk.specs.declared.plan.Outcome3.TheVariants.{Old}
 use Rattle.gateway_book.specs.Opened.{StandsFitFor}
@@ -11,8 +11,8 @@ use Rattle.replay_gateway.proofs.AreaLemmas.{stopped_area}
 use Rattle.replay_gateway.proofs.CallLemmas.{stopped}
 use Rattle.replay_gateway.proofs.machine.Machine.stop.Goals as goal
 
-pub returns : goal.returns
-returns c = λ setup place g m stands runs.
+pub returns-clause-stops : goal.returns-clause-stops
+returns-clause-stops c = λ setup place g m stands runs.
     let at : c.args.self.now.site ≡ Some (Up c.in-Some-Up.book) =
     cc (c.in-Some-Up.ensures.value, c.in-Some-Up.field-0-is) in
     let up = subst (λ (x : Option Site). SiteStands setup place g m x) at stands.site in
@@ -27,3 +27,9 @@ returns c = λ setup place g m stands runs.
     stopped setup place g m c.args.self.now c.leave.new.self stands
     (c.leave.ensures.down setup place g.book.firm down size) c.leave.ensures.none
     (c.leave.ensures.files (files_in setup place) m.filing (items_of g.book.firm) stands.writes) c.leave.ensures.rest
+
+pub returns-clause-down : goal.returns-clause-down
+returns-clause-down c = λ setup place g m stands down.
+    let at : c.args.self.now.site ≡ Some (Up c.in-Some-Up.book) =
+    cc (c.in-Some-Up.ensures.value, c.in-Some-Up.field-0-is) in
+    absurd (true≢false (sym down ∙ (subst (λ (x : Option Site). SiteStands setup place g m x) at stands.site).runs))

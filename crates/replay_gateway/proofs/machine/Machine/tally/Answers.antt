@@ -1,5 +1,4 @@
 use Rattle.std.proofs.Common.{◌∙◌, sym}
-use Rattle.std.proofs.lemmas.Result.{IfOk-weaker}
 use Rattle.replay_gateway.proofs.ReportLemmas.{tallied_up}
 use Rattle.replay_gateway.proofs.WritingLemmas.{site_set}
 use Rattle.replay_gateway.proofs.machine.Machine.tally.Goals as goal
@@ -11,8 +10,7 @@ returns-then-is_down c = λ setup place g m stands.
 pub returns : goal.returns
 returns c = λ setup place g m stands.
     let runs = sym (c.is_down.ensures setup place g m stands) ∙ c.if-is_down.false in
-    IfOk-weaker c.tell.result _ _ (λ tally told. (
-      tallied_up setup place g m tally runs told.0,
-      site_set setup place g m c.args.self.now c.tell.new.self stands told.1 c.tell.ensures.rest,
-    ))
-    (c.tell.ensures.told setup place g m stands.site runs)
+    let told = c.in_ok-told.ensures.told setup place g m stands.site runs in (
+      tallied_up setup place g m c.in_ok-told.told.0 c.in_ok-told.told.1 runs told.0,
+      site_set setup place g m c.args.self.now c.tell.new.self stands told.1 c.in_ok-told.ensures.rest,
+    )

@@ -35,4 +35,4 @@ returns c = λ v number stands is none.
     (told_sent v (number - 1) here.gateway here.machine here.has_gateway here.has_machine (event.Open number)
     (λ g. still (opened (rules_in v.setup) g)) refl none refl refl) stands stood refl
     (ap (λ (k : ℕ). set c.args.self.now.gateways.items k c.open.new.self) (c.from-index.ensures ∙ sym is)))
-    (c.open.ensures v.setup (number - 1) here.gateway here.machine there down)
+    (c.open.ensures.opens v.setup (number - 1) here.gateway here.machine there down)

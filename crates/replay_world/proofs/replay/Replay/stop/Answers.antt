@@ -23,7 +23,7 @@ returns c = λ v number stands is none.
     c.index_mut.result.now refl within c.index_mut.ensures.value in
     let here = machine_at v c.args.self.now stands number c.args.place c.index_mut.result.now is has in
     let there = called_stands v number c.index_mut.result.now here in
-    let stood = c.stop.ensures v.setup (number - 1) here.gateway here.machine there
+    let stood = c.stop.ensures.stops v.setup (number - 1) here.gateway here.machine there
     (runs_there v.world number here.gateway here.has_gateway none) in
     does_quietly v (Plays (event.Cut number 0)) (number - 1) (cut 0 here.gateway) (disarmed here.machine)
     c.stop.new.self c.args.self.now _

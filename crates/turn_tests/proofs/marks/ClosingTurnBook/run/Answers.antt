@@ -11,4 +11,4 @@ pub returns-clause-does : goal.returns-clause-does
 returns-clause-does g c =
     let turn = c.args.self in let old = c.args.value.now in let new = c.close.new.self in
     let marked = c.a_turn_owes.ensures.close old new c.close.result turn.now turn.who c.close.ensures.stays c.close.ensures.cause c.close.ensures.closed in
-    (drops_of (fortune_of old new) (value_of old), _, marked.adds, c.close.ensures.told)
+    (drops_of (fortune_of old new) (value_of old), _, marked.adds, c.close.ensures.everywhere)

@@ -11,4 +11,4 @@ pub returns-clause-does : goal.returns-clause-does
 returns-clause-does g c =
     let turn = c.args.self in let old = c.args.value.now in let new = c.tick.new.self in
     let marked = c.a_turn_owes.ensures.tick old new c.tick.result _ _ turn.now turn.who c.tick.ensures.stays c.tick.ensures.cause c.tick.ensures.ticked in
-    (drops_of (fortune_of old new) (value_of old), _, marked.adds, c.tick.ensures.told)
+    (drops_of (fortune_of old new) (value_of old), _, marked.adds, c.tick.ensures.everywhere)

@@ -1,11 +1,10 @@
 use Rattle.std.proofs.Common.{◌≡◌, ◌<◌, ◌^◌, ◌∙◌, ap, arith, List, count_by, drop, length, take}
 use Rattle.gateway_book.specs.Book.{value_of}
-use Rattle.gateway_answer.specs.Items.{items_between, items_of}
+use Rattle.gateway_answer.specs.Items.{is_part, items_between, items_of}
 use Rattle.gateway_answer.specs.Value.{BookValue}
 use Rattle.gw_base.specs.declared.item.Item.{Item}
-use Rattle.replay_gateway.specs.Tally.{is_part}
-use Rattle.replay_gateway.proofs.PieceLemmas.{counted_last, counted_more, goes_on_within, unchanged_then}
-use Rattle.replay_gateway.proofs.counting.count_records.Goals as goal
+use Rattle.gateway_book.proofs.PieceLemmas.{counted_last, counted_more, goes_on_within, unchanged_then}
+use Rattle.gateway_book.proofs.records.count_records.Goals as goal
 
 pub returns-then-len-clause-records : goal.returns-then-len-clause-records
 returns-then-len-clause-records g c told =

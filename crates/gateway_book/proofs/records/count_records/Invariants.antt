@@ -1,10 +1,9 @@
 use Rattle.std.proofs.Common.{◌≡◌, ◌+◌, ◌-◌, ◌≤◌, ◌^◌, length, take}
 use Rattle.gate_journal.specs.Moments.{Told}
 use Rattle.gateway_book.specs.Book.{area_of, value_of}
-use Rattle.gateway_answer.specs.Items.{items_of}
+use Rattle.gateway_answer.specs.Items.{items_of, part_count}
 use Rattle.gateway_book.specs.Read.{IsUnchanged}
-use Rattle.replay_gateway.specs.Tally.{part_count}
-use Rattle.replay_gateway.proofs.counting.count_records.Given as goal
+use Rattle.gateway_book.proofs.records.count_records.Given as goal
 
 -- the items up to a place were counted
 abbrev pub invariant-pieces : goal.invariant-pieces

@@ -1,15 +1,18 @@
-// How many records a gateway's history has filed.
-ghost use Rattle.std.specs.Prelude.{◌≡◌, IfOk};
+//! How many records a book has filed.
+ghost use Rattle.std.specs.Prelude.{◌≡◌, IfOk, List, count_by, length};
 ghost use Rattle.gate_journal.specs.Moments.{Told};
+ghost use Rattle.gw_base.specs.declared.history.HistoryEntry.{HistoryEntry};
 ghost use Rattle.gateway_book.specs.Book.{value_of};
-ghost use Rattle.gateway_answer.specs.Items.{items_of};
+ghost use Rattle.gateway_answer.specs.Filed.{filed};
+ghost use Rattle.gateway_answer.specs.Items.{is_part, items_of, part_count};
 ghost use Rattle.gateway_book.specs.Read.{HasReadCause, IsUnchanged};
-ghost use Rattle.replay_gateway.specs.Tally.{part_count};
 
-use crate::gateway_report::record_count;
+use crate::ItemsFault;
+use crate::book::Book;
+use crate::laws::a_book_is_within_the_limits;
 use area_disk::Area;
-use gateway_book::laws::a_book_is_within_the_limits;
-use gateway_book::{Book, ItemsFault};
+use gateway_answer::laws::a_history_filed_its_parts;
+use gw_base::Item;
 use std::alloc::Global;
 
 /// How many items are read at once.
@@ -37,4 +40,19 @@ pub fn count_records<A: Area>(alloc: Global, book: &mut Book<A>) -> Result<usize
         from += PIECE as u64;
     }
     Ok(records)
+}
+
+/// How many records there are among items: of all items of a history, how many it filed.
+pub fn record_count(items: &[Item]) -> usize
+    ensures parts { result ≡ count_by is_part items.now }
+    ensures records { (h : List HistoryEntry) → items.now ≡ items_of h → result ≡ length (filed h) }
+{
+    a_history_filed_its_parts();
+    let mut records = 0;
+    for item in items {
+        if let Item::Part { .. } = item {
+            records += 1;
+        }
+    }
+    records
 }

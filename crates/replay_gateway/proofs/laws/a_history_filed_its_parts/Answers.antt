@@ -1,5 +1,0 @@
-use Rattle.replay_gateway.proofs.CountLemmas.{records_filed}
-use Rattle.replay_gateway.proofs.laws.a_history_filed_its_parts.Goals as goal
-
-pub returns : goal.returns
-returns c = λ h. records_filed h
