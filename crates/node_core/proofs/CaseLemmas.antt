@@ -155,7 +155,7 @@ module _ (P : PacketState → Type 0) where
 -- what each sending leaves of the copies all of them leave
 pub after_all_keeps : (P : List PacketCopy → Type 0) (sendings : List Sending) →
     ((sending : Sending) → Contains sendings sending → (copies : List PacketCopy) → P copies →
-      P (copies_after sending copies)) →
+    P (copies_after sending copies)) →
     (packet : PacketState) → P packet.copies → P (packet_after_all sendings packet).copies
 after_all_keeps P [] keeps packet is = is
 after_all_keeps P (sending ∷ sendings) keeps packet is =

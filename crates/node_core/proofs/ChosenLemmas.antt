@@ -59,7 +59,7 @@ found_chosen copies copy found =
 -- who is released is the first that is, and the first copy is sealed
 abbrev pub IsFirstChosen : PacketCopy → List PacketCopy → PacketCopy → Type 0
 IsFirstChosen plain duplicates copy = is_chosen copy ≡ true → (plain.verdict ≡ Sealed)
-  × (find is_chosen duplicates ≡ Some copy)
+    × (find is_chosen duplicates ≡ Some copy)
 
 abbrev pub Chosen : List PacketCopy → Type 0
 Chosen [] = Unit {0}
@@ -120,7 +120,7 @@ choice_released plain duplicates was waits sealed choice is = elim (waits (ap is
   where
     by : (there : Option PacketCopy) → find is_chosen duplicates ≡ there → list_any is_chosen (plain ∷ duplicates) ≡ true → is_chosen choice ≡ true
     by None e any = absurd
-      (false≢true (sym (or_from (is_chosen plain) _ was.0 (none_passes is_chosen duplicates e)) ∙ any))
+        (false≢true (sym (or_from (is_chosen plain) _ was.0 (none_passes is_chosen duplicates e)) ∙ any))
     by (Some copy) e any =
         let both : Some copy ≡ Some choice = sym (found_chosen duplicates copy e) ∙ is in
         let same : copy ≡ choice = cc in
@@ -132,7 +132,7 @@ pub may_still : (order : Order) (copies : List PacketCopy) (copy : PacketCopy) �
     HasOrder order copy → (copy.command ≡ None → ⊥) → MayCancel copies
 may_still Cancel copies copy there right has sent = right
 may_still Release copies copy there right has sent = λ waits. passes_in is_chosen copies copy there
-  (by copy.command has sent)
+    (by copy.command has sent)
   where
     by : (command : Option Command) → IfSome command (λ (c : Command). c.order ≡ Release) → (command ≡ None → ⊥) →
         option_map_or (λ (c : Command). is_release c.order) command false ≡ true
@@ -233,12 +233,12 @@ module _ (plain : PacketCopy) (duplicates : List PacketCopy) (apart : AreApart (
     ap is_chosen plain_stays ∙ plain_not,
     each_map (Contains duplicates) (IsFirstChosen (after_release plain) (map after_release duplicates)) after_release
         (λ copy there is_so.
-          (ap (λ (c : PacketCopy). c.verdict) plain_stays ∙ one.right.0, found copy (only copy there is_so)))
+        (ap (λ (c : PacketCopy). c.verdict) plain_stays ∙ one.right.0, found copy (only copy there is_so)))
         duplicates (each_in duplicates),
   )
     where
       found : (copy : PacketCopy) → copy ≡ one.copy →
-        find is_chosen (map after_release duplicates) ≡ Some (after_release copy)
+          find is_chosen (map after_release duplicates) ≡ Some (after_release copy)
       found copy same =
           find_mapped is_chosen after_release duplicates
           ∙ ap (option_map after_release) (find_only (λ (c : PacketCopy). is_chosen (after_release c)) one.copy
@@ -257,11 +257,11 @@ may_commanded Release copies gateway number one =
     (released_now copies gateway number one)
 may_commanded Cancel copies gateway number one =
     λ waits. any_map is_chosen (commanded gateway (command_with Cancel number))
-      (cancel_keeps gateway number).same copies
+    (cancel_keeps gateway number).same copies
     ∙ one.right (stays copies waits)
   where
     stays : (copies : List PacketCopy) → waiting (map (commanded gateway (command_with Cancel number)) copies) ≡ true →
-      waiting copies ≡ true
+        waiting copies ≡ true
     stays [] waits = refl
     stays (plain ∷ duplicates) waits =
         either_commanded (λ (c : PacketCopy). is_waiting c.verdict ≡ true → is_waiting plain.verdict ≡ true)
@@ -278,7 +278,7 @@ chosen_moved (Copying gateway) peers (plain ∷ duplicates) apart is was =
           (λ c first is_so. (
             (first is_so).0,
             find-append is_chosen duplicates (copy ∷ []) ∙ ap (λ (o : Option PacketCopy). option_or o None)
-              (first is_so).1,
+                (first is_so).1,
           )) duplicates was.1)
           (λ is_so. absurd (cc)),
     )

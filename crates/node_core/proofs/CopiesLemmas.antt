@@ -41,7 +41,7 @@ least_more gateway low copies i d below =
 
 pub least_none : (gateway low : ℕ) (copies : List PacketCopy) → least low (numbers_at gateway (drop (length copies) copies)) ≡ low
 least_none gateway low copies = at_drop_all (λ (cs : List PacketCopy). least low (numbers_at gateway cs)) copies
-  (length copies) (omega arith)
+    (length copies) (omega arith)
 
 -- which numbers a response names, from a place on: the number there, or those from the next place on
 pub names_more : (f : ℕ → ℕ) (numbers : List ℕ) (number k : ℕ) → k < length numbers →
@@ -50,7 +50,7 @@ names_more f numbers number k below = at_drop_more (λ (ns : List ℕ). names (m
 
 pub names_none : (f : ℕ → ℕ) (numbers : List ℕ) (number : ℕ) → names (map f (drop (length numbers) numbers)) number ≡ false
 names_none f numbers number = at_drop_all (λ (ns : List ℕ). names (map f ns) number) numbers (length numbers)
-  (omega arith)
+    (omega arith)
 
 -- ---- a failing device
 

@@ -136,7 +136,7 @@ Names packets (send.Command packet gateway named drawn order is_new) = NamesBy p
 Names packets _ = Unit {0}
 
 due_names : (packets : List PacketState) (favourite : ℕ) (up : Bool) (peers : List Peer) (packet : PacketState) →
-  Contains packets packet →
+    Contains packets packet →
     AllByRecursion (Names packets) (due_for favourite up peers packet)
 due_names packets favourite up peers packet there = due_each (Names packets) favourite up peers packet (record {
   copied = λ gateway is_plain. tt;
@@ -162,7 +162,7 @@ all_names packets favourite up peers (packet ∷ those) there =
 now_names : (node : NodeValue) → AllByRecursion (Names node.packets) (due_now node)
 now_names node =
     each_append (Names node.packets) _ _
-      (probes_each (Names node.packets) (λ gateway path. tt) 0 node.paths node.gateways)
+    (probes_each (Names node.packets) (λ gateway path. tt) 0 node.paths node.gateways)
     (all_names node.packets _ _ _ node.packets (λ packet at. at))
 
 pub release_is_of_choice : (node : NodeValue) (packet gateway named number : ℕ) (is_new : Bool) →

@@ -104,11 +104,11 @@ pub data Does (number : ℕ) : List Peer → List PacketCopy → List Sending �
   ends : {peers : List Peer} {copies : List PacketCopy} → Does number peers copies []
   sends : {peers : List Peer} {copies : List PacketCopy} {sending : Sending} {sendings : List Sending} → is_of number sending ≡ true →
       Own number (copies_after sending copies) sending →
-        Step peers copies (drawn sending peers) (copies_after sending copies) →
+      Step peers copies (drawn sending peers) (copies_after sending copies) →
       Does number (drawn sending peers) (copies_after sending copies) sendings → Does number peers copies (sending ∷ sendings)
 
 abbrev has_copy : (copies : List PacketCopy) (copy : PacketCopy) → Contains copies copy →
-  HasCopyAt copies copy.gateway copy.number
+    HasCopyAt copies copy.gateway copy.number
 has_copy copies copy among = record { copy = copy; among = among; gateway_is = refl; number_is = refl }
 
 -- ---- what stands before the commands of a tick: the copy as it was, and the next number of its gateway too
@@ -143,10 +143,10 @@ module _ (number : ℕ) (first : List Peer) where
 
   -- a release or a cancel of a copy, and what follows
   command_goes : (peers : List Peer) (copies : List PacketCopy) (order : Order) (copy : PacketCopy)
-    (sendings : List Sending) →
+      (sendings : List Sending) →
       IsReady first peers copies copy → IsRight order copies copy → HasOrder order copy →
       Goes peers copies copy.gateway sendings →
-        Does number peers copies (command_of first number order copy ++ sendings)
+      Does number peers copies (command_of first number order copy ++ sendings)
   command_goes peers copies order copy sendings ready right has goes = unless (is_answered copy) refl
     where
       among : Contains copies copy
@@ -159,17 +159,16 @@ module _ (number : ℕ) (first : List Peer) where
       command = command_with order (next_number peers copy.gateway)
 
       by : (there : Option Command) → copy.command ≡ there → Does number peers copies (command_by there first number order copy ∷ sendings)
-      by (Some before) e = sends (own_number number)
-          (
-            refl,
-            has_copy copies copy among,
-            record {
-              command = before;
-              sent = e;
-              order_is = subst (λ (o : Option Command). IfSome o (λ (c : Command). c.order ≡ order)) e has;
-              number_is = refl;
-            },
-          )
+      by (Some before) e = sends (own_number number) (
+        refl,
+        has_copy copies copy among,
+        record {
+          command = before;
+          sent = e;
+          order_is = subst (λ (o : Option Command). IfSome o (λ (c : Command). c.order ≡ order)) e has;
+          number_is = refl;
+        },
+      )
           idles (unchanged (λ none. absurd (cc)))
       by None e =
           let one : CommandsOne copies copy.gateway order = record { copy = copy; found = ready.found; fresh = e; right = right } in
@@ -177,11 +176,10 @@ module _ (number : ℕ) (first : List Peer) where
           ap (λ (b : Bool). if b then with_command command copy else copy) (own_number copy.gateway) in
           let there : Contains (map (commanded copy.gateway command) copies) (with_command command copy) =
           subst (Contains (map (commanded copy.gateway command) copies)) same
-            (in_map (commanded copy.gateway command) copies copy among) in
+          (in_map (commanded copy.gateway command) copies copy among) in
           subst (λ (n : ℕ). Does number peers copies
-            (send.Command number copy.gateway copy.number n order true ∷ sendings)) (sym ready.same)
-          (sends (own_number number)
-          (
+          (send.Command number copy.gateway copy.number n order true ∷ sendings)) (sym ready.same)
+          (sends (own_number number) (
             refl,
             has_copy (map (commanded copy.gateway command) copies) (with_command command copy) there,
             record { command = command; sent = ap (λ (o : Option Command). option_or o (Some command)) e; order_is = refl; number_is = refl },
@@ -195,16 +193,16 @@ module _ (number : ℕ) (first : List Peer) where
       unless false e = by copy.command refl
 
   settling_goes : (peers : List Peer) (copies : List PacketCopy) (verdict : Verdict) (copy : PacketCopy)
-    (sendings : List Sending) →
+      (sendings : List Sending) →
       IsReady first peers copies copy → MayCancel copies → HasOrder Cancel copy →
       Goes peers copies copy.gateway sendings →
-        Does number peers copies (settling_by verdict first number copy ++ sendings)
+      Does number peers copies (settling_by verdict first number copy ++ sendings)
   settling_goes peers copies Unknown copy sendings ready may has goes =
       sends (own_number number)
-        (refl, has_copy copies copy (find_is (λ (c : PacketCopy). c.gateway == copy.gateway) copies copy ready.found).0)
+      (refl, has_copy copies copy (find_is (λ (c : PacketCopy). c.gateway == copy.gateway) copies copy ready.found).0)
       idles (goes peers copies (λ other apart is. is) may)
   settling_goes peers copies Held copy sendings ready may has goes =
-    command_goes peers copies Cancel copy sendings ready may has goes
+      command_goes peers copies Cancel copy sendings ready may has goes
   settling_goes peers copies _ copy sendings ready may has goes = goes peers copies (λ other apart is. is) may
 
   -- each duplicate is let be, or put out of the way
@@ -213,7 +211,7 @@ module _ (number : ℕ) (first : List Peer) where
       (f copy ≡ []) ⊎ ((f copy ≡ settling first number copy) × IsReady first peers copies copy × HasOrder Cancel copy)
 
   settles : (f : PacketCopy → List Sending) (duplicates : List PacketCopy) → AreApart duplicates →
-    (peers : List Peer) (copies : List PacketCopy) →
+      (peers : List Peer) (copies : List PacketCopy) →
       MayCancel copies → ((copy : PacketCopy) → Contains duplicates copy → Settles f peers copies copy) →
       Does number peers copies (flat_map f duplicates)
   settles f [] apart peers copies may each = ends
@@ -221,15 +219,19 @@ module _ (number : ℕ) (first : List Peer) where
       elim (each copy (in_head copy duplicates)) [
         | inl none ↦ subst (λ (xs : List Sending). Does number peers copies (xs ++ flat_map f duplicates)) (sym none)
             (settles f duplicates apart.1 peers copies may
-              (λ other there. each other (contains_more duplicates copy other there)))
+            (λ other there. each other (contains_more duplicates copy other there)))
         | inr is ↦ subst (λ (xs : List Sending). Does number peers copies (xs ++ flat_map f duplicates)) (sym is.0)
             (settling_goes peers copies copy.verdict copy (flat_map f duplicates) is.1 may is.2
             (λ later_peers later stays may_later. settles f duplicates apart.1 later_peers later may_later
             (λ other there. elim (each other (contains_more duplicates copy other there)) [
               | inl none ↦ inl none
-              | inr its ↦ inr (its.0, stays other
-                  (each_contains (λ (o : PacketCopy). copy.gateway ≢ o.gateway) duplicates other apart.0 there)
-                  its.1, its.2)
+              | inr its ↦ inr (
+                its.0,
+                stays other
+                    (each_contains (λ (o : PacketCopy). copy.gateway ≢ o.gateway) duplicates other apart.0 there)
+                    its.1,
+                its.2,
+              )
             ])))
       ]
 
@@ -258,7 +260,7 @@ module _ (number favourite : ℕ) (up : Bool) (peers : List Peer) (within : favo
   copy_does true copies is_plain room plain absent =
       let copy : PacketCopy = new_copy favourite (next_number peers favourite) (are_none copies) in
       subst (λ (b : Bool). Does number peers copies
-        (send.Data number favourite (next_number peers favourite) b true ∷ [])) plain
+      (send.Data number favourite (next_number peers favourite) b true ∷ [])) plain
       (sends (own_number number) (refl, has_copy (copies ++ copy ∷ []) copy (Contains-push copies copy), refl)
       (moves (Copying favourite) (record {
         within = within;
@@ -270,31 +272,34 @@ module _ (number favourite : ℕ) (up : Bool) (peers : List Peer) (within : favo
   asking_does plain duplicates room =
       cond_both (list_any (λ (copy : PacketCopy). is_held copy.verdict) duplicates) (test_of number plain ∷ [])
       (repeating (find_at favourite (plain ∷ duplicates)) favourite up peers number)
-        (Does number peers (plain ∷ duplicates))
+      (Does number peers (plain ∷ duplicates))
       (λ _. sends (own_number number) (refl, has_copy (plain ∷ duplicates) plain (in_head plain duplicates)) idles ends)
       (λ _. repeats (find_at favourite (plain ∷ duplicates)) refl)
     where
       repeats : (there : Option PacketCopy) → find_at favourite (plain ∷ duplicates) ≡ there →
           Does number peers (plain ∷ duplicates) (repeating there favourite up peers number)
-      repeats (Some copy) e = sends (own_number number)
-          (refl, has_copy (plain ∷ duplicates) copy
-            (find_is (λ (c : PacketCopy). c.gateway == favourite) (plain ∷ duplicates) copy e).0, refl) idles ends
+      repeats (Some copy) e = sends (own_number number) (
+        refl,
+        has_copy (plain ∷ duplicates) copy
+            (find_is (λ (c : PacketCopy). c.gateway == favourite) (plain ∷ duplicates) copy e).0,
+        refl,
+      ) idles ends
       repeats None e = copy_does up (plain ∷ duplicates) false room refl e
 
   -- where no duplicate is held there are only tests
   tests_do : (copies duplicates : List PacketCopy) →
-    ((copy : PacketCopy) → Contains duplicates copy → Contains copies copy) →
+      ((copy : PacketCopy) → Contains duplicates copy → Contains copies copy) →
       AllByRecursion (λ (copy : PacketCopy). is_held copy.verdict ≡ false) duplicates →
       Does number peers copies (flat_map (settling peers number) duplicates)
   tests_do copies [] there held = ends
   tests_do copies (copy ∷ duplicates) there held =
       by copy.verdict held.0
-        (tests_do copies duplicates (λ other at. there other (contains_more duplicates copy other at)) held.1)
+      (tests_do copies duplicates (λ other at. there other (contains_more duplicates copy other at)) held.1)
     where
       by : (verdict : Verdict) → is_held verdict ≡ false → Does number peers copies (flat_map (settling peers number) duplicates) →
           Does number peers copies (settling_by verdict peers number copy ++ flat_map (settling peers number) duplicates)
       by Unknown e rest = sends (own_number number)
-        (refl, has_copy copies copy (there copy (in_head copy duplicates))) idles rest
+          (refl, has_copy copies copy (there copy (in_head copy duplicates))) idles rest
       by Held e rest = absurd (cc)
       by _ e rest = rest
 
@@ -303,7 +308,7 @@ module _ (number favourite : ℕ) (up : Bool) (peers : List Peer) (within : favo
     ready copy there = is_ready peers (plain ∷ duplicates) kept room copy (contains_more duplicates plain copy there)
 
     all_settle : is_waiting plain.verdict ≡ false →
-      Does number peers (plain ∷ duplicates) (flat_map (settling peers number) duplicates)
+        Does number peers (plain ∷ duplicates) (flat_map (settling peers number) duplicates)
     all_settle settled =
         settles number peers (settling peers number) duplicates kept.apart.1 peers (plain ∷ duplicates)
         (λ waits. absurd (false≢true (sym settled ∙ waits)))
@@ -311,30 +316,30 @@ module _ (number favourite : ℕ) (up : Bool) (peers : List Peer) (within : favo
           refl,
           ready copy there,
           cancelled plain duplicates kept.chosen copy there
-            (λ sealed is. false≢true (sym settled ∙ ap is_waiting sealed)),
+              (λ sealed is. false≢true (sym settled ∙ ap is_waiting sealed)),
         ))
 
     releasing_does : plain.verdict ≡ Sealed → (choice : Option PacketCopy) → chosen duplicates ≡ choice →
         Does number peers (plain ∷ duplicates) (releasing choice peers number duplicates)
     releasing_does sealed None is =
         tests_do (plain ∷ duplicates) duplicates (λ copy there. contains_more duplicates plain copy there)
-          (none_held duplicates is)
+        (none_held duplicates is)
     releasing_does sealed (Some choice) is =
         command_goes number peers peers (plain ∷ duplicates) Release choice (flat_map (settling_beside choice peers number) duplicates)
         (ready choice (chosen_is duplicates choice is)) (sealed, is)
         (choice_released plain duplicates kept.chosen kept.waits sealed choice is)
         (λ later_peers later stays may. settles number peers
-          (settling_beside choice peers number) duplicates kept.apart.1 later_peers later may
+        (settling_beside choice peers number) duplicates kept.apart.1 later_peers later may
         (λ copy there. elim (eqb_tells copy.gateway choice.gateway) [
           | inl same ↦ inl (rw same.0 refl)
           | inr differs ↦ inr (
-              rw differs.0 refl,
-              stays copy (λ e. differs.1 (sym e)) (ready copy there),
-              cancelled plain duplicates kept.chosen copy there (λ _ its.
-                  let both : Some copy ≡ Some choice = sym its ∙ is in
-                  let same : copy ≡ choice = cc in
-                  differs.1 (ap (λ (c : PacketCopy). c.gateway) same)),
-            )
+            rw differs.0 refl,
+            stays copy (λ e. differs.1 (sym e)) (ready copy there),
+            cancelled plain duplicates kept.chosen copy there (λ _ its.
+                let both : Some copy ≡ Some choice = sym its ∙ is in
+                let same : copy ≡ choice = cc in
+                differs.1 (ap (λ (c : PacketCopy). c.gateway) same)),
+          )
         ]))
 
     verdict_does : (verdict : Verdict) → plain.verdict ≡ verdict →

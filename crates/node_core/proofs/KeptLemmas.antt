@@ -31,7 +31,7 @@ goes_on {peers} {copies} {move} is = record {
   size = length_moved move peers;
   numbers = λ gateway. at_or_apart (λ (g : ℕ). next_number peers g ≤ next_number (peers_moved move peers) g)
       (place move) gateway (omega (arith, next_is is))
-        (λ apart. omega (arith, next_elsewhere move gateway peers apart));
+      (λ apart. omega (arith, next_elsewhere move gateway peers apart));
 }
 
 -- ---- what holds of a packet's copies
@@ -172,9 +172,11 @@ kept_moved (Commanding gateway order) peers copies is kept =
 
 pub all_kept_moved : {peers : List Peer} {move : Move} {packets after : List PacketState} → One peers move packets after → AllKept peers packets →
     AllKept (peers_moved move peers) after
-all_kept_moved {peers} {move} (here {packet} {packets} open_yet is) kept =
-    (kept_moved move peers packet.copies is kept.0, all_kept_on peers (peers_moved move peers) packets
-      (goes_on is) kept.1)
+all_kept_moved {peers} {move} (here {packet} {packets} open_yet is) kept = (
+  kept_moved move peers packet.copies is kept.0,
+  all_kept_on peers (peers_moved move peers) packets
+      (goes_on is) kept.1,
+)
 all_kept_moved {peers} {move} (beyond {packet} one) kept =
     (kept_on peers (peers_moved move peers) packet.copies (goes_on (one_is one).1) kept.0, all_kept_moved one kept.1)
 

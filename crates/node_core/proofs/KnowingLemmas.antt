@@ -65,7 +65,7 @@ module _ (port : Port) (cause : ℕ) where
       ∙ ap (λ (b : Bool). list_any (λ (r : Response). is_fulfilled r.cause) responses || b) (by named)
     where
       by : (named : Bool) →
-        list_any (λ (r : Response). is_fulfilled r.cause) (if_named named) ≡ (is_fulfilled cause && named)
+          list_any (λ (r : Response). is_fulfilled r.cause) (if_named named) ≡ (is_fulfilled cause && named)
       by true = or-false (is_fulfilled cause) ∙ sym (and-true (is_fulfilled cause))
       by false = sym (and-false (is_fulfilled cause))
 
@@ -126,12 +126,12 @@ undrawn : (peers : List Peer) (gateway number : ℕ) → number < next_number pe
     list_any (draws gateway number) sendings ≡ false
 undrawn peers gateway number below sendings all =
     list_any_none (draws gateway number) sendings
-      (All-from_recursion (λ (s : Sending). draws gateway number s ≡ false) sendings
+    (All-from_recursion (λ (s : Sending). draws gateway number s ≡ false) sendings
     (each_weaker (DrawsNext peers) (λ (s : Sending). draws gateway number s ≡ false) one sendings all))
   where
     if_new : (is_new : Bool) (place drawn : ℕ) → (is_new ≡ true → next_number peers place ≤ drawn) → (is_new && ((place == gateway) && (drawn == number))) ≡ false
     if_new is_new place drawn above = false_from_ne_true (is_new && ((place == gateway) && (drawn == number)))
-      (λ draws_it.
+        (λ draws_it.
         let new = and_parts is_new ((place == gateway) && (drawn == number)) draws_it in
         let both = and_parts (place == gateway) (drawn == number) new.1 in
         absurd (omega (
@@ -162,7 +162,7 @@ module _ (sendings : List Sending) (log : List LogEntry) where
         | inl same ↦ rw same.0 (record {
           verdict = known.verdict;
           command = if_or (λ (c : Command). c.is_answered ≡ is_fulfilled_at after_tick copy.gateway c.number)
-            copy.command
+              copy.command
               (Some (record { order = order; number = number; is_answered = false })) known.command
               (sym (ap (λ (g : ℕ). is_fulfilled_at after_tick g number) same.1
               ∙ ap (list_any (λ (r : Response). is_fulfilled r.cause)) (none_yet gateway number is)));
@@ -189,7 +189,7 @@ module _ (sendings : List Sending) (log : List LogEntry) where
   still_known : (peers : List Peer) → AllDraw peers sendings → (copy : PacketCopy) → IsBelow peers copy → IsKnown log copy → IsKnown after_tick copy
   still_known peers draw copy below =
       same_known log after_tick copy (same copy.number below.number)
-        (IfSome_then copy.command below.command (λ c is. same c.number is.1))
+      (IfSome_then copy.command below.command (λ c is. same c.number is.1))
     where
       same : (number : ℕ) → number < next_number peers copy.gateway → responses_to copy.gateway number after_tick ≡ responses_to copy.gateway number log
       same number low = ap (λ (b : Bool). if b then [] else responses_to copy.gateway number log) (undrawn peers copy.gateway number low sendings draw)
@@ -201,7 +201,7 @@ module _ (sendings : List Sending) (log : List LogEntry) where
     when_open log after_tick (packet_after_all sendings) packet
         (λ was. after_all_keeps (AllByRecursion (IsKnown after_tick)) sendings copies_known packet
         (each_both (IsBelow peers) (IsKnown log) (IsKnown after_tick) (still_known peers draw) packet.copies
-          kept.0.below was)) known.0,
+        kept.0.below was)) known.0,
     ticked_known peers packets draw kept.1 known.1,
   )
 
@@ -216,7 +216,7 @@ module _ (port : Port) (place cause : ℕ) (numbers : List ℕ) (log : List LogE
     verdict = rw mine (
         ap (λ (v : Verdict). first_told v (told_if (names numbers copy.number) port copy.is_plain cause)) known.verdict
         ∙ sym (told_more port cause (names numbers copy.number) copy.is_plain
-          (responses_to copy.gateway copy.number log)));
+        (responses_to copy.gateway copy.number log)));
     command = if_mapped (λ (c : Command). c.is_answered ≡ is_fulfilled_at after_response copy.gateway c.number)
         (command_hearing cause numbers) copy.command (IfSome_then copy.command known.command (answered copy mine));
   }
@@ -227,7 +227,7 @@ module _ (port : Port) (place cause : ℕ) (numbers : List ℕ) (log : List LogE
       answered copy mine command was = rw mine (
           ap (λ (b : Bool). b || (is_fulfilled cause && names numbers command.number)) was
           ∙ sym (fulfilled_more port cause (names numbers command.number)
-            (responses_to copy.gateway command.number log)))
+          (responses_to copy.gateway command.number log)))
 
   hears : (copy : PacketCopy) → IsKnown log copy → IsKnown after_response (copy_hearing port place cause numbers copy)
   hears copy known =
@@ -262,7 +262,7 @@ known_law setup = record {
       (all_same log (Submitted form ∷ log) (λ place number. refl) (packets_of log) known) (λ open_yet. tt);
   appoints = λ log gateway known. all_same log (Appointed gateway ∷ log) (λ place number. refl) (packets_of log) known;
   ticks = λ log stands tick known. ticked_known (due_now (node_of setup log)) log (peers_of setup.gateways log)
-    (packets_of log)
+      (packets_of log)
       tick.draws stands.kept known;
   hears = λ log port gateway saying known. heard_known port gateway saying log known;
 }

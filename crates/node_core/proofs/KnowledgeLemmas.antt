@@ -109,7 +109,7 @@ pub after_all_grows : (sendings : List Sending) (packet : PacketState) → Exten
 after_all_grows sendings packet =
     after_all_keeps (Extends CopyGrows packet.copies) sendings
     (λ sending there copies grows. extends_on CopyGrows copy_on packet.copies copies (copies_after sending copies) grows
-      (copies_grow sending copies))
+    (copies_grow sending copies))
     packet (same_copies packet.copies)
 
 -- ---- resolved and done
@@ -183,10 +183,10 @@ entry_grows _ log is = absurd (cc)
 more_rests : (entry : LogEntry) (entries : List LogEntry) (copy : PacketCopy) → RestsOn entries copy → RestsOn (entry ∷ entries) copy
 more_rests entry entries copy rests = record {
   verdict = λ known. let is : IsTold entries copy = rests.verdict known in
-    search (contains_more entries entry _ is.heard, is.named, is.tells);
+      search (contains_more entries entry _ is.heard, is.named, is.tells);
   command = IfSome_then copy.command rests.command (λ c now answered.
-    let is : IsFulfilled entries copy.gateway c.number = now answered in
-    search (contains_more entries entry _ is.heard, is.named, is.tells));
+      let is : IsFulfilled entries copy.gateway c.number = now answered in
+      search (contains_more entries entry _ is.heard, is.named, is.tells));
 }
 
 -- all copies of a packet, by recursion
@@ -224,7 +224,7 @@ module _ (entries : List LogEntry) where
 
   open_rests : (f : PacketState → PacketState) → ((packet : PacketState) → Each entries packet → Each entries (f packet)) →
       (packets : List PacketState) → AllByRecursion (Each entries) packets →
-        AllByRecursion (Each entries) (map (while_open f) packets)
+      AllByRecursion (Each entries) (map (while_open f) packets)
   open_rests f step = each_map (Each entries) (Each entries) (while_open f)
       (λ packet each. either_open (Each entries) f packet each (λ _. step packet each))
 
@@ -291,7 +291,7 @@ rests (Heard port gateway (Responds cause numbers) ∷ log) =
     let entries : List LogEntry = Heard port gateway (Responds cause numbers) ∷ since_start log in
     open_rests entries (packet_hearing port gateway cause numbers)
     (λ packet. each_map (RestsOn entries) (RestsOn entries) (copy_hearing port gateway cause numbers)
-      (hears port gateway cause numbers (since_start log)) packet.copies)
+    (hears port gateway cause numbers (since_start log)) packet.copies)
     (packets_of log) (more_each _ (since_start log) (packets_of log) (rests log))
 rests (Heard port gateway _ ∷ log) = more_each _ (since_start log) (packets_of log) (rests log)
 rests _ = tt

@@ -45,7 +45,7 @@ single peers packet kept = record {
   plain = kept.plain;
   apart = apart_pairs packet.copies kept.apart;
   rising = All-from_recursion (IsRising peers) packet.copies
-    (each_both (IsPlaced peers) (IsBelow peers) (IsRising peers)
+      (each_both (IsPlaced peers) (IsBelow peers) (IsRising peers)
       (λ copy place below. record { place = place; command = IfSome_then copy.command below.command (λ c is. is.0) })
       packet.copies kept.places kept.below);
 }
@@ -62,18 +62,18 @@ released_is_choice peers packet kept =
       λ is_so. let is_not : is_chosen plain ≡ false = is.0 in absurd (cc),
       each_weaker (IsFirstChosen plain duplicates) (λ (copy : PacketCopy). is_chosen copy ≡ true → IsChoice packet.copies copy.gateway copy.number)
           (λ copy first is_so. choice_of plain duplicates copy whole (first is_so).0
-            (found_chosen duplicates copy (first is_so).1)) duplicates is.1,
+          (found_chosen duplicates copy (first is_so).1)) duplicates is.1,
     )
 
 module _ (P : List Peer → PacketState → Type 0)
-  (of_kept : (peers : List Peer) (packet : PacketState) → IsKept peers packet.copies → P peers packet)
+    (of_kept : (peers : List Peer) (packet : PacketState) → IsKept peers packet.copies → P peers packet)
     (setup : NodeSetup) (calls : List NodeCall) (some : 1 ≤ length setup.gateways) where
   each_packet : All (P (reached setup calls).gateways) (reached setup calls).packets
   each_packet =
       let peers : List Peer = (reached setup calls).gateways in
       All-from_recursion (P peers) (reached setup calls).packets
       (each_weaker (λ (p : PacketState). IsKept peers p.copies) (P peers) (of_kept peers) (reached setup calls).packets
-        (all_stand setup some calls).kept)
+      (all_stand setup some calls).kept)
 
 pub all_single : (setup : NodeSetup) (calls : List NodeCall) → 1 ≤ length setup.gateways →
     All (IsSingle (reached setup calls).gateways) (reached setup calls).packets
@@ -90,7 +90,7 @@ SameLeast ones others = (number : ℕ) → least number ones ≡ least number ot
 
 -- the number of a command is above its copy's
 command_adds : (copy next number : ℕ) (command : Option Command) (rest : List ℕ) →
-  IfSome command (IsBetween copy next) →
+    IfSome command (IsBetween copy next) →
     least (min number copy) rest ≡ least (min number copy) (map (λ (c : Command). c.number) (option_to_list command) ++ rest)
 command_adds copy next number None rest below = refl
 command_adds copy next number (Some command) rest below =
@@ -127,7 +127,7 @@ pub least_of_copies : (setup : NodeSetup) (calls : List NodeCall) (gateway numbe
     least number (flat_map (unsettled_at gateway) (reached setup calls).packets) ≡ least number (flat_map (all_unsettled_at gateway) (reached setup calls).packets)
 least_of_copies setup calls gateway number some =
     packets_least (reached setup calls).gateways gateway (reached setup calls).packets
-      (all_stand setup some calls).kept number
+    (all_stand setup some calls).kept number
 
 -- ---- each request of a tick is of a copy that the packets have after it, and what it draws lies between the next
 -- numbers
@@ -155,7 +155,7 @@ module _ (peers : List Peer) (packets : List PacketState) (kept : AllKept peers 
       let copy : PacketCopy = sent.0.at.copy in
       let its : IfSome (Some sent.1.command) (IsBetween copy.number (next_number peers copy.gateway)) =
       subst (λ (o : Option Command). IfSome o (IsBetween copy.number (next_number peers copy.gateway))) sent.1.sent
-        (of_below sent.0).command in
+      (of_below sent.0).command in
       λ new. (draws new, omega (arith, its.1, sent.1.number_is, ap (next_number peers) sent.0.at.gateway_is))
   between before _ draws sent = tt
 
@@ -167,7 +167,7 @@ all_draw_between setup calls some running =
     All-from_recursion (DrawsNext now) (due (reached setup calls)) (next_tick setup some calls).draws in
     λ i default below. between (reached setup (Tick ∷ calls)).gateways (reached setup (Tick ∷ calls)).packets
     (all_stand setup some (Tick ∷ calls)).kept now _ (draws i default below)
-      (all_requests_sent setup calls some running i default below)
+    (all_requests_sent setup calls some running i default below)
 
 pub next_goes_on : (setup : NodeSetup) (calls : List NodeCall) (gateway : ℕ) → 1 ≤ length setup.gateways →
     next_number (reached setup calls).gateways gateway ≤ next_number (reached setup (Tick ∷ calls)).gateways gateway

@@ -104,7 +104,7 @@ placed zero f (peer ∷ peers) = refl
 placed (suc i) f (peer ∷ peers) = behind (slice_get peers i) ∙ ap (λ (ps : List Peer). peer ∷ ps) (placed i f peers)
   where
     behind : (there : Option Peer) → option_map_or (λ (p : Peer). slice_set (peer ∷ peers) (suc i) (f p)) there
-      (peer ∷ peers)
+        (peer ∷ peers)
         ≡ peer ∷ option_map_or (λ (p : Peer). slice_set peers i (f p)) there peers
     behind None = refl
     behind (Some p) = refl
@@ -131,7 +131,7 @@ pub next_placed : (i other : ℕ) (f : Peer → Peer) → (i ≡ other → (peer
     (peers : List Peer) →
     next_number (at_place i f peers) other ≡ next_number peers other
 next_placed i other f same peers = ap (λ (ps : List Peer). next_number ps other) (placed i f peers)
-  ∙ by i other same peers
+    ∙ by i other same peers
   where
     by : (i other : ℕ) → (i ≡ other → (peer : Peer) → (f peer).next ≡ peer.next) → (peers : List Peer) →
         next_number (changed i f peers) other ≡ next_number peers other

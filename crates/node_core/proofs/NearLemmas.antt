@@ -120,24 +120,25 @@ module _ (most gateway : ℕ) where
   near_copies low (copy ∷ copies) near =
       elim (eqb_tells copy.gateway gateway) [
         | inl is ↦
-            let at : most ≤ least (min low copy.number) (numbers_at gateway copies) + 16511 = rw is.0 at near in
-            ((λ same. omega (arith, at, least_most (min low copy.number) (numbers_at gateway copies))),
-              near_copies (min low copy.number) copies at)
+            let at : most ≤ least (min low copy.number) (numbers_at gateway copies) + 16511 = rw is.0 at near in (
+              (λ same. omega (arith, at, least_most (min low copy.number) (numbers_at gateway copies))),
+              near_copies (min low copy.number) copies at,
+            )
         | inr isnt ↦ ((λ same. absurd (isnt.1 same)), near_copies low copies (rw isnt.0 at near))
       ]
 
   near_packets : (low : ℕ) (packets : List PacketState) → most ≤ oldest_number gateway low packets + 16511 →
-    NearAll most gateway packets
+      NearAll most gateway packets
   near_packets low [] near = tt
   near_packets low (packet ∷ packets) near =
       let first : ℕ = least low (unsettled_at gateway packet) in
       let later : most ≤ oldest_number gateway first packets + 16511 =
       omega (arith, near, least-append low (unsettled_at gateway packet) (flat_map (unsettled_at gateway) packets)) in
       let here_is : most ≤ first + 16511 =
-          omega (arith, later, least_most first (flat_map (unsettled_at gateway) packets)) in (
+      omega (arith, later, least_most first (flat_map (unsettled_at gateway) packets)) in (
         λ open_yet. near_copies low packet.copies
             (subst (λ (done : Bool). most ≤ least low (if done then [] else numbers_at gateway packet.copies) + 16511)
-              open_yet here_is),
+            open_yet here_is),
         near_packets first packets later,
       )
 
@@ -167,7 +168,7 @@ near_pushed peers packets number unrefused is = record {
   near = λ gateway below.
       let next : ℕ = next_number peers gateway in
       let none_out : out_at gateway next packets ≡ None =
-          out_none 0 peers packets unrefused.near gateway gateway below (omega arith) in
+      out_none 0 peers packets unrefused.near gateway gateway below (omega arith) in
       let most : ℕ = next + weights gateway (packets ++ new_packet number ∷ []) in
       each_push (NearIn most gateway) packets (new_packet number)
       (near_packets most gateway next packets (omega (

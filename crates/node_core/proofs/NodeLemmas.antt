@@ -71,7 +71,7 @@ numbered_map f keeps before (packet ∷ packets) numbered =
 pub while_open-number : (f : PacketState → PacketState) → ((packet : PacketState) → (f packet).number ≡ packet.number) →
     (packet : PacketState) → (while_open f packet).number ≡ packet.number
 while_open-number f keeps packet = either_open (λ (p : PacketState). p.number ≡ packet.number) f packet refl
-  (λ _. keeps packet)
+    (λ _. keeps packet)
 
 pub after_all-number : (sendings : List Sending) (packet : PacketState) → (packet_after_all sendings packet).number ≡ packet.number
 after_all-number [] packet = refl
@@ -87,7 +87,7 @@ numbers_anew gateways = All-map (λ (peer : Peer). peer.next ≤ end_of_numbers)
 pub numbers_renewed : (peers : List Peer) → AreNumbers (peers_anew peers)
 numbers_renewed peers =
     All-map (λ (peer : Peer). peer.next ≤ end_of_numbers) (λ (peer : Peer). peer_anew peer.address) peers
-      (λ k d below. lit≤ tt)
+    (λ k d below. lit≤ tt)
 
 pub renewed_more : (xs ys : List Peer) (i : ℕ) (x : Peer) → i < length xs →
     ys ≡ peers_anew (take i xs) ++ drop i xs → x ≡ get_or ys i x →
@@ -111,14 +111,14 @@ numbered_next last packets within numbered =
 -- packets that change and keep their numbers leave a node sound
 pub sound_on : (restarts : ℕ) (node : NodeValue) (f : PacketState → PacketState) → ((packet : PacketState) → (f packet).number ≡ packet.number) →
     IsSound restarts node → (gateways : List Peer) (favourite quiet : ℕ) (packets : List PacketState) →
-      length gateways ≡ length node.gateways →
+    length gateways ≡ length node.gateways →
     favourite < length node.gateways → quiet ≤ 3 → AreNumbers gateways → packets ≡ map f node.packets →
     IsSound restarts
-      (record node { gateways = gateways; favourite_place = favourite; quiet = quiet; packets = packets })
+    (record node { gateways = gateways; favourite_place = favourite; quiet = quiet; packets = packets })
 sound_on restarts node f keeps sound gateways favourite quiet packets peers within few numbers is =
     let size : length (map f node.packets) ≡ length node.packets = length-map node.packets f in
     subst (λ (ps : List PacketState). IsSound restarts
-      (record node { gateways = gateways; favourite_place = favourite; quiet = quiet; packets = ps })) (sym is)
+    (record node { gateways = gateways; favourite_place = favourite; quiet = quiet; packets = ps })) (sym is)
     (record {
       some = omega (arith, peers, sound.some);
       most = omega (arith, peers, sound.most);
@@ -142,7 +142,7 @@ number_keeps : (gateway number : ℕ) (is_new : Bool) (peers : List Peer) →
     peers_anew (if is_new then number_drawn gateway number peers else peers) ≡ peers_anew peers
 number_keeps gateway number is_new peers =
     cond_both is_new (number_drawn gateway number peers) peers
-      (λ (after : List Peer). peers_anew after ≡ peers_anew peers)
+    (λ (after : List Peer). peers_anew after ≡ peers_anew peers)
     (λ _. place_keeps (λ (peer : Peer). peer_anew peer.address)
     (λ (peer : Peer). record peer { next = min (suc number) end_of_numbers }) (λ peer. refl) gateway peers) (λ _. refl)
 

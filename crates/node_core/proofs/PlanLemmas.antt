@@ -125,7 +125,7 @@ out_more gateways packets i d below =
 pub out_none : (gateways : List Peer) (packets : List PacketState) → numbers_out (length gateways) (drop (length gateways) gateways) packets ≡ None
 out_none gateways packets =
     at_drop_all (λ (peers : List Peer). numbers_out (length gateways) peers packets) gateways (length gateways)
-      (omega arith)
+    (omega arith)
 
 -- ---- the whole tick, once the favourite has moved or not
 
@@ -146,7 +146,7 @@ tick_is : (node : NodeValue) → befallen (tick_entries node) node ≡ after_tic
 tick_is node = by (moved_at_tick node)
   where
     by : (moved : Option ℕ) → befallen
-      (appointing moved ++ Ticked (due_now (befallen (appointing moved) node)) ∷ []) node ≡ after_tick node moved
+        (appointing moved ++ Ticked (due_now (befallen (appointing moved) node)) ∷ []) node ≡ after_tick node moved
     by None = refl
     by (Some gateway) = refl
 

@@ -141,7 +141,7 @@ module _ (setup : NodeSetup) where
   }
 
   halted : 1 ≤ length setup.gateways → (log : List LogEntry) → submitted log ≤ 4611686018427355136 →
-    Stands (Halted ∷ log)
+      Stands (Halted ∷ log)
   halted some log few = let is : Stands (Began ∷ log) = began some log few in
       search (is.size, is.place, is.numbered, is.counted, is.few, is.bounded)
 
@@ -167,7 +167,7 @@ module _ (setup : NodeSetup) where
 
   is_appointed : (gateway : ℕ) (log : List LogEntry) → gateway < length (peers_of setup.gateways log) → Stands log → Stands (Appointed gateway ∷ log)
   is_appointed gateway log below is =
-    let within : gateway < length setup.gateways = omega (arith, below, is.size) in search within
+      let within : gateway < length setup.gateways = omega (arith, below, is.size) in search within
 
   is_heard : (port : Port) (gateway : ℕ) (saying : Saying) (log : List LogEntry) → Stands log → Stands (Heard port gateway saying ∷ log)
   is_heard port heard_gateway (Responds cause numbers) log is =
@@ -179,10 +179,10 @@ module _ (setup : NodeSetup) where
         numbered = numbered_map (while_open hears) (while_open-number hears (λ packet. refl)) is.before (packets_of log) is.numbered;
         counted = omega (arith, is.counted, length-map (packets_of log) (while_open hears));
         kept = each_map (λ (p : PacketState). IsKept (peers_of setup.gateways log) p.copies) (λ (p : PacketState). IsKept (peers_of setup.gateways log) p.copies)
-          (while_open hears) (λ packet kept.
+            (while_open hears) (λ packet kept.
             either_open (λ (p : PacketState). IsKept (peers_of setup.gateways log) p.copies) hears packet kept
-              (λ _. kept_hearing (peers_of setup.gateways log) port heard_gateway cause numbers packet.copies kept))
-          (packets_of log) is.kept;
+            (λ _. kept_hearing (peers_of setup.gateways log) port heard_gateway cause numbers packet.copies kept))
+            (packets_of log) is.kept;
         few = is.few;
         bounded = λ gateway below. omega (
           arith,
@@ -194,10 +194,10 @@ module _ (setup : NodeSetup) where
   is_heard port gateway _ log is = search (is.place)
 
   tick_of : (log : List LogEntry) → Stands log →
-    IsTick (peers_of setup.gateways log) (packets_of log) (due_now (node_of setup log))
+      IsTick (peers_of setup.gateways log) (packets_of log) (due_now (node_of setup log))
   tick_of log is =
       a_tick (favourite log) (65536 + 2 * length (packets_of log)) is.before
-        (is_alive (node_of setup log).paths (favourite log))
+      (is_alive (node_of setup log).paths (favourite log))
       (node_of setup log).paths (peers_of setup.gateways log) (packets_of log)
       (omega (arith, is.few, is.counted)) (omega (arith, is.place, is.size)) is.kept is.bounded is.numbered
 
@@ -211,7 +211,7 @@ module _ (setup : NodeSetup) where
       let before : Bounded most tick.probed packets =
       λ gateway below. omega (arith, is.bounded gateway (omega (arith, below, tick.alike.size)), tick.alike.numbers gateway) in
       let bounded : Bounded most (all_drawn sendings (peers_of setup.gateways log)) (map after packets) =
-          bounded_after tick.row before in
+      bounded_after tick.row before in
       record {
         size = tick.on.size ∙ is.size;
         place = is.place;
@@ -237,15 +237,15 @@ module _ (setup : NodeSetup) where
     pub hears : (log : List LogEntry) (port : Port) (gateway : ℕ) (saying : Saying) → Q log → Q (Heard port gateway saying ∷ log)
 
   of_closed : (Q : List Peer → List PacketState → Type 0) → Closed Q →
-    Law (λ log. Q (peers_of setup.gateways log) (packets_of log))
+      Law (λ log. Q (peers_of setup.gateways log) (packets_of log))
   of_closed Q law = record {
     begins = λ log. law.anew setup.gateways;
     halts = λ log. law.anew setup.gateways;
     submits = λ log form unrefused is. law.pushed (peers_of setup.gateways log) (packets_of log)
-      (suc (submitted log)) unrefused is;
+        (suc (submitted log)) unrefused is;
     appoints = λ log gateway is. is;
     ticks = λ log stands tick is. row tick.row tick.kept
-      (law.alike (peers_of setup.gateways log) tick.probed (packets_of log) tick.alike is);
+        (law.alike (peers_of setup.gateways log) tick.probed (packets_of log) tick.alike is);
     hears = hears;
   }
     where
@@ -258,7 +258,7 @@ module _ (setup : NodeSetup) where
       hears : (log : List LogEntry) (port : Port) (gateway : ℕ) (saying : Saying) → Q (peers_of setup.gateways log) (packets_of log) →
           Q (peers_of setup.gateways log) (packets_of (Heard port gateway saying ∷ log))
       hears log port gateway (Responds cause numbers) is =
-        law.heard (peers_of setup.gateways log) (packets_of log) port gateway cause numbers is
+          law.heard (peers_of setup.gateways log) (packets_of log) port gateway cause numbers is
       hears log port gateway _ is = is
 
   module _ (some : 1 ≤ length setup.gateways) (Q : List LogEntry → Type 0) (law : Law Q) where
@@ -284,7 +284,7 @@ module _ (setup : NodeSetup) where
           by (moved_by now port gateway saying) (moved_within now port gateway saying)
         where
           by : (to : Option ℕ) → Within (length now.gateways) to →
-            Both (logged (Heard port gateway saying ∷ appointing to) log)
+              Both (logged (Heard port gateway saying ∷ appointing to) log)
           by None within = heard log port gateway saying is
           by (Some to) within = appointed (Heard port gateway saying ∷ log) to within (heard log port gateway saying is)
 
@@ -296,8 +296,10 @@ module _ (setup : NodeSetup) where
           by None e =
               cond_both (nat_lt (submitted log) most_submissions) (Submitted form ∷ []) []
               (λ (entries : List LogEntry). Both (logged entries log))
-              (λ fewer. (is_submitted form log (ltb-true _ _ fewer) is.0,
-                law.submits log form (unrefused now form e) is.1)) (λ _. is)
+              (λ fewer. (
+                is_submitted form log (ltb-true _ _ fewer) is.0,
+                law.submits log form (unrefused now form e) is.1,
+              )) (λ _. is)
       after_running Tick = by (moved_at_tick now) (tick_within now)
         where
           by : (to : Option ℕ) → Within (length now.gateways) to →
@@ -343,7 +345,7 @@ module _ (setup : NodeSetup) where
     pub all_closed : (Q : List Peer → List PacketState → Type 0) → Closed Q → (calls : List NodeCall) →
         Q (reached setup calls).gateways (reached setup calls).packets
     all_closed Q law calls =
-      (all_hold some (λ log. Q (peers_of setup.gateways log) (packets_of log)) (of_closed Q law) calls).1
+        (all_hold some (λ log. Q (peers_of setup.gateways log) (packets_of log)) (of_closed Q law) calls).1
 
     -- the next tick
     pub record NextTick (log entries : List LogEntry) (sendings : List Sending) : Type 0 where

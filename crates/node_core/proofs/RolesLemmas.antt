@@ -47,9 +47,9 @@ command_uses gateway number command (first ∷ copies) copy apart found fresh =
           let fresh_first : first.command ≡ None = ap (λ (c : PacketCopy). c.command) same ∙ fresh in
           let rest : map (commanded gateway command) copies ≡ copies =
           map_fixed (commanded gateway command) copies
-            (All-from_recursion (λ (c : PacketCopy). commanded gateway command c ≡ c) copies
+          (All-from_recursion (λ (c : PacketCopy). commanded gateway command c ≡ c) copies
           (each_weaker (λ (c : PacketCopy). first.gateway ≢ c.gateway)
-            (λ (c : PacketCopy). commanded gateway command c ≡ c)
+          (λ (c : PacketCopy). commanded gateway command c ≡ c)
           (λ c differs. rw (ne_eqb c.gateway gateway (λ e. differs (is.1 ∙ sym e))) refl) copies apart.0)) in
           rw (is.0, is.0, fresh_first, rest) (omega arith)
       | inr isnt ↦ rw (isnt.0, isnt.0)

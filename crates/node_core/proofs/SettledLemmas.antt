@@ -31,7 +31,7 @@ count_by-pass : (f : PacketState → Bool) (packet : PacketState) (packets : Lis
     count_by f (packet ∷ packets) ≡ (if is then 1 else 0) + count_by f packets
 count_by-pass f packet packets is e =
     sum_by-cons (λ x. if f x then 1 else 0) packet packets
-      ∙ ap (λ (b : Bool). (if b then 1 else 0) + count_by f packets) e
+    ∙ ap (λ (b : Bool). (if b then 1 else 0) + count_by f packets) e
 
 -- a done packet is resolved
 resolved_first : (copies : List PacketCopy) → is_done copies ≡ true → is_resolved copies ≡ true
@@ -43,7 +43,7 @@ resolved_first (plain ∷ duplicates) done = (and_parts (is_resolved (plain ∷ 
 -- what no done packet changes
 settled_is : {B : Type 0} (F : List PacketState → B) →
     ((packet : PacketState) (packets : List PacketState) → is_done packet.copies ≡ true →
-      F (packet ∷ packets) ≡ F packets) →
+    F (packet ∷ packets) ≡ F packets) →
     (kept : KeptPackets) → IsSettled kept → F (drop kept.settled kept.packets) ≡ F kept.packets
 settled_is F step kept settled = by kept.settled kept.packets settled.done
   where
@@ -57,7 +57,7 @@ open_settled = settled_is open_among (λ packet packets done.
 
 -- what each done packet adds to
 counted : (f : PacketState → Bool) → ((packet : PacketState) → is_done packet.copies ≡ true → f packet ≡ true) →
-  (kept : KeptPackets) → IsSettled kept →
+    (kept : KeptPackets) → IsSettled kept →
     kept.settled + count_by f (drop kept.settled kept.packets) ≡ count_by f kept.packets
 counted f passes kept settled = by kept.settled kept.packets settled.within settled.done
   where
@@ -65,8 +65,12 @@ counted f passes kept settled = by kept.settled kept.packets settled.within sett
     by zero packets within done = omega arith
     by (suc n) [] within done = absurd (omega (arith, within))
     by (suc n) (packet ∷ packets) within done =
-        omega (arith, by n packets (omega (arith, within)) done.1, count_by-pass f packet packets true
-          (passes packet done.0))
+        omega (
+          arith,
+          by n packets (omega (arith, within)) done.1,
+          count_by-pass f packet packets true
+              (passes packet done.0),
+        )
 
 pub resolved_settled : (kept : KeptPackets) → IsSettled kept →
     kept.settled + resolved_among (drop kept.settled kept.packets) ≡ resolved_among kept.packets
@@ -144,7 +148,7 @@ due_settled favourite up peers = settled_is (due_for_all favourite up peers) (λ
 front_same : (f : PacketState → PacketState) (n : ℕ) (packets : List PacketState) → AllDone (take n packets) →
     map (while_open f) (take n packets) ≡ take n packets
 front_same f (suc n) (packet ∷ packets) done =
-  rw done.0 (ap (λ (ps : List PacketState). packet ∷ ps) (front_same f n packets done.1))
+    rw done.0 (ap (λ (ps : List PacketState). packet ∷ ps) (front_same f n packets done.1))
 front_same f _ _ done = refl
 
 pub changed_settled : (f : PacketState → PacketState) (kept : KeptPackets) → IsSettled kept →
@@ -152,7 +156,7 @@ pub changed_settled : (f : PacketState → PacketState) (kept : KeptPackets) →
 changed_settled f kept settled =
     let n : ℕ = kept.settled in
     ap (λ (ps : List PacketState). ps ++ map (while_open f) (drop n kept.packets))
-      (sym (front_same f n kept.packets settled.done))
+    (sym (front_same f n kept.packets settled.done))
     ∙ sym (map-append (while_open f) (take n kept.packets) (drop n kept.packets))
     ∙ ap (λ (ps : List PacketState). map (while_open f) ps) (take-append-drop n kept.packets)
 
@@ -162,7 +166,7 @@ pub changed_front : (f : PacketState → PacketState) (n : ℕ) (packets : List 
     packets ≡ map (while_open f) (take n packets) ++ drop n packets
 changed_front f n packets done =
     sym (take-append-drop n packets) ∙ ap (λ (ps : List PacketState). ps ++ drop n packets)
-      (sym (front_same f n packets done))
+    (sym (front_same f n packets done))
 
 pub done_front : (f : PacketState → PacketState) (n : ℕ) (packets : List PacketState) → AllDone (take n packets) →
     AllDone (take n (map (while_open f) packets))

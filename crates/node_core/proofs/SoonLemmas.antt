@@ -84,11 +84,11 @@ module _ (gateway number : ℕ) where
 
   has_moved : {peers : List Peer} {move : Move} {packets after : List PacketState} → One peers move packets after → has_in packets ≡ true → has_in after ≡ true
   has_moved {peers} {move} (here {packet} {packets} open_yet is) has =
-    elim (or_cases (sent_in packet) (has_in packets) has) [
-    | inl its ↦ or_left (list_any is_at (copies_moved peers move packet.copies)) (has_in packets)
-        (in_moved move peers packet.copies its)
-    | inr later ↦ or_right (list_any is_at (copies_moved peers move packet.copies)) (has_in packets) later
-  ]
+      elim (or_cases (sent_in packet) (has_in packets) has) [
+        | inl its ↦ or_left (list_any is_at (copies_moved peers move packet.copies)) (has_in packets)
+            (in_moved move peers packet.copies its)
+        | inr later ↦ or_right (list_any is_at (copies_moved peers move packet.copies)) (has_in packets) later
+      ]
   has_moved (beyond {packet} {packets} {after} one) has = elim (or_cases (sent_in packet) (has_in packets) has) [
     | inl its ↦ or_left (sent_in packet) (has_in after) its
     | inr later ↦ or_right (sent_in packet) (has_in after) (has_moved one later)
@@ -116,7 +116,7 @@ module _ (gateway number : ℕ) where
   has_heard port heard cause numbers =
       let hears : PacketState → PacketState = packet_hearing port heard cause numbers in
       any_map sent_in (while_open hears)
-        (λ packet. either_open (λ (p : PacketState). sent_in p ≡ sent_in packet) hears packet refl
+      (λ packet. either_open (λ (p : PacketState). sent_in p ≡ sent_in packet) hears packet refl
       (λ _. puts_same _ (hearing_puts port heard cause numbers) packet.copies))
 
 -- a new copy is there
@@ -125,13 +125,13 @@ new_has : {peers : List Peer} {gateway : ℕ} {packets after : List PacketState}
 new_has {peers} {gateway} (here {packet} {packets} open_yet is) =
     let next : ℕ = next_number peers gateway in
     or_left (list_any (is_at gateway next) (copies_moved peers (Copying gateway) packet.copies))
-      (has_in gateway next packets)
+    (has_in gateway next packets)
     (list_any-append (is_at gateway next) packet.copies (new_copy gateway next (are_none packet.copies) ∷ [])
     ∙ or_right (list_any (is_at gateway next) packet.copies) _
     (or-false _ ∙ and_from (gateway == gateway) (next == next) (own_number gateway) (own_number next)))
 new_has {peers} {gateway} (beyond {packet} {packets} {after} one) =
     or_right (sent_in gateway (next_number peers gateway) packet) (has_in gateway (next_number peers gateway) after)
-      (new_has one)
+    (new_has one)
 
 -- ---- the law
 
@@ -161,7 +161,7 @@ soon_same : (peers other : List Peer) (packets after : List PacketState) → len
     ((gateway : ℕ) → next_number other gateway ≡ next_number peers gateway) → opens after ≤ 64 →
     ((gateway : ℕ) → lones gateway after ≤ lones gateway packets) →
     ((gateway number : ℕ) → has_in gateway number after ≡ has_in gateway number packets) → AllSoon peers packets →
-      AllSoon other after
+    AllSoon other after
 soon_same peers other packets after size next few less same is = record {
   few = few;
   first = λ gateway below. omega (arith, is.first gateway (omega (arith, below, size)), next gateway);
@@ -169,7 +169,7 @@ soon_same peers other packets after size next few less same is = record {
       (λ later has. same gateway later ∙ has) (is.base gateway (omega (arith, below, size)));
   copies = λ gateway number below has. soon_on peers other packets after gateway number (next gateway) (less gateway)
       (λ later has. same gateway later ∙ has)
-        (is.copies gateway number (omega (arith, below, size)) (sym (same gateway number) ∙ has));
+      (is.copies gateway number (omega (arith, below, size)) (sym (same gateway number) ∙ has));
 }
 
 soon_there : (peers : List Peer) (move : Move) (packets after : List PacketState) (number : ℕ) → One peers move packets after →
@@ -182,7 +182,7 @@ soon_there peers (Commanding gateway order) packets after number one below (inl 
       arith,
       bound,
       total_moved (left_at 0 gateway) 1
-        (λ copies is. omega (arith, weight_commanded 0 gateway order peers copies is.fits)) one,
+          (λ copies is. omega (arith, weight_commanded 0 gateway order peers copies is.fits)) one,
       next_moved one,
     ))
 
@@ -193,7 +193,7 @@ soon_moved peers move packets after gateway number one =
     → SoonAt (peers_moved move peers) after g number) (place move) gateway
     (soon_there peers move packets after number one)
     (λ apart below. soon_on peers (peers_moved move peers) packets after gateway number
-      (next_elsewhere move gateway peers apart)
+    (next_elsewhere move gateway peers apart)
     (weights_moved_other 0 gateway apart one) (λ later has. has_moved gateway later one has))
 
 all_soon_moved : (peers : List Peer) (move : Move) (packets after : List PacketState) → AllKept peers packets → One peers move packets after →
@@ -215,8 +215,14 @@ all_soon_moved peers move packets after kept one is = record {
         soon_moved peers move packets after gateway number one (below_has gateway number peers packets kept has) (is.copies gateway number (within gateway below) has)
     by gateway number below (inr new) =
         inl (subst (λ (g : ℕ). next_number (peers_moved move peers) g + lones g after ≤ number + 65) new.0
-        (omega (arith, next_moved one, new.1, weights_few 0 1 (place move) after (omega arith) (omega arith),
-          opens_moved one, is.few)))
+        (omega (
+          arith,
+          next_moved one,
+          new.1,
+          weights_few 0 1 (place move) after (omega arith) (omega arith),
+          opens_moved one,
+          is.few,
+        )))
 
 all_soon : Closed AllSoon
 all_soon = record {
@@ -228,12 +234,12 @@ all_soon = record {
   };
   alike = λ peers other packets alike is.
       soon_same peers other packets packets alike.size alike.numbers is.few (λ gateway. omega arith)
-        (λ gateway number. refl) is;
+      (λ gateway number. refl) is;
   pushed = λ peers packets new unrefused is. soon_same peers peers packets (packets ++ new_packet new ∷ []) refl
-    (λ gateway. refl)
+      (λ gateway. refl)
       (omega (arith, total_pushed (λ copies. 1) packets new, opens_are packets, unrefused.few))
       (λ gateway. omega (arith, total_pushed (left_at 0 gateway) packets new))
-        (λ gateway number. has_pushed gateway number packets new) is;
+      (λ gateway number. has_pushed gateway number packets new) is;
   moved = all_soon_moved;
   heard = λ peers packets port heard cause numbers is.
       soon_same peers peers packets (map (while_open (packet_hearing port heard cause numbers)) packets) refl (λ gateway. refl)

@@ -70,7 +70,7 @@ module _ (gateway number : ℕ) (order : Order) where
   done_commanded (plain ∷ duplicates) =
       let all : list_all is_settled (map after_command duplicates) ≡ list_all is_settled duplicates =
       list_all-map is_settled after_command duplicates
-        ∙ (λ i. list_all (λ (c : PacketCopy). settled_same c i) duplicates) in
+      ∙ (λ i. list_all (λ (c : PacketCopy). settled_same c i) duplicates) in
       rw (verdict_same plain, any_map is_released after_command released_same duplicates, all) refl
 
 open_moved : (move : Move) (peers : List Peer) (copies : List PacketCopy) → is_done copies ≡ false → is_done (copies_moved peers move copies) ≡ false
@@ -83,7 +83,7 @@ abbrev packet_with : ℕ → List PacketCopy → PacketState
 packet_with number copies = record { number = number; copies = copies }
 
 step_row : {peers later_peers after_peers : List Peer} {copies later : List PacketCopy} {after : List PacketState}
-  (number : ℕ) (packets : List PacketState) →
+    (number : ℕ) (packets : List PacketState) →
     Step peers copies later_peers later → is_done copies ≡ false →
     (is_done later ≡ false → Moves later_peers (packet_with number later ∷ packets) after_peers after) →
     Moves peers (packet_with number copies ∷ packets) after_peers after
@@ -169,7 +169,7 @@ module _ (favourite : ℕ) (up : Bool) where
   one_packet most peers packet packets few within kept bounded =
       cond_both (is_done packet.copies) [] (due_by_copies favourite up peers packet.number packet.copies)
       (λ (sendings : List Sending). Moves peers (packet ∷ packets) (all_drawn sendings peers)
-        (packet_after_all sendings packet ∷ packets)
+      (packet_after_all sendings packet ∷ packets)
       × AllByRecursion (Own packet.number (packet_after_all sendings packet).copies) sendings)
       (λ _. (still, tt))
       (λ open_yet. let does = due_does packet.number favourite up peers within packet.copies kept (room open_yet) in
@@ -253,7 +253,7 @@ a_tick favourite most before up paths peers packets few within kept bounded numb
     let due : List Sending = due_for_all favourite up probed packets in
     let alike : Alike peers probed = probes_alike 0 paths peers peers in
     let on : GoOn peers probed =
-      record { size = alike.size; numbers = λ gateway. omega (arith, alike.numbers gateway) } in
+    record { size = alike.size; numbers = λ gateway. omega (arith, alike.numbers gateway) } in
     let there : AllKept probed packets = all_kept_on peers probed packets on kept in
     let plan = tick_plan favourite up most probed packets few (omega (arith, within, alike.size)) there
     (λ gateway below. omega (arith, bounded gateway (omega (arith, below, alike.size)), alike.numbers gateway)) in
@@ -266,7 +266,7 @@ a_tick favourite most before up paths peers packets few within kept bounded numb
       alike = alike;
       kept = there;
       row = subst (λ (ps : List Peer). Moves probed packets ps
-        (map (while_open (packet_after_all (probes paths peers ++ due))) packets))
+          (map (while_open (packet_after_all (probes paths peers ++ due))) packets))
           (sym drawn_is) (subst (Moves probed packets (all_drawn due probed)) (sym is) plan.row);
       on = subst (GoOn peers) (sym drawn_is) (goes_further on (moves_go_on plan.row));
       draws = each_append (DrawsNext peers) (probes paths peers) due

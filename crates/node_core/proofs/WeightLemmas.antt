@@ -47,7 +47,7 @@ module _ (left : List PacketCopy → ℕ) where
 
   pub total_moved : (less : ℕ) {peers : List Peer} {move : Move} {packets after : List PacketState} →
       ((copies : List PacketCopy) → IsMove peers copies move →
-        less + left (copies_moved peers move copies) ≤ left copies) →
+      less + left (copies_moved peers move copies) ≤ left copies) →
       One peers move packets after → less + total left after ≤ total left packets
   total_moved less {peers} {move} step (here {packet} {packets} open_yet is) = omega (
     arith,
@@ -186,7 +186,7 @@ weight_moved (Commanding gateway order) peers copies is = weight_commanded 2 gat
 
 pub weights_moved_other : (none : ℕ) {peers : List Peer} {move : Move} {packets after : List PacketState} (gateway : ℕ) →
     place move ≢ gateway → One peers move packets after →
-      weights_by none gateway after ≤ weights_by none gateway packets
+    weights_by none gateway after ≤ weights_by none gateway packets
 weights_moved_other none {peers} {move} gateway apart one = omega (
   arith,
   total_moved (left_at none gateway) 0
@@ -225,12 +225,15 @@ Bounded most peers packets = (gateway : ℕ) → gateway < length peers → next
 
 pub less_left : {peers : List Peer} {move : Move} {packets after : List PacketState} → One peers move packets after → (gateway : ℕ) →
     next_number (peers_moved move peers) gateway + weights gateway after ≤ next_number peers gateway + weights gateway
-      packets
+    packets
 less_left {peers} {move} {packets} {after} one gateway =
     at_or_apart (λ (g : ℕ). next_number (peers_moved move peers) g + weights g after
     ≤ next_number peers g + weights g packets) (place move) gateway
-    (omega (arith, next_moved one,
-      total_moved (left_at 2 (place move)) 1 (λ copies is. omega (arith, weight_moved move peers copies is)) one))
+    (omega (
+      arith,
+      next_moved one,
+      total_moved (left_at 2 (place move)) 1 (λ copies is. omega (arith, weight_moved move peers copies is)) one,
+    ))
     (λ apart. omega (arith, next_elsewhere move gateway peers apart, weights_moved_other 2 gateway apart one))
 
 pub bounded_after : {most : ℕ} {peers after_peers : List Peer} {packets after : List PacketState} → Moves peers packets after_peers after → Bounded most peers packets →

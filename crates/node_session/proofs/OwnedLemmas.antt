@@ -60,7 +60,7 @@ in_either : {X : Type 0} (xs ys : List X) (x : X) → In x (xs ++ ys) → In x x
 in_either [] ys x is = inr is
 in_either (z ∷ zs) ys x (inl is) = inl (inl is)
 in_either (z ∷ zs) ys x (inr later) =
-  elim (in_either zs ys x later) [ inl first ↦ inl (inr first) | inr second ↦ inr second ]
+    elim (in_either zs ys x later) [ inl first ↦ inl (inr first) | inr second ↦ inr second ]
 
 -- the turn that added an entry
 adder : (turns : List KeptTurn) (p : Pair) → In p (added_by turns)

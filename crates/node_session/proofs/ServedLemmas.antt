@@ -64,7 +64,7 @@ module _ {told : Bool} where
     size = ap (λ (k : Knowledge). k.size) is;
     faults = ap (λ (k : Knowledge). k.faults) is;
     known = λ it_is. subst (λ (k : Knowledge). Begins before.known k.known) (sym is)
-      ([], sym (append-nil before.known));
+        ([], sym (append-nil before.known));
     later = [];
     turns = ap (λ (k : Knowledge). k.turns) is ∙ sym (append-nil before.turns);
   }
@@ -87,7 +87,7 @@ module _ {told : Bool} where
     faults = ap (λ (k : Knowledge). k.faults) took.kept;
     known = λ it_is. subst (λ (h : List HistoryEntry). Begins before.known h) (sym (ap (λ (k : Knowledge). k.known) took.kept))
         (begins_then before.known (facts took.found).firm (facts took.left).firm (took.legal.known it_is)
-          (took.owes.firm it_is));
+        (took.owes.firm it_is));
     later = kept (facts took.found) (facts took.left) took.drops took.added ∷ [];
     turns = ap (λ (k : Knowledge). k.turns) took.kept;
   }
@@ -110,16 +110,16 @@ pub record Laters (told : Bool) (most : ℕ) (taken after : Knowledge) : Type 0 
 
 pub later_none : {told : Bool} {taken after : Knowledge} (most : ℕ) → after ≡ taken → Laters told most taken after
 later_none most is =
-  record { goes = goes_none is; few = omega arith; adds_none = All-nil (λ (t : KeptTurn). t.added ≡ []) }
+    record { goes = goes_none is; few = omega arith; adds_none = All-nil (λ (t : KeptTurn). t.added ≡ []) }
 
 -- ---- the turn that took a datagram
 
 module _ {A : Type 0} (tells : Ghosts A) where
   counted_by : {from : Addr} {octets : List ℕ} {now : ℕ} {who : Caller} {before taken : Knowledge} {o : Outcome}
-    (first : TakesIn tells from octets now who before o taken)
+      (first : TakesIn tells from octets now who before o taken)
       (receipt : Receipt) → o ≡ outcome.Answer receipt
       → IsCountedBy (tells_lists tells) receipt.front receipt.faults
-        (kept (book_facts first.found) (book_facts first.left) first.drops first.added)
+      (kept (book_facts first.found) (book_facts first.left) first.drops first.added)
   counted_by first receipt is =
       let counts = subst (λ (x : Outcome). turns.IsCountedAt (book_facts first.left) x) is first.does_so.counts in
       record { front_is = counts.0; faults_is = counts.1; long = λ it_is. counts.0 ∙ first.sound.1.counted it_is }
@@ -130,7 +130,7 @@ module _ {A : Type 0} (tells : Ghosts A) where
   own_turn from octets now who before taken o first receipt is = (
     _,
     subst (λ (k : Knowledge). Contains k.turns
-      (kept (book_facts first.found) (book_facts first.left) first.drops first.added)) (sym first.kept)
+        (kept (book_facts first.found) (book_facts first.left) first.drops first.added)) (sym first.kept)
         (Contains-push before.turns _),
     counted_by first receipt is,
   )

@@ -108,7 +108,7 @@ module _ {A : Type 0} (tells : Ghosts A) (session : ℕ) where
           taken.1.legal.size,
           adds_first tells session job taken.1,
           subst (λ (n : ℕ). AreFirstsOf told session n jobs rest.goes.later)
-            (ap (λ (k : Knowledge). k.size) taken.1.kept) rest.each,
+              (ap (λ (k : Knowledge). k.size) taken.1.kept) rest.each,
         );
       }
   firsts_of _ _ before after taken = absurd taken
@@ -189,7 +189,7 @@ module _ {A : Type 0} (tells : Ghosts A) (session : ℕ) where
         → Goes job old new result now after outcome → HaveTurnsFor told outcomes now → HaveTurnsFor told outcomes after
     turns_stay job old new result now after outcome outcomes goes have =
         let one : GoesFrom told now after =
-          (later_on tells may session job old new result now after outcome goes).goes in
+        (later_on tells may session job old new result now after outcome goes).goes in
         λ k d lt. turn_stays told (slice_index_or outcomes k d) now after one.later one.turns (have k d lt)
 
     -- the turns behind those that took the datagrams: at most one for each job, which added nothing
@@ -199,11 +199,11 @@ module _ {A : Type 0} (tells : Ghosts A) (session : ℕ) where
     laters_of (job ∷ jobs) (o ∷ outcomes) (r ∷ results) taken after old new goes =
         let one : Laters told 1 taken goes.0 = later_on tells may session job old goes.1 r taken goes.0 o goes.2 in
         let rest : Laters told (length jobs) goes.0 after =
-          laters_of jobs outcomes results goes.0 after goes.1 new goes.3 in
+        laters_of jobs outcomes results goes.0 after goes.1 new goes.3 in
         record {
           goes = goes_then one.goes rest.goes;
           few = let a = one.few in let b = rest.few in
-            omega (arith, a, b, length-append one.goes.later rest.goes.later);
+              omega (arith, a, b, length-append one.goes.later rest.goes.later);
           adds_none = All-append (λ (t : KeptTurn). t.added ≡ []) one.goes.later rest.goes.later one.adds_none rest.adds_none;
         }
     laters_of (job ∷ jobs) _ _ taken after old new goes = absurd goes
@@ -353,13 +353,13 @@ adds_answers_of {told} {session} {jobs} {before} {after} keeps it_is own earlier
 pub adds_answers : {told : Bool} {session : ℕ} {job : Job} {before after : Knowledge} → KeepsTurns told session job before after → told ≡ true
     → session ≡ before.number → (jobs : List Job) → AddsAnswers jobs before → AddsAnswers (jobs ++ job ∷ []) after
 adds_answers {told} {session} {job} {before} {after} keeps =
-  adds_answers_of {jobs = job ∷ []} {before = before} {after = after} (record {
-  firsts = keeps.first ∷ [];
-  later = keeps.later;
-  turns = keeps.turns;
-  number = keeps.number;
-  size = keeps.size.0;
-  each = (keeps.size.1, keeps.adds, refl);
-  one_each = keeps.one_more;
-  adds_none = keeps.adds_none;
-})
+    adds_answers_of {jobs = job ∷ []} {before = before} {after = after} (record {
+      firsts = keeps.first ∷ [];
+      later = keeps.later;
+      turns = keeps.turns;
+      number = keeps.number;
+      size = keeps.size.0;
+      each = (keeps.size.1, keeps.adds, refl);
+      one_each = keeps.one_more;
+      adds_none = keeps.adds_none;
+    })
