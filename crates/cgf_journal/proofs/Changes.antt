@@ -1,8 +1,8 @@
 -- What a change of sorted keys makes of those that are held.
-use Rattle.std.proofs.Common.{inl, inr, ◌≡◌, ℕ, ◌+◌, ◌<◌, ◌≤◌, ◌==◌, ◌&&◌, ◌||◌, not, cond, Bool, true, false, List, [], ◌∷◌, ◌++◌, length, take, drop, filter, refl, sym, ap, ◌∙◌, arith}
+use Rattle.std.proofs.Common.{inl, inr, ◌≡◌, ◌⊎◌, ℕ, ◌+◌, ◌<◌, ◌≤◌, ◌==◌, ◌&&◌, ◌||◌, not, Bool, true, false, List, [], ◌∷◌, ◌++◌, length, take, drop, filter, refl, sym, ap, ◌∙◌, arith, zero, suc}
 use Rattle.std.specs.Prelude.{slice_index_or, slice_set}
 use Rattle.std.specs.List.{list_any}
-use Rattle.std.proofs.lemmas.Bool.{and_parts, cases_eq, cases_lt, eq-eqb, eqb-true, ne_eqb, true≢false}
+use Rattle.std.proofs.lemmas.Bool.{and_parts, and_right, cases_eq, cases_lt, eq-eqb, eqb-true, ne_eqb, true≢false, cases_Bool, not-false}
 use Rattle.std.proofs.lemmas.List.{get_or_default, get_or-set_other, get_or-set_same, length-set}
 use Rattle.std.proofs.lemmas.List.Folds.{list_any-append}
 use Rattle.gw_base.specs.declared.address.NodeId.{NodeId}
@@ -11,15 +11,16 @@ use Rattle.gw_base.specs.declared.entry.Act.TheVariants as lent
 use Rattle.gw_base.specs.Entry.{act_view}
 use Rattle.gw_base.specs.declared.history.HistoryAct.{HistoryAct}
 use Rattle.gw_base.specs.declared.held.HeldKey.{HeldKey}
-use Rattle.gw_base.specs.declared.history.HistoryAct.TheVariants.{Close, Path, Release, Seal, Start, Tick}
+use Rattle.gw_base.specs.declared.history.HistoryAct.TheVariants.{Path, Release, Seal}
+use Rattle.gw_base.specs.HeldKeys.{held_by}
 use Rattle.gw_base.specs.View.{stays_held}
 use Rattle.cgf_journal.specs.Keys.{IsAbsent, IsFirstOf, IsFound, changed_key, counted_keys, counts, is_named, key_of}
 use Rattle.cgf_journal.specs.Sorted.{GrowsBy, IsChanged, firm_keys, live_keys}
-use Rattle.cgf_journal.specs.Tally.{held_after, held_with, key_in_order}
+use Rattle.cgf_journal.specs.Tally.{held_after, held_with, key_in_order, keys_in_order}
 use Rattle.cgf_journal.specs.declared.key.KeptKey.{KeptKey}
 use Rattle.cgf_journal.specs.declared.sorted.SortedKeys.{SortedKeys}
-use Rattle.cgf_journal.proofs.KeysLemmas.{count-changed, firm-changed, firm-inserted, held_kept, length-key_in_order, let_go, live-changed, live-inserted, others_stay, with_change}
-use Rattle.cgf_journal.proofs.Ranks.{before_node, not_of_node, of_node, past_node}
+use Rattle.cgf_journal.specs.Rank.{rank_of}
+use Rattle.cgf_journal.proofs.KeysLemmas.{count-changed, firm-changed, firm-inserted, all_kept, length-key_in_order, let_go, live-changed, live-inserted, others_stay, with_change, before_node, not_of_node, of_node, past_node, Before, Later, one, other_stays, stays}
 use Rattle.cgf_journal.proofs.Orders.{field-set}
 
 abbrev pub new_key : NodeId → ℕ → ℕ → KeptKey
@@ -99,13 +100,7 @@ firm_more n x r keys now at is = ap (λ (l : List KeptKey). counted_keys true r 
 
 both_pass : (p q r : HeldKey → Bool) → ((key : HeldKey) → r key ≡ (q key && p key)) → (keys : List HeldKey) → filter p (filter q keys) ≡ filter r keys
 both_pass p q r same [] = refl
-both_pass p q r same (key ∷ keys) = by_tests (q key) (p key) refl (same key) (both_pass p q r same keys)
-  where
-    by_tests : (a b : Bool) → p key ≡ b → r key ≡ (a && p key) → filter p (filter q keys) ≡ filter r keys
-        → filter p (cond a (key ∷ filter q keys) (filter q keys)) ≡ cond (r key) (key ∷ filter r keys) (filter r keys)
-    by_tests true true is e rest = rw (e ∙ is) (rw is (ap (λ (l : List HeldKey). key ∷ l) rest))
-    by_tests true false is e rest = rw (e ∙ is) (rw is rest)
-    by_tests false b is e rest = rw e rest
+both_pass p q r same (key ∷ keys) = grind (arith, same key, both_pass p q r same keys)
 
 one_of_more : (a b c : Bool) → not (a && (b || (c || false))) ≡ (not (a && b) && not (a && c))
 one_of_more true false true = refl
@@ -121,12 +116,8 @@ pub all_stay : (act : HistoryAct) → ((key : HeldKey) → stays_held act key �
 all_stay act stay [] = refl
 all_stay act stay (key ∷ keys) = rw (stay key) (ap (λ (l : List HeldKey). key ∷ l) (all_stay act stay keys))
 
-none_of_none : (a : Bool) → not (a && false) ≡ true
-none_of_none true = refl
-none_of_none false = refl
-
 pub none_named : (n : NodeId) (keys : List HeldKey) → filter (λ (key : HeldKey). stays_held (Release n []) key) keys ≡ keys
-none_named n keys = all_stay (Release n []) (λ key. none_of_none (n.0 == key.node.0)) keys
+none_named n keys = all_stay (Release n []) (λ key. ap not (and_right (n.0 == key.node.0) false refl)) keys
 
 -- ---- the numbers of a node
 
@@ -201,18 +192,97 @@ goes_on n begun s next at end more change so_far =
 pub ends_free : (n : NodeId) (begun s : SortedKeys) (at end : ℕ) → end ≤ at → IsLettingGo n begun s at end
     → live_keys s ≡ filter (λ (key : HeldKey). of_others n key) (live_keys begun)
 ends_free n begun s at end done so_far =
-    sym (held_kept (λ (key : HeldKey). of_others n key) s.round s.keys.items (λ j d lt held. elim (cases_lt j at) [
+    sym (all_kept (λ (key : HeldKey). of_others n key) false s.round s.keys.items (λ j d lt held. elim (cases_lt j at) [
       | inl below ↦ so_far.gone j d below held
       | inr past ↦ other_passes n (key_of (slice_index_or s.keys.items j d)) (so_far.past j d (omega (arith, done, past)) lt)
     ])) ∙ so_far.live
 
 -- ---- entries that name nothing
 
-pub after_start : (act : Act) (keys : List HeldKey) → act ≡ lent.Start → keys ≡ held_after (act_view act) keys
-after_start act keys is = sym (ap (λ (a : Act). held_after (act_view a) keys) is ∙ all_stay Start (λ key. refl) keys)
+pub names_none : (act : Act) → (act ≡ lent.Start) ⊎ ((act ≡ lent.Tick) ⊎ (act ≡ lent.Close))
+    → ((key : HeldKey) → stays_held (act_view act) key ≡ true) × (held_by (act_view act) [] ≡ [])
+names_none act (inl is) = rw is ((λ key. refl), refl)
+names_none act (inr (inl is)) = rw is ((λ key. refl), refl)
+names_none act (inr (inr is)) = rw is ((λ key. refl), refl)
 
-pub after_tick : (act : Act) (keys : List HeldKey) → act ≡ lent.Tick → keys ≡ held_after (act_view act) keys
-after_tick act keys is = sym (ap (λ (a : Act). held_after (act_view a) keys) is ∙ all_stay Tick (λ key. refl) keys)
+pub after_none : (act : Act) → (act ≡ lent.Start) ⊎ ((act ≡ lent.Tick) ⊎ (act ≡ lent.Close)) → (keys : List HeldKey)
+    → keys ≡ held_after (act_view act) keys
+after_none act is keys =
+    let none = names_none act is in
+    sym (λ i. keys_in_order (none.1 i) (all_stay (act_view act) none.0 keys i))
 
-pub after_close : (act : Act) (keys : List HeldKey) → act ≡ lent.Close → keys ≡ held_after (act_view act) keys
-after_close act keys is = sym (ap (λ (a : Act). held_after (act_view a) keys) is ∙ all_stay Close (λ key. refl) keys)
+-- ---- how many keys an entry lets go
+
+removed : (n : NodeId) (x : ℕ) (s : Bool) (r : ℕ) (keys : List KeptKey) (at : ℕ) → at < length keys → ((d : KeptKey) → is_named n.0 x (key_of (slice_index_or keys at d)) ≡ true)
+    → Before keys at (rank_of n.0 x) → Later keys (at + 1) (rank_of n.0 x) → (d : KeptKey)
+    → one (counts s r (slice_index_or keys at d)) + length (filter (λ (key : HeldKey). stays n x key) (counted_keys s r keys)) ≡ length (counted_keys s r keys)
+removed n x s r [] at inside named before later d = absurd (omega (arith, inside))
+removed n x s r (kept ∷ keys) zero inside named before later d =
+    let rest = others_stay n x s r keys (λ j d lt e.
+    omega (arith, later (suc j) d (omega arith) (omega (arith, lt)), e)) in
+    elim (cases_Bool (counts s r kept)) [
+      | inl is ↦ rw (is, named kept) (omega (arith, ap (λ (l : List HeldKey). length l) rest))
+      | inr isnt ↦ rw isnt (omega (arith, ap (λ (l : List HeldKey). length l) rest))
+    ]
+removed n x s r (kept ∷ keys) (suc at) inside named before later d =
+    let low = before 0 kept (omega arith) in
+    let rest = removed n x s r keys at (omega (arith, inside)) (λ e. named e) (λ j e lt.
+    before (suc j) e (omega (arith, lt)))
+    (λ j e le lt. later (suc j) e (omega (arith, le)) (omega (arith, lt))) d in
+    elim (cases_Bool (counts s r kept)) [
+      | inl is ↦ rw (is, other_stays kept n x (λ e. omega (arith, low, e))) (omega (arith, rest))
+      | inr isnt ↦ rw isnt rest
+    ]
+
+pub found_gone : (n : NodeId) (x : ℕ) (s : Bool) (r : ℕ) (keys : List KeptKey) (at : ℕ) → IsFound keys at n.0 x → (kept : KeptKey) → kept ≡ slice_index_or keys at kept
+    → one (counts s r kept) + length (filter (λ (key : HeldKey). stays_held (Seal n x) key) (counted_keys s r keys)) ≡ length (counted_keys s r keys)
+found_gone n x s r keys at found kept is =
+    ap (λ (k : KeptKey). one (counts s r k) + length (filter (λ (key : HeldKey). stays n x key) (counted_keys s r keys))) is
+    ∙ removed n x s r keys at found.inside found.named found.before (λ j d le lt. found.later j d (omega (arith, le)) lt) kept
+
+pub none_gone : (n : NodeId) (x : ℕ) (s : Bool) (r : ℕ) (keys : List KeptKey) (at : ℕ) → IsAbsent keys at n.0 x
+    → 0 + length (filter (λ (key : HeldKey). stays_held (Seal n x) key) (counted_keys s r keys)) ≡ length (counted_keys s r keys)
+none_gone n x s r keys at absent = omega (arith, ap (λ (l : List HeldKey). length l) (absent_stay n x s r keys at absent))
+
+-- ---- numbers in ascending order
+
+-- each of these is below a bound
+abbrev pub AreBelow : ℕ → List ℕ → Type 0
+AreBelow bound xs = (y : ℕ) → bound ≤ y → list_any (λ (x : ℕ). x == y) xs ≡ false
+
+pub none_below : AreBelow 0 []
+none_below y le = refl
+
+pub one_below : (bound : ℕ) (xs : List ℕ) (x : ℕ) → AreBelow bound xs → bound ≤ x → AreBelow (x + 1) (xs ++ x ∷ [])
+one_below bound xs x below le y past =
+    list_any-append (λ (z : ℕ). z == y) xs (x ∷ []) ∙ rw (
+      below y (omega (arith, le, past)),
+      ne_eqb x y (λ e.
+          omega (arith, past, e)),
+    ) refl
+
+-- a test that drops only what another keeps drops as many after it
+drops_as_many : (p q : HeldKey → Bool) → ((key : HeldKey) → p key ≡ false → q key ≡ true) → (keys : List HeldKey)
+    → length (filter q keys) + length (filter p keys) ≡ length keys + length (filter p (filter q keys))
+drops_as_many p q other [] = refl
+drops_as_many p q other (key ∷ keys) = grind (arith, other key, drops_as_many p q other keys)
+
+-- a key that is let go by a number isn't let go by those below it
+kept_below : (n : NodeId) (x bound : ℕ) (xs : List ℕ) → AreBelow bound xs → bound ≤ x → (key : HeldKey) → stays_held (Seal n x) key ≡ false → stays_held (Release n xs) key ≡ true
+kept_below n x bound xs below le key gone =
+    let both = and_parts (n.0 == key.node.0) (x == key.number) (not-false ((n.0 == key.node.0) && (x == key.number)) gone) in
+    rw (both.0, below key.number (omega (arith, le, eqb-true x key.number both.1))) refl
+
+-- one more number lets as many go as it does alone
+pub one_more_gone : (n : NodeId) (x bound : ℕ) (xs : List ℕ) → AreBelow bound xs → bound ≤ x → (keys : List HeldKey) (gone now : ℕ)
+    → gone + length (filter (λ (key : HeldKey). stays_held (Release n xs) key) keys) ≡ length keys
+    → now + length (filter (λ (key : HeldKey). stays_held (Seal n x) key) keys) ≡ length keys
+    → gone + now + length (filter (λ (key : HeldKey). stays_held (Release n (xs ++ x ∷ [])) key) keys) ≡ length keys
+one_more_gone n x bound xs below le keys gone now before here =
+    omega (
+      arith,
+      before,
+      here,
+      drops_as_many (λ (key : HeldKey). stays_held (Seal n x) key) (λ (key : HeldKey). stays_held (Release n xs) key) (kept_below n x bound xs below le) keys,
+      ap (λ (l : List HeldKey). length l) (next_named n x xs keys),
+    )

@@ -1,7 +1,8 @@
--- Lists of held keys in order: they are the same where as many keys of each pass each test.
-use Rattle.std.proofs.Common.{inl, inr, ◌≡◌, ℕ, suc, ◌+◌, ◌<◌, ◌≤◌, ◌^◌, ◌==◌, ◌&&◌, Bool, true, cond, nat_lt, List, [], ◌∷◌, length, map, filter, refl, sym, ap, ◌∙◌, arith}
+-- How many keys pass a test.
+use Rattle.std.proofs.Common.{inl, inr, ◌≡◌, ℕ, suc, ◌+◌, ◌<◌, ◌≤◌, ◌^◌, ◌==◌, ◌&&◌, Bool, true, cond, nat_lt, List, [], ◌∷◌, length, map, filter, refl, sym, ap, ◌∙◌, arith, ◌++◌}
 use Rattle.std.specs.Prelude.{slice_index_or, ⊤}
-use Rattle.std.proofs.lemmas.Bool.{cases_order, cond_both, eq-eqb, ltb-false, ltb-true, ne_eqb}
+use Rattle.std.proofs.lemmas.Bool.{cases_order, cond_both, eq-eqb, ltb-false, ltb-true, ne_eqb, cases_Bool}
+use Rattle.std.proofs.lemmas.List.Sums.{count_by-le-length, length-filter}
 use Rattle.gw_base.specs.declared.held.HeldKey.{HeldKey}
 use Rattle.gw_base.specs.declared.history.HistoryAct.{HistoryAct}
 use Rattle.gw_base.specs.HeldKeys.{held_by}
@@ -14,8 +15,52 @@ use Rattle.cgf_journal.specs.Sorted.{keys_of}
 use Rattle.cgf_journal.specs.Tally.{held_after, key_in_order, keys_in_order}
 use Rattle.cgf_journal.specs.declared.key.KeptKey.{KeptKey}
 use Rattle.cgf_journal.specs.declared.sorted.SortedKeys.{SortedKeys}
-use Rattle.cgf_journal.proofs.Passings.{passing_after, passing_all_in_order}
-use Rattle.cgf_journal.proofs.Ranks.{same_node}
+use Rattle.cgf_journal.proofs.KeysLemmas.{same_node}
+
+pub passing_both : (p q : HeldKey → Bool) (keys : List HeldKey) → passing p (filter q keys) ≡ passing (λ (key : HeldKey). q key && p key) keys
+passing_both p q [] = refl
+passing_both p q (key ∷ keys) =
+    elim (cases_Bool (q key)) [
+      | inl is ↦ rw is (ap (λ (n : ℕ). cond (p key) 1 0 + n) (passing_both p q keys))
+      | inr isnt ↦ rw isnt (omega (arith, passing_both p q keys))
+    ]
+
+pub passing_in_order : (p : HeldKey → Bool) (key : HeldKey) (keys : List HeldKey) → passing p (key_in_order key keys) ≡ passing p keys + cond (p key) 1 0
+passing_in_order p key [] = omega arith
+passing_in_order p key (first ∷ keys) =
+    cond_both (nat_lt (rank_of first.node.0 first.number) (rank_of key.node.0 key.number)) (first ∷ key_in_order key
+    keys) (key ∷ first ∷ keys)
+    (λ (l : List HeldKey). passing p l ≡ passing p (first ∷ keys) + cond (p key) 1 0) (λ _.
+    omega (arith, passing_in_order p key keys)) (λ _. omega arith)
+
+pub passing_all_in_order : (p : HeldKey → Bool) (more keys : List HeldKey) → passing p (keys_in_order more keys) ≡ passing p keys + passing p more
+passing_all_in_order p [] keys = omega arith
+passing_all_in_order p (key ∷ more) keys =
+    omega (arith, passing_in_order p key (keys_in_order more keys), passing_all_in_order p more keys)
+
+pub passing-append : (p : HeldKey → Bool) (keys more : List HeldKey) → passing p (keys ++ more) ≡ passing p keys + passing p more
+passing-append p [] more = omega arith
+passing-append p (key ∷ keys) more = omega (arith, passing-append p keys more)
+
+pub passing_all : (keys : List HeldKey) → passing (λ (key : HeldKey). true) keys ≡ length keys
+passing_all [] = refl
+passing_all (key ∷ keys) = omega (arith, passing_all keys)
+
+-- the keys of a list that pass a test
+pub passing_of : (p : HeldKey → Bool) (keys : List HeldKey) → length (filter p keys) ≡ passing p keys
+passing_of p [] = refl
+passing_of p (key ∷ keys) = grind (arith, passing_of p keys)
+
+pub passing_le : (p : HeldKey → Bool) (keys : List HeldKey) → passing p keys ≤ length keys
+passing_le p keys = omega (arith, passing_of p keys, length-filter p keys, count_by-le-length p keys)
+
+-- one more entry, of keys in order
+pub passing_after : (p : HeldKey → Bool) (act : HistoryAct) (keys : List HeldKey) → passing p (held_after act keys) ≡ passing (λ (key : HeldKey). stays_held act key && p key) keys + passing p (held_by act [])
+passing_after p act keys =
+    passing_all_in_order p (held_by act []) (filter (λ (key : HeldKey). stays_held act key) keys)
+    ∙ ap (λ (n : ℕ). n + passing p (held_by act [])) (passing_both p (λ (key : HeldKey). stays_held act key) keys)
+
+-- ---- lists of held keys in order: they are the same where as many keys of each pass each test
 
 abbrev place : HeldKey → ℕ
 place key = rank_of key.node.0 key.number

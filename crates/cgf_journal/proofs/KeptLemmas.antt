@@ -1,36 +1,129 @@
--- Two lists of keys, of which an entry makes something.
-use Rattle.std.proofs.Common.{◌≡◌, ℕ, ◌+◌, ◌<◌, ◌≤◌, ◌==◌, ◌&&◌, not, ◌^◌, Bool, true, false, cond, List, [], ◌∷◌, length, filter, refl, ap, ◌∙◌, arith}
-use Rattle.std.proofs.lemmas.Bool.{and_parts, cond_both, eqb-true}
+-- What sorted keys and sums tell of a tally.
+use Rattle.std.proofs.Common.{◌≡◌, ℕ, ◌+◌, ◌<◌, ◌≤◌, ◌==◌, ◌&&◌, not, ◌^◌, Bool, true, false, List, [], ◌∷◌, length, filter, refl, ap, ◌∙◌, arith, ◌-◌, ◌*◌, if◌then◌else◌, nat_le, map, count_by, sym}
+use Rattle.std.proofs.lemmas.Bool.{and_parts, cond_both, eqb-true, le-leb, leb-true}
+use Rattle.std.proofs.lemmas.List.{length-map}
+use Rattle.std.proofs.lemmas.List.Sums.{count_by-le-length, length-filter}
 use Rattle.gw_base.specs.declared.address.NodeId.{NodeId}
 use Rattle.gw_base.specs.declared.held.HeldKey.{HeldKey}
 use Rattle.gw_base.specs.declared.history.HistoryAct.{HistoryAct}
-use Rattle.gw_base.specs.declared.history.HistoryAct.TheVariants.{Hold, Seal}
+use Rattle.gw_base.specs.declared.history.HistoryAct.TheVariants.{Hold, Seal, Start}
 use Rattle.gw_base.specs.HeldKeys.{held_by}
 use Rattle.gw_base.specs.View.{stays_held}
+use Rattle.gw_base.specs.declared.history.HistoryEntry.{HistoryEntry}
+use Rattle.gw_base.specs.History.{due_after}
+use Rattle.entry_codec.specs.Room.{capacity_of}
+use Rattle.entry_codec.specs.Spelling.{cost_of}
 use Rattle.cgf_journal.specs.Held.{IsOnceEach, held_behind, passing}
-use Rattle.cgf_journal.specs.Kept.{AreNoted, AreReady, HasNoRoom, HaveRoom, KeepsFirm, Kept, held_in, held_in_order, held_of}
-use Rattle.cgf_journal.specs.Keys.{counted_keys, is_named}
-use Rattle.cgf_journal.specs.Sorted.{GrowsBy, IsAbsorbed, count_held, firm_keys, keys_of, live_keys}
-use Rattle.cgf_journal.specs.Tally.{held_after, keys_in_order}
-use Rattle.cgf_journal.specs.declared.key.KeptKey.{KeptKey}
+use Rattle.cgf_journal.specs.Kept.{AreNoted, AreReady, KeepsFirm, Kept, held_in, held_in_order, held_of, ArePaid, HasNoRoom}
+use Rattle.cgf_journal.specs.Keys.{is_named, counted_keys, counts, key_of}
+use Rattle.cgf_journal.specs.Sorted.{GrowsBy, count_held, firm_keys, keys_of, live_keys}
+use Rattle.cgf_journal.specs.Tally.{held_after, keys_in_order, Tallies, TallyValue, free_beside, has_room_behind, tally_behind}
 use Rattle.cgf_journal.specs.declared.sorted.SortedKeys.{SortedKeys}
-use Rattle.cgf_journal.proofs.KeysLemmas.{counted_le}
-use Rattle.cgf_journal.proofs.Passings.{passing_after, passing_le, passing_of}
-use Rattle.cgf_journal.proofs.InOrder.{AreInOrder, held_as, held_then, none_up, same_held}
-use Rattle.cgf_journal.proofs.KeptSums.{length-in_order}
+use Rattle.cgf_journal.specs.Reserved.{cheapest_hold}
+use Rattle.cgf_journal.specs.Sums.{sum_after, tally_with}
+use Rattle.cgf_journal.specs.declared.key.KeptKey.{KeptKey}
+use Rattle.cgf_journal.specs.declared.sum.Sum.{Sum}
+use Rattle.cgf_journal.proofs.KeysLemmas.{counted_le, length-key_in_order}
+use Rattle.cgf_journal.proofs.InOrder.{passing_after, passing_le, passing_of, AreInOrder, held_as, held_then, same_held}
+use Rattle.cgf_journal.proofs.Tallies.{hold_costs}
 
--- ---- tests
+abbrev pub tallies : Kept → Sum → Sum → Tallies
+tallies keys firm live = record { firm = tally_with firm (keys.firm); live = tally_with live (keys.live); reserved = keys.reserved }
 
-one_more : (a b : Bool) (n m : ℕ) → n ≤ m → cond (a && b) 1 0 + n ≤ cond b 1 0 + m
-one_more true true n m le = omega (arith, le)
-one_more true false n m le = omega (arith, le)
-one_more false true n m le = omega (arith, le)
-one_more false false n m le = omega (arith, le)
+-- ---- how many keys stay
+
+both_tests : (p : HeldKey → Bool) (q : KeptKey → Bool) (keys : List KeptKey)
+    → filter p (map key_of (filter q keys)) ≡ map key_of (filter (λ (kept : KeptKey). q kept && p (key_of kept)) keys)
+both_tests p q [] = refl
+both_tests p q (kept ∷ keys) = grind (arith, both_tests p q keys)
+
+pub length-staying : (p : HeldKey → Bool) (firm : Bool) (round : ℕ) (keys : List KeptKey)
+    → length (filter p (counted_keys firm round keys)) ≡ count_by (λ (kept : KeptKey). counts firm round kept && p (key_of kept)) keys
+length-staying p firm round keys =
+    ap (λ (l : List HeldKey). length l) (both_tests p (λ (kept : KeptKey). counts firm round kept) keys)
+    ∙ length-map (filter (λ (kept : KeptKey). counts firm round kept && p (key_of kept)) keys) key_of
+    ∙ length-filter (λ (kept : KeptKey). counts firm round kept && p (key_of kept)) keys
+
+-- ---- one more entry
+
+pub one_more : (keys now : Kept) (firm live sum : Sum) (t : Tallies) (e : HistoryEntry) → tallies keys firm live ≡ t
+    → now.firm ≡ keys.firm → now.live ≡ held_after e.act (keys.live) → now.reserved ≡ keys.reserved → sum ≡ sum_after live e
+    → tallies now firm sum ≡ (let r : Tallies = record { firm = t.firm; live = tally_behind t.live e; reserved = t.reserved } in r)
+one_more keys now firm live sum t e is same more places added =
+    (λ i. record { firm = tally_with firm (same i); live = tally_with (added i) (more i); reserved = places i })
+    ∙ ap (λ (s : Tallies). let r : Tallies = record { firm = s.firm; live = tally_behind s.live e; reserved = s.reserved } in r) is
+
+-- ---- each key was paid for
+
+pub paid_settled : (keys now : Kept) (firm live : Sum) → ArePaid keys firm live → now ≡ record { firm = keys.live; live = keys.live; count = keys.count; reserved = keys.reserved }
+    → length keys.live ≤ keys.count → ArePaid now live live
+paid_settled keys now firm live paid is within = record {
+  firm_paid = omega (arith, paid.live_paid, within, ap (λ (k : Kept). length k.firm) is);
+  live_paid = omega (arith, paid.live_paid, ap (λ (k : Kept). k.count) is);
+}
+
+-- where no key more is reserved, the next would cost more than is left
+pub key_refused : (keys : Kept) (firm live : Sum) (t : Tallies) (e : HistoryEntry) → tallies keys firm live ≡ t → ArePaid keys firm live → HasNoRoom (count_held e.act) keys
+    → cheapest_hold * (t.reserved + 1) ≤ t.live.costs + cost_of e
+key_refused keys firm live t e is paid full =
+    omega (arith, paid.live_paid, full.one, full.full, hold_costs e, ap (λ (s : Tallies). s.reserved) is, ap (λ (s : Tallies). s.live.costs) is)
+
+-- ---- the tally of the firm entries, or else of all
+
+tally_chosen : (b : Bool) (keys : Kept) (firm live sum : Sum) (t : Tallies) → tallies keys firm live ≡ t → sum ≡ (if b then firm else live)
+    → tally_with sum (held_of b keys) ≡ (if b then t.firm else t.live)
+tally_chosen true keys firm live sum t is which = ap (λ (s : Sum). tally_with s (keys.firm)) which ∙ ap (λ (s : Tallies). s.firm) is
+tally_chosen false keys firm live sum t is which = ap (λ (s : Sum). tally_with s (keys.live)) which ∙ ap (λ (s : Tallies). s.live) is
+
+-- ---- what is free
+
+pub left_free : (b : Bool) (keys : Kept) (firm live sum : Sum) (t : Tallies) (size held promised result : ℕ) → tallies keys firm live ≡ t → sum ≡ (if b then firm else live)
+    → held ≡ length (held_of b keys)
+    → promised ≡ 76 * (held + 0) + (if sum.is_close_due then 30 else 0)
+    → result ≡ capacity_of size - (sum.costs + promised)
+    → result ≡ free_beside (if b then t.firm else t.live) size
+left_free b keys firm live sum t size held promised result is which count owed left =
+    let here : result ≡ free_beside (tally_with sum (held_of b keys)) size = omega (arith, count, owed, left) in
+    here ∙ ap (λ (v : TallyValue). free_beside v size) (tally_chosen b keys firm live sum t is which)
+
+-- ---- room
+
+one_at_most : (act : HistoryAct) → length (held_by act []) ≤ 1
+one_at_most Start = omega arith
+one_at_most _ = omega arith
+
+pub length-in_order : (more keys : List HeldKey) → length (keys_in_order more keys) ≡ length keys + length more
+length-in_order [] keys = omega arith
+length-in_order (key ∷ more) keys = omega (arith, length-key_in_order key (keys_in_order more keys), length-in_order more keys)
+
+-- the costs and promises after an entry where so many keys are held
+abbrev load : Sum → HistoryEntry → ℕ → ℕ
+load sum e held = sum.costs + cost_of e + (76 * held + (if due_after sum.is_close_due e.act then 30 else 0))
+
+abbrev staying : HistoryAct → List HeldKey → ℕ
+staying act keys = length (filter (λ (key : HeldKey). stays_held act key) keys)
+
+-- with the keys counted
+pub counted_room : (b : Bool) (keys : Kept) (firm live sum : Sum) (t : Tallies) (e : HistoryEntry) (size : ℕ) → tallies keys firm live ≡ t → sum ≡ (if b then firm else live)
+    → nat_le (load sum e (staying e.act (held_of b keys) + length (held_by e.act []))) (capacity_of size) ≡ has_room_behind (if b then t.firm else t.live) e size
+counted_room b keys firm live sum t e size is which =
+    ap (λ (n : ℕ). nat_le (load sum e n) (capacity_of size)) (sym (length-in_order (held_by e.act []) (filter (λ (key : HeldKey). stays_held e.act key) (held_of b keys))))
+    ∙ ap (λ (v : TallyValue). has_room_behind v e size) (tally_chosen b keys firm live sum t is which)
+
+-- where there is room even if each key stays held
+pub room_for_all : (b : Bool) (keys : Kept) (firm live sum : Sum) (t : Tallies) (e : HistoryEntry) (size held : ℕ) → tallies keys firm live ≡ t → sum ≡ (if b then firm else live)
+    → held ≡ length (held_of b keys) → nat_le (load sum e (held + 1)) (capacity_of size) ≡ true → true ≡ has_room_behind (if b then t.firm else t.live) e size
+room_for_all b keys firm live sum t e size held is which count room =
+    sym (le-leb (load sum e (staying e.act (held_of b keys) + length (held_by e.act []))) (capacity_of size)
+    (omega (arith, count, leb-true (load sum e (held + 1)) (capacity_of size) room, one_at_most e.act, length-filter (λ (key : HeldKey). stays_held e.act key) (held_of b keys), count_by-le-length (λ (key : HeldKey). stays_held e.act key) (held_of b keys))))
+    ∙ counted_room b keys firm live sum t e size is which
+
+-- ---- two lists of keys, of which an entry makes something
 
 -- fewer keys pass two tests than one of them
 pub passing_both_le : (q p : HeldKey → Bool) (keys : List HeldKey) → passing (λ (key : HeldKey). q key && p key) keys ≤ passing p keys
 passing_both_le q p [] = omega arith
-passing_both_le q p (key ∷ keys) = one_more (q key) (p key) (passing (λ (k : HeldKey). q k && p k) keys) (passing p keys) (passing_both_le q p keys)
+passing_both_le q p (key ∷ keys) = grind (arith, passing_both_le q p keys)
 
 passing_no : (p : HeldKey → Bool) (keys : List HeldKey) → ((key : HeldKey) → p key ≡ false) → passing p keys ≡ 0
 passing_no p [] none = refl
@@ -76,72 +169,53 @@ held_gone n x early late =
 once_same : (held now : (HeldKey → Bool) → ℕ) → ((p : HeldKey → Bool) → now p ≡ held p) → IsOnceEach held → IsOnceEach now
 once_same held now same once n x = omega (arith, same (λ (key : HeldKey). is_named n x key), once n x)
 
-pub ready_let_go : (act : HistoryAct) (early late early_new late_new : SortedKeys) (spare : ℕ) → count_held act ≡ 0 → AreNoted act 0 early late early_new late_new → AreReady early late spare → AreReady early_new late_new spare
-ready_let_go act early late early_new late_new spare none noted ready = record {
-  room = omega (arith, ready.room, noted.reserved);
-  some = omega (arith, ready.some, noted.room);
-  firm_once = once_same (λ p. held_in true early late p) (λ p. held_in true early_new late_new p) noted.firm ready.firm_once;
-  live_once =
-      once_same (held_behind act (λ p. held_in false early late p)) (λ p. held_in false early_new late_new p) noted.live
-      (once_let_go act (λ p. held_in false early late p) (held_fewer false early late) none ready.live_once);
-}
+module _ (act : HistoryAct) (more : ℕ) (early late early_new late_new : SortedKeys) (spare : ℕ) (noted : AreNoted act more early late early_new late_new) (ready : AreReady early late spare) where
+  ready_on : IsOnceEach (held_behind act (λ p. held_in false early late p)) → AreReady early_new late_new spare
+  ready_on once = record {
+    room = omega (arith, ready.room, noted.reserved);
+    some = omega (arith, ready.some, noted.room);
+    firm_once = once_same (λ p. held_in true early late p) (λ p. held_in true early_new late_new p) noted.firm ready.firm_once;
+    live_once = once_same (held_behind act (λ p. held_in false early late p)) (λ p. held_in false early_new late_new p) noted.live once;
+  }
+
+  pub ready_let_go : count_held act ≡ 0 → AreReady early_new late_new spare
+  ready_let_go none = ready_on (once_let_go act (λ p. held_in false early late p) (held_fewer false early late) none ready.live_once)
 
 pub ready_held : (n : NodeId) (x : ℕ) (packet : List ℕ) (early late early_new late_new : SortedKeys) (spare : ℕ) → AreNoted (Hold n x packet) 1 early late early_new late_new → AreReady early late spare → AreReady early_new late_new spare
-ready_held n x packet early late early_new late_new spare noted ready = record {
-  room = omega (arith, ready.room, noted.reserved);
-  some = omega (arith, ready.some, noted.room);
-  firm_once = once_same (λ p. held_in true early late p) (λ p. held_in true early_new late_new p) noted.firm ready.firm_once;
-  live_once =
-      once_same (held_behind (Hold n x packet) (λ p. held_in false early late p)) (λ p. held_in false early_new late_new p) noted.live
-      (once_held n x packet (λ p. held_in false early late p) (held_fewer false early late) (held_gone n x early late) ready.live_once);
-}
+ready_held n x packet early late early_new late_new spare noted ready =
+    ready_on (Hold n x packet) 1 early late early_new late_new spare noted ready
+    (once_held n x packet (λ p. held_in false early late p) (held_fewer false early late) (held_gone n x early late) ready.live_once)
 
 -- ---- what an entry makes of two lists
 
 same_length : (keys others : List HeldKey) → keys ≡ others → (p : HeldKey → Bool) → passing p keys ≡ passing p others
 same_length keys others is p = ap (λ (l : List HeldKey). passing p l) is
 
-pub let_go_both : (act : HistoryAct) (early late early_new late_new : SortedKeys) → count_held act ≡ 0
-    → live_keys early_new ≡ held_after act (live_keys early) → GrowsBy (count_held act) early early_new → live_keys late_new ≡ held_after act (live_keys late) → GrowsBy (count_held act) late late_new → AreNoted act 0 early late early_new late_new
-let_go_both act early late early_new late_new none one_live one two_live two = record {
-  live = λ p. omega (
-    arith,
-    none,
-    passing_le p (held_by act []),
-    same_length (live_keys early_new) (held_after act (live_keys early)) one_live p,
-    passing_after p act (live_keys early),
-    same_length (live_keys late_new) (held_after act (live_keys late)) two_live p,
-    passing_after p act (live_keys late),
-  );
-  firm = λ p. omega (arith, same_length (firm_keys early_new) (firm_keys early) one.firm p, same_length (firm_keys late_new) (firm_keys late) two.firm p);
-  count = omega (arith, none, one.count, two.count);
-  reserved = one.reserved;
-  room = two.reserved;
-}
-
-pub hold_one : (n : NodeId) (x : ℕ) (packet : List ℕ) (early late early_new late_new : SortedKeys)
-    → live_keys early_new ≡ held_after (Seal n x) (live_keys early) → GrowsBy 0 early early_new → live_keys late_new ≡ held_after (Hold n x packet) (live_keys late) → GrowsBy 1 late late_new → AreNoted (Hold n x packet) 1 early late early_new late_new
-hold_one n x packet early late early_new late_new one_live one two_live two = record {
-  live = λ p. omega (
-    arith,
-    same_length (live_keys early_new) (held_after (Seal n x) (live_keys early)) one_live p,
-    passing_after p (Seal n x) (live_keys early),
-    same_length (live_keys late_new) (held_after (Hold n x packet) (live_keys late)) two_live p,
-    passing_after p (Hold n x packet) (live_keys late),
-  );
+-- the early list lets go what the entry does, and the late one takes the entry
+both_noted : (act : HistoryAct) (more : ℕ) (early late early_new late_new : SortedKeys)
+    → ((p : HeldKey → Bool) → passing p (live_keys early_new) ≡ passing (λ (key : HeldKey). stays_held act key && p key) (live_keys early))
+    → GrowsBy 0 early early_new → live_keys late_new ≡ held_after act (live_keys late) → GrowsBy more late late_new → AreNoted act more early late early_new late_new
+both_noted act more early late early_new late_new drops one two_live two = record {
+  live = λ p. omega (arith, drops p, same_length (live_keys late_new) (held_after act (live_keys late)) two_live p, passing_after p act (live_keys late));
   firm = λ p. omega (arith, same_length (firm_keys early_new) (firm_keys early) one.firm p, same_length (firm_keys late_new) (firm_keys late) two.firm p);
   count = omega (arith, one.count, two.count);
   reserved = one.reserved;
   room = two.reserved;
 }
 
--- ---- room in the late list
+pub let_go_both : (act : HistoryAct) (early late early_new late_new : SortedKeys) → count_held act ≡ 0
+    → live_keys early_new ≡ held_after act (live_keys early) → GrowsBy (count_held act) early early_new → live_keys late_new ≡ held_after act (live_keys late) → GrowsBy (count_held act) late late_new → AreNoted act 0 early late early_new late_new
+let_go_both act early late early_new late_new none one_live one two_live two =
+    both_noted act 0 early late early_new late_new
+    (λ p. omega (arith, none, passing_le p (held_by act []), same_length (live_keys early_new) (held_after act (live_keys early)) one_live p, passing_after p act (live_keys early)))
+    (rw none at one) two_live (rw none at two)
 
-emptied_none : (s : Bool) (emptied : SortedKeys) → emptied.keys.items ≡ [] → (p : HeldKey → Bool) → passing p (keys_of s emptied) ≡ 0
-emptied_none s emptied none p = ap (λ (l : List KeptKey). passing p (counted_keys s emptied.round l)) none
-
-absorbed_held : (s : Bool) (early late early_new late_new : SortedKeys) → IsAbsorbed early late early_new late_new → (p : HeldKey → Bool) → held_in s early_new late_new p ≡ held_in s early late p
-absorbed_held s early late early_new late_new absorbed p = omega (arith, absorbed.held s p, emptied_none s late_new absorbed.none p)
+pub hold_one : (n : NodeId) (x : ℕ) (packet : List ℕ) (early late early_new late_new : SortedKeys)
+    → live_keys early_new ≡ held_after (Seal n x) (live_keys early) → GrowsBy 0 early early_new → live_keys late_new ≡ held_after (Hold n x packet) (live_keys late) → GrowsBy 1 late late_new → AreNoted (Hold n x packet) 1 early late early_new late_new
+hold_one n x packet early late early_new late_new one_live one two_live two =
+    both_noted (Hold n x packet) 1 early late early_new late_new
+    (λ p. omega (arith, same_length (live_keys early_new) (held_after (Seal n x) (live_keys early)) one_live p, passing_after p (Seal n x) (live_keys early)))
+    one two_live two
 
 -- ---- what contracts see of two lists
 
@@ -180,39 +254,22 @@ staying_both p b early late kept n m is one two =
 pub held_fits : (n : NodeId) (x : ℕ) (packet : List ℕ) → x < 2 ^ 64 → AreInOrder (held_by (Hold n x packet) [])
 held_fits n x packet small = (small, (tt, tt))
 
-noted_live : (act : HistoryAct) (more : ℕ) (early late early_new late_new : SortedKeys) → AreInOrder (held_by act []) → AreNoted act more early late early_new late_new → held_in_order false early_new late_new ≡ held_after act (held_in_order false early late)
-noted_live act more early late early_new late_new fits noted = held_then act false early late early_new late_new fits noted.live
+module _ (act : HistoryAct) (more : ℕ) (early late early_mid late_mid early_new late_new : SortedKeys) (kept : Kept) (is : seen early late ≡ kept)
+    (same : (firm : Bool) (p : HeldKey → Bool) → held_in firm early_mid late_mid p ≡ held_in firm early late p)
+    (fewer : length early_mid.keys.items + length late_mid.keys.items ≤ length early.keys.items + length late.keys.items)
+    (reserved : early_mid.reserved ≡ early.reserved) (noted : AreNoted act more early_mid late_mid early_new late_new) where
+  pub seen_live : AreInOrder (held_by act []) → held_in_order false early_new late_new ≡ held_after act kept.live
+  seen_live fits =
+      held_then act false early_mid late_mid early_new late_new fits noted.live
+      ∙ ap (λ (l : List HeldKey). held_after act l) (same_held false early late early_mid late_mid (same false))
+      ∙ ap (λ (k : Kept). held_after act k.live) is
 
-noted_firm : (act : HistoryAct) (more : ℕ) (early late early_new late_new : SortedKeys) → AreNoted act more early late early_new late_new → held_in_order true early_new late_new ≡ held_in_order true early late
-noted_firm act more early late early_new late_new noted = same_held true early late early_new late_new noted.firm
-
-module _ (act : HistoryAct) (early late early_new late_new : SortedKeys) (kept : Kept) (is : seen early late ≡ kept) where
-  pub seen_let_go : count_held act ≡ 0 → AreNoted act 0 early late early_new late_new → held_in_order false early_new late_new ≡ held_after act kept.live
-  seen_let_go none noted = noted_live act 0 early late early_new late_new (none_up (held_by act []) none) noted ∙ ap (λ (k : Kept). held_after act k.live) is
-
-  pub seen_same : (more : ℕ) → AreNoted act more early late early_new late_new → KeepsFirm more kept (seen early_new late_new)
-  seen_same more noted = record {
-    firm = noted_firm act more early late early_new late_new noted ∙ ap (λ (k : Kept). k.firm) is;
-    count = omega (arith, noted.count, ap (λ (k : Kept). k.count) is);
-    reserved = noted.reserved ∙ ap (λ (k : Kept). k.reserved) is;
-  }
-
-module _ (n : NodeId) (x : ℕ) (packet : List ℕ) (small : x < 2 ^ 64) (early late early_mid late_mid early_new late_new : SortedKeys) (kept : Kept) (is : seen early late ≡ kept) (room : HaveRoom early late early_mid late_mid) (noted : AreNoted (Hold n x packet) 1 early_mid late_mid early_new late_new) where
-  pub seen_held : held_in_order false early_new late_new ≡ held_after (Hold n x packet) kept.live
-  seen_held =
-      noted_live (Hold n x packet) 1 early_mid late_mid early_new late_new (held_fits n x packet small) noted
-      ∙ ap (λ (l : List HeldKey). held_after (Hold n x packet) l) (same_held false early late early_mid late_mid (room.held false))
-      ∙ ap (λ (k : Kept). held_after (Hold n x packet) k.live) is
-
-  pub seen_kept : KeepsFirm 1 kept (seen early_new late_new)
+  pub seen_kept : KeepsFirm more kept (seen early_new late_new)
   seen_kept = record {
-    firm = noted_firm (Hold n x packet) 1 early_mid late_mid early_new late_new noted ∙ same_held true early late early_mid late_mid (room.held true) ∙ ap (λ (k : Kept). k.firm) is;
-    count = omega (arith, noted.count, room.count, ap (λ (k : Kept). k.count) is);
-    reserved = noted.reserved ∙ room.reserved ∙ ap (λ (k : Kept). k.reserved) is;
+    firm = same_held true early_mid late_mid early_new late_new noted.firm ∙ same_held true early late early_mid late_mid (same true) ∙ ap (λ (k : Kept). k.firm) is;
+    count = omega (arith, noted.count, fewer, ap (λ (k : Kept). k.count) is);
+    reserved = noted.reserved ∙ reserved ∙ ap (λ (k : Kept). k.reserved) is;
   }
-
-pub refused : (early late : SortedKeys) (kept : Kept) → seen early late ≡ kept → early.reserved ≤ length early.keys.items + length late.keys.items → HasNoRoom 1 kept
-refused early late kept is full = record { one = refl; full = omega (arith, full, ap (λ (k : Kept). k.count) is, ap (λ (k : Kept). k.reserved) is) }
 
 -- ---- settled and reverted
 

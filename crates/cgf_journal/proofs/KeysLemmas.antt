@@ -1,7 +1,7 @@
--- Keys in order: one of them changed, one more in its place, and all of them settled.
-use Rattle.std.proofs.Common.{◌≡◌, ℕ, zero, suc, ◌+◌, ◌-◌, ◌<◌, ◌≤◌, ◌==◌, ◌&&◌, not, Bool, true, false, if◌then◌else◌, nat_lt, List, [], ◌∷◌, ◌++◌, length, take, drop, map, filter, refl, sym, ap, ◌∙◌, arith, inl, inr}
+-- The order of keys.
+use Rattle.std.proofs.Common.{◌≡◌, ℕ, zero, suc, ◌+◌, ◌-◌, ◌<◌, ◌≤◌, ◌==◌, ◌&&◌, not, Bool, true, false, if◌then◌else◌, nat_lt, List, [], ◌∷◌, ◌++◌, length, take, drop, map, filter, refl, sym, ap, ◌∙◌, arith, inl, inr, ◌*◌, ◌^◌, nat_le}
 use Rattle.std.specs.Prelude.{slice_index_or, slice_set}
-use Rattle.std.proofs.lemmas.Bool.{cases_Bool, cond_both, eq-eqb, le-ltb, lt-ltb, ne_eqb}
+use Rattle.std.proofs.lemmas.Bool.{cases_Bool, cond_both, eq-eqb, le-ltb, lt-ltb, ne_eqb, and_parts, cases_lt, eqb-true, false_from_ne_true, le-leb, lt-leb}
 use Rattle.std.proofs.lemmas.List.{length-map, length-set}
 use Rattle.std.proofs.lemmas.List.Sums.{count_by-le-length, length-filter}
 use Rattle.gw_base.specs.declared.address.NodeId.{NodeId}
@@ -12,7 +12,72 @@ use Rattle.cgf_journal.specs.Keys.{AreUpTo, changed_key, counted_keys, counts, i
 use Rattle.cgf_journal.specs.Rank.{rank_of}
 use Rattle.cgf_journal.specs.Tally.{held_with, key_in_order}
 use Rattle.cgf_journal.specs.declared.key.KeptKey.{KeptKey}
-use Rattle.cgf_journal.proofs.Ranks.{not_named}
+
+pub node_apart : (a b x y : ℕ) → x < 2 ^ 64 → y < 2 ^ 64 → (a ≡ b → ⊥) → rank_of a x ≡ rank_of b y → ⊥
+unfolding rank_of
+node_apart a b x y p q ne e = ne (omega (arith, e, p, q))
+
+pub number_apart : (a b x y : ℕ) → a ≡ b → (x ≡ y → ⊥) → rank_of a x ≡ rank_of b y → ⊥
+unfolding rank_of
+number_apart a b x y same ne e = ne (omega (arith, e, same))
+
+pub same_node : (a b x y : ℕ) → x < 2 ^ 64 → y < 2 ^ 64 → rank_of a x ≡ rank_of b y → (a ≡ b) × (x ≡ y)
+unfolding rank_of
+same_node a b x y p q e = (omega (arith, e, p, q), omega (arith, e, p, q))
+
+pub by_node : (a b x y : ℕ) → x < 2 ^ 64 → y < 2 ^ 64 → (a ≡ b → ⊥) → nat_lt a b ≡ nat_lt (rank_of a x) (rank_of b y)
+unfolding rank_of
+by_node a b x y p q ne = elim (cases_lt a b) [
+  | inl lt ↦ lt-ltb a b lt ∙ sym (lt-ltb (a * 2 ^ 64 + x) (b * 2 ^ 64 + y) (omega (arith, lt, p, q)))
+  | inr ge ↦ le-ltb a b ge ∙ sym (le-ltb (a * 2 ^ 64 + x) (b * 2 ^ 64 + y) (omega (arith, ge, ne, p, q)))
+]
+
+pub by_number : (a b x y : ℕ) → a ≡ b → nat_lt x y ≡ nat_lt (rank_of a x) (rank_of b y)
+unfolding rank_of
+by_number a b x y same = elim (cases_lt x y) [
+  | inl lt ↦ lt-ltb x y lt ∙ sym (lt-ltb (a * 2 ^ 64 + x) (b * 2 ^ 64 + y) (omega (arith, lt, same)))
+  | inr ge ↦ le-ltb x y ge ∙ sym (le-ltb (a * 2 ^ 64 + x) (b * 2 ^ 64 + y) (omega (arith, ge, same)))
+]
+
+-- a key of another rank is another
+pub not_named : (kept : KeptKey) (n x : ℕ) → (rank kept ≡ rank_of n x → ⊥) → is_named n x (key_of kept) ≡ false
+not_named kept n x ne =
+    false_from_ne_true (is_named n x (key_of kept)) (λ e.
+    let b = and_parts (n == kept.node.0) (x == kept.number) e in
+    ne (λ i. rank_of (sym (eqb-true n kept.node.0 b.0) i) (sym (eqb-true x kept.number b.1) i)))
+
+-- the rank of a key that is named
+pub named_rank : (kept : KeptKey) (n x : ℕ) → is_named n x (key_of kept) ≡ true → rank kept ≡ rank_of n x
+named_rank kept n x e =
+    let b = and_parts (n == kept.node.0) (x == kept.number) e in
+    λ i. rank_of (sym (eqb-true n kept.node.0 b.0) i) (sym (eqb-true x kept.number b.1) i)
+
+-- ---- the numbers of a node
+
+pub before_node : (a b x : ℕ) → rank_of a x < rank_of b 0 → rank_of (b + 1) 0 ≤ rank_of a x → ⊥
+unfolding rank_of
+before_node a b x lt le = omega (arith, lt, le)
+
+pub not_of_node : (a b x : ℕ) → rank_of a x < rank_of b 0 → b ≡ a → ⊥
+unfolding rank_of
+not_of_node a b x lt e = omega (arith, lt, e)
+
+pub of_node : (a b x : ℕ) → x < 2 ^ 64 → rank_of b 0 ≤ rank_of a x → rank_of a x < rank_of (b + 1) 0 → b ≡ a
+unfolding rank_of
+of_node a b x small le lt = omega (arith, small, le, lt)
+
+pub past_node : (a b x : ℕ) → x < 2 ^ 64 → rank_of (b + 1) 0 ≤ rank_of a x → b ≡ a → ⊥
+unfolding rank_of
+past_node a b x small le e = omega (arith, small, le, e)
+
+pub up_to_node : (a b x : ℕ) → x < 2 ^ 64 → nat_le a b ≡ nat_lt (rank_of a x) (rank_of (b + 1) 0)
+unfolding rank_of
+up_to_node a b x small = elim (cases_lt b a) [
+  | inl lt ↦ lt-leb a b lt ∙ sym (le-ltb (a * 2 ^ 64 + x) ((b + 1) * 2 ^ 64 + 0) (omega (arith, lt)))
+  | inr le ↦ le-leb a b le ∙ sym (lt-ltb (a * 2 ^ 64 + x) ((b + 1) * 2 ^ 64 + 0) (omega (arith, le, small)))
+]
+
+-- ---- keys in order: one of them changed, one more in its place, and all of them settled
 
 abbrev kept_by : Bool → ℕ → List KeptKey → List KeptKey
 kept_by s r keys = filter (λ (kept : KeptKey). counts s r kept) keys
@@ -27,25 +92,26 @@ Before keys at q = (j : ℕ) (d : KeptKey) → j < at → rank (slice_index_or k
 abbrev pub Later : List KeptKey → ℕ → ℕ → Type 0
 Later keys at q = (j : ℕ) (d : KeptKey) → at ≤ j → j < length keys → q < rank (slice_index_or keys j d)
 
--- ---- a test that all keys pass
+-- ---- a test that all counted keys pass
 
-pub all_kept : (p : HeldKey → Bool) (s : Bool) (r : ℕ) (keys : List KeptKey) → ((j : ℕ) (d : KeptKey) → j < length keys → p (key_of (slice_index_or keys j d)) ≡ true)
+pub all_kept : (p : HeldKey → Bool) (s : Bool) (r : ℕ) (keys : List KeptKey)
+    → ((j : ℕ) (d : KeptKey) → j < length keys → counts s r (slice_index_or keys j d) ≡ true → p (key_of (slice_index_or keys j d)) ≡ true)
     → filter p (counted_keys s r keys) ≡ counted_keys s r keys
 all_kept p s r [] pass = refl
 all_kept p s r (kept ∷ keys) pass =
     let rest = all_kept p s r keys (λ j d lt. pass (suc j) d (omega (arith, lt))) in
     cond_both (counts s r kept) (kept ∷ kept_by s r keys) (kept_by s r keys)
     (λ (l : List KeptKey). filter p (map key_of l) ≡ map key_of l)
-    (λ _. rw (pass 0 kept (omega arith)) (ap (λ (l : List HeldKey). key_of kept ∷ l) rest)) (λ _. rest)
+    (λ is. rw (pass 0 kept (omega arith) is) (ap (λ (l : List HeldKey). key_of kept ∷ l) rest)) (λ _. rest)
 
--- what follows of one key more in front
-counted-cons : (s : Bool) (r : ℕ) (kept : KeptKey) (keys others : List KeptKey) →
-    counted_keys s r keys ≡ counted_keys s r others
-    → counted_keys s r (kept ∷ keys) ≡ counted_keys s r (kept ∷ others)
-counted-cons s r kept keys others same =
-    elim (cases_Bool (counts s r kept)) [
-      | inl is ↦ rw is (ap (λ (l : List HeldKey). key_of kept ∷ l) same)
-      | inr isnt ↦ rw isnt same
+-- what follows of a key more in front that counts alike
+pub counted-cons : (s t : Bool) (q r : ℕ) (new kept : KeptKey) (keys others : List KeptKey) → counts s q new ≡ counts t r kept
+    → key_of new ≡ key_of kept → counted_keys s q keys ≡ counted_keys t r others
+    → counted_keys s q (new ∷ keys) ≡ counted_keys t r (kept ∷ others)
+counted-cons s t q r new kept keys others count key rest =
+    elim (cases_Bool (counts t r kept)) [
+      | inl is ↦ rw (count, is) (λ i. key i ∷ rest i)
+      | inr isnt ↦ rw (count, isnt) rest
     ]
 
 pub other_stays : (kept : KeptKey) (n : NodeId) (x : ℕ) → (rank kept ≡ rank_of n.0 x → ⊥) → stays n x (key_of kept) ≡ true
@@ -53,7 +119,7 @@ other_stays kept n x ne = ap not (not_named kept n.0 x ne)
 
 pub others_stay : (n : NodeId) (x : ℕ) (s : Bool) (r : ℕ) (keys : List KeptKey) → ((j : ℕ) (d : KeptKey) → j < length keys → rank (slice_index_or keys j d) ≡ rank_of n.0 x → ⊥)
     → filter (λ (key : HeldKey). stays n x key) (counted_keys s r keys) ≡ counted_keys s r keys
-others_stay n x s r keys apart = all_kept (λ (key : HeldKey). stays n x key) s r keys (λ j d lt. other_stays (slice_index_or keys j d) n x (apart j d lt))
+others_stay n x s r keys apart = all_kept (λ (key : HeldKey). stays n x key) s r keys (λ j d lt is. other_stays (slice_index_or keys j d) n x (apart j d lt))
 
 -- ---- a key in its place
 
@@ -124,12 +190,9 @@ pub firm-changed : (r : ℕ) (keys : List KeptKey) (at : ℕ) (now : KeptKey) �
     → ((d : KeptKey) → counts true r now ≡ counts true r (slice_index_or keys at d)) → counted_keys true r (slice_set keys at now) ≡ counted_keys true r keys
 firm-changed r [] at now inside same count = absurd (omega (arith, inside))
 firm-changed r (kept ∷ keys) zero now inside same count =
-    elim (cases_Bool (counts true r kept)) [
-      | inl is ↦ rw (count kept, is) (λ i. same kept i ∷ counted_keys true r keys)
-      | inr isnt ↦ rw (count kept, isnt) refl
-    ]
+    counted-cons true true r r now kept keys keys (count kept) (same kept) refl
 firm-changed r (kept ∷ keys) (suc at) now inside same count =
-    counted-cons true r kept (slice_set keys at now) keys
+    counted-cons true true r r kept kept (slice_set keys at now) keys refl refl
     (firm-changed r keys at now (omega (arith, inside)) (λ d. same d) (λ d. count d))
 
 pub count-changed : (held : Bool) (r : ℕ) (kept : KeptKey) → counts true r (changed_key held r kept) ≡ counts true r kept
@@ -175,19 +238,17 @@ pub firm-inserted : (r : ℕ) (keys : List KeptKey) (at : ℕ) (now : KeptKey) �
 firm-inserted r keys zero now waits = rw waits refl
 firm-inserted r [] (suc at) now waits = rw waits refl
 firm-inserted r (kept ∷ keys) (suc at) now waits =
-    counted-cons true r kept (take at keys ++ now ∷ drop at keys) keys (firm-inserted r keys at now waits)
+    counted-cons true true r r kept kept (take at keys ++ now ∷ drop at keys) keys refl refl
+    (firm-inserted r keys at now waits)
 
 -- ---- all of them settled
 
 pub firm-next : (r : ℕ) (keys : List KeptKey) → AreUpTo r keys → counted_keys true (r + 1) keys ≡ counted_keys false r keys
 firm-next r [] up = refl
 firm-next r (kept ∷ keys) up =
-    let past = ne_eqb kept.round (r + 1) (λ e. omega (arith, (up 0 kept (omega arith)).0, e)) in
-    let rest = firm-next r keys (λ j d lt. up (suc j) d (omega (arith, lt))) in
-    elim (cases_Bool kept.is_held) [
-      | inl is ↦ rw (past, is) (ap (λ (l : List HeldKey). key_of kept ∷ l) rest)
-      | inr isnt ↦ rw (past, isnt) rest
-    ]
+    counted-cons true false (r + 1) r kept kept keys keys
+    (rw (ne_eqb kept.round (r + 1) (λ e. omega (arith, (up 0 kept (omega arith)).0, e))) refl) refl
+    (firm-next r keys (λ j d lt. up (suc j) d (omega (arith, lt))))
 
 pub counted-settled : (s : Bool) (q : ℕ) (firm : Bool) (r : ℕ) (keys : List KeptKey) → counted_keys s q (map (λ (kept : KeptKey). settled_key firm r kept) keys) ≡ counted_keys firm r keys
 counted-settled s q firm r [] = refl
@@ -195,24 +256,10 @@ counted-settled s q firm r (kept ∷ keys) =
     let same : counts s q (settled_key firm r kept) ≡ counts firm r kept =
     cond_both (s && (0 == q)) (counts firm r kept) (counts firm r kept)
     (λ (b : Bool). b ≡ counts firm r kept) (λ _. refl) (λ _. refl) in
-    let rest = counted-settled s q firm r keys in
-    elim (cases_Bool (counts firm r kept)) [
-      | inl is ↦ rw (same, is) (ap (λ (l : List HeldKey). key_of kept ∷ l) rest)
-      | inr isnt ↦ rw (same, isnt) rest
-    ]
+    counted-cons s firm q r (settled_key firm r kept) kept (map (λ (k : KeptKey). settled_key firm r k) keys) keys
+    same refl (counted-settled s q firm r keys)
 
 -- ---- all keys of a node changed
-
--- a test that all held keys pass
-pub held_kept : (p : HeldKey → Bool) (r : ℕ) (keys : List KeptKey)
-    → ((j : ℕ) (d : KeptKey) → j < length keys → (slice_index_or keys j d).is_held ≡ true → p (key_of (slice_index_or keys j d)) ≡ true)
-    → filter p (counted_keys false r keys) ≡ counted_keys false r keys
-held_kept p r [] pass = refl
-held_kept p r (kept ∷ keys) pass =
-    let rest = held_kept p r keys (λ j d lt. pass (suc j) d (omega (arith, lt))) in
-    cond_both kept.is_held (kept ∷ kept_by false r keys) (kept_by false r keys)
-    (λ (l : List KeptKey). filter p (map key_of l) ≡ map key_of l)
-    (λ is. rw (pass 0 kept (omega arith) is) (ap (λ (l : List HeldKey). key_of kept ∷ l) rest)) (λ _. rest)
 
 -- a key that a test fails, let go
 pub let_go : (p : HeldKey → Bool) (r : ℕ) (keys : List KeptKey) (at : ℕ) (now : KeptKey) → at < length keys → now.is_held ≡ false

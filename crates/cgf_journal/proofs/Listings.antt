@@ -1,22 +1,31 @@
 -- Batches that an opening takes in, one after the other.
-use Rattle.std.proofs.Common.{◌≡◌, ℕ, ◌+◌, ◌<◌, ◌≤◌, List, [], ◌∷◌, ◌++◌, Result, Ok, Err, length, take, drop, refl, sym, ◌∙◌, ap, subst, arith, append_assoc}
-use Rattle.std.specs.Prelude.{All, IfOk, OnOk, Option, Some, unwrap_or}
-use Rattle.std.proofs.lemmas.List.{append-nil, drop_at, take_all}
+use Rattle.std.proofs.Common.{◌≡◌, ℕ, ◌+◌, ◌<◌, ◌≤◌, List, [], ◌∷◌, ◌++◌, Result, Ok, Err, length, take, drop, refl, sym, ◌∙◌, ap, subst, arith, append_assoc, ◌≢◌, ◌*◌, ◌==◌, true, false}
+use Rattle.std.specs.Prelude.{All, IfOk, OnOk, Option, Some}
+use Rattle.std.proofs.lemmas.List.{append-nil, drop_at, take_all, length-append, nil_from_length, take-append-drop}
 use Rattle.std.proofs.lemmas.List.Elements.{All-drop, All-head}
+use Rattle.std.proofs.lemmas.Option.{some_pair_parts}
+use Rattle.std.proofs.lemmas.Bool.{eqb-false, eqb-true}
 use Rattle.gw_base.specs.declared.history.HistoryEntry.{HistoryEntry}
 use Rattle.gw_base.specs.declared.place.Place.{Place}
 use Rattle.gate_journal.specs.Format.{end_of, header_length, taken}
 use Rattle.gate_journal.specs.Spelling.{taken-append}
-use Rattle.entry_codec.specs.Content.{IsContent, entries_of}
+use Rattle.gate_journal.specs.declared.faults.OpenFault.{OpenFault}
+use Rattle.entry_codec.specs.Content.{IsContent, entries_of, AreEntries, spelled}
 use Rattle.entry_codec.specs.Room.{capacity_of, costs_of}
+use Rattle.entry_codec.specs.Spelling.{entry_length, spelling}
+use Rattle.entry_codec.specs.LawTypes.{EntriesAreReadBack}
+use Rattle.entry_codec.specs.Laws.{length_of_spelling, more_entries, no_entries, one_entry}
+use Rattle.cgf_journal.specs.Fit.{AreFit}
 use Rattle.cgf_journal.specs.Format.{AreBatches, entries_in}
+use Rattle.cgf_journal.specs.Judged.{IsJudged}
 use Rattle.cgf_journal.specs.Opening.{AreTakenIn, BreaksAt, IsTakenUpTo}
 use Rattle.cgf_journal.specs.Reserved.{Placed}
 use Rattle.cgf_journal.specs.Sound.{places_behind, places_from}
 use Rattle.cgf_journal.specs.Tally.{Tallies, TallyValue, tally_behind_all, tally_of}
-use Rattle.cgf_journal.proofs.Entries.{are_batches-push, entries_in-push}
-use Rattle.cgf_journal.proofs.Placing.{places_behind-push}
-use Rattle.cgf_journal.proofs.Tallies.{tally_all, tally_of-costs}
+use Rattle.cgf_journal.specs.declared.judge.Judge.{Ghosts}
+use Rattle.cgf_journal.specs.Contents.{IsTakenIn}
+use Rattle.cgf_journal.proofs.Tallies.{are_batches-push, entries_in-push, tally_all, tally_of-costs, tally_all-append, tally_all-costs}
+use Rattle.cgf_journal.proofs.Placing.{places_behind-push, places_from-append}
 
 -- the last of some batches is entries
 pub last_content : (some : List (List ℕ)) (batch : List ℕ) → All IsContent (some ++ batch ∷ []) → IsContent batch
@@ -57,11 +66,7 @@ module _ (size gate : ℕ) (some : List (List ℕ)) (places : Placed) (tally : T
         };
       }
 
-  -- one that is no entries is none to take in
-  pub no_entries : (IsContent batch → ⊥) → AreBatches size (some ++ batch ∷ []) → ⊥
-  no_entries other are = other (last_content some batch are.contents)
-
-  -- nor is one that costs too much
+  -- one that costs too much is none to take in
   pub too_dear : (new : Tallies) → new ≡ record { firm = tally.firm; live = tally_behind_all tally.live (entries_of batch); reserved = tally.reserved } → capacity_of size < new.live.costs → AreBatches size (some ++ batch ∷ []) → ⊥
   too_dear new counted past are =
       let costs : new.live.costs ≡ costs_of (entries_in (some ++ batch ∷ [])) = ap (λ (t : Tallies). t.live.costs) counted ∙ costs_are in
@@ -77,26 +82,6 @@ pub no_more : (some more all : List (List ℕ)) (gate : ℕ) → all ≡ some ++
 no_more some [] all gate is at last = is ∙ append-nil some
 no_more some (batch ∷ rest) all gate is at last = absurd (omega (arith, at, last, ap taken is, taken-append some (batch ∷ rest)))
 
--- one more of a list is taken in
-pub up_to_next : (Listed : List (List ℕ) → Type 0) (Judged : List HistoryEntry → Type 0) (size gate next : ℕ) (some : List (List ℕ)) (batch : List ℕ) (places : Placed) (tally : Tallies)
-    → AreTakenIn size next (some ++ batch ∷ []) places tally → Judged (entries_in (some ++ batch ∷ [])) → ((all : List (List ℕ)) → Listed all → (rest : List (List ℕ)) × (all ≡ some ++ batch ∷ rest))
-    → IsTakenUpTo Listed Judged size next places tally
-up_to_next Listed Judged size gate next some batch places tally taken_in judged begins = record {
-  some = some ++ batch ∷ [];
-  taken_in = taken_in;
-  judged = judged;
-  begins = λ all listed. let found = begins all listed in (found.0, found.1 ∙ sym (append_assoc some (batch ∷ []) found.0));
-}
-
--- where a batch was taken in and what is listed goes on with it, the listing has come to the next gate
-pub taken_next : {E : Type 0} (Listed : List (List ℕ) → Type 0) (Judged : List HistoryEntry → Type 0) (size gate : ℕ) (some : List (List ℕ)) (batch : List ℕ) (result : Result ℕ E) (places : Placed) (tally : Tallies)
-    → IfOk result (λ next. next ≡ gate + 5 + length batch) → OnOk result (AreTakenIn size (gate + 5 + length batch) (some ++ batch ∷ []) places tally × Judged (entries_in (some ++ batch ∷ [])))
-    → ((all : List (List ℕ)) → Listed all → (rest : List (List ℕ)) × (all ≡ some ++ batch ∷ rest))
-    → IfOk result (λ next. IsTakenUpTo Listed Judged size next places tally)
-taken_next Listed Judged size gate some batch (Ok next) places tally is taken begins =
-    up_to_next Listed Judged size gate next some batch places tally (subst (λ n. AreTakenIn size n (some ++ batch ∷ []) places tally) (sym is) taken.0) taken.1 begins
-taken_next Listed Judged size gate some batch (Err e) places tally is taken_in begins = tt
-
 -- a batch that was read whole
 pub whole_read : (batch into : List ℕ) (n start : ℕ) → n ≡ length batch → start ≡ 0 → into ≡ take n (drop start batch) → into ≡ batch
 whole_read batch into n start size none is =
@@ -110,19 +95,126 @@ pub read_next : (all some more : List (List ℕ)) (gate end : ℕ) → all ≡ s
     → (rest : List (List ℕ)) × (all ≡ some ++ into ∷ rest)
 read_next all some more gate end is at last before found place n into answer finds reads =
     let next = goes_on some more all gate end is at last before in
-    let same : ◌≡◌ {A = Option (ℕ × ℕ)} (Some (place, n)) (Some (gate + 5, length next.0)) = sym answer ∙ finds next.0 next.1 next.2 in
-    let there = same_pair place n (gate + 5) (length next.0) same in
+    let there = some_pair_parts place (gate + 5) n (length next.0) (sym answer ∙ finds next.0 next.1 next.2) in
     (next.1, next.2 ∙ ap (λ (b : List ℕ). some ++ b ∷ next.1) (sym (reads next.0 next.1 next.2 there.0 there.1)))
-  where
-    same_pair : (a b c d : ℕ) → ◌≡◌ {A = Option (ℕ × ℕ)} (Some (a, b)) (Some (c, d)) → (a ≡ c) × (b ≡ d)
-    same_pair a b c d e = let both : ◌≡◌ {A = ℕ × ℕ} (a, b) (c, d) = ap (λ (o : Option (ℕ × ℕ)). unwrap_or o (a, b)) e in (ap (λ (p : ℕ × ℕ). p.0) both, ap (λ (p : ℕ × ℕ). p.1) both)
 
--- a list that stops there breaks at this gate
-pub breaks_here : (Are : List (List ℕ) → Type 0) (gate at : ℕ) (all some : List (List ℕ)) (batch : List ℕ) (rest : List (List ℕ)) → gate ≡ end_of some → Are some → all ≡ some ++ batch ∷ rest
-    → (at ≡ gate) × (Are (some ++ batch ∷ []) → ⊥) → BreaksAt Are all at
-breaks_here Are gate at all some batch rest gate_is are is found =
-    record { some = some; batch = batch; more = rest; listed = is; place = found.0 ∙ gate_is; are = are; unfit = found.1 }
+-- behind what was taken in
+module _ {J : Type 0} {asks : Ghosts J} {Listed : List (List ℕ) → Type 0} {size gate : ℕ} {old : J} {held : Placed} {tally : Tallies} (taken : IsTakenUpTo Listed (IsJudged asks size old) size gate held tally) where
+  -- which costs at most the capacity
+  pub costs_within : tally.live.costs ≤ capacity_of size
+  costs_within = omega (arith, ap (λ (t : TallyValue). t.costs) taken.taken_in.live, tally_of-costs (entries_in taken.some), taken.taken_in.are_batches.costs)
 
--- what was taken in costs at most the capacity
-pub costs_within : (size gate : ℕ) (some : List (List ℕ)) (places : Placed) (tally : Tallies) → AreTakenIn size gate some places tally → tally.live.costs ≤ capacity_of size
-costs_within size gate some places tally taken_in = omega (arith, ap (λ (t : TallyValue). t.costs) taken_in.live, tally_of-costs (entries_in some), taken_in.are_batches.costs)
+  -- where each list goes on with a batch, one more of it is taken in, or it breaks there
+  module _ (batch : List ℕ) (goes : (all : List (List ℕ)) → Listed all → (rest : List (List ℕ)) × (all ≡ taken.some ++ batch ∷ rest)) where
+    pub taken_next : (new : J) (result : Result ℕ OpenFault) (more : Placed) (grown : Tallies) → IfOk result (λ next. next ≡ gate + 5 + length batch)
+        → OnOk result (AreTakenIn size (gate + 5 + length batch) (taken.some ++ batch ∷ []) more grown × IsJudged asks size new (entries_in (taken.some ++ batch ∷ [])))
+        → IfOk result (λ next. IsTakenUpTo Listed (IsJudged asks size new) size next more grown)
+    taken_next new (Ok next) more grown is took = record {
+      some = taken.some ++ batch ∷ [];
+      taken_in = rw is took.0;
+      judged = took.1;
+      begins = λ all listed. let found = goes all listed in (found.0, found.1 ∙ sym (append_assoc taken.some (batch ∷ []) found.0));
+    }
+    taken_next new (Err e) more grown is took = tt
+
+    pub breaks_next : (at : ℕ) → (at ≡ gate) × (AreFit asks.fits size (taken.some ++ batch ∷ []) → ⊥) → (all : List (List ℕ)) → Listed all → BreaksAt (AreFit asks.fits size) all at
+    breaks_next at unfit all listed = record {
+      some = taken.some;
+      batch = batch;
+      more = (goes all listed).0;
+      listed = (goes all listed).1;
+      place = unfit.0 ∙ taken.taken_in.gate_is;
+      are = record { are_batches = taken.taken_in.are_batches; fit = taken.judged.fit };
+      unfit = unfit.1;
+    }
+
+-- ---- a content that is taken in entry by entry, from its front on
+
+-- an entry has 25 octets at least
+pub costs_at_most : (h : List HistoryEntry) → costs_of h ≤ 2 * length (spelled h)
+costs_at_most [] = omega arith
+costs_at_most (e ∷ h) = omega (arith, costs_at_most h, length-append (spelling e) (spelled h), length_of_spelling e)
+
+-- ---- so far
+
+-- a front of the content is entries that were taken in, and this is the rest
+pub record AreTaken (content rest : List ℕ) (start at : ℕ) (before places : List Place) (old tally : Tallies) : Type 0 where
+  pub front : List ℕ
+  pub entries : List HistoryEntry
+  pub parts : content ≡ front ++ rest
+  pub are_entries : AreEntries front entries
+  pub place : at ≡ start + length front
+  pub placed : places ≡ before ++ places_from start entries
+  pub counted : tally ≡ record { firm = old.firm; live = tally_behind_all old.live entries; reserved = old.reserved }
+
+pub none_taken : (content : List ℕ) (start : ℕ) (places : List Place) (tally : Tallies) → AreTaken content content start start places places tally tally
+none_taken content start places tally = record {
+  front = [];
+  entries = [];
+  parts = refl;
+  are_entries = no_entries;
+  place = omega arith;
+  placed = sym (append-nil places);
+  counted = refl;
+}
+
+module _ {content rest : List ℕ} {start at : ℕ} {before : List Place} {old tally : Tallies} where
+  pub one_taken : {count : ℕ} {places grown : Placed} {counted : Tallies} → AreTaken content rest start at before places.items old tally → IsTakenIn rest at count places grown tally counted
+      → AreTaken content (drop count rest) start (at + count) before grown.items old counted
+  one_taken {count} so_far one =
+      let split : rest ≡ spelling one.entry ++ drop count rest = sym (take-append-drop count rest) ∙ ap (λ (o : List ℕ). o ++ drop count rest) one.front in
+      let front_length : length so_far.front ≡ length (spelled so_far.entries) = ap (λ (o : List ℕ). length o) so_far.are_entries.spelling in
+      let here : at ≡ start + length (spelled so_far.entries) = omega (arith, so_far.place, front_length) in
+      let place : List Place = record { at = at; length = entry_length one.entry } ∷ [] in
+      record {
+        front = so_far.front ++ spelling one.entry;
+        entries = so_far.entries ++ one.entry ∷ [];
+        parts = so_far.parts ∙ ap (λ (o : List ℕ). so_far.front ++ o) split ∙ sym (append_assoc so_far.front (spelling one.entry) (drop count rest));
+        are_entries = more_entries so_far.front (spelling one.entry) so_far.entries (one.entry ∷ []) so_far.are_entries (one_entry one.entry one.fits);
+        place = omega (arith, so_far.place, length-append so_far.front (spelling one.entry), length_of_spelling one.entry, one.size);
+        placed = one.placed ∙ ap (λ (ps : List Place). ps ++ place) so_far.placed ∙ append_assoc before (places_from start so_far.entries) place
+            ∙ ap (λ (ps : List Place). before ++ ps) (ap (λ (k : ℕ). places_from start so_far.entries ++ places_from k (one.entry ∷ [])) here ∙ sym (places_from-append start so_far.entries (one.entry ∷ [])));
+        counted = one.added ∙ ap (λ (t : Tallies). let r : Tallies = record { firm = t.firm; live = tally_behind_all t.live (one.entry ∷ []); reserved = t.reserved } in r) so_far.counted
+            ∙ λ i. record { firm = old.firm; live = sym (tally_all-append old.live so_far.entries (one.entry ∷ [])) i; reserved = old.reserved };
+      }
+
+  -- what was taken in costs at most twice its octets, so that the rest can be counted too
+  pub costs_so_far : {places : List Place} → AreTaken content rest start at before places old tally → tally.live.costs + 2 * length rest ≤ old.live.costs + 2 * length content
+  costs_so_far so_far =
+      omega (
+        arith,
+        ap (λ (t : Tallies). t.live.costs) so_far.counted,
+        tally_all-costs old.live so_far.entries,
+        costs_at_most so_far.entries,
+        ap (λ (o : List ℕ). length o) so_far.are_entries.spelling,
+        ap (λ (o : List ℕ). length o) so_far.parts,
+        length-append so_far.front rest,
+      )
+
+-- ---- at the end
+
+-- what was taken in is all
+pub record IsAllTaken (content : List ℕ) (start : ℕ) (before places : List Place) (old tally : Tallies) : Type 0 where
+  pub are_entries : AreEntries content (entries_of content)
+  pub placed : places ≡ before ++ places_from start (entries_of content)
+  pub counted : tally ≡ record { firm = old.firm; live = tally_behind_all old.live (entries_of content); reserved = old.reserved }
+
+pub all_taken : EntriesAreReadBack → {content rest : List ℕ} {start at : ℕ} {before places : List Place} {old tally : Tallies} → AreTaken content rest start at before places old tally
+    → rest ≡ [] → IsAllTaken content start before places old tally
+all_taken back {content} {rest} {start} {at} {before} {places} {old} so_far end =
+    let whole : content ≡ so_far.front = so_far.parts ∙ ap (λ (o : List ℕ). so_far.front ++ o) end ∙ append-nil so_far.front in
+    let are : AreEntries content so_far.entries = subst (λ (o : List ℕ). AreEntries o so_far.entries) (sym whole) so_far.are_entries in
+    let those : so_far.entries ≡ entries_of content = sym (back content so_far.entries are) in
+    record {
+      are_entries = subst (λ (h : List HistoryEntry). AreEntries content h) those are;
+      placed = so_far.placed ∙ ap (λ (h : List HistoryEntry). before ++ places_from start h) those;
+      counted = so_far.counted ∙ λ i. record { firm = old.firm; live = tally_behind_all old.live (those i); reserved = old.reserved };
+    }
+
+-- ---- tests of emptiness
+
+pub is_end : (octets : List ℕ) → (length octets == 0) ≡ true → octets ≡ []
+is_end octets e = nil_from_length octets (eqb-true (length octets) 0 e)
+
+pub not_end : (octets : List ℕ) → (length octets == 0) ≡ false → octets ≢ []
+not_end octets e same = eqb-false (length octets) 0 e (ap (λ (l : List ℕ). length l) same)

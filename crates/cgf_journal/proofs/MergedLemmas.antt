@@ -1,8 +1,10 @@
 -- Two lists of kept keys as one.
-use Rattle.std.proofs.Common.{◌≡◌, ℕ, zero, suc, zero-add, ◌+◌, ◌<◌, ◌≤◌, ◌^◌, ◌==◌, ◌||◌, Bool, true, false, cond, if◌then◌else◌, nat_lt, List, [], ◌∷◌, ◌++◌, length, drop, take, map, filter, refl, subst, sym, ap, ◌∙◌, arith, inl, inr}
-use Rattle.std.specs.Prelude.{slice_index_or}
-use Rattle.std.proofs.lemmas.Bool.{cases_Bool, eq-eqb, lt-ltb, ltb-false, ltb-true, true≢false}
-use Rattle.std.proofs.lemmas.List.{drop_all, drop_more, length-map}
+use Rattle.std.proofs.Common.{◌≡◌, ℕ, zero, suc, ◌+◌, ◌<◌, ◌≤◌, ◌^◌, ◌==◌, ◌||◌, Bool, true, false, if◌then◌else◌, List, [], ◌∷◌, ◌++◌, length, drop, take, refl, sym, ap, ◌∙◌, arith, inl, inr}
+use Rattle.std.specs.Prelude.{All, slice_index_or}
+use Rattle.std.proofs.lemmas.Bool.{cases_Bool, cases_order, eq-eqb, false_from_ne_true, le-ltb, lt-ltb, true≢false}
+use Rattle.std.proofs.lemmas.List.{drop_all, length-map}
+use Rattle.std.proofs.lemmas.List.Elements.{All-cons, All-map, All-tail}
+use Rattle.std.proofs.lemmas.List.Kept.{AllPairs-cons}
 use Rattle.gw_base.specs.declared.held.HeldKey.{HeldKey}
 use Rattle.cgf_journal.specs.Held.{IsOnceEach, passing}
 use Rattle.cgf_journal.specs.Keys.{AreAscending, AreUpTo, counted_keys, counts, is_named, key_of, rank}
@@ -10,9 +12,9 @@ use Rattle.cgf_journal.specs.Merged.{joined_key, merged, moved_key, moved_keys}
 use Rattle.cgf_journal.specs.declared.key.KeptKey.{KeptKey}
 use Rattle.cgf_journal.specs.Sorted.{keys_of}
 use Rattle.cgf_journal.specs.declared.sorted.SortedKeys.{SortedKeys}
-use Rattle.cgf_journal.proofs.Passings.{passing_all}
-use Rattle.cgf_journal.proofs.Ranks.{same_node}
-use Rattle.cgf_journal.proofs.KeysLemmas.{one}
+use Rattle.cgf_journal.proofs.InOrder.{passing_all}
+use Rattle.cgf_journal.proofs.KeysLemmas.{counted-cons, same_node, one}
+use Rattle.cgf_journal.proofs.Orders.{Precedes, UpTo, ascending-map}
 
 -- ---- which key comes next
 
@@ -25,20 +27,14 @@ pub left_over : (from r i j : ℕ) (keys others : List KeptKey) → length other
 left_over from r i j keys others end =
     ap (λ (l : List KeptKey). merged r (drop i keys) (moved_keys from r l)) (drop_all j others end) ∙ merged-none r (drop i keys)
 
-first_comes : (r : ℕ) (a b : KeptKey) (ks ls : List KeptKey) → nat_lt (rank a) (rank b) ≡ true → merged r (a ∷ ks) (b ∷ ls) ≡ a ∷ merged r ks (b ∷ ls)
-first_comes r a b ks ls lt = rw lt refl
-
-both_come : (r : ℕ) (a b : KeptKey) (ks ls : List KeptKey) → nat_lt (rank a) (rank b) ≡ false → nat_lt (rank b) (rank a) ≡ false → merged r (a ∷ ks) (b ∷ ls) ≡ joined_key r a b ∷ merged r ks ls
-both_come r a b ks ls nt none = rw nt (rw none refl)
-
 -- keys before the first of the others stay where they are
 stays_before : (r at : ℕ) (keys : List KeptKey) (b : KeptKey) (ls : List KeptKey) → at ≤ length keys → ((j : ℕ) (d : KeptKey) → j < at → rank (slice_index_or keys j d) < rank b)
     → take at keys ++ merged r (drop at keys) (b ∷ ls) ≡ merged r keys (b ∷ ls)
 stays_before r zero keys b ls inside before = refl
 stays_before r (suc at) [] b ls inside before = absurd (omega (arith, inside))
 stays_before r (suc at) (a ∷ keys) b ls inside before =
-    ap (λ (l : List KeptKey). a ∷ l) (stays_before r at keys b ls (omega (arith, inside)) (λ j d lt. before (suc j) d (omega (arith, lt))))
-    ∙ sym (first_comes r a b keys ls (lt-ltb (rank a) (rank b) (before 0 a (omega arith))))
+    rw (lt-ltb (rank a) (rank b) (before 0 a (omega arith)))
+    (ap (λ (l : List KeptKey). a ∷ l) (stays_before r at keys b ls (omega (arith, inside)) (λ j d lt. before (suc j) d (omega (arith, lt)))))
 
 pub stays_in_place : (from r at : ℕ) (keys others : List KeptKey) (first : KeptKey) → (length others == 0) ≡ false → ((d : KeptKey) → first ≡ slice_index_or others 0 d) → at ≤ length keys
     → ((j : ℕ) (d : KeptKey) → j < at → rank (slice_index_or keys j d) < rank first)
@@ -47,36 +43,7 @@ stays_in_place from r at keys [] first some is inside before = absurd (true≢fa
 stays_in_place from r at keys (other ∷ others) first some is inside before =
     stays_before r at keys (moved_key from r other) (moved_keys from r others) inside (λ j d lt. omega (arith, before j d lt, ap (λ (k : KeptKey). rank k) (is first)))
 
-module _ (from r i j : ℕ) (keys others : List KeptKey) (d : KeptKey) (first : i < length keys) (second : j < length others) where
-  abbrev kept_first : KeptKey
-  kept_first = slice_index_or keys i d
-
-  abbrev kept_second : KeptKey
-  kept_second = moved_key from r (slice_index_or others j d)
-
-  here : merged r (drop i keys) (moved_keys from r (drop j others)) ≡ merged r (kept_first ∷ drop (i + 1) keys) (kept_second ∷ moved_keys from r (drop (j + 1) others))
-  here = λ k. merged r (drop_more keys i d first k) (moved_keys from r (drop_more others j d second k))
-
-  pub takes_both : nat_lt (rank kept_first) (rank kept_second) ≡ false → nat_lt (rank kept_second) (rank kept_first) ≡ false
-      → merged r (drop i keys) (moved_keys from r (drop j others)) ≡ joined_key r kept_first kept_second ∷ merged r (drop (i + 1) keys) (moved_keys from r (drop (j + 1) others))
-  takes_both nt none = here ∙ both_come r kept_first kept_second (drop (i + 1) keys) (moved_keys from r (drop (j + 1) others)) nt none
-
 -- ---- what is true of each key
-
-abbrev pub Each : (KeptKey → Type 0) → List KeptKey → Type 0
-Each P keys = (j : ℕ) (d : KeptKey) → j < length keys → P (slice_index_or keys j d)
-
-each-cons : (P : KeptKey → Type 0) (kept : KeptKey) (keys : List KeptKey) → P kept → Each P keys → Each P (kept ∷ keys)
-each-cons P kept keys here rest zero d lt = here
-each-cons P kept keys here rest (suc j) d lt = rest j d (omega (arith, lt))
-
-each-tail : (P : KeptKey → Type 0) (kept : KeptKey) (keys : List KeptKey) → Each P (kept ∷ keys) → Each P keys
-each-tail P kept keys each j d lt = each (suc j) d (omega (arith, lt))
-
-get-mapped : (f : KeptKey → KeptKey) (keys : List KeptKey) (j : ℕ) (d : KeptKey) → j < length keys → slice_index_or (map f keys) j d ≡ f (slice_index_or keys j d)
-get-mapped f [] j d lt = absurd (omega (arith, lt))
-get-mapped f (kept ∷ keys) zero d lt = refl
-get-mapped f (kept ∷ keys) (suc j) d lt = get-mapped f keys j d (omega (arith, lt))
 
 -- what holds where one list is over, and goes on as the next key comes from one, the other or both, holds of all
 merge_all : (r : ℕ) (P : List KeptKey → List KeptKey → List KeptKey → Type 0) → ((ls : List KeptKey) → P [] ls ls)
@@ -93,44 +60,38 @@ merge_all r P none alone one other both (a ∷ ks) ls = from (merge_all r P none
   where
     from : ((l : List KeptKey) → P ks l (merged r ks l)) → (ls : List KeptKey) → P (a ∷ ks) ls (merged r (a ∷ ks) ls)
     from rest [] = alone a ks
-    from rest (b ∷ ls) = by_order (nat_lt (rank a) (rank b)) (nat_lt (rank b) (rank a)) refl refl (from rest ls)
-      where
-        by_order : (x y : Bool) → nat_lt (rank a) (rank b) ≡ x → nat_lt (rank b) (rank a) ≡ y
-            → P (a ∷ ks) ls (merged r (a ∷ ks) ls)
-            → P (a ∷ ks) (b ∷ ls) (if x then a ∷ merged r ks (b ∷ ls)
-            else (if y then b ∷ merged r (a ∷ ks) ls else joined_key r a b ∷ merged r ks ls))
-        by_order true y is so later = one a b ks ls (ltb-true (rank a) (rank b) is) (rest (b ∷ ls))
-        by_order false true is so later = other a b ks ls (ltb-true (rank b) (rank a) so) later
-        by_order false false is so later =
-            both a b ks ls (omega (arith, ltb-false (rank b) (rank a) so, ltb-false (rank a) (rank b) is)) (rest ls)
+    from rest (b ∷ ls) =
+        let later = from rest ls in
+        elim (cases_order (rank a) (rank b)) [
+          | inl e ↦ rw (le-ltb (rank a) (rank b) (omega (arith, e)), le-ltb (rank b) (rank a) (omega (arith, e)))
+            (both a b ks ls e (rest ls))
+          | inr (inl lt) ↦ rw (lt-ltb (rank a) (rank b) lt) (one a b ks ls lt (rest (b ∷ ls)))
+          | inr (inr gt) ↦ rw (le-ltb (rank a) (rank b) (omega (arith, gt)), lt-ltb (rank b) (rank a) gt)
+            (other a b ks ls gt later)
+        ]
 
 each-merged : (P : KeptKey → Type 0) (r : ℕ) → ((a b : KeptKey) → P a → P b → P (joined_key r a b))
-    → (ks ls : List KeptKey) → Each P ks → Each P ls → Each P (merged r ks ls)
+    → (ks ls : List KeptKey) → All P ks → All P ls → All P (merged r ks ls)
 each-merged P r joined =
-    merge_all r (λ ks ls m. Each P ks → Each P ls → Each P m) (λ ls first second. second) (λ a ks first second. first)
+    merge_all r (λ ks ls m. All P ks → All P ls → All P m) (λ ls first second. second) (λ a ks first second. first)
     (λ a b ks ls lt rest first second.
-    each-cons P a (merged r ks (b ∷ ls)) (first 0 a (omega arith)) (rest (each-tail P a ks first) second))
+    All-cons P a (merged r ks (b ∷ ls)) (first 0 a (omega arith)) (rest (All-tail P a ks first) second))
     (λ a b ks ls lt rest first second.
-    each-cons P b (merged r (a ∷ ks) ls) (second 0 b (omega arith)) (rest first (each-tail P b ls second)))
+    All-cons P b (merged r (a ∷ ks) ls) (second 0 b (omega arith)) (rest first (All-tail P b ls second)))
     (λ a b ks ls same rest first second.
-    each-cons P (joined_key r a b) (merged r ks ls) (joined a b (first 0 a (omega arith)) (second 0 b (omega arith)))
-    (rest (each-tail P a ks first) (each-tail P b ls second)))
+    All-cons P (joined_key r a b) (merged r ks ls) (joined a b (first 0 a (omega arith)) (second 0 b (omega arith)))
+    (rest (All-tail P a ks first) (All-tail P b ls second)))
 
 -- ---- the order
 
 abbrev Above : ℕ → List KeptKey → Type 0
-Above q keys = Each (λ (kept : KeptKey). q < rank kept) keys
+Above q keys = All (λ (kept : KeptKey). q < rank kept) keys
 
 above_head : (kept : KeptKey) (keys : List KeptKey) → AreAscending (kept ∷ keys) → Above (rank kept) keys
 above_head kept keys up j d lt = up 0 (suc j) d (omega arith) (omega (arith, lt))
 
 ascending-tail : (kept : KeptKey) (keys : List KeptKey) → AreAscending (kept ∷ keys) → AreAscending keys
 ascending-tail kept keys up i j d lt within = up (suc i) (suc j) d (omega (arith, lt)) (omega (arith, within))
-
-ascending-cons : (kept : KeptKey) (keys : List KeptKey) → Above (rank kept) keys → AreAscending keys → AreAscending (kept ∷ keys)
-ascending-cons kept keys above up i zero d lt within = absurd (omega (arith, lt))
-ascending-cons kept keys above up zero (suc j) d lt within = above j d (omega (arith, within))
-ascending-cons kept keys above up (suc i) (suc j) d lt within = up i j d (omega (arith, lt)) (omega (arith, within))
 
 above-below : (q low : ℕ) (keys : List KeptKey) → low ≤ q → Above q keys → Above low keys
 above-below q low keys le above j d lt = omega (arith, le, above j d lt)
@@ -143,22 +104,22 @@ ascending-merged r =
     merge_all r (λ ks ls m. AreAscending ks → AreAscending ls → AreAscending m)
     (λ ls first second. second) (λ a ks first second. first)
     (λ a b ks ls lt rest first second.
-    ascending-cons a (merged r ks (b ∷ ls))
+    AllPairs-cons Precedes a (merged r ks (b ∷ ls))
     (above-merged (rank a) r ks (b ∷ ls) (above_head a ks first) (from a b ls lt second))
     (rest (ascending-tail a ks first) second))
     (λ a b ks ls lt rest first second.
-    ascending-cons b (merged r (a ∷ ks) ls)
+    AllPairs-cons Precedes b (merged r (a ∷ ks) ls)
     (above-merged (rank b) r (a ∷ ks) ls (from b a ks lt first) (above_head b ls second))
     (rest first (ascending-tail b ls second)))
     (λ a b ks ls same rest first second.
-    ascending-cons (joined_key r a b) (merged r ks ls)
+    AllPairs-cons Precedes (joined_key r a b) (merged r ks ls)
     (above-merged (rank a) r ks ls (above_head a ks first)
     (above-below (rank b) (rank a) ls (omega (arith, same)) (above_head b ls second)))
     (rest (ascending-tail a ks first) (ascending-tail b ls second)))
   where
     from : (a b : KeptKey) (ls : List KeptKey) → rank a < rank b → AreAscending (b ∷ ls) → Above (rank a) (b ∷ ls)
     from a b ls lt up =
-        each-cons (λ (kept : KeptKey). rank a < rank kept) b ls lt
+        All-cons (λ (kept : KeptKey). rank a < rank kept) b ls lt
         (above-below (rank b) (rank a) ls (omega (arith, lt)) (above_head b ls up))
 
 pub up_to-merged : (r : ℕ) (ks ls : List KeptKey) → AreUpTo r ks → AreUpTo r ls → AreUpTo r (merged r ks ls)
@@ -171,9 +132,6 @@ length-merged r =
     (λ a b ks ls same rest. omega (arith, rest))
 
 -- ---- which of them count
-
-add-zero : (n : ℕ) → n + 0 ≡ n
-add-zero n = omega arith
 
 abbrev weight : (HeldKey → Bool) → Bool → ℕ → KeptKey → ℕ
 weight p s r kept = if counts s r kept then one (p (key_of kept)) else 0
@@ -188,7 +146,7 @@ AreApart s r ks ls = (i j : ℕ) (d : KeptKey) → i < length ks → j < length 
     → counts s r (slice_index_or ks i d) ≡ true → counts s r (slice_index_or ls j d) ≡ true → ⊥
 
 abbrev pub AreSmall : List KeptKey → Type 0
-AreSmall keys = Each (λ (kept : KeptKey). kept.number < 2 ^ 64) keys
+AreSmall keys = All (λ (kept : KeptKey). kept.number < 2 ^ 64) keys
 
 same_key : (a b : KeptKey) → a.number < 2 ^ 64 → b.number < 2 ^ 64 → rank a ≡ rank b → key_of a ≡ key_of b
 same_key a b p q e =
@@ -200,15 +158,11 @@ count-joined true r a b = rw (eq-eqb r r refl) refl
 count-joined false r a b = refl
 
 weight-joined : (p : HeldKey → Bool) (s : Bool) (r : ℕ) (a b : KeptKey) → key_of a ≡ key_of b → (counts s r a ≡ true → counts s r b ≡ true → ⊥) → weight p s r (joined_key r a b) ≡ weight p s r a + weight p s r b
-weight-joined p s r a b same apart =
-    ap (λ (x : Bool). if x then one (p (key_of a)) else 0) (count-joined s r a b) ∙ by_counts (counts s r a) (counts s r b) apart
-    ∙ ap (λ (key : HeldKey). weight p s r a + (if counts s r b then one (p key) else 0)) same
-  where
-    by_counts : (x y : Bool) → (x ≡ true → y ≡ true → ⊥) → (if (x || y) then one (p (key_of a)) else 0) ≡ (if x then one (p (key_of a)) else 0) + (if y then one (p (key_of a)) else 0)
-    by_counts true true apart = absurd (apart refl refl)
-    by_counts true false apart = sym (add-zero (one (p (key_of a))))
-    by_counts false true apart = sym (zero-add (one (p (key_of a))))
-    by_counts false false apart = refl
+weight-joined p s r a b same apart = elim (cases_Bool (counts s r a)) [
+  | inl is ↦ rw (count-joined s r a b, is, false_from_ne_true (counts s r b) (apart is)) (omega arith)
+  | inr isnt ↦ rw (count-joined s r a b, isnt)
+    (omega (arith, ap {B = ℕ} (λ (key : HeldKey). if counts s r b then one (p key) else 0) same))
+]
 
 pub passing-merged : (p : HeldKey → Bool) (s : Bool) (r : ℕ) (ks ls : List KeptKey) → AreSmall ks → AreSmall ls → AreApart s r ks ls
     → passing p (counted_keys s r (merged r ks ls)) ≡ passing p (counted_keys s r ks) + passing p (counted_keys s r ls)
@@ -216,18 +170,18 @@ passing-merged p s r =
     let P : KeptKey → Type 0 = λ kept. kept.number < 2 ^ 64 in
     merge_all r (λ ks ls m. AreSmall ks → AreSmall ls → AreApart s r ks ls
     → passing p (counted_keys s r m) ≡ passing p (counted_keys s r ks) + passing p (counted_keys s r ls))
-    (λ ls first second apart. sym (zero-add (passing p (counted_keys s r ls))))
-    (λ a ks first second apart. sym (add-zero (passing p (counted_keys s r (a ∷ ks)))))
+    (λ ls first second apart. omega arith)
+    (λ a ks first second apart. omega arith)
     (λ a b ks ls lt rest first second apart.
-    let before = rest (each-tail P a ks first) second
+    let before = rest (All-tail P a ks first) second
     (λ i j d low within. apart (suc i) j d (omega (arith, low)) within) in
     omega (arith, before, amount-cons p s r a (merged r ks (b ∷ ls)), amount-cons p s r a ks))
     (λ a b ks ls lt rest first second apart.
-    let before = rest first (each-tail P b ls second)
+    let before = rest first (All-tail P b ls second)
     (λ i j d low within. apart i (suc j) d low (omega (arith, within))) in
     omega (arith, before, amount-cons p s r b (merged r (a ∷ ks) ls), amount-cons p s r b ls))
     (λ a b ks ls same rest first second apart.
-    let before = rest (each-tail P a ks first) (each-tail P b ls second)
+    let before = rest (All-tail P a ks first) (All-tail P b ls second)
     (λ i j d low within. apart (suc i) (suc j) d (omega (arith, low)) (omega (arith, within))) in
     let key = same_key a b (first 0 a (omega arith)) (second 0 b (omega arith)) same in
     let both = weight-joined p s r a b key (apart 0 0 a (omega arith) (omega arith) same) in
@@ -242,38 +196,15 @@ passing-merged p s r =
 
 -- ---- keys of another round
 
-pub counted-moved : (s : Bool) (from to : ℕ) (keys : List KeptKey) → counted_keys s to (moved_keys from to keys) ≡ counted_keys s from keys
+counted-moved : (s : Bool) (from to : ℕ) (keys : List KeptKey) → counted_keys s to (moved_keys from to keys) ≡ counted_keys s from keys
 counted-moved s from to [] = refl
-counted-moved s from to (kept ∷ keys) = by_count s (counts s from kept) refl (counted-moved s from to keys)
+counted-moved s from to (kept ∷ keys) =
+    counted-cons s s to from (moved_key from to kept) kept (moved_keys from to keys) keys
+    (same s) refl (counted-moved s from to keys)
   where
-    count-moved : (s : Bool) → counts s to (moved_key from to kept) ≡ counts s from kept
-    count-moved true = rw (eq-eqb to to refl) refl
-    count-moved false = refl
-
-    by_count : (t b : Bool) → counts s from kept ≡ b → counted_keys s to (moved_keys from to keys) ≡ counted_keys s from keys
-        → map key_of (cond (counts s to (moved_key from to kept)) (moved_key from to kept ∷ filter (λ (k : KeptKey). counts s to k) (moved_keys from to keys)) (filter (λ (k : KeptKey). counts s to k) (moved_keys from to keys)))
-        ≡ map key_of (cond b (kept ∷ filter (λ (k : KeptKey). counts s from k) keys) (filter (λ (k : KeptKey). counts s from k) keys))
-    by_count t true is rest = rw (count-moved s ∙ is) (ap (λ (l : List HeldKey). key_of kept ∷ l) rest)
-    by_count t false is rest = rw (count-moved s ∙ is) rest
-
-pub ascending-moved : (from to : ℕ) (keys : List KeptKey) → AreAscending keys → AreAscending (moved_keys from to keys)
-ascending-moved from to keys up i j d lt within =
-    let inside : j < length keys = omega (arith, within, length-map keys (λ (kept : KeptKey). moved_key from to kept)) in
-    omega (
-      arith,
-      up i j d lt inside,
-      ap (λ (k : KeptKey). rank k) (get-mapped (λ (kept : KeptKey). moved_key from to kept) keys i d (omega (arith, lt, inside))),
-      ap (λ (k : KeptKey). rank k) (get-mapped (λ (kept : KeptKey). moved_key from to kept) keys j d inside),
-    )
-
-pub up_to-moved : (from to : ℕ) (keys : List KeptKey) → AreUpTo from keys → AreUpTo to (moved_keys from to keys)
-up_to-moved from to keys up j d within =
-    let inside : j < length keys = omega (arith, within, length-map keys (λ (kept : KeptKey). moved_key from to kept)) in
-    let is = get-mapped (λ (kept : KeptKey). moved_key from to kept) keys j d inside in
-    (omega (arith, ap (λ (k : KeptKey). k.round) is), omega (arith, (up j d inside).1, ap (λ (k : KeptKey). k.number) is))
-
-pub small_of : (r : ℕ) (keys : List KeptKey) → AreUpTo r keys → AreSmall keys
-small_of r keys up j d lt = (up j d lt).1
+    same : (s : Bool) → counts s to (moved_key from to kept) ≡ counts s from kept
+    same true = rw (eq-eqb to to refl) refl
+    same false = refl
 
 -- ---- no key is held twice
 
@@ -304,44 +235,51 @@ apart_if s r ks ls first second once i j d lt within same one two =
 
 -- ---- a list with the keys of another
 
-module _ (early late : SortedKeys) (items : List KeptKey) (is : items ≡ merged early.round early.keys.items (moved_keys late.round early.round late.keys.items)) where
-  pub absorbed_up : AreAscending items
-  absorbed_up =
-      let P : List KeptKey → Type 0 = λ l. AreAscending l in
-      subst P (sym is) (ascending-merged early.round early.keys.items (moved_keys late.round early.round late.keys.items) early.ascending (ascending-moved late.round early.round late.keys.items late.ascending))
+module _ (early late : SortedKeys) where
+  -- those of the other, as they are kept in this one's round
+  abbrev moved : List KeptKey
+  moved = moved_keys late.round early.round late.keys.items
 
-  pub absorbed_up_to : AreUpTo early.round items
-  absorbed_up_to =
-      let P : List KeptKey → Type 0 = λ l. AreUpTo early.round l in
-      subst P (sym is) (up_to-merged early.round early.keys.items (moved_keys late.round early.round late.keys.items) early.up_to (up_to-moved late.round early.round late.keys.items late.up_to))
+  moved_up_to : AreUpTo early.round moved
+  moved_up_to =
+      All-map (UpTo early.round) (λ kept. moved_key late.round early.round kept) late.keys.items
+      (λ j d lt. (omega arith, (late.up_to j d lt).1))
 
-  pub absorbed_length : length items ≤ length early.keys.items + length late.keys.items
-  absorbed_length =
-      omega (
-        arith,
-        ap (λ (l : List KeptKey). length l) is,
-        length-merged early.round early.keys.items (moved_keys late.round early.round late.keys.items),
-        length-map late.keys.items (λ (kept : KeptKey). moved_key late.round early.round kept),
-      )
+  module _ (items : List KeptKey) (is : items ≡ merged early.round early.keys.items moved) where
+    pub absorbed_up : AreAscending items
+    absorbed_up =
+        rw is (ascending-merged early.round early.keys.items moved early.ascending
+        (ascending-map (λ kept. moved_key late.round early.round kept) (λ kept. refl) late.keys.items late.ascending))
 
-  pub absorbed_held : (s : Bool) → IsOnceEach (λ (p : HeldKey → Bool). passing p (keys_of s early) + passing p (keys_of s late)) → (p : HeldKey → Bool)
-      → passing p (counted_keys s early.round items) ≡ passing p (keys_of s early) + passing p (keys_of s late)
-  absorbed_held s once p =
-      let moved = moved_keys late.round early.round late.keys.items in
-      let same = counted-moved s late.round early.round late.keys.items in
-      let first = small_of early.round early.keys.items early.up_to in
-      let second = small_of early.round moved (up_to-moved late.round early.round late.keys.items late.up_to) in
-      ap (λ (l : List KeptKey). passing p (counted_keys s early.round l)) is
-      ∙ passing-merged p s early.round early.keys.items moved first second
-      (apart_if s early.round early.keys.items moved first second (λ n x. omega (arith, once n x, ap (λ (l : List HeldKey). passing (λ (key : HeldKey). is_named n x key) l) same)))
-      ∙ ap (λ (l : List HeldKey). passing p (keys_of s early) + passing p l) same
+    pub absorbed_up_to : AreUpTo early.round items
+    absorbed_up_to = rw is (up_to-merged early.round early.keys.items moved early.up_to moved_up_to)
 
-  pub absorbed_all : IsOnceEach (λ (p : HeldKey → Bool). passing p (keys_of true early) + passing p (keys_of true late)) → IsOnceEach (λ (p : HeldKey → Bool). passing p (keys_of false early) + passing p (keys_of false late))
-      → (s : Bool) (p : HeldKey → Bool) → passing p (counted_keys s early.round items) ≡ passing p (keys_of s early) + passing p (keys_of s late)
-  absorbed_all firm live true p = absorbed_held true firm p
-  absorbed_all firm live false p = absorbed_held false live p
+    pub absorbed_length : length items ≤ length early.keys.items + length late.keys.items
+    absorbed_length =
+        omega (
+          arith,
+          ap (λ (l : List KeptKey). length l) is,
+          length-merged early.round early.keys.items moved,
+          length-map late.keys.items (λ (kept : KeptKey). moved_key late.round early.round kept),
+        )
 
-  pub absorbed_counted : (s : Bool) → IsOnceEach (λ (p : HeldKey → Bool). passing p (keys_of s early) + passing p (keys_of s late)) → (n m : ℕ) → n ≡ length (keys_of s early) → m ≡ length (keys_of s late)
-      → n + m ≡ length (counted_keys s early.round items)
-  absorbed_counted s once n m one two =
-      omega (arith, one, two, absorbed_held s once (λ key. true), passing_all (counted_keys s early.round items), passing_all (keys_of s early), passing_all (keys_of s late))
+    absorbed_held : (s : Bool) → IsOnceEach (λ (p : HeldKey → Bool). passing p (keys_of s early) + passing p (keys_of s late)) → (p : HeldKey → Bool)
+        → passing p (counted_keys s early.round items) ≡ passing p (keys_of s early) + passing p (keys_of s late)
+    absorbed_held s once p =
+        let same = counted-moved s late.round early.round late.keys.items in
+        let first : AreSmall early.keys.items = λ j d lt. (early.up_to j d lt).1 in
+        let second : AreSmall moved = λ j d lt. (moved_up_to j d lt).1 in
+        ap (λ (l : List KeptKey). passing p (counted_keys s early.round l)) is
+        ∙ passing-merged p s early.round early.keys.items moved first second
+        (apart_if s early.round early.keys.items moved first second (λ n x. omega (arith, once n x, ap (λ (l : List HeldKey). passing (λ (key : HeldKey). is_named n x key) l) same)))
+        ∙ ap (λ (l : List HeldKey). passing p (keys_of s early) + passing p l) same
+
+    pub absorbed_all : IsOnceEach (λ (p : HeldKey → Bool). passing p (keys_of true early) + passing p (keys_of true late)) → IsOnceEach (λ (p : HeldKey → Bool). passing p (keys_of false early) + passing p (keys_of false late))
+        → (s : Bool) (p : HeldKey → Bool) → passing p (counted_keys s early.round items) ≡ passing p (keys_of s early) + passing p (keys_of s late)
+    absorbed_all firm live true p = absorbed_held true firm p
+    absorbed_all firm live false p = absorbed_held false live p
+
+    pub absorbed_counted : (s : Bool) → IsOnceEach (λ (p : HeldKey → Bool). passing p (keys_of s early) + passing p (keys_of s late)) → (n m : ℕ) → n ≡ length (keys_of s early) → m ≡ length (keys_of s late)
+        → n + m ≡ length (counted_keys s early.round items)
+    absorbed_counted s once n m one two =
+        omega (arith, one, two, absorbed_held s once (λ key. true), passing_all (counted_keys s early.round items), passing_all (keys_of s early), passing_all (keys_of s late))

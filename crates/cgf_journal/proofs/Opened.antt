@@ -1,192 +1,281 @@
--- What the steps of an opening give together.
-use Rattle.std.proofs.Common.{◌≡◌, ◌≢◌, ◌⊎◌, inl, inr, ⊎_elim, ℕ, ◌≤◌, List, [], Result, Ok, Err, length, get_or, refl, sym, ◌∙◌, ap, subst, arith}
-use Rattle.std.specs.Prelude.{IfErr, IfOk, IsErrAnd, IsTrue, OnErr}
+-- How an opening comes out as planned.
+use Rattle.std.proofs.Common.{◌≡◌, ◌≢◌, ◌⊎◌, inl, inr, ⊎_elim, ℕ, ◌≤◌, List, [], ◌++◌, Result, Ok, Err, length, get_or, refl, sym, ◌∙◌, ap, subst, arith, Bool, true, false}
+use Rattle.std.specs.Prelude.{IfErr, IfOk, IsTrue, OnErr, ◌||◌}
 use Rattle.std.proofs.lemmas.List.Elements.{All-nil}
-use Rattle.area_disk.specs.Disk.{Rose}
+use Rattle.std.proofs.lemmas.Bool.{false_from_ne_true, true≢false}
+use Rattle.area_disk.specs.AreaLaws.{AreaLaws}
 use Rattle.area_disk.specs.declared.area.Area.{Ghosts}
+use Rattle.area_disk.specs.MomentLaws.{follow, widen}
+use Rattle.area_disk.specs.ArmedLaws.{stopped_fails}
+use Rattle.area_disk.specs.Plan.{Prospect, Schedule, is_failure, is_stop, next_fate}
+use Rattle.area_disk.specs.declared.plan.Fate.{Fate}
+use Rattle.area_disk.specs.declared.plan.Fate.TheVariants.{Stops}
+use Rattle.gw_base.specs.declared.history.HistoryEntry.{HistoryEntry}
 use Rattle.gate_journal.specs.Before.{AreBefore}
-use Rattle.gate_journal.specs.Format.{Differs, IsForeign, Stands, Starts, end_of}
+use Rattle.gate_journal.specs.Format.{Differs, IsForeign, Stands, Starts, end_of, header}
 use Rattle.gate_journal.specs.Journal as journal
 use Rattle.gate_journal.specs.Moments.{Kept, Leaves, Told}
-use Rattle.gate_journal.specs.Opening.{IsMaking}
+use Rattle.gate_journal.specs.OpenPlanned as gates
+use Rattle.gate_journal.specs.Opening as opening
+use Rattle.gate_journal.specs.Opening.{IsMaking, OpenCounts, OpenLeaves, after_look, is_device, is_device_fault}
+use Rattle.gate_journal.specs.Planned.{ReadsRun, Course, ReadOn, SyncPlanned, after_append, course_of, with_reads}
 use Rattle.gate_journal.specs.State.{Keeps}
+use Rattle.gate_journal.specs.Spelling.{first-header, length-header}
 use Rattle.gate_journal.specs.declared.faults.OpenFault.{OpenFault}
 use Rattle.gate_journal.specs.declared.faults.OpenFault.TheVariants.{Device, NoMemory, NotOurs}
-use Rattle.gate_journal.specs.declared.journal.Front.TheVariants.{Founded}
 use Rattle.gate_journal.specs.declared.journal.Journal.{Journal}
 use Rattle.gate_journal.specs.Agreeing.{stands_before}
-use Rattle.area_disk.specs.MomentLaws.{follow, widen}
 use Rattle.entry_codec.specs.Content.{IsContent}
 use Rattle.entry_codec.specs.LawTypes.{EntriesAreReadBack}
-use Rattle.gw_base.specs.declared.history.HistoryEntry.{HistoryEntry}
 use Rattle.cgf_journal.specs.BatchLaws.{by_batches, in_batches}
-use Rattle.cgf_journal.specs.Fit.{AllFit, AreFit, IsUnfitTo, StandsFit}
+use Rattle.cgf_journal.specs.Fit.{AreFit, IsUnfitTo, StandsFit}
 use Rattle.cgf_journal.specs.Format.{IsForeignTo, StandsFor, entries_in}
+use Rattle.cgf_journal.specs.OpenPlan.{OpenFollows}
 use Rattle.cgf_journal.specs.Opening.{AreListedBefore, BreaksAt}
-use Rattle.cgf_journal.specs.Results.{IsFresh, IsOpened, IsRefused, OnArea}
+use Rattle.cgf_journal.specs.Results.{FindsHistory, IsFresh, IsMadeAnew, IsOpened, IsRefused, OnArea, RefusesForeign, RoseByDevice}
 use Rattle.cgf_journal.specs.Trail.{area_of, firm_entries}
 use Rattle.cgf_journal.specs.declared.trail.Trail.{Trail}
-use Rattle.cgf_journal.proofs.Fitting.{are_fit, are_fit-first, unfit_foreign}
-use Rattle.cgf_journal.proofs.Meanings.{broken_off, foreign_or_starts, one_place, spoiled_by, stands_or_foreign, stands_or_starts}
+use Rattle.cgf_journal.proofs.Meanings.{are_fit, are_fit-first, unfit_foreign, broken_off, broken_or_starts, foreign_or_starts, one_place, spoiled_by, stands_or_foreign, stands_or_starts}
+
+pub not_device : (fault : OpenFault) → fault ≢ Device → is_device_fault fault ≡ false
+not_device Device other = absurd (other refl)
+not_device _ other = refl
+
+-- a call ran: nothing is stopped
+running : (s : Schedule) → is_failure (next_fate s) ≡ false → s.stopped ≡ false
+running s ran = false_from_ne_true s.stopped (λ is. true≢false (sym (ap is_failure (stopped_fails s is).0) ∙ ran))
+
+stop_is : (fate : Fate) → is_failure fate ≡ false → is_stop fate ≡ false
+stop_is (Stops o) e = absurd (true≢false e)
+stop_is _ e = refl
+
+-- the plan after reads
+pub read_course : (mid new : Prospect) → ReadOn mid new → (course : Course) → course_of mid ≡ with_reads mid.schedule.reads course
+    → course_of new ≡ with_reads new.schedule.reads course
+read_course mid new read course is =
+    (λ i. record { schedule = read.schedule i; spare = read.spare i }) ∙ ap (λ (c : Course). with_reads new.schedule.reads c) is
+
+-- reads after a sync and reads that came out as planned
+pub sync_on : (old mid new : Prospect) (failed : Bool) → SyncPlanned old false mid → ReadOn mid new → (ReadsRun mid.schedule → failed ≡ false) → SyncPlanned old failed new
+sync_on old mid new failed one read runs = record {
+  fails = λ e. absurd (true≢false (sym (one.fails e)));
+  runs = λ none. runs (running_after none) ∙ one.runs none;
+  course = (λ i. record { schedule = read.schedule i; spare = read.spare i })
+      ∙ ap (λ (c : Course). with_reads new.schedule.reads c) one.course;
+  leaves = λ outcome. read.leaves outcome ∙ one.leaves outcome;
+}
+  where
+    running_after : old.schedule.read_fail ≡ [] → ReadsRun mid.schedule
+    running_after none =
+        let ran = sym (one.runs none) in
+        record {
+          running = ap (λ (c : Course). c.schedule.stopped) one.course ∙ ap (λ b. b || is_stop (next_fate old.schedule)) (running old.schedule ran) ∙ stop_is (next_fate old.schedule) ran;
+          reads = ap (λ (c : Course). c.schedule.read_fail) one.course ∙ none;
+        }
+
+-- ---- what an opening gives, by what its steps give
 
 pub other_fault : {at : ℕ} → ◌≡◌ {A = OpenFault} (NotOurs at) Device → ⊥
 other_fault e = cc
 
 -- no batch stands for no entry
-pub stands_for_none : (header octets : List ℕ) → Stands header octets [] → StandsFor header octets []
+stands_for_none : (header octets : List ℕ) → Stands header octets [] → StandsFor header octets []
 stands_for_none header octets stands = by_batches header octets [] stands (record { contents = All-nil IsContent; costs = omega arith })
 
-module _ (fits : ℕ → List HistoryEntry → HistoryEntry → Type 0) (header : List ℕ) (long : length header ≡ 32) (begins : get_or header 0 0 ≡ 67) (octets : List ℕ) where
-  -- octets that stand or are unfit don't start
-  pub stands_not_starts : (h : List HistoryEntry) → StandsFit fits header octets h → Starts header octets → ⊥
-  stands_not_starts h is starts = stands_or_starts header long octets begins h is.stands starts
+module _ {A : Type 0} (tells : Ghosts A) (area : A) (address generation : ℕ) (fits : ℕ → List HistoryEntry → HistoryEntry → Type 0) where
+  abbrev pub asked : List ℕ
+  asked = header (tells.size area) address generation
 
-  pub unfit_not_starts : (at : ℕ) → IsUnfitTo fits header octets at → Starts header octets → ⊥
-  unfit_not_starts at foreign starts = foreign_or_starts header long octets (AreFit fits (length octets)) (are_fit-first fits (length octets)) begins at foreign starts
+  abbrev pub here : List ℕ
+  here = tells.octets area
 
-  stands_or_unfit : EntriesAreReadBack → (h : List HistoryEntry) (at : ℕ) → StandsFit fits header octets h → IsUnfitTo fits header octets at → ⊥
-  stands_or_unfit back h at is foreign =
-      let list = in_batches back header octets h is.stands in
-      stands_or_foreign header long octets (AreFit fits (length octets)) (are_fit-first fits (length octets)) list.batches at list.stands (are_fit fits header octets h is.fit list) foreign
+  abbrev pub Answer : Type 0
+  Answer = Result (Trail A tells) (OpenFault × A)
+
+  long : length asked ≡ 32
+  long = length-header (tells.size area) address generation
+
+  begins : get_or asked 0 0 ≡ 67
+  begins = first-header (tells.size area) address generation
+
+  abbrev pub Are : List (List ℕ) → Type 0
+  Are = AreFit fits (length here)
+
+  first : (some more : List (List ℕ)) → Are (some ++ more) → Are some
+  first = are_fit-first fits (length here)
+
+  -- what stands, is unfit or is foreign doesn't start
+  stands_unlike : (h : List HistoryEntry) → StandsFit fits asked here h → Starts asked here → ⊥
+  stands_unlike h is starts = stands_or_starts asked long here begins h is.stands starts
+
+  unfit_unlike : (at : ℕ) → IsUnfitTo fits asked here at → Starts asked here → ⊥
+  unfit_unlike at foreign starts = foreign_or_starts asked long here Are first begins at foreign starts
+
+  pub foreign_unlike : (at : ℕ) → IsForeign asked here at → Starts asked here → ⊥
+  foreign_unlike at (inl differs) starts = differs.begun starts
+  foreign_unlike at (inr broken) starts = broken_or_starts asked long here begins at broken starts
 
   -- a fault of an area that is foreign
-  pub fault_is : (fault : OpenFault) → ((at : ℕ) → fault ≡ NotOurs at → IsUnfitTo fits header octets at) → (at : ℕ) → IsUnfitTo fits header octets at
+  fault_is : (fault : OpenFault) → ((at : ℕ) → fault ≡ NotOurs at → IsUnfitTo fits asked here at) → (at : ℕ) → IsUnfitTo fits asked here at
       → (fault ≡ NotOurs at) ⊎ ((fault ≡ Device) ⊎ (fault ≡ NoMemory))
-  fault_is (NotOurs k) place at foreign = inl (ap NotOurs (one_place header long octets (AreFit fits (length octets)) (are_fit-first fits (length octets)) k at (place k refl) foreign))
+  fault_is (NotOurs k) place at foreign = inl (ap NotOurs (one_place asked long here Are first k at (place k refl) foreign))
   fault_is Device place at foreign = inr (inl refl)
   fault_is NoMemory place at foreign = inr (inr refl)
 
   -- the place that a refused area has, by what was listed before it
-  pub place_is : (tells_octets : _) → IsTrue tells_octets → (size : ℕ) → length octets ≡ size → (at place : ℕ) (fault : OpenFault) → IsForeign header octets at → (at ≤ 32 → fault ≡ NotOurs at)
-      → ((all : List (List ℕ)) → AreListedBefore tells_octets octets at all → (k : ℕ) → fault ≡ NotOurs k → BreaksAt (AreFit fits size) all k ⊎ (AreFit fits size all × (k ≡ at)))
-      → fault ≡ NotOurs place → IsUnfitTo fits header octets place
-  place_is tells_octets told size sized at place fault (inl differs) here first is =
-      let same : NotOurs at ≡ NotOurs place = sym (here (omega (arith, differs.inside))) ∙ is in
+  pub place_is : IsTrue tells.tells_octets → (size : ℕ) → length here ≡ size → (at place : ℕ) (fault : OpenFault) → IsForeign asked here at → (at ≤ 32 → fault ≡ NotOurs at)
+      → ((all : List (List ℕ)) → AreListedBefore tells.tells_octets here at all → (k : ℕ) → fault ≡ NotOurs k → BreaksAt (AreFit fits size) all k ⊎ (AreFit fits size all × (k ≡ at)))
+      → fault ≡ NotOurs place → IsUnfitTo fits asked here place
+  place_is told size sized at place fault (inl differs) early among is =
+      let same : NotOurs at ≡ NotOurs place = sym (early (omega (arith, differs.inside))) ∙ is in
       let at_is : at ≡ place = cc in
-      inl (subst (λ n. Differs header octets n) at_is differs)
-  place_is tells_octets told size sized at place fault (inr broken) here first is =
-      let before : AreBefore header octets at broken.batches = record { front = broken.front; small = broken.small; inside = broken.inside } in
-      let P : ℕ → Type 0 = λ n. BreaksAt (AreFit fits n) broken.batches place ⊎ (AreFit fits n broken.batches × (place ≡ at)) in
-      let found : BreaksAt (AreFit fits (length octets)) broken.batches place ⊎ (AreFit fits (length octets) broken.batches × (place ≡ at)) =
-      subst P (sym sized) (first broken.batches (record { told = told; header = header; long = long; before = before }) place is) in
-      ⊎_elim (λ breaks. inr (spoiled_by header long octets (AreFit fits (length octets)) (are_fit-first fits (length octets)) at broken.batches place before breaks))
-      (λ whole. subst (λ n. IsUnfitTo fits header octets n) (sym whole.1) (inr (broken_off header long octets (AreFit fits (length octets)) (are_fit-first fits (length octets)) at broken whole.0))) found
+      inl (subst (λ n. Differs asked here n) at_is differs)
+  place_is told size sized at place fault (inr broken) early among is =
+      let before : AreBefore asked here at broken.batches = record { front = broken.front; small = broken.small; inside = broken.inside } in
+      let found : BreaksAt Are broken.batches place ⊎ (Are broken.batches × (place ≡ at)) =
+      rw sized (among broken.batches (record { told = told; header = asked; long = long; before = before }) place is) in
+      ⊎_elim (λ breaks. inr (spoiled_by asked long here Are first at broken.batches place before breaks))
+      (λ whole. subst (λ n. IsUnfitTo fits asked here n) (sym whole.1) (inr (broken_off asked long here Are first at broken whole.0))) found
 
-  module _ {A : Type 0} {tells : Ghosts A} (j : Journal A tells) where
-    -- the journal found stands there, or was made anew
-    pub stands_or_anew : Told tells → Starts header octets ⊎ (tells.octets (journal.area_of j) ≡ octets) → journal.front_of j ≡ Founded → journal.IsSettled j → journal.header_of j ≡ header
-        → Starts header octets ⊎ Stands header octets (journal.batches j)
-    stands_or_anew told (inl starts) founded settled named = inl starts
-    stands_or_anew told (inr same) founded settled named =
-        let reads = settled.reads told in
-        inr
-        (subst (λ (o : List ℕ). Stands header o (journal.batches j)) same
-        (subst (λ (h : List ℕ). Stands h (tells.octets (journal.area_of j)) (journal.batches j)) named
-        (subst (λ f. Keeps f (journal.header_of j) (journal.batches j) (tells.octets (journal.area_of j))) founded reads)))
-
-    module _ (size : ℕ) (sized : length octets ≡ size) (is : Starts header octets ⊎ Stands header octets (journal.batches j)) (anew : Starts header octets → journal.batches j ≡ []) where
-      stands_fit : (h : List HistoryEntry) → Stands header octets (journal.batches j) → AreFit fits size (journal.batches j) → h ≡ entries_in (journal.batches j) → StandsFit fits header octets h
-      stands_fit h stands are entries =
-          let these : AreFit fits (length octets) (journal.batches j) = subst (λ n. AreFit fits n (journal.batches j)) (sym sized) are in
-          record {
-            stands = subst (λ (g : List HistoryEntry). StandsFor header octets g) (sym entries) (by_batches header octets (journal.batches j) stands these.are_batches);
-            fit = subst (λ (g : List HistoryEntry). AllFit (fits (length octets)) [] g) (sym entries) these.fit;
-          }
-
-      pub found_is : (result : Result (Trail A tells) (OpenFault × A)) → IfOk result (λ trail. AreFit fits size (journal.batches j)) → IfOk result (λ trail. firm_entries trail ≡ entries_in (journal.batches j))
-          → IfOk result (λ trail. StandsFit fits header octets (firm_entries trail) ⊎ (Starts header octets × (firm_entries trail ≡ [])))
-      found_is (Ok trail) are entries =
-          ⊎_elim (λ starts. inr (starts, entries ∙ ap entries_in (anew starts))) (λ (stands : Stands header octets (journal.batches j)). inl (stands_fit (firm_entries trail) stands are entries)) is
-      found_is (Err fault) are entries = tt
-
-      pub places_are : (result : Result (Trail A tells) (OpenFault × A)) → IfErr result (λ fault. (at : ℕ) → fault.0 ≡ NotOurs at → BreaksAt (AreFit fits size) (journal.batches j) at) → OnErr result (journal.batches j ≢ [])
-          → IfErr result (λ fault. (at : ℕ) → fault.0 ≡ NotOurs at → IsUnfitTo fits header octets at)
-      places_are (Ok trail) breaks some = tt
-      places_are (Err fault) breaks some = λ at at_is.
-          ⊎_elim (λ starts. absurd (some (anew starts)))
-          (λ (stands : Stands header octets (journal.batches j)).
-          inr
-          (spoiled_by header long octets (AreFit fits (length octets)) (are_fit-first fits (length octets)) (end_of (journal.batches j)) (journal.batches j) at (stands_before header long octets (journal.batches j) stands)
-          (subst (λ n. BreaksAt (AreFit fits n) (journal.batches j) at) (sym sized) (breaks at at_is)))) is
-
-    -- an area that is foreign is refused
-    pub refused : EntriesAreReadBack → (result : Result (Trail A tells) (OpenFault × A)) → IfOk result (λ trail. StandsFit fits header octets (firm_entries trail) ⊎ (Starts header octets × (firm_entries trail ≡ [])))
-        → IfErr result (λ fault. (at : ℕ) → fault.0 ≡ NotOurs at → IsUnfitTo fits header octets at) → (at : ℕ) → IsUnfitTo fits header octets at
-        → IsErrAnd result (λ fault. (fault.0 ≡ NotOurs at) ⊎ ((fault.0 ≡ Device) ⊎ (fault.0 ≡ NoMemory)))
-    refused back (Ok trail) found places at foreign =
-        ⊎_elim (λ (stands : StandsFit fits header octets (firm_entries trail)). absurd (stands_or_unfit back (firm_entries trail) at stands foreign)) (λ anew. absurd (unfit_not_starts at foreign anew.0)) found
-    refused back (Err fault) found places at foreign = fault_is fault.0 places at foreign
-
-module _ {A : Type 0} {tells : Ghosts A} (old mid : A) where
-  -- reads after the journal was opened leave what that left
-  pub leaves_on : (result : Result (Trail A tells) (OpenFault × A)) (P : List ℕ → Type 0) → Leaves tells old mid P → OnArea result (λ now. Kept tells mid now) → OnArea result (λ now. Leaves tells old now P)
-  leaves_on (Ok trail) P leaves kept = follow tells old mid (area_of trail) P leaves kept.leaves
-  leaves_on (Err fault) P leaves kept = follow tells old mid fault.1 P leaves kept.leaves
-
-  pub calls_on : IsTrue tells.tells_calls → (result : Result (Trail A tells) (OpenFault × A)) (n : ℕ) → tells.calls mid ≡ n → OnArea result (λ now. Kept tells mid now) → IfOk result (λ trail. tells.calls (area_of trail) ≡ n)
-  calls_on told (Ok trail) n counted kept = kept.calls told ∙ counted
-  calls_on told (Err fault) n counted kept = tt
-
-  -- an area that is made anew starts, or stands for no entry
-  pub widen_making : (header : List ℕ) → Leaves tells old mid (λ c. tells.may_leave old c ⊎ IsMaking header c) → Leaves tells old mid (λ c. tells.may_leave old c ⊎ (Starts header c ⊎ StandsFor header c []))
-  widen_making header leaves =
-      widen tells old mid (λ c. tells.may_leave old c ⊎ IsMaking header c) (λ c. tells.may_leave old c ⊎ (Starts header c ⊎ StandsFor header c []))
-      (λ c left. ⊎_elim (λ l. inl l) (λ (making : IsMaking header c). inr (⊎_elim (λ starts. inl starts) (λ stands. inr (stands_for_none header c stands)) making)) left) leaves
-
--- the outcomes, put together
-module _ {A : Type 0} {tells : Ghosts A} (area mid : A) (same_faults : tells.faults mid ≡ tells.faults area) where
-  pub ok_is : (header named : List ℕ) → named ≡ header → (Stands : List ℕ → List HistoryEntry → Type 0) (r : Result (Trail A tells) (OpenFault × A))
-      → (Told tells → IfOk r (λ trail. Stands (tells.octets area) (firm_entries trail) ⊎ (Starts header (tells.octets area) × (firm_entries trail ≡ []))))
-      → IfOk r (λ trail. IsFresh named trail) → IfOk r (λ trail. tells.faults (area_of trail) ≡ tells.faults mid) → IfOk r (λ trail. IsOpened tells header area Stands trail)
-  ok_is header named is Stands (Ok trail) found fresh faults = record { found = found; fresh = subst (λ (h : List ℕ). IsFresh h trail) is fresh; faults = faults ∙ same_faults }
-  ok_is header named is Stands (Err fault) found fresh faults = tt
-
-  pub err_is : (Foreign : List ℕ → ℕ → Type 0) (r : Result (Trail A tells) (OpenFault × A)) → (Told tells → IfErr r (λ fault. (at : ℕ) → fault.0 ≡ NotOurs at → Foreign (tells.octets area) at))
-      → IfErr r (λ fault. fault.0 ≡ Device → Rose (tells.faults mid) (tells.faults fault.1)) → IfErr r (λ fault. tells.faults mid ≤ tells.faults fault.1)
-      → IfErr r (λ fault. fault.0 ≢ Device → tells.faults fault.1 ≡ tells.faults mid) → (Told tells → IfErr r (λ fault. tells.octets fault.1 ≡ tells.octets area)) → IfErr r (λ fault. IsRefused tells area Foreign fault)
-  err_is Foreign (Ok trail) place cause faults still unwritten = tt
-  err_is Foreign (Err fault) place cause faults still unwritten = record {
-    place = place;
-    cause = λ e. subst (λ n. Rose n (tells.faults fault.1)) same_faults (cause e);
-    faults = subst (λ n. n ≤ tells.faults fault.1) same_faults faults;
-    still = λ other. still other ∙ same_faults;
-    unwritten = λ told. inr (unwritten told);
+  -- what a crash leaves, after calls that keep the area, and where it is made anew
+  pub later : (mid now : A) → OpenLeaves tells area asked mid → Kept tells mid now → OpenLeaves tells area asked now
+  later mid now leaves kept = record {
+    unmade = λ told none. follow tells area mid now _ (leaves.unmade told none) kept.leaves;
+    anew = λ told starts. follow tells area mid now _ (leaves.anew told starts) kept.leaves;
   }
 
+  making : (now : A) → Leaves tells area now (λ c. tells.may_leave area c ⊎ IsMaking asked c) → Leaves tells area now (λ c. tells.may_leave area c ⊎ (Starts asked c ⊎ StandsFor asked c []))
+  making now leaves =
+      widen tells area now (λ c. tells.may_leave area c ⊎ IsMaking asked c) (λ c. tells.may_leave area c ⊎ (Starts asked c ⊎ StandsFor asked c []))
+      (λ c left. ⊎_elim (λ l. inl l) (λ (making : IsMaking asked c). inr (⊎_elim (λ starts. inl starts) (λ stands. inr (stands_for_none asked c stands)) making)) left) leaves
+
+  -- what an opening gives of an area that stands, starts or is foreign
+  pub record Gives (r : Answer) : Type 0 where
+    pub reads : Told tells → (h : List HistoryEntry) → StandsFit fits asked here h → FindsHistory tells area r h
+    pub anew : Told tells → Starts asked here → IsMadeAnew tells asked area r
+    pub foreign : Told tells → (at : ℕ) → IsUnfitTo fits asked here at → RefusesForeign tells area r at
+
+  pub refuses : (fault : OpenFault) (now : A) → OpenLeaves tells area asked now → (Told tells → (at : ℕ) → fault ≡ NotOurs at → IsUnfitTo fits asked here at) → Gives (Err (fault, now))
+  refuses fault now leaves place = record {
+    reads = λ told h stands. record { listed = tt; moments = leaves.unmade told (stands_unlike h stands); calls = λ tell. tt };
+    anew = λ told starts. record { listed = tt; moments = making now (leaves.anew told starts); calls = λ tell. tt };
+    foreign = λ told at foreign. record { place = fault_is fault (place told) at foreign; moments = leaves.unmade told (unfit_unlike at foreign) };
+  }
+
+  -- what is known of a trail over an opened journal, or of why there is none
+  pub record Over (size : ℕ) (j : Journal A tells) (r : Answer) : Type 0 where
+    pub are_fit : Told tells → IfOk r (λ trail. AreFit fits size (journal.batches j))
+    pub entries : Told tells → IfOk r (λ trail. firm_entries trail ≡ entries_in (journal.batches j))
+    pub fresh : IfOk r (λ trail. IsFresh (journal.header_of j) trail)
+    pub breaks : Told tells → IfErr r (λ fault. (at : ℕ) → fault.0 ≡ NotOurs at → BreaksAt (AreFit fits size) (journal.batches j) at)
+    pub some : Told tells → OnErr r (journal.batches j ≢ [])
+    pub kept : OnArea r (λ now. Kept tells (journal.area_of j) now)
+    pub cause : RoseByDevice tells (journal.area_of j) r
+    pub runs : IsTrue tells.tells_fate → ReadsRun (tells.fate (journal.area_of j)).schedule → is_device r ≡ false
+
+  pub record Opens (r : Answer) : Type 0 where
+    pub ok : IfOk r (λ trail. IsOpened tells asked area (StandsFit fits asked) trail)
+    pub err : IfErr r (λ fault. IsRefused tells area (IsUnfitTo fits asked) fault)
+    pub gives : Gives r
+    pub size : OnArea r (λ now. tells.size now ≡ tells.size area)
+    pub planned : IsTrue tells.tells_fate → OpenFollows tells area r asked
+
+  module _ (back : EntriesAreReadBack) (laws : AreaLaws tells) (size : ℕ) (size_is : size ≡ tells.size area) (j : Journal A tells) (opened : opening.IsOpened tells area asked j) (counted : OpenCounts tells area (Ok j) asked)
+      (leaves : OpenLeaves tells area asked (journal.area_of j)) (same_size : tells.size (journal.area_of j) ≡ tells.size area) (planned : IsTrue tells.tells_fate → gates.OpenFollows tells area (Ok j) asked) where
+    sized : Told tells → length here ≡ size
+    sized told = laws.whole area told.0 ∙ sym size_is
+
+    there : Told tells → Starts asked here ⊎ Stands asked here (journal.batches j)
+    there told =
+        ⊎_elim (λ starts. inl starts) (λ (same : tells.octets (journal.area_of j) ≡ here).
+        inr (subst (λ (o : List ℕ). Stands asked o (journal.batches j)) same
+        (subst (λ (h : List ℕ). Stands h (tells.octets (journal.area_of j)) (journal.batches j)) opened.header
+        (subst (λ f. Keeps f (journal.header_of j) (journal.batches j) (tells.octets (journal.area_of j))) opened.front
+        (opened.settled.reads told))))) (opened.found told)
+
+    found : (trail : Trail A tells) → Over size j (Ok trail) → Told tells → StandsFit fits asked here (firm_entries trail) ⊎ (Starts asked here × (firm_entries trail ≡ []))
+    found trail over told =
+        let are : AreFit fits (length here) (journal.batches j) = rw (sized told) (over.are_fit told) in
+        ⊎_elim (λ starts. inr (starts, over.entries told ∙ ap entries_in (opened.anew told starts)))
+        (λ (stands : Stands asked here (journal.batches j)). inl (record {
+          stands = rw (over.entries told) (by_batches asked here (journal.batches j) stands are.are_batches);
+          fit = rw (over.entries told) are.fit;
+        })) (there told)
+
+    pub opens : (r : Answer) → Over size j r → Opens r
+    opens (Ok trail) over =
+        let left = later (journal.area_of j) (area_of trail) leaves over.kept in
+        record {
+          ok = record { found = found trail over; fresh = rw opened.header at over.fresh; faults = over.cause.faults ∙ counted.cause.faults };
+          err = tt;
+          gives = record {
+            reads = λ told h stands.
+                let list = in_batches back asked here h stands.stands in
+                record {
+                  listed = over.entries told ∙ ap entries_in (opened.reads told list.batches list.stands) ∙ sym list.history;
+                  moments = left.unmade told (stands_unlike h stands);
+                  calls = λ tell. over.kept.calls tell ∙ counted.calls tell told (stands_unlike h stands);
+                };
+            anew = λ told starts. record {
+              listed = over.entries told ∙ ap entries_in (opened.anew told starts);
+              moments = making (area_of trail) (left.anew told starts);
+              calls = λ tell. over.kept.calls tell ∙ counted.calls_anew tell told starts;
+            };
+            foreign = λ told at foreign. record {
+              place = ⊎_elim (λ (stands : StandsFit fits asked here (firm_entries trail)).
+                  let list = in_batches back asked here (firm_entries trail) stands.stands in
+                  absurd (stands_or_foreign asked long here Are first list.batches at list.stands (are_fit fits asked here (firm_entries trail) stands.fit list) foreign))
+                  (λ anew. absurd (unfit_unlike at foreign anew.0)) (found trail over told);
+              moments = left.unmade told (unfit_unlike at foreign);
+            };
+          };
+          size = over.kept.size ∙ same_size;
+          planned = λ tell. record {
+            unmade = λ told none. sync_on (tells.fate area) (tells.fate (journal.area_of j)) (tells.fate (area_of trail)) false ((planned tell).unmade told none) (over.kept.planned tell) (over.runs tell);
+            anew = λ told starts calm runs. record {
+              runs = refl;
+              after = read_course (tells.fate (journal.area_of j)) (tells.fate (area_of trail)) (over.kept.planned tell) (after_append (after_look tells area)) ((planned tell).anew told starts calm runs).after;
+            };
+          };
+        }
+    opens (Err fault) over = record {
+      ok = tt;
+      err = record {
+        place = places;
+        cause = λ e. rw counted.cause.faults at (over.cause.device e);
+        still = λ other. over.cause.still other ∙ counted.cause.faults;
+        faults = rw counted.cause.faults at over.cause.faults_err;
+        unwritten = λ told. inr (⊎_elim (λ starts. absurd (over.some told (opened.anew told starts))) (λ same. over.kept.octets ∙ same) (opened.found told));
+      };
+      gives = refuses fault.0 fault.1 (later (journal.area_of j) fault.1 leaves over.kept) places;
+      size = over.kept.size ∙ same_size;
+      planned = λ tell. record {
+        unmade = λ told none. sync_on (tells.fate area) (tells.fate (journal.area_of j)) (tells.fate fault.1) (is_device_fault fault.0) ((planned tell).unmade told none) (over.kept.planned tell) (over.runs tell);
+        anew = λ told starts calm runs. absurd (over.some told (opened.anew told starts));
+      };
+    }
+      where
+        places : Told tells → (at : ℕ) → fault.0 ≡ NotOurs at → IsUnfitTo fits asked here at
+        places told at is =
+            ⊎_elim (λ starts. absurd (over.some told (opened.anew told starts))) (λ (stands : Stands asked here (journal.batches j)).
+            inr (spoiled_by asked long here Are first (end_of (journal.batches j)) (journal.batches j) at (stands_before asked long here (journal.batches j) stands) (rw (sized told) (over.breaks told at is)))) (there told)
+
 -- a judge to whom each entry is fit asks nothing more
-module _ {A : Type 0} {tells : Ghosts A} (header : List ℕ) (area : A) (fits : ℕ → List HistoryEntry → HistoryEntry → Type 0) (each : (size : ℕ) (before : List HistoryEntry) (e : HistoryEntry) → fits size before e)
-    (r : Result (Trail A tells) (OpenFault × A)) where
-  pub ok_always : IfOk r (λ trail. IsOpened tells header area (StandsFit fits header) trail) → IfOk r (λ trail. IsOpened tells header area (StandsFor header) trail)
-  ok_always ok = by_result r ok
-    where
-      by_result : (r : Result (Trail A tells) (OpenFault × A)) → IfOk r (λ trail. IsOpened tells header area (StandsFit fits header) trail) → IfOk r (λ trail. IsOpened tells header area (StandsFor header) trail)
-      by_result (Ok trail) ok = record {
-        found = λ told. ⊎_elim (λ (is : StandsFit fits header (tells.octets area) (firm_entries trail)). inl is.stands) (λ anew. inr anew) (ok.found told);
-        fresh = ok.fresh;
-        faults = ok.faults;
-      }
-      by_result (Err fault) ok = tt
+module _ {A : Type 0} {tells : Ghosts A} (header : List ℕ) (area : A) (fits : ℕ → List HistoryEntry → HistoryEntry → Type 0) (each : (size : ℕ) (before : List HistoryEntry) (e : HistoryEntry) → fits size before e) where
+  pub ok_always : (r : Result (Trail A tells) (OpenFault × A)) → IfOk r (λ trail. IsOpened tells header area (StandsFit fits header) trail) → IfOk r (λ trail. IsOpened tells header area (StandsFor header) trail)
+  ok_always (Ok trail) ok = record {
+    found = λ told. ⊎_elim (λ (is : StandsFit fits header (tells.octets area) (firm_entries trail)). inl is.stands) (λ anew. inr anew) (ok.found told);
+    fresh = ok.fresh;
+    faults = ok.faults;
+  }
+  ok_always (Err fault) ok = tt
 
-  pub err_always : IfErr r (λ fault. IsRefused tells area (IsUnfitTo fits header) fault) → IfErr r (λ fault. IsRefused tells area (IsForeignTo header) fault)
-  err_always err = by_result r err
-    where
-      by_result : (r : Result (Trail A tells) (OpenFault × A)) → IfErr r (λ fault. IsRefused tells area (IsUnfitTo fits header) fault) → IfErr r (λ fault. IsRefused tells area (IsForeignTo header) fault)
-      by_result (Ok trail) err = tt
-      by_result (Err fault) err = record {
-        place = λ told at is. unfit_foreign fits each header (tells.octets area) at (err.place told at is);
-        cause = err.cause;
-        still = err.still;
-        faults = err.faults;
-        unwritten = err.unwritten;
-      }
-
--- where the area starts, no batch is refused
-pub unwritten_is : {A : Type 0} {tells : Ghosts A} (octets header : List ℕ) (j : Journal A tells) (r : Result (Trail A tells) (OpenFault × A)) → Starts header octets ⊎ (tells.octets (journal.area_of j) ≡ octets)
-    → (Starts header octets → journal.batches j ≡ []) → OnErr r (journal.batches j ≢ []) → OnArea r (λ now. Kept tells (journal.area_of j) now) → IfErr r (λ fault. tells.octets fault.1 ≡ octets)
-unwritten_is octets header j (Ok trail) found anew some kept = tt
-unwritten_is octets header j (Err fault) (inl starts) anew some kept = absurd (some (anew starts))
-unwritten_is octets header j (Err fault) (inr same) anew some kept = kept.octets ∙ same
-
-pub listed_is : {A : Type 0} {tells : Ghosts A} (r : Result (Trail A tells) (OpenFault × A)) (g h : List HistoryEntry) → IfOk r (λ trail. firm_entries trail ≡ g) → g ≡ h → IfOk r (λ trail. firm_entries trail ≡ h)
-listed_is (Ok trail) g h is same = is ∙ same
-listed_is (Err fault) g h is same = tt
+  pub err_always : (r : Result (Trail A tells) (OpenFault × A)) → IfErr r (λ fault. IsRefused tells area (IsUnfitTo fits header) fault) → IfErr r (λ fault. IsRefused tells area (IsForeignTo header) fault)
+  err_always (Ok trail) err = tt
+  err_always (Err fault) err = record {
+    place = λ told at is. unfit_foreign fits each header (tells.octets area) at (err.place told at is);
+    cause = err.cause;
+    still = err.still;
+    faults = err.faults;
+    unwritten = err.unwritten;
+  }

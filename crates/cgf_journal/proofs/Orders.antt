@@ -1,14 +1,21 @@
 -- Keys stay in order, each once.
-use Rattle.std.proofs.Common.{inl, inr, ◌≡◌, ℕ, zero, suc, ◌+◌, ◌-◌, ◌<◌, ◌≤◌, ◌^◌, Bool, List, [], ◌∷◌, ◌++◌, length, take, drop, map, nat_lt, true, false, refl, sym, ap, ◌∙◌, arith}
-use Rattle.std.specs.Prelude.{slice_index_or, slice_set}
-use Rattle.std.proofs.lemmas.Bool.{cases_eq, cases_order, ltb-false, ltb-true}
+use Rattle.std.proofs.Common.{inl, inr, ◌≡◌, ℕ, zero, suc, ◌+◌, ◌<◌, ◌≤◌, ◌^◌, List, [], ◌∷◌, ◌++◌, length, take, drop, map, nat_lt, true, false, sym, ap, ◌∙◌, arith}
+use Rattle.std.specs.Prelude.{All, slice_index_or, slice_set}
+use Rattle.std.proofs.lemmas.Bool.{cases_eq, ltb-false, ltb-true}
 use Rattle.std.specs.List.Sorted.{IsNonDecreasingBy, IsPartitionPoint}
-use Rattle.std.proofs.lemmas.List.{get_or_default, get_or-set_other, get_or-set_same, length-map, length-set, take_at}
-use Rattle.std.proofs.lemmas.List.Edits.{get_or-insert_above, get_or-insert_at, get_or-insert_below, length-insert}
-use Rattle.cgf_journal.specs.Keys.{AreAscending, AreUpTo, IsAbsent, IsFound, is_named, key_of, rank, rank_of, settled_key}
+use Rattle.std.proofs.lemmas.List.{get_or-map, get_or_default, get_or-set_other, get_or-set_same, length-map, length-set, take_at}
+use Rattle.std.proofs.lemmas.List.Elements.{All-append, All-cons, All-drop, All-nil, All-take}
+use Rattle.std.proofs.lemmas.List.Kept.{AllPairs-cons}
+use Rattle.cgf_journal.specs.Keys.{AreAscending, IsAbsent, IsFound, is_named, key_of, rank, rank_of}
 use Rattle.cgf_journal.specs.declared.key.KeptKey.{KeptKey}
-use Rattle.cgf_journal.proofs.KeysLemmas.{Before, Later}
-use Rattle.cgf_journal.proofs.Ranks.{named_rank}
+use Rattle.cgf_journal.proofs.KeysLemmas.{Before, Later, named_rank}
+
+-- one key comes before another; and what each key has by the round
+abbrev pub Precedes : KeptKey → KeptKey → Type 0
+Precedes a b = rank a < rank b
+
+abbrev pub UpTo : ℕ → KeptKey → Type 0
+UpTo round kept = (kept.round ≤ round) × (kept.number < 2 ^ 64)
 
 -- ---- one key changed
 
@@ -26,75 +33,37 @@ pub ascending-set : (keys : List KeptKey) (at : ℕ) (now : KeptKey) → at < le
 ascending-set keys at now inside same up i j d lt within =
     omega (arith, field-set (λ (k : KeptKey). rank k) keys at now inside same i d, field-set (λ (k : KeptKey). rank k) keys at now inside same j d, up i j d lt (omega (arith, within, length-set keys at now)))
 
-kept_so : (r : ℕ) (a b : KeptKey) → b ≡ a → (a.round ≤ r) × (a.number < 2 ^ 64) → (b.round ≤ r) × (b.number < 2 ^ 64)
-kept_so r a b is fits = (omega (arith, fits.0, ap (λ (k : KeptKey). k.round) is), omega (arith, fits.1, ap (λ (k : KeptKey). k.number) is))
-
-pub up_to-set : (r : ℕ) (keys : List KeptKey) (at : ℕ) (now : KeptKey) → at < length keys → now.round ≤ r → now.number < 2 ^ 64 → AreUpTo r keys → AreUpTo r (slice_set keys at now)
-up_to-set r keys at now inside here small up j d within = elim (cases_eq j at) [
-  | inl e ↦
-      let is : slice_index_or (slice_set keys at now) j d ≡ now = ap (λ (k : ℕ). slice_index_or (slice_set keys at now) k d) e ∙ get_or-set_same keys at now d inside in
-      kept_so r now (slice_index_or (slice_set keys at now) j d) is (here, small)
-  | inr ne ↦ kept_so r (slice_index_or keys j d) (slice_index_or (slice_set keys at now) j d) (get_or-set_other keys at j now d ne) (up j d (omega (arith, within, length-set keys at now)))
-]
-
 -- ---- one key more
 
-abbrev more : List KeptKey → ℕ → KeptKey → List KeptKey
-more keys at now = take at keys ++ now ∷ drop at keys
+-- where it belongs
+pub ascending-insert : (keys : List KeptKey) (at : ℕ) (now : KeptKey) → Before keys at (rank now) → Later keys at (rank now)
+    → AreAscending keys → AreAscending (take at keys ++ now ∷ drop at keys)
+ascending-insert keys zero now before later up =
+    AllPairs-cons Precedes now keys (λ j d lt. later j d (omega arith) lt) up
+ascending-insert [] (suc at) now before later up = AllPairs-cons Precedes now [] (All-nil (Precedes now)) up
+ascending-insert (kept ∷ keys) (suc at) now before later up =
+    let behind : All (Precedes kept) keys = λ j d lt. up 0 (suc j) d (omega arith) (omega (arith, lt)) in
+    AllPairs-cons Precedes kept (take at keys ++ now ∷ drop at keys)
+    (All-append (Precedes kept) (take at keys) (now ∷ drop at keys) (All-take (Precedes kept) at keys behind)
+    (All-cons (Precedes kept) now (drop at keys) (before 0 kept (omega arith)) (All-drop (Precedes kept) at keys behind)))
+    (ascending-insert keys at now (λ j d lt. before (suc j) d (omega (arith, lt)))
+    (λ j d le lt. later (suc j) d (omega (arith, le)) (omega (arith, lt)))
+    (λ i j d lt within. up (suc i) (suc j) d (omega (arith, lt)) (omega (arith, within))))
 
-pub ascending-insert : (keys : List KeptKey) (at : ℕ) (now : KeptKey) → at ≤ length keys → Before keys at (rank now) → Later keys at (rank now) → AreAscending keys → AreAscending (more keys at now)
-ascending-insert keys at now inside before later up i j d lt within =
-    let long = length-insert keys at now inside in
-    elim (cases_order j at) [
-      | inl here ↦ omega (arith, before i d (omega (arith, lt, here)), rank_below i (omega (arith, lt, here)), rank_here j here)
-      | inr (inl below) ↦ omega (arith, rank_below i (omega (arith, lt, below)), rank_below j below, up i j d lt (omega (arith, below, inside)))
-      | inr (inr above) ↦ elim (cases_order i at) [
-        | inl here ↦ omega (arith, rank_here i here, rank_above j above, later (j - 1) d (omega (arith, above)) (omega (arith, above, within, long)))
-        | inr (inl below) ↦ omega (arith, rank_below i below, rank_above j above, up i (j - 1) d (omega (arith, below, above)) (omega (arith, above, within, long)))
-        | inr (inr past) ↦ omega (arith, rank_above i past, rank_above j above, up (i - 1) (j - 1) d (omega (arith, lt, past)) (omega (arith, above, within, long)))
-      ]
-    ]
-  where
-    rank_below : (k : ℕ) → k < at → rank (slice_index_or (more keys at now) k d) ≡ rank (slice_index_or keys k d)
-    rank_below k lt' = ap (λ (x : KeptKey). rank x) (get_or-insert_below keys at now d k lt' inside)
+-- ---- each changed in place
 
-    rank_here : (k : ℕ) → k ≡ at → rank (slice_index_or (more keys at now) k d) ≡ rank now
-    rank_here k e = ap (λ (m : ℕ). rank (slice_index_or (more keys at now) m d)) e ∙ ap (λ (x : KeptKey). rank x) (get_or-insert_at keys at now d inside)
-
-    rank_above : (k : ℕ) → at < k → rank (slice_index_or (more keys at now) k d) ≡ rank (slice_index_or keys (k - 1) d)
-    rank_above k gt =
-        let e : k ≡ (k - 1) + 1 = omega (arith, gt) in
-        ap (λ (m : ℕ). rank (slice_index_or (more keys at now) m d)) e ∙ ap (λ (x : KeptKey). rank x) (get_or-insert_above keys at now d (k - 1) (omega (arith, gt)) inside)
-
-pub up_to-insert : (r : ℕ) (keys : List KeptKey) (at : ℕ) (now : KeptKey) → at ≤ length keys → now.round ≤ r → now.number < 2 ^ 64 → AreUpTo r keys → AreUpTo r (more keys at now)
-up_to-insert r keys at now inside here small up j d within =
-    let long = length-insert keys at now inside in
-    elim (cases_order j at) [
-      | inl e ↦ kept_so r now (slice_index_or (more keys at now) j d) (ap (λ (m : ℕ). slice_index_or (more keys at now) m d) e ∙ get_or-insert_at keys at now d inside) (here, small)
-      | inr (inl below) ↦ kept_so r (slice_index_or keys j d) (slice_index_or (more keys at now) j d) (get_or-insert_below keys at now d j below inside) (up j d (omega (arith, below, inside)))
-      | inr (inr above) ↦
-          let e : j ≡ (j - 1) + 1 = omega (arith, above) in
-          kept_so r (slice_index_or keys (j - 1) d) (slice_index_or (more keys at now) j d)
-          (ap (λ (m : ℕ). slice_index_or (more keys at now) m d) e ∙ get_or-insert_above keys at now d (j - 1) (omega (arith, above)) inside) (up (j - 1) d (omega (arith, above, within, long)))
-    ]
-
--- ---- all of them settled
-
-get-settled : (firm : Bool) (r : ℕ) (keys : List KeptKey) (j : ℕ) (d : KeptKey) → j < length keys
-    → slice_index_or (map (λ (kept : KeptKey). settled_key firm r kept) keys) j d ≡ settled_key firm r (slice_index_or keys j d)
-get-settled firm r [] j d lt = absurd (omega (arith, lt))
-get-settled firm r (kept ∷ keys) zero d lt = refl
-get-settled firm r (kept ∷ keys) (suc j) d lt = get-settled firm r keys j d (omega (arith, lt))
-
-pub ascending-settled : (firm : Bool) (r : ℕ) (keys : List KeptKey) → AreAscending keys → AreAscending (map (λ (kept : KeptKey). settled_key firm r kept) keys)
-ascending-settled firm r keys up i j d lt within =
-    let inside : j < length keys = omega (arith, within, length-map keys (λ (kept : KeptKey). settled_key firm r kept)) in
-    omega (arith, up i j d lt inside, ap (λ (k : KeptKey). rank k) (get-settled firm r keys i d (omega (arith, lt, inside))), ap (λ (k : KeptKey). rank k) (get-settled firm r keys j d inside))
-
-pub up_to-settled : (q p : ℕ) (firm : Bool) (r : ℕ) (keys : List KeptKey) → AreUpTo p keys → AreUpTo q (map (λ (kept : KeptKey). settled_key firm r kept) keys)
-up_to-settled q p firm r keys up j d within =
-    let inside : j < length keys = omega (arith, within, length-map keys (λ (kept : KeptKey). settled_key firm r kept)) in
-    kept_so q (settled_key firm r (slice_index_or keys j d)) (slice_index_or (map (λ (kept : KeptKey). settled_key firm r kept) keys) j d) (get-settled firm r keys j d inside) (omega arith, (up j d inside).1)
+pub ascending-map : (f : KeptKey → KeptKey) → ((kept : KeptKey) → rank (f kept) ≡ rank kept) → (keys : List KeptKey)
+    → AreAscending keys → AreAscending (map f keys)
+ascending-map f same keys up i j d lt within =
+    let inside : j < length keys = omega (arith, within, length-map keys f) in
+    omega (
+      arith,
+      up i j d lt inside,
+      ap (λ (k : KeptKey). rank k) (get_or-map f keys i d d (omega (arith, lt, inside))),
+      ap (λ (k : KeptKey). rank k) (get_or-map f keys j d d inside),
+      same (slice_index_or keys i d),
+      same (slice_index_or keys j d),
+    )
 
 -- ---- where a number belongs
 

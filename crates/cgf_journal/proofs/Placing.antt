@@ -1,18 +1,24 @@
 -- The places of entries, and what stands at them.
-use Rattle.std.proofs.Common.{◌≡◌, inl, inr, ℕ, zero, suc, ◌+◌, ◌-◌, ◌<◌, ◌≤◌, List, [], ◌∷◌, ◌++◌, length, take, drop, Some, refl, sym, ◌∙◌, ap, subst, arith, length-append, append_assoc}
+use Rattle.std.proofs.Common.{◌≡◌, inl, inr, ℕ, zero, suc, ◌+◌, ◌-◌, ◌<◌, ◌≤◌, List, [], ◌∷◌, ◌++◌, length, take, drop, Some, refl, sym, ◌∙◌, ap, subst, arith, length-append, append_assoc, true, false}
 use Rattle.std.specs.Prelude.{All, slice_get}
 use Rattle.std.proofs.Math.Seq.{drop-append-add}
-use Rattle.std.proofs.lemmas.List.{append-nil, take_at}
+use Rattle.std.proofs.lemmas.List.{append-nil, take_at, drop-append-le, length-take}
 use Rattle.std.proofs.lemmas.List.Elements.{All-cons, All-head, All-nil, All-tail}
 use Rattle.std.proofs.lemmas.Bool.{cases_lt}
 use Rattle.gw_base.specs.declared.history.HistoryEntry.{HistoryEntry}
 use Rattle.gw_base.specs.declared.place.Place.{Place}
-use Rattle.gate_journal.specs.Format.{taken}
+use Rattle.gate_journal.specs.Format.{taken, Stands, end_of, header_length, spelled as batches_spelled}
+use Rattle.gate_journal.specs.Journal.{KeepsOr}
+use Rattle.gate_journal.specs.Places.{part_is, small_among}
+use Rattle.gate_journal.specs.Spelling.{length-spelled}
+use Rattle.gate_journal.specs.declared.journal.Front.{Front}
+use Rattle.gate_journal.specs.declared.journal.Front.TheVariants.{Founded, Draft, Founding}
 use Rattle.entry_codec.specs.Content.{IsContent, entries_of, spelled}
 use Rattle.entry_codec.specs.Spelling.{entry_length, spelling}
 use Rattle.entry_codec.specs.Laws.{length_of_spelling}
 use Rattle.cgf_journal.specs.Format.{entries_in}
-use Rattle.cgf_journal.specs.Sound.{EndsBy, places_behind, places_from}
+use Rattle.cgf_journal.specs.Sound.{EndsBy, places_behind, places_from, is_founded}
+use Rattle.cgf_journal.specs.Trail.{LiesAt}
 
 abbrev place_of : ℕ → HistoryEntry → Place
 place_of at e = record { at = at; length = entry_length e }
@@ -21,11 +27,12 @@ pub length-places_from : (at : ℕ) (h : List HistoryEntry) → length (places_f
 length-places_from at [] = refl
 length-places_from at (e ∷ h) = ap suc (length-places_from (at + entry_length e) h)
 
-pub places_from-push : (at : ℕ) (h : List HistoryEntry) (e : HistoryEntry) → places_from at (h ++ e ∷ []) ≡ places_from at h ++ record { at = at + length (spelled h); length = entry_length e } ∷ []
-places_from-push at [] e = let same : at ≡ at + 0 = omega arith in ap (λ n. place_of n e ∷ []) same
-places_from-push at (x ∷ h) e =
-    let same : at + entry_length x + length (spelled h) ≡ at + length (spelled (x ∷ h)) = omega (arith, length-append (spelling x) (spelled h), length_of_spelling x) in
-    ap (λ (l : List Place). place_of at x ∷ l) (places_from-push (at + entry_length x) h e ∙ ap (λ n. places_from (at + entry_length x) h ++ place_of n e ∷ []) same)
+pub places_from-append : (at : ℕ) (h g : List HistoryEntry) → places_from at (h ++ g) ≡ places_from at h ++ places_from (at + length (spelled h)) g
+places_from-append at [] g = ap (λ (k : ℕ). places_from k g) (omega arith)
+places_from-append at (e ∷ h) g =
+    let behind : at + entry_length e + length (spelled h) ≡ at + length (spelled (e ∷ h)) = omega (arith, length-append (spelling e) (spelled h), length_of_spelling e) in
+    ap (λ (ps : List Place). place_of at e ∷ ps)
+    (places_from-append (at + entry_length e) h g ∙ ap (λ (k : ℕ). places_from (at + entry_length e) h ++ places_from k g) behind)
 
 -- the places end where the octets do
 pub places_from-ends : (at : ℕ) (h : List HistoryEntry) (end : ℕ) → at + length (spelled h) ≤ end → All (EndsBy end) (places_from at h)
@@ -139,28 +146,22 @@ found_later gate batch batches k j place is rest = (
   among_later gate batch batches place rest.0 rest.2,
 )
 
-found_cons : (gate : ℕ) (batch : List ℕ) (batches : List (List ℕ)) → IsContent batch
-    → ((j : ℕ) (place : Place) → slice_get (places_behind (gate + 5 + length batch) batches) j ≡ Some place → IsFound (gate + 5 + length batch) batches j place)
-    → (k : ℕ) (place : Place) → slice_get (places_behind gate (batch ∷ batches)) k ≡ Some place → IsFound gate (batch ∷ batches) k place
-found_cons gate batch batches content later k place found =
+-- the k-th place is that of the k-th entry
+pub behind_is : (gate : ℕ) (batches : List (List ℕ)) → All IsContent batches → (k : ℕ) (place : Place) → slice_get (places_behind gate batches) k ≡ Some place → IsFound gate batches k place
+behind_is gate [] contents k place found = absurd (none_at k place found)
+behind_is gate (batch ∷ batches) contents k place found =
     let here : List Place = places_from (gate + 5) (entries_of batch) in
     let rest : List Place = places_behind (gate + 5 + length batch) batches in
     elim (cases_lt k (length (places_from (gate + 5) (entries_of batch)))) [
-      | inl lt ↦ found_first gate batch batches content k place lt (sym (get_left here rest k lt) ∙ found)
+      | inl lt ↦ found_first gate batch batches (All-head IsContent batch batches contents) k place lt (sym (get_left here rest k lt) ∙ found)
       | inr le ↦
           let past : length here + (k - length here) ≡ k = omega (arith, le) in
           let is : k ≡ length (entries_of batch) + (k - length here) =
           omega (arith, le, length-places_from (gate + 5) (entries_of batch)) in
           found_later gate batch batches k (k - length here) place is
-          (later (k - length here) place (sym (get_right here rest (k - length here))
-          ∙ ap (slice_get (here ++ rest)) past ∙ found))
+          (behind_is (gate + 5 + length batch) batches (All-tail IsContent batch batches contents) (k - length here) place
+          (sym (get_right here rest (k - length here)) ∙ ap (slice_get (here ++ rest)) past ∙ found))
     ]
-
--- the k-th place is that of the k-th entry
-pub behind_is : (gate : ℕ) (batches : List (List ℕ)) → All IsContent batches → (k : ℕ) (place : Place) → slice_get (places_behind gate batches) k ≡ Some place → IsFound gate batches k place
-behind_is gate [] contents k place found = absurd (none_at k place found)
-behind_is gate (batch ∷ batches) contents k place found =
-    found_cons gate batch batches (All-head IsContent batch batches contents) (λ j p at. behind_is (gate + 5 + length batch) batches (All-tail IsContent batch batches contents) j p at) k place found
 
 pub length-places_behind : (gate : ℕ) (batches : List (List ℕ)) → length (places_behind gate batches) ≡ length (entries_in batches)
 length-places_behind gate [] = refl
@@ -171,3 +172,26 @@ length-places_behind gate (batch ∷ batches) = omega (
   length-places_from (gate + 5) (entries_of batch),
   length-places_behind (gate + 5 + length batch) batches,
 )
+
+-- ---- where the entries of batches lie in an area that stands for the batches
+
+module _ (header : List ℕ) (long : length header ≡ 32) (octets : List ℕ) where
+  -- a part of a batch
+  part_stands : (some : List (List ℕ)) (batch : List ℕ) (more : List (List ℕ)) → Stands header octets (some ++ batch ∷ more) → (at n : ℕ) → end_of some + 5 ≤ at → at + n ≤ end_of some + 5 + length batch
+      → take n (drop at octets) ≡ take n (drop (at - (end_of some + 5)) batch)
+  part_stands some batch more stands at n low fits =
+      let bs = some ++ batch ∷ more in
+      let high : end_of bs ≤ length octets = omega (arith, ap length stands.front, length-take (end_of bs) octets, length-append header (batches_spelled bs), length-spelled bs, long) in
+      part_is header long (end_of bs) octets some batch more high (ap (λ (l : List ℕ). drop 1 l) stands.front ∙ drop-append-le 1 header (batches_spelled bs) (omega (arith, long)))
+      (small_among bs some batch more refl stands.small) at n low fits
+
+  -- an entry of these batches, with one behind them or without
+  pub entry_lies : (front : Front) → is_founded front ≡ true → (bs : List (List ℕ)) (torn : List ℕ) (place : Place) (e : HistoryEntry) → IsAmong header_length bs place e → KeepsOr front header bs torn octets → LiesAt place e octets
+  entry_lies Founded is bs torn place e among (inl stands) =
+      part_stands among.some among.batch among.more (subst (λ (l : List (List ℕ)). Stands header octets l) among.parts stands) place.at place.length (omega (arith, among.here.low)) (omega (arith, among.here.high)) ∙ among.here.reads
+  entry_lies Founded is bs torn place e among (inr stands) =
+      part_stands among.some among.batch (among.more ++ torn ∷ [])
+      (subst (λ (l : List (List ℕ)). Stands header octets l) (ap (λ (l : List (List ℕ)). l ++ torn ∷ []) among.parts ∙ append_assoc among.some (among.batch ∷ among.more) (torn ∷ [])) stands)
+      place.at place.length (omega (arith, among.here.low)) (omega (arith, among.here.high)) ∙ among.here.reads
+  entry_lies Draft is bs torn place e among keeps = absurd (let no : false ≡ true = is in cc)
+  entry_lies Founding is bs torn place e among keeps = absurd (let no : false ≡ true = is in cc)

@@ -1,6 +1,8 @@
 -- The tally of a history tells what its entries cost and promise.
-use Rattle.std.proofs.Common.{◌≡◌, ℕ, ◌+◌, ◌-◌, ◌*◌, ◌&&◌, Bool, true, if◌then◌else◌, nat_le, List, [], ◌∷◌, ◌++◌, length, filter, refl, sym, ap, ◌∙◌, arith, append_assoc, subst}
+use Rattle.std.proofs.Common.{◌≡◌, ℕ, ◌+◌, ◌-◌, ◌*◌, ◌&&◌, Bool, true, if◌then◌else◌, nat_le, List, [], ◌∷◌, ◌++◌, length, filter, refl, sym, ap, ◌∙◌, arith, append_assoc, subst, ◌≤◌}
 use Rattle.std.proofs.lemmas.List.{append-nil}
+use Rattle.std.proofs.lemmas.Grind.{flat_map-append}
+use Rattle.std.proofs.lemmas.List.Elements.{All-push}
 use Rattle.gw_base.specs.declared.held.HeldKey.{HeldKey}
 use Rattle.gw_base.specs.declared.history.HistoryAct.{HistoryAct}
 use Rattle.gw_base.specs.declared.history.HistoryEntry.{HistoryEntry}
@@ -8,12 +10,17 @@ use Rattle.gw_base.specs.HeldKeys.{held_by, held_keys, promised_octets}
 use Rattle.gw_base.specs.History.{due_after, is_close_due}
 use Rattle.gw_base.specs.View.{HistoryView, stays_held}
 use Rattle.gw_base.specs.ViewLaws.{view_of-append}
+use Rattle.gw_base.specs.declared.history.HistoryAct.TheVariants.{Start}
 use Rattle.entry_codec.specs.Laws.{costs_of-append}
 use Rattle.entry_codec.specs.Room.{capacity_of, costs_of, has_room}
 use Rattle.entry_codec.specs.Spelling.{cost_of}
+use Rattle.entry_codec.specs.Content.{IsContent, entries_of}
 use Rattle.cgf_journal.specs.Held.{passing}
 use Rattle.cgf_journal.specs.Tally.{TallyValue, free_beside, has_room_behind, held_after, no_tally, promised_by, tally_behind, tally_behind_all, tally_of}
-use Rattle.cgf_journal.proofs.Passings.{passing-append, passing_all, passing_all_in_order, passing_both}
+use Rattle.cgf_journal.specs.Format.{AreBatches, cheapest_entry, entries_in}
+use Rattle.cgf_journal.specs.Reserved.{AreEnough}
+use Rattle.cgf_journal.specs.Sorted.{count_held}
+use Rattle.cgf_journal.proofs.InOrder.{passing-append, passing_all, passing_all_in_order, passing_both}
 
 -- ---- one entry after the other
 
@@ -90,3 +97,34 @@ room_is h e size =
 
 pub free_is : (h : List HistoryEntry) (size : ℕ) → free_beside (tally_of h) size ≡ capacity_of size - (costs_of h + promised_octets h)
 free_is h size = λ i. capacity_of size - (tally_of-costs h i + promises_are h i)
+
+-- ---- entries: what they spell, what they cost, and which batches hold them
+
+pub entries_in-push : (batches : List (List ℕ)) (batch : List ℕ) → entries_in (batches ++ batch ∷ []) ≡ entries_in batches ++ entries_of batch
+entries_in-push batches batch = flat_map-append entries_of batches (batch ∷ []) ∙ ap (λ (h : List HistoryEntry). entries_in batches ++ h) (append-nil (entries_of batch))
+
+-- one more batch behind others
+pub are_batches-push : (size : ℕ) (batches : List (List ℕ)) (batch : List ℕ) → AreBatches size batches → IsContent batch → costs_of (entries_in batches ++ entries_of batch) ≤ capacity_of size → AreBatches size (batches ++ batch ∷ [])
+are_batches-push size batches batch are content costs = record {
+  contents = All-push IsContent batches batch are.contents content;
+  costs = subst (λ (h : List HistoryEntry). costs_of h ≤ capacity_of size) (sym (entries_in-push batches batch)) costs;
+}
+
+-- each entry costs 30 octets at least
+pub costs_at_least : (h : List HistoryEntry) → cheapest_entry * length h ≤ costs_of h
+costs_at_least [] = omega arith
+costs_at_least (e ∷ h) = omega (arith, costs_at_least h)
+
+-- ---- what is reserved stays enough
+
+pub still_enough : (size places more keys many : ℕ) → more ≡ places → many ≡ keys → AreEnough size places keys → AreEnough size more many
+still_enough size places more keys many same_places same_keys enough =
+    record { short = enough.short; places_last = omega (arith, enough.places_last, same_places); keys_last = omega (arith, enough.keys_last, same_keys) }
+
+-- an entry that holds a key costs what a Hold does at least
+pub hold_costs : (e : HistoryEntry) → 42 * count_held e.act ≤ cost_of e
+hold_costs e = by_act e.act
+  where
+    by_act : (act : HistoryAct) → 42 * count_held act ≤ cost_of (record { moment = e.moment; caller = e.caller; act = act })
+    by_act Start = omega arith
+    by_act _ = omega arith

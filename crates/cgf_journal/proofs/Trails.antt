@@ -1,8 +1,8 @@
 -- What a trail tells of its entries.
-use Rattle.std.proofs.Common.{◌≡◌, ◌≢◌, ◌⊎◌, inl, inr, ℕ, ◌+◌, ◌-◌, ◌*◌, ◌<◌, ◌≤◌, Bool, true, false, List, [], ◌∷◌, ◌++◌, length, take, drop, refl, sym, ◌∙◌, ap, subst, arith, length-append}
+use Rattle.std.proofs.Common.{◌≡◌, ◌≢◌, inl, inr, ℕ, ◌+◌, ◌-◌, ◌*◌, ◌<◌, ◌≤◌, true, false, List, [], ◌∷◌, ◌++◌, length, take, drop, refl, sym, ◌∙◌, ap, subst, arith, length-append}
 use Rattle.std.specs.Prelude.{Err, IsTrue, Ok, OnErr, Result, Some, if◌then◌else◌, slice_get}
-use Rattle.std.proofs.lemmas.Bool.{cases_lt, cond_both, leb-true}
-use Rattle.std.proofs.lemmas.List.{append-nil, length-take-le, take-append-drop}
+use Rattle.std.proofs.lemmas.Bool.{false_from_ne_true, both_ways, cases_Bool, cases_lt, cond_both, leb-true, true_from_ne_false}
+use Rattle.std.proofs.lemmas.List.{append-nil, length-take-le, nil_from_length, take-append-drop}
 use Rattle.std.proofs.lemmas.Option.{get_or_from_slice_get, slice_get_within}
 use Rattle.area_disk.specs.declared.area.Area.{Ghosts}
 use Rattle.area_disk.specs.declared.plan.Outcome3.{Outcome3}
@@ -19,17 +19,22 @@ use Rattle.entry_codec.specs.Content.{entries_of, spelled}
 use Rattle.entry_codec.specs.Room.{capacity_of, costs_of}
 use Rattle.entry_codec.specs.Spelling.{HasSpelling, cost_of, entry_length}
 use Rattle.entry_codec.specs.Laws.{costs_of-spelled, entries_of-nil}
-use Rattle.cgf_journal.specs.Format.{StandsFor, cheapest_entry, entries_in}
-use Rattle.cgf_journal.specs.Sound.{EndsBy}
+use Rattle.cgf_journal.specs.Format.{AreBatches, StandsFor, cheapest_entry, entries_in}
+use Rattle.cgf_journal.specs.Sound.{EndsBy, is_founded}
+use Rattle.gate_journal.specs.declared.journal.Front.{Front}
+use Rattle.gate_journal.specs.declared.journal.Front.TheVariants.{Founded}
 use Rattle.cgf_journal.specs.Outcomes.{IsKept}
 use Rattle.cgf_journal.specs.Tally.{TallyValue, free_beside, has_room_behind, promised_by, tally_behind, tally_of}
 use Rattle.cgf_journal.specs.Trail.{IsAtRest, IsFirmPlaceOf, IsPlaceOf, IsSettled, StandsForOr, area_of, entries, firm_entries, free_of, has_room_of, header_of, is_closed, left_by_stop, length_of, stop_stands, tally, waiting, waiting_octets}
 use Rattle.cgf_journal.specs.declared.trail.Trail.{Trail}
-use Rattle.cgf_journal.specs.BatchLaws.{each_spelled}
+use Rattle.cgf_journal.specs.BatchLaws.{by_batches, each_spelled}
+use Rattle.cgf_journal.proofs.Tallies.{entries_in-push, tally_of-costs}
 use Rattle.cgf_journal.proofs.Placing.{IsAmong, IsFound, behind_is, from_is, get_left, get_right, length-places_behind}
 use Rattle.cgf_journal.proofs.Sounds.{dear_places, live_costs, live_is, one_more_batch, waiting_count}
-use Rattle.cgf_journal.proofs.Tallies.{tally_of-costs}
-use Rattle.cgf_journal.proofs.Standing.{keeps_either, keeps_for, keeps_more}
+
+pub founded_is : (front : Front) → is_founded front ≡ true → front ≡ Founded
+founded_is Founded e = refl
+founded_is _ e = cc
 
 pub on_err : {T E Q : Type 0} (r : Result T E) → Q → OnErr r Q
 on_err (Ok x) q = tt
@@ -89,11 +94,7 @@ module _ {A : Type 0} {tells : Ghosts A} (trail : Trail A tells) where
 
   pub waiting-none : waiting_octets trail ≡ 0 → waiting trail ≡ []
   unfolding waiting
-  waiting-none none = by_list trail.waiting.octets refl none
-    where
-      by_list : (l : List ℕ) → trail.waiting.octets ≡ l → length l ≡ 0 → entries_of trail.waiting.octets ≡ []
-      by_list [] is none = ap entries_of is ∙ entries_of-nil
-      by_list (x ∷ l) is none = absurd (omega (arith, none))
+  waiting-none none = ap entries_of (nil_from_length trail.waiting.octets none) ∙ entries_of-nil
 
   pub entries_open : is_closed trail ≡ false → entries trail ≡ firm_entries trail ++ waiting trail
   entries_open opened = ap (λ b. if b then firm_entries trail else firm_entries trail ++ waiting trail) opened
@@ -113,7 +114,7 @@ module _ {A : Type 0} {tells : Ghosts A} (trail : Trail A tells) where
 
   pub places_count : length trail.places.items ≡ trail.firm + length (waiting trail)
   unfolding waiting
-  places_count = waiting_count trail.journal trail.size trail.waiting trail.places.items trail.firm trail.tally trail.sound
+  places_count = waiting_count trail
 
   pub length_firm : waiting_octets trail ≡ 0 → length_of trail ≡ trail.firm
   length_firm none =
@@ -121,19 +122,17 @@ module _ {A : Type 0} {tells : Ghosts A} (trail : Trail A tells) where
       omega (arith, places_count, ap length (waiting-none none)))
 
   pub count : Told tells → length_of trail ≡ length (entries trail)
-  count told = by_closed (is_closed trail)
-    where
-      by_closed : (closed : Bool) → (if closed then trail.firm else length trail.places.items) ≡ length (if closed then firm_entries trail else firm_entries trail ++ waiting trail)
-      by_closed true = firm_count told
-      by_closed false = omega (arith, firm_count told, places_count, length-append (firm_entries trail) (waiting trail))
+  count told = elim (cases_Bool (is_closed trail)) [
+    | inl closed ↦ rw closed (firm_count told)
+    | inr opened ↦ rw opened (omega (arith, firm_count told, places_count, length-append (firm_entries trail) (waiting trail)))
+  ]
 
   pub tally_is : Told tells → tally trail ≡ tally_of (entries trail)
   unfolding firm_entries waiting
-  tally_is told = by_closed (is_closed trail)
-    where
-      by_closed : (closed : Bool) → (let t : TallyValue = if closed then trail.tally.firm else trail.tally.live in t) ≡ tally_of (if closed then firm_entries trail else firm_entries trail ++ waiting trail)
-      by_closed true = trail.sound.firm_tally told
-      by_closed false = live_is trail.journal trail.size trail.waiting trail.places.items trail.firm trail.tally trail.sound told
+  tally_is told = elim (cases_Bool (is_closed trail)) [
+    | inl closed ↦ rw closed (trail.sound.firm_tally told)
+    | inr opened ↦ rw opened (live_is trail told)
+  ]
 
   -- a firm place is among the firm ones
   pub get_firm : (k : ℕ) (place : Place) → IsFirmPlaceOf trail k place → slice_get (take trail.firm trail.places.items) k ≡ Some place
@@ -166,14 +165,11 @@ module _ {A : Type 0} {tells : Ghosts A} (trail : Trail A tells) where
       let each = each_spelled (journal.batches trail.journal) (trail.sound.are_batches told).contents in
       subst HasSpelling (get_or_from_slice_get (firm_entries trail) k e e get) (each k e (slice_get_within (firm_entries trail) k e get))
 
-  firm_costs_below : trail.tally.firm.costs ≤ capacity_of trail.size
-  firm_costs_below = omega (arith, live_costs trail.journal trail.size trail.waiting trail.places.items trail.firm trail.tally trail.sound, trail.sound.within, ap capacity_of trail.sound.sized)
-
   pub firm_costs_fit : trail.tally.firm.costs ≤ trail.size
-  firm_costs_fit = omega (arith, firm_costs_below)
+  firm_costs_fit = omega (arith, live_costs trail, trail.sound.within, trail.sound.sized)
 
   pub bound : cheapest_entry * length trail.places.items ≤ trail.size
-  bound = omega (arith, dear_places trail.journal trail.size trail.waiting trail.places.items trail.firm trail.tally trail.sound, trail.sound.within, ap capacity_of trail.sound.sized)
+  bound = omega (arith, dear_places trail, trail.sound.within, ap capacity_of trail.sound.sized)
 
   firm_costs_are : Told tells → trail.tally.firm.costs ≡ costs_of (firm_entries trail)
   unfolding firm_entries
@@ -200,86 +196,86 @@ module _ {A : Type 0} {tells : Ghosts A} (trail : Trail A tells) where
       ∙ ap (λ (l : List Place). slice_get l (trail.firm + j)) (take-append-drop trail.firm trail.places.items) ∙ is
 
   pub length_is : Told tells → (k : ℕ) (place : Place) (e : HistoryEntry) → k < length_of trail → IsPlaceOf trail k place → slice_get (entries trail) k ≡ Some e → place.length ≡ entry_length e
-  length_is told k place e inside is get = by_length (cases_lt k trail.firm)
-    where
-      firm_get : k < trail.firm → (closed : Bool) → slice_get (if closed then firm_entries trail else firm_entries trail ++ waiting trail) k ≡ Some e → slice_get (firm_entries trail) k ≡ Some e
-      firm_get low true found = found
-      firm_get low false found = sym (get_left (firm_entries trail) (waiting trail) k (omega (arith, low, firm_count told))) ∙ found
+  length_is told k place e inside is get = elim (cases_lt k trail.firm) [
+    | inl low ↦
+      let firm : slice_get (firm_entries trail) k ≡ Some e = elim (cases_Bool (is_closed trail)) [
+        | inl closed ↦ rw closed at get
+        | inr opened ↦ sym (get_left (firm_entries trail) (waiting trail) k (omega (arith, low, firm_count told))) ∙ (rw opened at get)
+      ] in
+      (entry_is told k place e (low, is) firm).here.size
+    | inr high ↦
+      let opened = false_from_ne_true (is_closed trail) (λ closed. omega (arith, high, rw closed at inside)) in
+      let later : length (firm_entries trail) + (k - trail.firm) ≡ k = omega (arith, high, firm_count told) in
+      let at : trail.firm + (k - trail.firm) ≡ k = omega (arith, high) in
+      later_length (k - trail.firm) place e (later_place (k - trail.firm) place (ap (λ n. slice_get trail.places.items n) at ∙ is))
+      (sym (get_right (firm_entries trail) (waiting trail) (k - trail.firm))
+      ∙ ap (λ n. slice_get (firm_entries trail ++ waiting trail) n) later ∙ (rw opened at get))
+  ]
 
-      later_get : trail.firm ≤ k → (closed : Bool) → k < (if closed then trail.firm else length trail.places.items) → slice_get (if closed then firm_entries trail else firm_entries trail ++ waiting trail) k ≡ Some e
-          → slice_get (waiting trail) (k - trail.firm) ≡ Some e
-      later_get high true low found = absurd (omega (arith, high, low))
-      later_get high false low found =
-          let at : length (firm_entries trail) + (k - trail.firm) ≡ k = omega (arith, high, firm_count told) in
-          sym (get_right (firm_entries trail) (waiting trail) (k - trail.firm)) ∙ ap (λ n. slice_get (firm_entries trail ++ waiting trail) n) at ∙ found
+  -- what octets stand for that its journal keeps: its batches, and one more
+  module _ (told : Told tells) (c : List ℕ) (sized : length c ≡ tells.size (area_of trail)) where
+    stands_by : (batches : List (List ℕ)) → AreBatches (tells.size (area_of trail)) batches → Keeps (journal.front_of trail.journal) (header_of trail) batches c → StandsFor (header_of trail) c (entries_in batches)
+    stands_by batches are keeps =
+        by_batches (header_of trail) c batches (subst (λ f. Keeps f (header_of trail) batches c) (founded_is (journal.front_of trail.journal) trail.sound.founded) keeps) (rw sized are)
 
-      by_length : (k < trail.firm) ⊎ (trail.firm ≤ k) → place.length ≡ entry_length e
-      by_length (inl low) = (entry_is told k place e (low, is) (firm_get low (is_closed trail) get)).here.size
-      by_length (inr high) =
-          let at : trail.firm + (k - trail.firm) ≡ k = omega (arith, high) in
-          later_length (k - trail.firm) place e (later_place (k - trail.firm) place (ap (λ n. slice_get trail.places.items n) at ∙ is)) (later_get high (is_closed trail) inside get)
+    firm_stand : Keeps (journal.front_of trail.journal) (header_of trail) (journal.batches trail.journal) c → StandsFor (header_of trail) c (firm_entries trail)
+    unfolding firm_entries
+    firm_stand keeps = stands_by (journal.batches trail.journal) (trail.sound.are_batches told) keeps
+
+    all_stand : (batch : List ℕ) → batch ≡ trail.waiting.octets → trail.waiting.octets ≢ [] → Keeps (journal.front_of trail.journal) (header_of trail) (journal.batches trail.journal ++ batch ∷ []) c
+        → StandsFor (header_of trail) c (firm_entries trail ++ waiting trail)
+    unfolding firm_entries waiting
+    all_stand batch is some keeps =
+        subst (λ (h : List HistoryEntry). StandsFor (header_of trail) c h) (entries_in-push (journal.batches trail.journal) trail.waiting.octets)
+        (stands_by (journal.batches trail.journal ++ trail.waiting.octets ∷ []) (one_more_batch trail told some)
+        (subst (λ (b : List ℕ). Keeps (journal.front_of trail.journal) (header_of trail) (journal.batches trail.journal ++ b ∷ []) c) is keeps))
+
+    either_stands : (batch : List ℕ) → batch ≡ trail.waiting.octets → trail.waiting.octets ≢ [] → journal.KeepsOr (journal.front_of trail.journal) (header_of trail) (journal.batches trail.journal) batch c
+        → StandsForOr (header_of trail) (firm_entries trail) (firm_entries trail ++ waiting trail) c
+    either_stands batch is some (inl keeps) = inl (firm_stand keeps)
+    either_stands batch is some (inr keeps) = inr (all_stand batch is some keeps)
 
   -- with the laws of the area
   module _ (laws : AreaLaws tells) where
     pub settled : journal.IsSettled trail.journal → IsSettled trail
-    unfolding firm_entries
     settled is = record {
-      reads = λ told. still told (tells.octets (area_of trail)) (laws.whole (area_of trail) told.0) (is.reads told);
-      crash = λ told c left. still told c (laws.same_size (area_of trail) c told.1 left) (is.crash told c left);
-      still = λ told. begin tells laws.only_now (area_of trail) _ (λ c left. still told c (laws.same_size (area_of trail) c told.1 left) (is.crash told c left));
+      reads = λ told. firm_stand told (tells.octets (area_of trail)) (laws.whole (area_of trail) told.0) (is.reads told);
+      crash = crash;
+      still = λ told. begin tells laws.only_now (area_of trail) _ (crash told);
     }
       where
-        still : Told tells → (c : List ℕ) → length c ≡ tells.size (area_of trail) → Keeps (journal.front_of trail.journal) (header_of trail) (journal.batches trail.journal) c → StandsFor (header_of trail) c (entries_in (journal.batches trail.journal))
-        still told = keeps_for (journal.front_of trail.journal) (tells.size (area_of trail)) (header_of trail) (journal.batches trail.journal) trail.sound.founded (trail.sound.are_batches told)
+        crash : Told tells → (c : List ℕ) → tells.may_leave (area_of trail) c → StandsFor (header_of trail) c (firm_entries trail)
+        crash told c left = firm_stand told c (laws.same_size (area_of trail) c told.1 left) (is.crash told c left)
 
     -- closed or not
     pub at_rest : (is_closed trail ≡ false → journal.IsSettled trail.journal) → journal.Rests trail.journal → IsAtRest trail
-    unfolding firm_entries waiting
-    at_rest opened rests = record {
-      reads = λ told. by_closed told (tells.octets (area_of trail)) (laws.whole (area_of trail) told.0) (λ e. (opened e).reads told) (rests.reads told) (is_closed trail) refl;
-      still = λ told. begin tells laws.only_now (area_of trail) _ (λ c left. by_closed told c (laws.same_size (area_of trail) c told.1 left) (λ e. (opened e).crash told c left) (rests.crash told c left) (is_closed trail) refl);
-    }
-      where
-        by_closed : Told tells → (c : List ℕ) → length c ≡ tells.size (area_of trail) → (is_closed trail ≡ false → Keeps (journal.front_of trail.journal) (header_of trail) (journal.batches trail.journal) c)
-            → journal.KeepsOr (journal.front_of trail.journal) (header_of trail) (journal.batches trail.journal) (journal.torn trail.journal) c → (closed : Bool) → is_closed trail ≡ closed
-            → StandsForOr (header_of trail) (entries_in (journal.batches trail.journal)) (entries_in (journal.batches trail.journal) ++ entries_of trail.waiting.octets) c
-        by_closed told c sized opened keeps true e =
-            keeps_either (journal.front_of trail.journal) (tells.size (area_of trail)) (header_of trail) (journal.batches trail.journal) trail.sound.founded (trail.sound.are_batches told) trail.waiting.octets
-            (one_more_batch trail.journal trail.size trail.waiting trail.places.items trail.firm trail.tally trail.sound told (trail.sound.some_torn e)) c sized
-            (subst (λ (b : List ℕ). journal.KeepsOr (journal.front_of trail.journal) (header_of trail) (journal.batches trail.journal) b c) (trail.sound.torn_waits e) keeps)
-        by_closed told c sized opened keeps false e =
-            inl (keeps_for (journal.front_of trail.journal) (tells.size (area_of trail)) (header_of trail) (journal.batches trail.journal) trail.sound.founded (trail.sound.are_batches told) c sized (opened e))
+    at_rest opened rests = elim (cases_Bool (is_closed trail)) [
+      | inl closed ↦ record {
+        reads = λ told. either_stands told (tells.octets (area_of trail)) (laws.whole (area_of trail) told.0) (journal.torn trail.journal) (trail.sound.torn_waits closed) (trail.sound.some_torn closed) (rests.reads told);
+        still = λ told. begin tells laws.only_now (area_of trail) _ (λ c left.
+            either_stands told c (laws.same_size (area_of trail) c told.1 left) (journal.torn trail.journal) (trail.sound.torn_waits closed) (trail.sound.some_torn closed) (rests.crash told c left));
+      }
+      | inr free ↦
+          let is = settled (opened free) in
+          record { reads = λ told. inl (is.reads told); still = λ told. begin tells laws.only_now (area_of trail) _ (λ c left. inl (is.crash told c left)) }
+    ]
 
   -- what the journal leaves in a call, stands for the firm entries, or with those that wait
   pub leaves_either : (new : A) (batch : List ℕ) → Told tells → batch ≡ trail.waiting.octets → trail.waiting.octets ≢ []
       → AreaLaws tells → tells.size new ≡ tells.size (area_of trail)
       → Leaves tells (area_of trail) new (journal.KeepsOr (journal.front_of trail.journal) (header_of trail) (journal.batches trail.journal) batch)
       → Leaves tells (area_of trail) new (StandsForOr (header_of trail) (firm_entries trail) (firm_entries trail ++ waiting trail))
-  unfolding firm_entries waiting
   leaves_either new batch told is some laws same keeps =
-      let sized = leaves_sized tells laws (area_of trail) new same told.1 keeps in
-      let more = one_more_batch trail.journal trail.size trail.waiting trail.places.items trail.firm trail.tally trail.sound told some in
-      widen tells (area_of trail) new _ _
-      (λ c has. keeps_either (journal.front_of trail.journal) (tells.size (area_of trail)) (header_of trail) (journal.batches trail.journal) trail.sound.founded (trail.sound.are_batches told) trail.waiting.octets more c has.0
-      (subst (λ (b : List ℕ). journal.KeepsOr (journal.front_of trail.journal) (header_of trail) (journal.batches trail.journal) b c) is has.1))
-      (both tells (area_of trail) new (λ c. length c ≡ tells.size (area_of trail)) (journal.KeepsOr (journal.front_of trail.journal) (header_of trail) (journal.batches trail.journal) batch) sized keeps)
+      widen tells (area_of trail) new _ _ (λ c has. either_stands told c has.0 batch is some has.1)
+      (both tells (area_of trail) new (λ c. length c ≡ tells.size (area_of trail)) (journal.KeepsOr (journal.front_of trail.journal) (header_of trail) (journal.batches trail.journal) batch)
+      (leaves_sized tells laws (area_of trail) new same told.1 keeps) keeps)
 
   -- what a stop leaves
-  module _ (told : Told tells) (none_torn : is_closed trail ≡ false → (outcome : Outcome3) → stop_stands outcome trail ≡ false) (c : List ℕ) (sized : length c ≡ tells.size (area_of trail)) where
-    pub stop_is : (outcome : Outcome3) → Keeps (journal.front_of trail.journal) (header_of trail) (journal.left_by_stop outcome trail.journal) c → StandsFor (header_of trail) c (left_by_stop outcome trail)
-    unfolding firm_entries waiting
-    stop_is outcome keeps = by_stop (stop_stands outcome trail) refl keeps
-      where
-        closed_by_stop : (closed : Bool) → (closed ≡ false → true ≡ false) → closed ≡ true
-        closed_by_stop true none = refl
-        closed_by_stop false none = sym (none refl)
-
-        by_stop : (stands : Bool) → stop_stands outcome trail ≡ stands
-            → Keeps (journal.front_of trail.journal) (header_of trail) (if stands then journal.batches trail.journal ++ journal.torn trail.journal ∷ [] else journal.batches trail.journal) c
-            → StandsFor (header_of trail) c (if stands then firm_entries trail ++ waiting trail else firm_entries trail)
-        by_stop true is keeps =
-            let closed = closed_by_stop (is_closed trail) (λ e. sym is ∙ none_torn e outcome) in
-            let more = one_more_batch trail.journal trail.size trail.waiting trail.places.items trail.firm trail.tally trail.sound told (trail.sound.some_torn closed) in
-            keeps_more (journal.front_of trail.journal) (tells.size (area_of trail)) (header_of trail) (journal.batches trail.journal) trail.sound.founded (trail.sound.are_batches told) trail.waiting.octets more c sized
-            (subst (λ (b : List ℕ). Keeps (journal.front_of trail.journal) (header_of trail) (journal.batches trail.journal ++ b ∷ []) c) (trail.sound.torn_waits closed) keeps)
-        by_stop false is keeps = keeps_for (journal.front_of trail.journal) (tells.size (area_of trail)) (header_of trail) (journal.batches trail.journal) trail.sound.founded (trail.sound.are_batches told) c sized keeps
+  pub stop_is : (told : Told tells) → (is_closed trail ≡ false → (outcome : Outcome3) → stop_stands outcome trail ≡ false) → (c : List ℕ) → length c ≡ tells.size (area_of trail)
+      → (outcome : Outcome3) → Keeps (journal.front_of trail.journal) (header_of trail) (journal.left_by_stop outcome trail.journal) c → StandsFor (header_of trail) c (left_by_stop outcome trail)
+  stop_is told none_torn c sized outcome keeps = elim (cases_Bool (stop_stands outcome trail)) [
+    | inl is ↦
+        let closed = true_from_ne_false (is_closed trail) (λ e. both_ways (stop_stands outcome trail) (none_torn e outcome) is) in
+        rw is (all_stand told c sized (journal.torn trail.journal) (trail.sound.torn_waits closed) (trail.sound.some_torn closed) (rw is at keeps))
+    | inr isnt ↦ rw isnt (firm_stand told c sized (rw isnt at keeps))
+  ]

@@ -2,7 +2,7 @@
 use Rattle.std.proofs.Common.{◌≡◌, ℕ, List, ◌∷◌, ◌++◌, length, take, sym, ◌∙◌, ap, subst}
 use Rattle.gate_journal.specs.Before.{AreBefore}
 use Rattle.gate_journal.specs.Format.{open_gate, end_of, IsWhole, gate_at, Stands, IsBroken}
-use Rattle.gate_journal.specs.Agreeing.{Compared, equal, longer, shorter, compare, place_of, front_before, batch_before, stands_before}
+use Rattle.gate_journal.specs.Agreeing.{equal, longer, shorter, compare, place_of, front_before, batch_before, stands_before}
 
 -- the batches before a gate that is closed or has no whole batch behind it
 pub record Stop (header octets : List ℕ) (at : ℕ) (batches : List (List ℕ)) : Type 0 where
@@ -24,21 +24,17 @@ module _ (header : List ℕ) (long : length header ≡ 32) (octets : List ℕ) w
       stop.stops (ap (λ n. gate_at octets n) at_is ∙ next.opened) (subst (λ n. IsWhole octets n) (sym at_is) next.whole)
 
   pub one_stop : (at far : ℕ) (some other : List (List ℕ)) → Stop header octets at some → Stop header octets far other → some ≡ other
-  one_stop at far some other one two = decide (compare header long octets at far some other one.before two.before)
-    where
-      decide : Compared some other → some ≡ other
-      decide (equal e) = e
-      decide (longer b m e) = absurd (goes_on at some one b m far (subst (λ (l : List (List ℕ)). AreBefore header octets far l) e two.before))
-      decide (shorter b m e) = absurd (goes_on far other two b m at (subst (λ (l : List (List ℕ)). AreBefore header octets at l) e one.before))
+  one_stop at far some other one two = elim (compare header long octets at far some other one.before two.before) [
+    | equal e ↦ e
+    | longer b m e ↦ absurd (goes_on at some one b m far (subst (λ (l : List (List ℕ)). AreBefore header octets far l) e two.before))
+    | shorter b m e ↦ absurd (goes_on far other two b m at (subst (λ (l : List (List ℕ)). AreBefore header octets at l) e one.before))
+  ]
 
   pub one_place : (at far : ℕ) (some other : List (List ℕ)) → Stop header octets at some → Stop header octets far other → at ≡ far
   one_place at far some other one two =
       place_of header long octets at some one.before ∙ ap end_of (one_stop at far some other one two) ∙ sym (place_of header long octets far other two.before)
 
   -- what an opening reads, and what else the octets might be
-  pub stands_front : (batches : List (List ℕ)) → Stands header octets batches → take 32 octets ≡ header
-  stands_front batches stands = front_before header long octets (end_of batches) batches (stands_before header long octets batches stands)
-
   pub one_list : (some other : List (List ℕ)) → Stands header octets some → Stands header octets other → some ≡ other
   one_list some other one two = one_stop (end_of some) (end_of other) some other (stop_of_stands some one) (stop_of_stands other two)
 

@@ -1,16 +1,14 @@
 -- What the making of an area leaves.
-use Rattle.std.proofs.Common.{◌≡◌, inl, inr, ℕ, ◌+◌, ◌<◌, List, [], ◌∷◌, ◌++◌, length, get_or, take, drop, sym, ◌∙◌, ap, arith, append_assoc, Result, Ok, Err, OnOk}
-use Rattle.std.proofs.lemmas.List.{take_at, drop-take, get_or_at, get_or-take, length-take-le}
+use Rattle.std.proofs.Common.{◌≡◌, inl, inr, ℕ, ◌+◌, ◌<◌, List, [], ◌∷◌, ◌++◌, length, get_or, take, drop, sym, ◌∙◌, ap, arith, append_assoc, Result, Ok, Err, OnOk, ◌≢◌, ◌≤◌, refl, length-append}
+use Rattle.std.proofs.lemmas.List.{take_at, drop-take, get_or_at, get_or-take, length-take-le, drop_at, length-drop}
 use Rattle.area_disk.specs.Disk.{overwritten, Torn}
-use Rattle.gate_journal.specs.Format.{open_gate, closed_gate, Starts, IsUnfinished}
+use Rattle.gate_journal.specs.Format.{open_gate, closed_gate, Starts, IsUnfinished, gate_at}
 use Rattle.gate_journal.specs.Opening.{IsLaid}
-use Rattle.gate_journal.specs.Fronts.{at_front}
-use Rattle.gate_journal.proofs.Contents.{length-rest}
+use Rattle.gate_journal.specs.Fronts.{at_front, front_of_front}
+use Rattle.gate_journal.specs.Adding.{added, IsAdding}
+use Rattle.gate_journal.proofs.Turns.{length-rest}
 
 module _ (header : List ℕ) (long : length header ≡ 32) (begins : get_or header 0 0 ≡ 67) where
-  front : List ℕ
-  front = drop 1 header ++ closed_gate ∷ []
-
   -- an area whose octet 0 is 0
   pub laid_blank : (octets : List ℕ) → 33 < length octets → get_or octets 0 0 ≡ 0 → IsLaid header (overwritten octets 1 (drop 1 header ++ closed_gate ∷ []))
   laid_blank [] inside blank = absurd (omega arith)
@@ -56,3 +54,53 @@ module _ (header : List ℕ) (long : length header ≡ 32) (begins : get_or head
 pub on_ok : {T E : Type 0} (result : Result T E) (P Q : Type 0) → (P → Q) → OnOk result P → OnOk result Q
 on_ok (Ok v) P Q f p = f p
 on_ok (Err e) P Q f p = p
+
+-- ---- what each of the two writes leaves that add a batch
+
+module _ (gate : ℕ) (framed octets : List ℕ) (fits : gate + 1 + length framed ≤ length octets) where
+  -- the frame behind the gate
+  abbrev pub staged : List ℕ
+  staged = overwritten octets (gate + 1) framed
+
+  length-front : length (take (gate + 1) octets) ≡ gate + 1
+  length-front = length-take-le (gate + 1) octets (omega arith)
+
+  pub length-staged : length staged ≡ length octets
+  length-staged = omega (
+    arith,
+    length-front,
+    length-append (take (gate + 1) octets ++ framed) (drop (gate + 1 + length framed) octets),
+    length-append (take (gate + 1) octets) framed,
+    length-drop (gate + 1 + length framed) octets,
+  )
+
+  staged-split : staged ≡ take (gate + 1) octets ++ (framed ++ drop (gate + 1 + length framed) octets)
+  staged-split = append_assoc (take (gate + 1) octets) framed (drop (gate + 1 + length framed) octets)
+
+  staged-front : take (gate + 1) staged ≡ take (gate + 1) octets
+  staged-front = ap (λ (l : List ℕ). take (gate + 1) l) staged-split ∙ take_at (take (gate + 1) octets) _ (gate + 1) length-front
+
+  staged-back : drop (gate + 1) staged ≡ framed ++ drop (gate + 1 + length framed) octets
+  staged-back = ap (λ (l : List ℕ). drop (gate + 1) l) staged-split ∙ drop_at (take (gate + 1) octets) _ (gate + 1) length-front
+
+  -- while the frame is written the gate stays closed
+  pub behind_gate : gate_at octets gate ≢ open_gate → (c : List ℕ) → Torn (gate + 1) (length framed) octets c → IsAdding gate framed octets c
+  behind_gate shut c torn = record {
+    size = torn.size;
+    front = front_of_front gate (gate + 1) c octets (omega arith) torn.before;
+    behind = λ opened. absurd (shut (sym (at_front gate (gate + 1) open_gate c octets (omega arith) torn.before) ∙ opened));
+  }
+
+  -- when the gate is opened the frame stands behind it
+  pub at_gate : (c : List ℕ) → Torn gate 1 staged c → IsAdding gate framed octets c
+  at_gate c torn = record {
+    size = torn.size ∙ length-staged;
+    front = torn.before ∙ front_of_front gate (gate + 1) staged octets (omega arith) staged-front;
+    behind = λ opened. ap (λ (l : List ℕ). take (length framed) l) (torn.after ∙ staged-back) ∙ take_at framed _ (length framed) refl;
+  }
+
+  pub gate_opened : overwritten staged gate (open_gate ∷ []) ≡ added gate framed octets
+  gate_opened =
+      append_assoc (take gate staged) (open_gate ∷ []) (drop (gate + 1) staged)
+      ∙ ap (λ (l : List ℕ). l ++ open_gate ∷ drop (gate + 1) staged) (front_of_front gate (gate + 1) staged octets (omega arith) staged-front)
+      ∙ ap (λ (l : List ℕ). take gate octets ++ open_gate ∷ l) staged-back

@@ -1,16 +1,10 @@
-mod Adding
 mod Apart
-mod Below
-mod Calm
-mod Contents
 mod Counts
 mod Finding
 mod Seen
 mod Kept
 mod Laying
-mod Listing
 mod Openings
 mod Plans
 mod States
-mod Syncs
 mod Turns

@@ -1,29 +1,124 @@
--- What the steps of an opening make of its answer.
-use Rattle.std.proofs.Common.{◌≡◌, ◌≢◌, inl, inr, ⊎_elim, ◌⊎◌, ℕ, ◌+◌, ◌<◌, ◌≤◌, Bool, true, false, List, length, take, Result, Ok, Err, sym, ◌∙◌, ap, subst, arith}
-use Rattle.std.specs.Prelude.{IsTrue, IfOk, IfErr}
+-- Batches below a place, one after the other.
+use Rattle.std.proofs.Common.{◌≡◌, ◌≢◌, inl, inr, ⊎_elim, ◌⊎◌, ℕ, ◌+◌, ◌<◌, ◌≤◌, Bool, true, false, List, length, get_or, take, Result, Ok, Err, sym, ◌∙◌, ap, subst, arith, [], ◌++◌, drop, take-append-drop, suc, ◌∷◌}
+use Rattle.std.specs.Prelude.{IsTrue, IfOk, IfErr, All}
+use Rattle.std.proofs.lemmas.List.{append-nil, take-take, drop_all, get_or-take, length-take, drop-append-le, drop_more, drop-drop, length-take-le, length-drop}
+use Rattle.std.proofs.lemmas.List.Elements.{All-nil, All-push}
+use Rattle.std.proofs.Math.Seq.{take-add}
+use Rattle.byteorder.specs.Endian.{big_bytes}
 use Rattle.area_disk.specs.Disk.{Rose, counted}
 use Rattle.area_disk.specs.declared.area.Area.{Ghosts}
-use Rattle.gate_journal.specs.Format.{open_gate, gate_at, IsBroken, Stands, Starts}
-use Rattle.gate_journal.specs.Journal.{area_of, header_of, batches}
+use Rattle.area_disk.specs.MomentLaws.{follow}
+use Rattle.gate_journal.specs.Agreeing.{same_not_starts, same_not_differs, one_difference}
+use Rattle.gate_journal.specs.Beginnings.{foreign_not_starts, stands_not_starts}
+use Rattle.gate_journal.specs.Format.{header, open_gate, gate_at, IsBroken, IsForeign, Differs, Stands, Starts, spelled, IsSmall, IsWhole, longest_batch}
+use Rattle.gate_journal.specs.Journal.{area_of, batches, header_of}
 use Rattle.gate_journal.specs.Making.{IsAnew, IsReadyWith}
 use Rattle.gate_journal.specs.Moments.{Told, Kept, Leaves, RoseUpTo}
-use Rattle.gate_journal.specs.Opening.{IsDrafted, IsOpened, OnArea, OpenLeaves, RoseByDevice, is_device}
+use Rattle.gate_journal.specs.Opening.{IsDrafted, IsOpened, OnArea, OpenLeaves, RoseByDevice, header_for, is_device, IsLaid}
 use Rattle.gate_journal.specs.Planned.{ReadsRun, SyncPlanned}
-use Rattle.gate_journal.specs.State.{Keeps, batches_below}
+use Rattle.gate_journal.specs.Spelling.{length-header, first-header, spelled-nil, batches_in-spelled, spelled-one, spelled-append, length-spelled}
+use Rattle.gate_journal.specs.State.{Keeps, batches_below, IsListed, batches_in}
 use Rattle.gate_journal.specs.Verdicts.{IsVerdict, AreBelow}
 use Rattle.gate_journal.specs.declared.faults.OpenFault.{OpenFault}
 use Rattle.gate_journal.specs.declared.faults.OpenFault.TheVariants.{Device, NoMemory}
 use Rattle.gate_journal.specs.declared.journal.Front.TheVariants.{Draft, Founded}
 use Rattle.gate_journal.specs.declared.journal.Journal.{Journal}
-use Rattle.gate_journal.specs.declared.reading.Verdict.TheVariants.{Starts as Begins}
-use Rattle.gate_journal.proofs.Apart.{Stop, stop_of_broken, one_place, one_list}
-use Rattle.gate_journal.proofs.Listing.{front_is}
-use Rattle.area_disk.specs.MomentLaws.{follow}
-use Rattle.gate_journal.proofs.Syncs.{sync_on}
+use Rattle.gate_journal.specs.declared.reading.Verdict.{Verdict}
+use Rattle.gate_journal.specs.declared.reading.Verdict.TheVariants.{Starts as Begins, Same}
+use Rattle.gate_journal.proofs.Apart.{Stop, stop_of_broken, one_place, one_list, broken_front}
+use Rattle.gate_journal.proofs.Plans.{sync_on}
 
-pub starts_of : (header octets : List ℕ) (blank : Bool) → IsVerdict header octets (Begins blank) → Starts header octets
-starts_of header octets true is = inl is
-starts_of header octets false is = inr is
+-- what is spelled below a place are the batches below it
+pub below_is : (at : ℕ) (octets : List ℕ) (batches : List (List ℕ)) → drop 32 (take at octets) ≡ spelled batches → All IsSmall batches → batches_below at octets ≡ batches
+unfolding batches_below
+below_is at octets batches spelling small =
+    ap (λ (l : List ℕ). batches_in (length l) l) spelling ∙ batches_in-spelled batches (length (spelled batches)) small (omega (arith, length-spelled batches))
+
+pub are_below : (at : ℕ) (octets : List ℕ) (batches : List (List ℕ)) → drop 32 (take at octets) ≡ spelled batches → All IsSmall batches → AreBelow at octets
+are_below at octets batches spelling small =
+    let is = below_is at octets batches spelling small in
+    record {
+      spelling = spelling ∙ ap spelled (sym is);
+      small = subst (λ (bs : List (List ℕ)). All IsSmall bs) (sym is) small;
+    }
+
+-- at first there are none
+pub none_below : (octets : List ℕ) → AreBelow 32 octets
+none_below octets = are_below 32 octets [] (drop_all 32 (take 32 octets) (omega (arith, length-take 32 octets)) ∙ sym spelled-nil) (All-nil IsSmall)
+
+-- an open gate adds the batch behind it
+module _ (at number : ℕ) (octets : List ℕ) (low : 32 ≤ at) (inside : at + 5 + number < length octets) (opened : gate_at octets at ≡ open_gate) (field : take 4 (drop (at + 1) octets) ≡ big_bytes 4 number) where
+  length-content : length (take number (drop (at + 5) octets)) ≡ number
+  length-content = length-take-le number (drop (at + 5) octets) (omega (arith, length-drop (at + 5) octets))
+
+  behind_is : take (4 + number) (drop (at + 1) octets) ≡ big_bytes 4 number ++ take number (drop (at + 5) octets)
+  behind_is =
+      let place : at + 1 + 4 ≡ at + 5 = omega arith in
+      take-add 4 number (drop (at + 1) octets)
+      ∙ ap (λ (l : List ℕ). l ++ take number (drop 4 (drop (at + 1) octets))) field
+      ∙ ap (λ (l : List ℕ). big_bytes 4 number ++ take number l) (drop-drop 4 (at + 1) octets ∙ ap (λ n. drop n octets) place)
+
+  from_gate : take (5 + number) (drop at octets) ≡ spelled (take number (drop (at + 5) octets) ∷ [])
+  from_gate =
+      ap (λ (l : List ℕ). take (5 + number) l) (drop_more octets at open_gate (omega arith))
+      ∙ ap (λ n. take n (get_or octets at open_gate ∷ drop (at + 1) octets)) five
+      ∙ ap (λ x. x ∷ take (4 + number) (drop (at + 1) octets)) opened
+      ∙ ap (λ (l : List ℕ). open_gate ∷ l) behind_is
+      ∙ ap (λ n. open_gate ∷ (big_bytes 4 n ++ take number (drop (at + 5) octets))) (sym length-content)
+      ∙ sym (spelled-one (take number (drop (at + 5) octets)))
+    where
+      five : 5 + number ≡ suc (4 + number)
+      five = omega arith
+
+  pub one_more : number ≤ longest_batch → AreBelow at octets → AreBelow (at + (5 + number)) octets
+  one_more short below =
+      let batches = batches_below at octets in
+      let batch = take number (drop (at + 5) octets) in
+      let spelling : drop 32 (take (at + (5 + number)) octets) ≡ spelled (batches ++ batch ∷ []) =
+      ap (λ (l : List ℕ). drop 32 l) (take-add at (5 + number) octets)
+      ∙ drop-append-le 32 (take at octets) (take (5 + number) (drop at octets)) (omega (arith, length-take-le at octets (omega arith)))
+      ∙ ap (λ (l : List ℕ). l ++ take (5 + number) (drop at octets)) below.spelling
+      ∙ ap (λ (l : List ℕ). spelled batches ++ l) from_gate
+      ∙ sym (spelled-append batches (batch ∷ [])) in
+      are_below (at + (5 + number)) octets (batches ++ batch ∷ []) spelling (All-push IsSmall batches batch below.small (omega (arith, length-content)))
+
+-- ---- octets that are a header and batches behind it
+
+pub below_first : (octets : List ℕ) → batches_below 32 octets ≡ []
+below_first octets = below_is 32 octets [] (drop_all 32 (take 32 octets) (omega (arith, length-take 32 octets)) ∙ sym spelled-nil) (All-nil IsSmall)
+
+-- an area that was laid is a draft without a batch
+pub laid_listed : (header octets : List ℕ) → IsLaid header octets → IsListed header Draft 32 octets
+laid_listed header octets laid =
+    let none = below_first octets in
+    record {
+      listed = laid.rest ∙ sym (append-nil (drop 1 header)) ∙ ap (λ (l : List ℕ). drop 1 header ++ l) (sym (ap spelled none ∙ spelled-nil));
+      small = subst (λ (bs : List (List ℕ)). All IsSmall bs) (sym none) (All-nil IsSmall);
+      founded = λ e. absurd (let f : ⊥ = cc in f);
+      drafted = λ e. laid.first;
+      shut = laid.shut;
+    }
+
+module _ (header : List ℕ) (long : length header ≡ 32) (gate : ℕ) (octets : List ℕ) (same : take 32 octets ≡ header) (low : 32 ≤ gate) (below : AreBelow gate octets) where
+  pub front_is : take gate octets ≡ header ++ spelled (batches_below gate octets)
+  front_is =
+      sym (take-append-drop 32 (take gate octets))
+      ∙ ap (λ (l : List ℕ). l ++ drop 32 (take gate octets)) (take-take 32 gate octets low ∙ same)
+      ∙ ap (λ (l : List ℕ). header ++ l) below.spelling
+
+  pub scanned_listed : gate_at octets gate ≢ open_gate → IsListed header Founded gate octets
+  scanned_listed shut = record {
+    listed = ap (λ (l : List ℕ). drop 1 l) front_is ∙ drop-append-le 1 header (spelled (batches_below gate octets)) (omega arith);
+    small = below.small;
+    founded = λ e. sym (get_or-take 32 octets 0 0 (omega arith)) ∙ ap (λ (l : List ℕ). get_or l 0 0) same;
+    drafted = λ e. absurd (let f : ⊥ = cc in f);
+    shut = shut;
+  }
+
+  pub scanned_broken : gate < length octets → gate_at octets gate ≡ open_gate → (IsWhole octets gate → ⊥) → IsBroken header octets gate
+  scanned_broken inside opened unwhole = record { batches = batches_below gate octets; front = front_is; small = below.small; inside = inside; opened = opened; unwhole = unwhole }
+
+-- ---- what the steps of an opening make of its answer
 
 -- batches behind which a closed gate stands are followed by no broken one
 pub shut_or_broken : (header : List ℕ) (long : length header ≡ 32) (gate : ℕ) (octets : List ℕ) (same : take 32 octets ≡ header) (low : 32 ≤ gate) (below : AreBelow gate octets) → gate < length octets → gate_at octets gate ≢ open_gate
@@ -32,53 +127,111 @@ shut_or_broken header long gate octets same low below inside shut at broken =
     let stop : Stop header octets gate (batches_below gate octets) = record { before = record { front = front_is header long gate octets same low below; small = below.small; inside = inside }; stops = λ opened. absurd (shut opened) } in
     shut (subst (λ n. gate_at octets n ≡ open_gate) (sym (one_place header long octets gate at (batches_below gate octets) broken.batches stop (stop_of_broken header long octets at broken))) broken.opened)
 
+-- an area, and the header that a journal of it has
+module _ {A : Type 0} (g : Ghosts A) (area : A) (address generation : ℕ) where
+  abbrev ours : List ℕ
+  ours = header_for g area address generation
+
+  ours_long : length ours ≡ 32
+  ours_long = length-header (g.size area) address generation
+
+  ours_first : get_or ours 0 0 ≡ 67
+  ours_first = first-header (g.size area) address generation
+
+  starts_by : (blank : Bool) → IsVerdict ours (g.octets area) (Begins blank) → Starts ours (g.octets area)
+  starts_by true is = inl is
+  starts_by false is = inr is
+
+  -- what the look at it found
+  module _ {size : ℕ} {head : List ℕ} {verdict found : Verdict} (sized : size ≡ g.size area)
+      (named : head ≡ header size address generation) (is : verdict ≡ found)
+      (looked : IsTrue g.tells_octets → IsVerdict head (g.octets area) verdict) where
+    pub found_told : {v : Verdict} → found ≡ v → Told g → IsVerdict ours (g.octets area) v
+    found_told {v = v} same told =
+        subst (λ (h : List ℕ). IsVerdict h (g.octets area) v) (named ∙ ap (λ n. header n address generation) sized)
+        (subst (λ w. IsVerdict head (g.octets area) w) (is ∙ same) (looked told.0))
+
+    pub starts_told : {blank : Bool} → found ≡ Begins blank → Told g → Starts ours (g.octets area)
+    starts_told {blank = blank} same told = starts_by blank (found_told same told)
+
+    pub none_told : found ≡ Same → Told g → Starts ours (g.octets area) → ⊥
+    none_told same told = same_not_starts ours ours_long (g.octets area) (found_told same told) ours_first
+
+  -- what is foreign in it
+  pub foreign_none : (at : ℕ) → IsForeign ours (g.octets area) at → Starts ours (g.octets area) → ⊥
+  foreign_none at foreign starts =
+      foreign_not_starts ours ours_long ours_first (g.octets area) at foreign starts
+
+  pub foreign_broken : take 32 (g.octets area) ≡ ours → (at : ℕ) → IsForeign ours (g.octets area) at
+      → IsBroken ours (g.octets area) at
+  foreign_broken same at (inl d) = absurd (same_not_differs ours ours_long (g.octets area) same at d)
+  foreign_broken same at (inr b) = b
+
+  pub foreign_differs : (far at : ℕ) → Differs ours (g.octets area) far → IsForeign ours (g.octets area) at → far ≡ at
+  foreign_differs far at differs (inl d) = one_difference ours ours_long (g.octets area) far at differs d
+  foreign_differs far at differs (inr b) =
+      absurd (same_not_differs ours ours_long (g.octets area)
+      (broken_front ours ours_long (g.octets area) at b) far differs)
+
+  -- what was made of it, as the look left it
+  module _ (mid : A) (size : g.size mid ≡ g.size area) where
+    abbrev made : List ℕ
+    made = header_for g mid address generation
+
+    named : made ≡ ours
+    named = ap (λ n. header n address generation) size
+
+    -- a journal that was made anew
+    pub opened_anew : (result : Result (Journal A g) (OpenFault × A)) → IfOk result (λ journal. IsAnew Founded made journal)
+        → (Told g → Starts ours (g.octets area)) → IfOk result (λ journal. IsOpened g area ours journal)
+    opened_anew (Ok journal) anew starts = record {
+      ready = anew.is.ready;
+      front = anew.is.front;
+      header = anew.is.header ∙ named;
+      settled = anew.is.settled;
+      reads = λ told bs stands.
+          absurd (stands_not_starts ours ours_long ours_first (g.octets area) bs stands (starts told));
+      anew = λ told is. anew.batches told;
+      found = λ told. inl (starts told);
+    }
+    opened_anew (Err fault) anew starts = tt
+
+    -- one whose batches were read
+    pub opened_same : (result : Result (Journal A g) (OpenFault × A))
+        → IfOk result (λ journal. IsReadyWith Founded made journal) → OnArea result (λ now. Kept g mid now)
+        → (Told g → g.octets mid ≡ g.octets area) → (Told g → Starts ours (g.octets area) → ⊥)
+        → IfOk result (λ journal. IsOpened g area ours journal)
+    opened_same (Ok journal) is kept same none =
+        let octets : Told g → g.octets (area_of journal) ≡ g.octets area = λ told. kept.octets ∙ same told in
+        record {
+          ready = is.ready;
+          front = is.front;
+          header = is.header ∙ named;
+          settled = is.settled;
+          reads = λ told bs stands. one_list ours ours_long (g.octets area) (batches journal) bs
+              (subst (λ (o : List ℕ). Stands ours o (batches journal)) (octets told)
+              (subst (λ (h : List ℕ). Stands h (g.octets (area_of journal)) (batches journal)) (is.header ∙ named)
+              (subst (λ f. Keeps f (header_of journal) (batches journal) (g.octets (area_of journal))) is.front
+              (is.settled.reads told)))) stands;
+          anew = λ told starts. absurd (none told starts);
+          found = λ told. inr (octets told);
+        }
+    opened_same (Err fault) is kept same none = tt
+
+    -- a draft
+    pub drafted : (result : Result (Journal A g) (OpenFault × A)) → IfOk result (λ journal. IsAnew Draft made journal)
+        → (Told g → Starts ours (g.octets area)) → IfOk result (λ journal. IsDrafted g area ours journal)
+    drafted (Ok journal) anew starts = record {
+      ready = anew.is.ready;
+      front = anew.is.front;
+      header = anew.is.header ∙ named;
+      settled = anew.is.settled;
+      started = starts;
+      batches = λ told. anew.batches told;
+    }
+    drafted (Err fault) anew starts = tt
+
 module _ {A : Type 0} {g : Ghosts A} where
-  -- a journal that was made anew
-  pub opened_anew : (result : Result (Journal A g) (OpenFault × A)) (area : A) (head made : List ℕ) → made ≡ head → IfOk result (λ journal. IsAnew Founded made journal) → (Told g → Starts head (g.octets area))
-      → (Told g → (bs : List (List ℕ)) → Stands head (g.octets area) bs → ⊥) → IfOk result (λ journal. IsOpened g area head journal)
-  opened_anew (Ok journal) area head made named anew starts none = record {
-    ready = anew.is.ready;
-    front = anew.is.front;
-    header = anew.is.header ∙ named;
-    settled = anew.is.settled;
-    reads = λ told bs stands. absurd (none told bs stands);
-    anew = λ told is. anew.batches told;
-    found = λ told. inl (starts told);
-  }
-  opened_anew (Err fault) area head made named anew starts none = tt
-
-  -- one whose batches were read
-  pub opened_same : (result : Result (Journal A g) (OpenFault × A)) (area mid : A) (head made : List ℕ) (long : length head ≡ 32) → made ≡ head → IfOk result (λ journal. IsReadyWith Founded made journal) → OnArea result (λ now. Kept g mid now)
-      → (Told g → g.octets mid ≡ g.octets area) → (Told g → Starts head (g.octets area) → ⊥) → IfOk result (λ journal. IsOpened g area head journal)
-  opened_same (Ok journal) area mid head made long named is kept same none =
-      let octets = λ (told : Told g). kept.octets ∙ same told in
-      record {
-        ready = is.ready;
-        front = is.front;
-        header = is.header ∙ named;
-        settled = is.settled;
-        reads = λ told bs stands.
-            let here : Stands head (g.octets area) (batches journal) =
-            subst (λ (o : List ℕ). Stands head o (batches journal)) (octets told)
-            (subst (λ (h : List ℕ). Stands h (g.octets (area_of journal)) (batches journal)) (is.header ∙ named) (subst (λ f. Keeps f (header_of journal) (batches journal) (g.octets (area_of journal))) is.front (is.settled.reads told))) in
-            one_list head long (g.octets area) (batches journal) bs here stands;
-        anew = λ told starts. absurd (none told starts);
-        found = λ told. inr (octets told);
-      }
-  opened_same (Err fault) area mid head made long named is kept same none = tt
-
-  -- a draft
-  pub drafted : (result : Result (Journal A g) (OpenFault × A)) (area : A) (head made : List ℕ) → made ≡ head → IfOk result (λ journal. IsAnew Draft made journal) → (Told g → Starts head (g.octets area)) → IfOk result (λ journal. IsDrafted g area head journal)
-  drafted (Ok journal) area head made named anew starts = record {
-    ready = anew.is.ready;
-    front = anew.is.front;
-    header = anew.is.header ∙ named;
-    settled = anew.is.settled;
-    started = starts;
-    batches = λ told. anew.batches told;
-  }
-  drafted (Err fault) area head made named anew starts = tt
-
   -- the faults of a call and of one that had none before it
   pub rose_on : (result : Result (Journal A g) (OpenFault × A)) (area mid : A) → g.faults mid ≡ g.faults area → RoseByDevice g mid result → RoseByDevice g area result
   rose_on (Ok journal) area mid same rose = record { faults = rose.faults ∙ same; faults_err = tt; device = tt; still = tt }

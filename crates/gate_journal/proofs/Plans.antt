@@ -1,18 +1,25 @@
 -- How the calls of an append come out as planned.
-use Rattle.std.proofs.Common.{◌≡◌, ◌≢◌, ⊎_elim, ℕ, ◌+◌, ◌≤◌, Bool, true, false, List, [], ◌∷◌, length, get_or, take, drop, replicate, Result, refl, sym, ◌∙◌, ap, subst, arith, append_assoc}
-use Rattle.std.specs.Prelude.{is_err, ◌==◌}
+use Rattle.std.proofs.Common.{◌≡◌, ◌≢◌, ⊎_elim, ℕ, ◌+◌, ◌≤◌, Bool, true, false, List, [], ◌∷◌, length, get_or, take, drop, replicate, Result, refl, sym, ◌∙◌, ap, arith, append_assoc, Ok, Err}
+use Rattle.std.specs.Prelude.{is_err, ◌==◌, ◌||◌}
 use Rattle.std.proofs.lemmas.Bool.Decides.{eqb_tells}
 use Rattle.std.proofs.lemmas.List.{take_at, get_or_at, length-take-le}
+use Rattle.std.proofs.lemmas.Bool.{false_from_ne_true}
 use Rattle.area_disk.specs.Disk.{overwritten}
-use Rattle.area_disk.specs.Plan.{Prospect, next_fate, after_call, spare_after_write, spare_after_sync, written_as, is_failure, write_fate, LeavesAfterWrite, LeavesAfterSync, WriteAsPlanned, SyncAsPlanned}
+use Rattle.area_disk.specs.Plan.{Prospect, next_fate, after_call, spare_after_write, written_as, is_failure, write_fate, LeavesAfterWrite, LeavesAfterSync, WriteAsPlanned, SyncAsPlanned, Schedule, is_stop, sync_fate, fate_with}
 use Rattle.area_disk.specs.declared.plan.Fate.{Fate}
 use Rattle.area_disk.specs.declared.plan.Fate.TheVariants.{Runs, Fails, Stops}
 use Rattle.area_disk.specs.declared.plan.Outcome3.{Outcome3}
 use Rattle.area_disk.specs.declared.plan.Outcome3.TheVariants.{Old, New, Rot}
+use Rattle.area_disk.specs.ArmedLaws.{stopped_fails}
+use Rattle.area_disk.specs.declared.area.Area.{Ghosts}
 use Rattle.gate_journal.specs.Format.{open_gate, gate_at}
-use Rattle.gate_journal.specs.Planned.{Course, course_of, after_write, after_sync, Ending, is_ended, ending_by, course_by, ending_of, after_put, left_by, PutPlanned, is_new, batch_stands, append_fails, course_after, AppendPlanned}
+use Rattle.gate_journal.specs.Planned.{Course, course_of, after_write, after_sync, Ending, is_ended, ending_by, course_by, ending_of, after_put, left_by, PutPlanned, is_new, batch_stands, append_fails, course_after, AppendPlanned, outcome_left, with_reads, ReadOn, ReadsRun, SyncPlanned, after_append, fate_of_sync}
 use Rattle.gate_journal.specs.Planned.Ending.{BothRan, AtWrite, AtSync}
 use Rattle.gate_journal.specs.Fronts.{at_front}
+use Rattle.gate_journal.specs.Journal.{area_of}
+use Rattle.gate_journal.specs.OpenPlanned.{MadeBy}
+use Rattle.gate_journal.specs.declared.faults.OpenFault.{OpenFault}
+use Rattle.gate_journal.specs.declared.journal.Journal.{Journal}
 use Rattle.gate_journal.proofs.Turns.{other_bool}
 
 -- the parts of a put that came out as planned, by the fates of its calls
@@ -31,14 +38,11 @@ put_failed old at from wrote result mid write failed err =
     let parts = write_ended (write_fate old) (next_fate (after_call Runs old.schedule)) (course_of old) old.leaves at from mid (sym write.fails ∙ failed) write.schedule write.spare write.leaves in
     record { fails = err ∙ parts.0; course = parts.1; leaves = parts.2 }
 
-sync_ended : (sync : Fate) (course : Course) (old : Outcome3 → List ℕ) (at : ℕ) (from : List ℕ) (mid new : Prospect) → course_of mid ≡ after_write Runs course → ((o : Outcome3) → mid.leaves o ≡ written_as o (old o) at from)
-    → new.schedule ≡ after_call sync mid.schedule → new.spare ≡ spare_after_sync sync mid.spare → LeavesAfterSync sync mid.leaves new.leaves → Parts Runs sync course old at from (is_failure sync) new
-sync_ended Runs course old at from mid new came wrote schedule spare leaves =
-    (refl, (λ i. record { schedule = schedule i; spare = spare i }) ∙ ap (λ c. after_sync Runs c) came, λ o. leaves o ∙ wrote New)
-sync_ended Fails course old at from mid new came wrote schedule spare leaves =
-    (refl, (λ i. record { schedule = schedule i; spare = spare i }) ∙ ap (λ c. after_sync Fails c) came, λ o. leaves o ∙ wrote o)
-sync_ended (Stops outcome) course old at from mid new came wrote schedule spare leaves =
-    (refl, (λ i. record { schedule = schedule i; spare = spare i }) ∙ ap (λ c. after_sync (Stops outcome) c) came, λ o. leaves o ∙ wrote outcome)
+sync_ended : (sync : Fate) (old : Outcome3 → List ℕ) (at : ℕ) (from : List ℕ) (mid new : Outcome3 → List ℕ) → ((o : Outcome3) → mid o ≡ written_as o (old o) at from) → LeavesAfterSync sync mid new
+    → (is_failure sync ≡ is_ended (ending_by Runs sync)) × ((o : Outcome3) → new o ≡ left_by (ending_by Runs sync) old at from o)
+sync_ended Runs old at from mid new wrote leaves = (refl, λ o. leaves o ∙ wrote New)
+sync_ended Fails old at from mid new wrote leaves = (refl, λ o. leaves o ∙ wrote o)
+sync_ended (Stops outcome) old at from mid new wrote leaves = (refl, λ o. leaves o ∙ wrote outcome)
 
 write_ran : (write : Fate) (course : Course) (old : Outcome3 → List ℕ) (at : ℕ) (from : List ℕ) (mid : Prospect) → is_failure write ≡ false → mid.schedule ≡ after_call write course.schedule → mid.spare ≡ spare_after_write write course.spare
     → LeavesAfterWrite write old at from mid.leaves → (write ≡ Runs) × (course_of mid ≡ after_write Runs course) × ((o : Outcome3) → mid.leaves o ≡ written_as o (old o) at from)
@@ -49,12 +53,13 @@ write_ran _ course old at from mid ran schedule spare leaves = absurd (other_boo
 pub put_synced : {T E F : Type 0} (old : Prospect) (at : ℕ) (from : List ℕ) (wrote : Result T F) (result : Result T E) (mid new : Prospect) → WriteAsPlanned old at from wrote mid → is_err wrote ≡ false → SyncAsPlanned mid result new → PutPlanned old at from result new
 put_synced old at from wrote result mid new write ran sync =
     let wr = write_ran (write_fate old) (course_of old) old.leaves at from mid (sym write.fails ∙ ran) write.schedule write.spare write.leaves in
-    let parts = sync_ended (next_fate mid.schedule) (course_of old) old.leaves at from mid new wr.1 wr.2 sync.schedule sync.spare sync.leaves in
+    let parts = sync_ended (next_fate mid.schedule) old.leaves at from mid.leaves new.leaves wr.2 sync.leaves in
+    let came : course_of new ≡ after_sync (next_fate mid.schedule) (after_write Runs (course_of old)) =
+    (λ i. record { schedule = sync.schedule i; spare = sync.spare i }) ∙ ap (λ c. after_sync (next_fate mid.schedule) c) wr.1 in
     let same : next_fate mid.schedule ≡ next_fate (after_call Runs old.schedule) = ap (λ (c : Course). next_fate c.schedule) wr.1 in
     let P : Fate → Fate → Type 0 = λ f s. Parts f s (course_of old) old.leaves at from (is_err result) new in
-    let here : P Runs (next_fate mid.schedule) = (sync.fails ∙ parts.0, parts.1, parts.2) in
-    let there : P Runs (next_fate (after_call Runs old.schedule)) = subst (λ s. P Runs s) same here in
-    let all : P (write_fate old) (next_fate (after_call Runs old.schedule)) = subst (λ f. P f (next_fate (after_call Runs old.schedule))) (sym wr.0) there in
+    let here : P Runs (next_fate mid.schedule) = (sync.fails ∙ parts.0, came, parts.1) in
+    let all : P (write_fate old) (next_fate (after_call Runs old.schedule)) = rw (wr.0, ← same) here in
     record { fails = all.0; course = all.1; leaves = all.2 }
 
 closed_test : (octets : List ℕ) (gate : ℕ) → gate_at octets gate ≢ open_gate →
@@ -157,3 +162,118 @@ module _ (old : Prospect) (gate : ℕ) (framed octets : List ℕ) (inside : gate
             ∙ ap (λ e. batch_stands BothRan e o) second
             ∙ ap (λ e. batch_stands e (ending_of (after_put (course_of old))) o) (sym both);
       }
+
+-- ---- how a sync and the reads after it come out as planned
+
+-- a call ran: nothing is stopped
+pub running : (s : Schedule) → is_failure (next_fate s) ≡ false → s.stopped ≡ false
+running s ran = false_from_ne_true s.stopped (λ is. other_bool (sym (ap is_failure (stopped_fails s is).0) ∙ ran))
+
+-- what the outcomes leave after a sync
+left_after : (fate : Fate) (old new : Outcome3 → List ℕ) → LeavesAfterSync fate old new → (outcome : Outcome3) → new outcome ≡ old (outcome_left fate outcome)
+left_after Runs old new leaves outcome = leaves outcome
+left_after _ old new leaves outcome = leaves outcome
+
+-- reads behind a sync and reads that came out as planned
+pub sync_on : (old mid new : Prospect) (failed : Bool) → SyncPlanned old false mid → ReadOn mid new → (ReadsRun mid.schedule → failed ≡ false) → SyncPlanned old failed new
+sync_on old mid new failed one read runs = record {
+  fails = λ e. absurd (other_bool (sym (one.fails e)));
+  runs = λ none. runs (running_after none) ∙ one.runs none;
+  course = (λ i. record { schedule = read.schedule i; spare = read.spare i }) ∙ ap (λ (c : Course). with_reads new.schedule.reads c) one.course;
+  leaves = λ outcome. read.leaves outcome ∙ one.leaves outcome;
+}
+  where
+    stop_is : (fate : Fate) → is_failure fate ≡ false → is_stop fate ≡ false
+    stop_is (Stops o) e = absurd (other_bool e)
+    stop_is _ e = refl
+
+    running_after : old.schedule.read_fail ≡ [] → ReadsRun mid.schedule
+    running_after none =
+        let ran = sym (one.runs none) in
+        record {
+          running = ap (λ (c : Course). c.schedule.stopped) one.course ∙ ap (λ b. b || is_stop (sync_fate old)) (running old.schedule ran) ∙ stop_is (sync_fate old) ran;
+          reads = ap (λ (c : Course). c.schedule.read_fail) one.course ∙ none;
+        }
+
+-- it ran, and reads followed
+pub sync_ran : {T E : Type 0} (old : Prospect) (result : Result T E) (mid new : Prospect) (failed : Bool)
+    → SyncAsPlanned old result mid → is_err result ≡ false → ReadOn mid new → (ReadsRun mid.schedule → failed ≡ false)
+    → SyncPlanned old failed new
+sync_ran old result mid new failed sync ran read runs =
+    let not_failed : is_failure (sync_fate old) ≡ false = sym sync.fails ∙ ran in
+    let came : course_of mid ≡ after_sync (sync_fate old) (course_of old) =
+    λ i. record { schedule = sync.schedule i; spare = sync.spare i } in
+    sync_on old mid new failed (record {
+      fails = λ e. absurd (other_bool (sym e ∙ not_failed));
+      runs = λ none. sym not_failed;
+      course = ap (λ (c : Course). with_reads mid.schedule.reads c) came;
+      leaves = left_after (sync_fate old) old.leaves mid.leaves sync.leaves;
+    }) read runs
+
+-- ---- how the calls of an opening come out as planned
+
+-- the number of reads is nothing to the counted calls
+pub ending_reads : (r : ℕ) (c : Course) → ending_of (with_reads r c) ≡ ending_of c
+unfolding next_fate
+ending_reads r c = refl
+
+course_reads : (write sync : Fate) (r : ℕ) (c : Course) → course_by write sync (with_reads r c) ≡ with_reads r (course_by write sync c)
+course_reads Runs sync r c = refl
+course_reads _ sync r c = refl
+
+pub put_reads : (r : ℕ) (c : Course) → after_put (with_reads r c) ≡ with_reads r (after_put c)
+unfolding next_fate
+put_reads r c = course_reads (fate_with c.spare (next_fate c.schedule)) (next_fate (after_call Runs c.schedule)) r c
+
+course_after_reads : (e : Ending) (r : ℕ) (one two : Course) → course_after e (with_reads r one) (with_reads r two) ≡ with_reads r (course_after e one two)
+course_after_reads BothRan r one two = refl
+course_after_reads _ r one two = refl
+
+pub append_reads : (r : ℕ) (c : Course) → after_append (with_reads r c) ≡ with_reads r (after_append c)
+unfolding next_fate
+append_reads r c =
+    ap (λ d. course_after (ending_of c) d (after_put d)) (put_reads r c)
+    ∙ ap (λ d. course_after (ending_of c) (with_reads r (after_put c)) d) (put_reads r (after_put c))
+    ∙ course_after_reads (ending_of c) r (after_put c) (after_put (after_put c))
+
+-- no call of an append is to fail
+both_ran : (e f : Ending) → append_fails e f ≡ false → (e ≡ BothRan) × (is_ended f ≡ false)
+both_ran BothRan f runs = (refl, runs)
+both_ran _ f runs = absurd (other_bool runs)
+
+module _ (old : Course) (runs : append_fails (ending_of old) (ending_of (after_put old)) ≡ false) where
+  pub first_runs : is_ended (ending_of old) ≡ false
+  first_runs = ap is_ended (both_ran (ending_of old) (ending_of (after_put old)) runs).0
+
+  pub second_runs : (r : ℕ) (mid : Course) → mid ≡ with_reads r (after_put old) → is_ended (ending_of mid) ≡ false
+  second_runs r mid is = ap (λ c. is_ended (ending_of c)) is ∙ ap is_ended (ending_reads r (after_put old)) ∙ (both_ran (ending_of old) (ending_of (after_put old)) runs).1
+
+fate_runs : (fate : Fate) → is_failure fate ≡ false → fate ≡ Runs
+fate_runs Runs runs = refl
+fate_runs _ runs = absurd (other_bool runs)
+
+-- the plan behind a sync that ran and reads
+pub looked : (old mid : Prospect) → SyncPlanned old false mid → is_failure (fate_of_sync (course_of old)) ≡ false → course_of mid ≡ with_reads mid.schedule.reads (after_sync Runs (course_of old))
+looked old mid planned runs =
+    planned.course ∙ ap (λ f. with_reads mid.schedule.reads (after_sync f (course_of old))) (fate_runs (fate_of_sync (course_of old)) runs)
+
+-- what was made behind reads
+module _ {A : Type 0} {g : Ghosts A} where
+  made_on : (result : Result (Journal A g) (OpenFault × A)) (r : ℕ) (mid old : Course) → mid ≡ with_reads r old → MadeBy g result mid → MadeBy g result old
+  made_on (Ok journal) r mid old is made = record {
+    runs = made.runs;
+    after = made.after ∙ ap (λ (c : Course). with_reads (g.fate (area_of journal)).schedule.reads c) is;
+  }
+  made_on (Err fault) r mid old is made = record { runs = made.runs; after = tt }
+
+  pub put_on : (result : Result (Journal A g) (OpenFault × A)) (r : ℕ) (mid old : Course) → mid ≡ with_reads r old → (is_ended (ending_of mid) ≡ false → MadeBy g result (after_put mid)) → is_ended (ending_of old) ≡ false → MadeBy g result (after_put old)
+  put_on result r mid old is made runs =
+      made_on result r (after_put mid) (after_put old) (ap after_put is ∙ put_reads r old) (made (ap (λ c. is_ended (ending_of c)) is ∙ ap is_ended (ending_reads r old) ∙ runs))
+
+  pub append_on : (result : Result (Journal A g) (OpenFault × A)) (r : ℕ) (mid old : Course) → mid ≡ with_reads r old → (append_fails (ending_of mid) (ending_of (after_put mid)) ≡ false → MadeBy g result (after_append mid))
+      → append_fails (ending_of old) (ending_of (after_put old)) ≡ false → MadeBy g result (after_append old)
+  unfolding next_fate
+  append_on result r mid old is made runs =
+      made_on result r (after_append mid) (after_append old) (ap after_append is ∙ append_reads r old)
+      (made (ap (λ c. append_fails (ending_of c) (ending_of (after_put c))) is
+      ∙ ap (λ c. append_fails (ending_of old) (ending_of c)) (put_reads r old) ∙ runs))

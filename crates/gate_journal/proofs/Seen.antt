@@ -10,7 +10,7 @@ use Rattle.gate_journal.specs.Verdicts.{IsVerdict}
 use Rattle.gate_journal.specs.declared.reading.Verdict.{Verdict}
 use Rattle.gate_journal.specs.declared.reading.Verdict.TheVariants.{Starts as Begins, Same, Other}
 use Rattle.gate_journal.specs.Fronts.{at_front}
-use Rattle.gate_journal.proofs.Contents.{length-tail}
+use Rattle.gate_journal.proofs.Turns.{length-tail}
 
 pub gate_read : (octets into : List ℕ) (at : ℕ) → at < length octets → into ≡ take 1 (drop at octets) → gate_at octets at ≡ get_or into 0 0
 gate_read octets into at inside is =

@@ -1,5 +1,5 @@
 -- What is true of a journal, and how its calls keep it.
-use Rattle.std.proofs.Common.{◌≡◌, ◌≢◌, ◌⊎◌, inl, inr, ⊎_elim, ℕ, ◌+◌, ◌-◌, ◌<◌, ◌≤◌, Bool, true, false, List, [], ◌∷◌, ◌++◌, length, get_or, take, drop, refl, sym, ◌∙◌, ap, subst, arith}
+use Rattle.std.proofs.Common.{◌≡◌, ◌≢◌, ◌⊎◌, inl, inr, ℕ, ◌+◌, ◌-◌, ◌<◌, ◌≤◌, Bool, true, false, List, [], ◌∷◌, ◌++◌, length, get_or, take, drop, refl, sym, ◌∙◌, ap, subst, arith}
 use Rattle.std.specs.Prelude.{All, IsTrue, ◌&&◌, ◌==◌, if◌then◌else◌}
 use Rattle.std.proofs.lemmas.List.{length-take-le, length-drop}
 use Rattle.std.proofs.lemmas.List.Elements.{All-push}
@@ -8,21 +8,20 @@ use Rattle.area_disk.specs.Disk.{Only, Within, Torn, overwritten}
 use Rattle.area_disk.specs.declared.area.Area.{Ghosts}
 use Rattle.area_disk.specs.declared.plan.Outcome3.TheVariants.{New}
 use Rattle.gate_journal.specs.Adding.{added, IsAdding}
-use Rattle.gate_journal.specs.Format.{IsSmall, end_of, frame, gate_at, header, longest_batch, open_gate}
+use Rattle.gate_journal.specs.Format.{IsSmall, end_of, frame, gate_at, longest_batch, open_gate}
 use Rattle.gate_journal.specs.Moments.{Told, Leaves}
 use Rattle.gate_journal.specs.State.{batches_below, Content, IsReady, IsSound, Keeps, gate_after, front_after}
 use Rattle.gate_journal.specs.Journal.{closed_by, is_closed, batches, torn, front_of, header_of, KeepsOr, IsSettled, Rests, torn_stands, stop_stands}
 use Rattle.gate_journal.specs.declared.journal.Journal.{Journal}
 use Rattle.gate_journal.specs.declared.journal.Front.{Front}
 use Rattle.gate_journal.specs.declared.journal.Front.TheVariants.{Founded, Draft, Founding}
-use Rattle.gate_journal.proofs.Contents.{listed_below, place_is}
+use Rattle.gate_journal.proofs.Turns.{listed_below, place_is, other_bool, is_adding, added_open, adding, taken_in, founding, content_keeps, content_keeps_or, content_keeps_any, after_gate, after_first}
 use Rattle.area_disk.specs.MomentLaws.{widen}
 use Rattle.gate_journal.specs.Spelling.{length-header, first-header, length-frame}
-use Rattle.gate_journal.proofs.Turns.{other_bool, is_adding, added_open, adding, taken_in, founding, content_keeps, content_keeps_or, content_keeps_any, after_gate, after_first}
 
 -- a journal that isn't closed may be added to
 pub ready_of : (front : Front) (is_torn : Bool) → closed_by front is_torn ≡ false → IsReady front is_torn
-ready_of Founding is_torn open' = absurd (let e = open' in cc)
+ready_of Founding is_torn open' = absurd (other_bool open')
 ready_of _ is_torn open' = record { whole = open'; founded = λ e. cc }
 
 pub closed_when_ready : (front : Front) (is_torn : Bool) → IsReady front is_torn → closed_by front is_torn ≡ false
@@ -34,26 +33,23 @@ closed_when_torn Founded = refl
 closed_when_torn _ = refl
 
 pub closed_as_torn : (front : Front) (is_torn : Bool) → (front ≡ Founded) ⊎ (front ≡ Draft) → is_torn ≡ closed_by front is_torn
-closed_as_torn Founding is_torn is = absurd (⊎_elim (λ e. let f : ⊥ = cc in f) (λ e. let f : ⊥ = cc in f) is)
+closed_as_torn Founding is_torn (inl e) = cc
+closed_as_torn Founding is_torn (inr e) = cc
 closed_as_torn _ is_torn is = refl
 
 pub open_after : (front : Front) (first : ℕ) → closed_by (front_after front first) false ≡ false
-open_after Founding first = either (first == 67)
-  where
-    either : (b : Bool) → closed_by (if b then Founded else Draft) false ≡ false
-    either true = refl
-    either false = refl
+open_after Founding first =
+    elim (first == 67) as (λ b. closed_by (if b then Founded else Draft) false ≡ false) [ true ↦ refl | false ↦ refl ]
 open_after _ first = refl
 
 place_after : (is_torn : Bool) (gate n octet size : ℕ) → 32 ≤ gate → gate < size →
     (is_torn ≡ true → gate + 5 + n < size)
     → (32 ≤ gate_after is_torn gate n octet) × (gate_after is_torn gate n octet < size)
 place_after false gate n octet size low high fits = (low, high)
-place_after true gate n octet size low high fits = either (octet == open_gate)
-  where
-    either : (b : Bool) → (32 ≤ (if b then gate + 5 + n else gate)) × ((if b then gate + 5 + n else gate) < size)
-    either true = (omega (arith, low), fits refl)
-    either false = (low, high)
+place_after true gate n octet size low high fits =
+    elim (octet == open_gate)
+    as (λ b. (32 ≤ (if b then gate + 5 + n else gate)) × ((if b then gate + 5 + n else gate) < size))
+    [ true ↦ (omega (arith, low), fits refl) | false ↦ (low, high) ]
 
 -- the gate of a journal that is opened again moves where it is open behind a batch that may stand
 pub gate_moves : (is_torn : Bool) (gate n octet : ℕ) → gate_after is_torn gate n octet ≡ (if is_torn && (octet == open_gate) then gate + 5 + n else gate)
@@ -101,54 +97,47 @@ module _ {A : Type 0} (g : Ghosts A) (laws : AreaLaws g) (j : Journal A g) where
   pub now : Told g → Content (header_of j) j.front j.is_torn below last j.gate (g.octets j.area)
   now told = j.sound.content told (g.octets j.area) (laws.holds j.area)
 
-  -- over an area of the same size, of which this is left, it is sound and has these batches
-  module _ (new : A) (size : g.size new ≡ g.size j.area) (buffer : List ℕ) (gate torn_length : ℕ) (is_torn : Bool)
-      (front : Front) (some : List (List ℕ)) (small : Told g → All IsSmall some) (leaves : Told g → (c : List ℕ)
-      → g.may_leave new c → Content (header_of j) front is_torn some (take torn_length (drop 4 buffer)) gate c) where
-    below_is : Told g → batches_below gate (g.octets new) ≡ some
-    below_is told =
-        listed_below (header_of j) head_long gate (g.octets new) some
-        (leaves told (g.octets new) (laws.holds new)).listed (small told)
+  -- sound over this area with this state, and it has these batches
+  abbrev IsOver : A → List ℕ → ℕ → ℕ → Bool → Front → List (List ℕ) → Type 0
+  IsOver new buffer gate torn_length is_torn front some =
+      IsSound g new buffer gate torn_length is_torn front j.address j.generation
+      × (Told g → batches_below gate (g.octets new) ≡ some)
 
-    sound_over : 32 ≤ gate → gate + 1 ≤ g.size j.area → torn_length ≤ longest_batch → torn_length ≤ length buffer - 4
-        → (is_torn ≡ true → gate + torn_length + 6 ≤ g.size j.area) → (front ≡ Founding → is_torn ≡ false)
-        → (Told g → IsReady front is_torn → Only (g.octets new) (g.may_leave new))
-        → IsSound g new buffer gate torn_length is_torn front j.address j.generation
-    sound_over low high torn_size torn_held torn_fits whole durable = record {
-      long = omega (arith, j.sound.long);
-      short = omega (arith, j.sound.short);
-      low = low;
-      high = omega (arith, high);
-      torn_size = torn_size;
-      torn_held = torn_held;
-      torn_fits = λ e. omega (arith, torn_fits e);
-      founding_whole = whole;
-      small = λ told. subst (λ (bs : List (List ℕ)). All IsSmall bs) (sym (below_is told)) (small told);
-      content = λ told c left.
-          let P : List ℕ → List (List ℕ) → Type 0 =
-          λ h bs. Content h front is_torn bs (take torn_length (drop 4 buffer)) gate c in
-          subst (λ (h : List ℕ). P h (batches_below gate (g.octets new))) (ap (λ n.
-          header n j.address j.generation) (sym size))
-          (subst (λ (bs : List (List ℕ)). P (header_of j) bs) (sym (below_is told)) (leaves told c left));
-      durable = durable;
-    }
+  -- so it is over an area of the same size, of which this is left
+  over : (new : A) (size : g.size new ≡ g.size j.area) (buffer : List ℕ) (gate torn_length : ℕ) (is_torn : Bool)
+      (front : Front) (some : List (List ℕ)) → (Told g → All IsSmall some) → (Told g → (c : List ℕ)
+      → g.may_leave new c → Content (header_of j) front is_torn some (take torn_length (drop 4 buffer)) gate c)
+      → 32 ≤ gate → gate + 1 ≤ g.size j.area → torn_length ≤ longest_batch → torn_length ≤ length buffer - 4
+      → (is_torn ≡ true → gate + torn_length + 6 ≤ g.size j.area) → (front ≡ Founding → is_torn ≡ false)
+      → (Told g → IsReady front is_torn → Only (g.octets new) (g.may_leave new))
+      → IsOver new buffer gate torn_length is_torn front some
+  over new size buffer gate torn_length is_torn front some small leaves low high torn_size torn_held torn_fits whole
+      durable =
+      let is : Told g → batches_below gate (g.octets new) ≡ some = λ told. listed_below (header_of j) head_long gate
+      (g.octets new) some (leaves told (g.octets new) (laws.holds new)).listed (small told) in
+      (record {
+        long = omega (arith, size, j.sound.long);
+        short = omega (arith, size, j.sound.short);
+        low = low;
+        high = omega (arith, size, high);
+        torn_size = torn_size;
+        torn_held = torn_held;
+        torn_fits = λ e. omega (arith, size, torn_fits e);
+        founding_whole = whole;
+        small = λ told. rw (is told) (small told);
+        content = λ told c left. rw (is told, size) (leaves told c left);
+        durable = durable;
+      }, is)
 
   -- a call after which a crash leaves no more than before
-  module _ (new : A) (size : g.size new ≡ g.size j.area) (within : Within (g.may_leave j.area) (g.may_leave new)) where
-    still : Told g → (c : List ℕ) → g.may_leave new c → Content (header_of j) j.front j.is_torn below last j.gate c
-    still told c left = j.sound.content told c (within c left)
-
-    pub kept_batches : Told g → batches_below j.gate (g.octets new) ≡ below
-    kept_batches told =
-        below_is new size j.buffer.items j.gate j.torn_length j.is_torn j.front below j.sound.small still told
-
-    pub kept_sound : IsSound g new j.buffer.items j.gate j.torn_length j.is_torn j.front j.address j.generation
-    kept_sound =
-        sound_over new size j.buffer.items j.gate j.torn_length j.is_torn j.front below j.sound.small still
-        j.sound.low j.sound.high j.sound.torn_size j.sound.torn_held j.sound.torn_fits j.sound.founding_whole
-        (λ told yes c left.
-        j.sound.durable told yes c (within c left)
-        ∙ sym (j.sound.durable told yes (g.octets new) (within (g.octets new) (laws.holds new))))
+  pub kept : (new : A) → g.size new ≡ g.size j.area → Within (g.may_leave j.area) (g.may_leave new)
+      → IsOver new j.buffer.items j.gate j.torn_length j.is_torn j.front below
+  kept new size within =
+      over new size j.buffer.items j.gate j.torn_length j.is_torn j.front below j.sound.small
+      (λ told c left. j.sound.content told c (within c left))
+      j.sound.low j.sound.high j.sound.torn_size j.sound.torn_held j.sound.torn_fits j.sound.founding_whole
+      (λ told yes c left. j.sound.durable told yes c (within c left)
+      ∙ sym (j.sound.durable told yes (g.octets new) (within (g.octets new) (laws.holds new))))
 
   -- the journal is opened again
   module _ (new : A) (size : g.size new ≡ g.size j.area) (same : IsTrue g.tells_octets → g.octets new ≡ g.octets j.area)
@@ -164,8 +153,7 @@ module _ {A : Type 0} (g : Ghosts A) (laws : AreaLaws g) (j : Journal A g) where
     reopened_content : Told g → (c : List ℕ) → g.may_leave new c
         → Content (header_of j) (front_after j.front first) false reopened last moved c
     reopened_content told c left =
-        subst (λ (o : List ℕ). Content (header_of j) (front_after j.front first) false reopened last moved o)
-        (sym (durable told.1 c left ∙ same told.0))
+        rw (durable told.1 c left ∙ same told.0)
         (after_first (header_of j) (first-header (g.size j.area) j.address j.generation) j.front reopened last moved
         (g.octets j.area) first (seen told.0).0
         (subst (λ n. Content (header_of j) j.front false reopened last (gate_after j.is_torn j.gate n octet)
@@ -174,22 +162,13 @@ module _ {A : Type 0} (g : Ghosts A) (laws : AreaLaws g) (j : Journal A g) where
         (after_gate (header_of j) head_long j.front below last last j.gate j.sound.low (g.octets j.area) j.is_torn octet
         (fits_left told (g.octets j.area) (laws.holds j.area)) (seen told.0).1 (now told))))
 
-    small_after : Told g → All IsSmall reopened
-    small_after told = small_with told (j.is_torn && (octet == open_gate))
-
-    pub reopened_batches : Told g → batches_below moved (g.octets new) ≡ reopened
-    reopened_batches told =
-        below_is new size j.buffer.items moved j.torn_length false (front_after j.front first) reopened small_after
-        reopened_content told
-
-    pub reopened_sound : IsSound g new j.buffer.items moved j.torn_length false (front_after j.front first)
-        j.address j.generation
-    reopened_sound =
+    pub reopened_over : IsOver new j.buffer.items moved j.torn_length false (front_after j.front first) reopened
+    reopened_over =
         let gates = place_after j.is_torn j.gate j.torn_length octet
         (g.size j.area) j.sound.low (omega (arith, j.sound.high))
         (λ e. omega (arith, j.sound.torn_fits e)) in
-        sound_over new size j.buffer.items moved j.torn_length false (front_after j.front first) reopened small_after
-        reopened_content
+        over new size j.buffer.items moved j.torn_length false (front_after j.front first) reopened
+        (λ told. small_with told (j.is_torn && (octet == open_gate))) reopened_content
         gates.0 (omega (arith, gates.1)) j.sound.torn_size j.sound.torn_held
         (λ e. absurd (other_bool (sym e))) (λ e. refl) (λ told yes. durable told.1)
 
@@ -210,8 +189,7 @@ module _ {A : Type 0} (g : Ghosts A) (laws : AreaLaws g) (j : Journal A g) where
 
   -- what a crash leaves of it, by the gate that it leaves
   pub keeps_by_gate : Told g → (c : List ℕ) → g.may_leave j.area c
-      →
-      Keeps (front_of j) (header_of j) (if j.is_torn && (gate_at c j.gate == open_gate) then batches j ++ torn j
+      → Keeps (front_of j) (header_of j) (if j.is_torn && (gate_at c j.gate == open_gate) then batches j ++ torn j
       ∷ [] else batches j) c
   unfolding batches torn
   keeps_by_gate told c left =
@@ -245,7 +223,7 @@ module _ {A : Type 0} (g : Ghosts A) (laws : AreaLaws g) (j : Journal A g) where
     -- what a crash leaves of a journal that may be added to
     content_of : Told g → (c : List ℕ) → g.may_leave j.area c → Content (header_of j) j.front false below last j.gate c
     content_of told c left =
-        subst (λ t. Content (header_of j) j.front t below last j.gate c) ready.whole (j.sound.content told c left)
+        rw ready.whole at (j.sound.content told c left)
 
     now_of : Told g → Content (header_of j) j.front false below last j.gate (g.octets j.area)
     now_of told = content_of told (g.octets j.area) (laws.holds j.area)
@@ -271,16 +249,10 @@ module _ {A : Type 0} (g : Ghosts A) (laws : AreaLaws g) (j : Journal A g) where
     only_octets told = j.sound.durable told ready
 
     -- still not closed over an area of the same size
-    module _ (new : A) (size : g.size new ≡ g.size j.area) (buffer : List ℕ) (gate torn_length : ℕ)
-        (front : Front) (some : List (List ℕ)) (small : Told g → All IsSmall some) (leaves : Told g → (c : List ℕ)
-        → g.may_leave new c → Content (header_of j) front false some (take torn_length (drop 4 buffer)) gate c) where
-      sound_whole : 32 ≤ gate → gate + 1 ≤ g.size j.area → torn_length ≤ longest_batch → torn_length ≤ length buffer - 4
-          → (Told g → IsReady front false → Only (g.octets new) (g.may_leave new))
-          → IsSound g new buffer gate torn_length j.is_torn front j.address j.generation
-      sound_whole low high torn_size torn_held durable =
-          subst (λ t. IsSound g new buffer gate torn_length t front j.address j.generation) (sym ready.whole)
-          (sound_over new size buffer gate torn_length false front some small leaves low high torn_size torn_held
-          (λ e. absurd (other_bool (sym e))) (λ e. refl) durable)
+    whole_over : (new : A) (buffer : List ℕ) (gate torn_length : ℕ) (front : Front) (some : List (List ℕ))
+        → IsOver new buffer gate torn_length false front some
+        → IsOver new buffer gate torn_length j.is_torn front some
+    whole_over new buffer gate torn_length front some over = rw ready.whole over
 
     -- a batch is being added
     module _ (batch framed later : List ℕ) (new : A) (short : length batch ≤ longest_batch) (is : framed ≡ frame batch)
@@ -304,35 +276,25 @@ module _ {A : Type 0} (g : Ghosts A) (laws : AreaLaws g) (j : Journal A g) where
         more = below ++ batch ∷ []
 
         stood : Told g → (c : List ℕ) → g.may_leave new c
-            →
-            Content (header_of j) j.front false more (take (length batch) (drop 4 later))
-            (j.gate + 5 + length batch) c
+            → Content (header_of j) j.front false more (take (length batch) (drop 4 later)) (j.gate + 5 + length batch) c
         stood told c left =
             let step : IsAdding j.gate framed (g.octets j.area) (added j.gate framed (g.octets j.area)) =
             is_adding j.gate framed (g.octets j.area)
             (omega (arith, ap length is, length-frame batch, laws.whole j.area told.0, j.sound.high)) in
-            subst (λ (o : List ℕ).
-            Content (header_of j) j.front false more (take (length batch) (drop 4 later)) (j.gate + 5 + length batch) o)
-            (sym (durable told.1 c left ∙ octets_are told.0))
+            rw (durable told.1 c left ∙ octets_are told.0)
             (taken_in (header_of j) j.front below j.gate j.sound.low head_long batch
             (take (length batch) (drop 4 later))
             (added j.gate framed (g.octets j.area)) (fits_adding told (added j.gate framed (g.octets j.area)) step)
             (still_adding told (added j.gate framed (g.octets j.area)) step)
             (added_open j.gate framed (g.octets j.area) (omega (arith, inside told))))
 
-        small_more : Told g → All IsSmall more
-        small_more told = All-push IsSmall below batch (j.sound.small told) short
-
-        pub grown : Told g → batches_below (j.gate + 5 + length batch) (g.octets new) ≡ more
-        grown told =
-            below_is new size later (j.gate + 5 + length batch) (length batch) false j.front more small_more stood told
-
-        pub grown_sound : IsSound g new later (j.gate + 5 + length batch) (length batch)
-            j.is_torn j.front j.address j.generation
-        grown_sound =
-            sound_whole new size later (j.gate + 5 + length batch) (length batch) j.front more small_more stood
-            (omega (arith, j.sound.low)) (omega (arith, j.sound.high, fits)) short
-            (omega (arith, long)) (λ told yes. durable told.1)
+        pub grown : IsOver new later (j.gate + 5 + length batch) (length batch) j.is_torn j.front more
+        grown =
+            whole_over new later (j.gate + 5 + length batch) (length batch) j.front more
+            (over new size later (j.gate + 5 + length batch) (length batch) false j.front more
+            (λ told. All-push IsSmall below batch (j.sound.small told) short) stood
+            (omega (arith, j.sound.low)) (omega (arith, j.sound.high, fits)) short (omega (arith, long))
+            (λ e. absurd (other_bool (sym e))) (λ e. refl) (λ told yes. durable told.1))
 
       -- where it may stand
       module _ (leaves : Told g → gate_at (g.octets j.area) j.gate ≢ open_gate
@@ -351,15 +313,11 @@ module _ {A : Type 0} (g : Ghosts A) (laws : AreaLaws g) (j : Journal A g) where
         may_stand : Told g → (c : List ℕ) → g.may_leave new c
             → Content (header_of j) j.front true below (take (length batch) (drop 4 later)) j.gate c
         may_stand told c may =
-            subst (λ (b : List ℕ). Content (header_of j) j.front true below b j.gate c) (sym held)
-            (still_adding told c ((adds told).now c may))
+            rw held (still_adding told c ((adds told).now c may))
 
-        pub torn_stay : Told g → batches_below j.gate (g.octets new) ≡ below
-        torn_stay told = below_is new size later j.gate (length batch) true j.front below j.sound.small may_stand told
-
-        pub torn_sound : IsSound g new later j.gate (length batch) true j.front j.address j.generation
-        torn_sound =
-            sound_over new size later j.gate (length batch) true j.front below j.sound.small may_stand
+        pub torn_over : IsOver new later j.gate (length batch) true j.front below
+        torn_over =
+            over new size later j.gate (length batch) true j.front below j.sound.small may_stand
             j.sound.low j.sound.high short (omega (arith, long)) (λ e. omega (arith, j.sound.high, fits))
             (λ e. absurd (ready.founded e)) (λ told yes. absurd (other_bool yes.whole))
 
@@ -383,14 +341,19 @@ module _ {A : Type 0} (g : Ghosts A) (laws : AreaLaws g) (j : Journal A g) where
           content_keeps (header_of j) head_long Founding below j.gate j.sound.low (j.sound.small told) last c
           (omega (arith, torn.size, inside told)) (founding_content told c torn)) (leaves (only_octets told))
 
-      pub founding_batches : Told g → batches_below j.gate (g.octets new) ≡ below
-      founding_batches told =
-          below_is new size j.buffer.items j.gate j.torn_length false Founding below j.sound.small founding_left told
+      -- so it is over the area then, founded or being founded
+      written : (front : Front) → (Told g → (c : List ℕ) → g.may_leave new c
+          → Content (header_of j) front false below last j.gate c)
+          → (Told g → IsReady front false → Only (g.octets new) (g.may_leave new))
+          → IsOver new j.buffer.items j.gate j.torn_length j.is_torn front below
+      written front left durable =
+          whole_over new j.buffer.items j.gate j.torn_length front below
+          (over new size j.buffer.items j.gate j.torn_length false front below j.sound.small left
+          j.sound.low j.sound.high j.sound.torn_size j.sound.torn_held
+          (λ e. absurd (other_bool (sym e))) (λ e. refl) durable)
 
-      pub founding_sound : IsSound g new j.buffer.items j.gate j.torn_length j.is_torn Founding j.address j.generation
-      founding_sound =
-          sound_whole new size j.buffer.items j.gate j.torn_length Founding below j.sound.small founding_left
-          j.sound.low j.sound.high j.sound.torn_size j.sound.torn_held (λ told yes. absurd (yes.founded refl))
+      pub founding_over : IsOver new j.buffer.items j.gate j.torn_length j.is_torn Founding below
+      founding_over = written Founding founding_left (λ told yes. absurd (yes.founded refl))
 
       -- and stands
       module _ (octets_are : IsTrue g.tells_octets → g.octets new ≡ overwritten (g.octets j.area) 0 (67 ∷ []))
@@ -403,7 +366,5 @@ module _ {A : Type 0} (g : Ghosts A) (laws : AreaLaws g) (j : Journal A g) where
             (sym (ap (λ (o : List ℕ). get_or o 0 0) (durable told.1 c left ∙ octets_are told.0))) (founding_left told c
             left)
 
-        pub founded_sound : IsSound g new j.buffer.items j.gate j.torn_length j.is_torn Founded j.address j.generation
-        founded_sound =
-            sound_whole new size j.buffer.items j.gate j.torn_length Founded below j.sound.small founded_left
-            j.sound.low j.sound.high j.sound.torn_size j.sound.torn_held (λ told yes. durable told.1)
+        pub founded_over : IsOver new j.buffer.items j.gate j.torn_length j.is_torn Founded below
+        founded_over = written Founded founded_left (λ told yes. durable told.1)

@@ -1,6 +1,6 @@
 use Rattle.std.proofs.Common.{◌≡◌, length}
 use Rattle.cgf_journal.specs.Judged.{IsJudgedUpTo}
-use Rattle.cgf_journal.proofs.Takings.{AreTaken}
+use Rattle.cgf_journal.proofs.Listings.{AreTaken}
 use Rattle.cgf_journal.proofs.contents.take_in.Given as goal
 
 -- the front of the content was taken in and judged

@@ -4,10 +4,8 @@ use Rattle.std.proofs.lemmas.List.{length-take-le}
 use Rattle.area_disk.specs.CourseLaws.{read_runs, runs_on}
 use Rattle.gate_journal.specs.Format.{end_of}
 use Rattle.gate_journal.specs.Journal.{batches, end}
-use Rattle.cgf_journal.specs.Fit.{AreFit}
-use Rattle.cgf_journal.specs.Judged.{IsJudged}
 use Rattle.cgf_journal.specs.Opening.{AreListed}
-use Rattle.cgf_journal.proofs.Listings.{breaks_here, costs_within, read_next, taken_next, whole_read}
+use Rattle.cgf_journal.proofs.Listings.{breaks_next, costs_within, read_next, taken_next, whole_read}
 use Rattle.cgf_journal.proofs.listing.take_next.Goals as goal
 
 pub batch-requires-clause-gate : goal.batch-requires-clause-gate
@@ -38,25 +36,17 @@ next g c all listed =
 
 pub returns-clause-taken : goal.returns-clause-taken
 returns-clause-taken g c =
-    let j = c.args.journal.now in
-    let some = c.requires.taken.some in
-    let at = c.requires.taken.taken_in.gate_is in
-    taken_next (AreListed g.A.Area (batches j)) (IsJudged g.J.Judge c.args.size c.take_fit.new.judge) c.args.size
-    c.args.gate some c.read.new.into c.take_fit.result c.take_fit.new.self.places c.take_fit.new.self.tally
-    c.take_fit.ensures.next (c.take_fit.ensures.taken some
-    c.requires.taken.taken_in c.requires.taken.judged) (next g c)
+    let taken = c.requires.taken in
+    taken_next taken c.read.new.into (next g c) c.take_fit.new.judge c.take_fit.result c.take_fit.new.self.places c.take_fit.new.self.tally
+    c.take_fit.ensures.next (c.take_fit.ensures.taken taken.some taken.taken_in taken.judged)
 
 pub returns-clause-breaks : goal.returns-clause-breaks
-returns-clause-breaks g c = λ told stop stops.
-    let j = c.args.journal.now in
-    let some = c.requires.taken.some in
-    let at = c.requires.taken.taken_in.gate_is in
-    let found = next g c (batches c.args.journal.now) (record { told = told; same = refl }) in
-    breaks_here (AreFit g.J.Judge.fits c.args.size) c.args.gate stop (batches c.args.journal.now) some c.read.new.into found.0 at (record { are_batches = c.requires.taken.taken_in.are_batches; fit = c.requires.taken.judged.fit }) found.1 (c.take_fit.ensures.unfit some c.requires.taken.taken_in c.requires.taken.judged stop stops)
+returns-clause-breaks g c = λ told at stops.
+    let taken = c.requires.taken in
+    breaks_next taken c.read.new.into (next g c) at (c.take_fit.ensures.unfit taken.some taken.taken_in taken.judged at stops) _ (record { told = told; same = refl })
 
 pub take_fit-requires-clause-costs : goal.take_fit-requires-clause-costs
-take_fit-requires-clause-costs g c =
-    costs_within c.args.size c.args.gate c.requires.taken.some c.args.listing.now.places c.args.listing.now.tally c.requires.taken.taken_in
+take_fit-requires-clause-costs g c = costs_within c.requires.taken
 
 pub returns-in_default-read-clause-runs : goal.returns-in_default-read-clause-runs
 returns-in_default-read-clause-runs g c = λ tells run e.

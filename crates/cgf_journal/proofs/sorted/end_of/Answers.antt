@@ -1,5 +1,4 @@
-use Rattle.std.proofs.Common.{◌≡◌, ◌+◌, nat_lt, rules, true, false}
-use Rattle.std.specs.List.Sorted.{IsPartitionPoint}
+use Rattle.std.proofs.Common.{◌+◌, nat_lt, rules}
 use Rattle.std.proofs.lemmas.List.Sorted.{IsPartitionPoint-from_clause, IsPartitionedBy-ltb}
 use Rattle.cgf_journal.specs.Keys.{rank, rank_of}
 use Rattle.cgf_journal.specs.declared.key.KeptKey.{KeptKey}
@@ -9,7 +8,6 @@ use Rattle.cgf_journal.proofs.sorted.end_of.Goals as goal
 pub returns : goal.returns
 returns c =
     let q = rank_of (c.args.node.0 + 1) 0 in
-    let point : IsPartitionPoint (λ (k : KeptKey). nat_lt (rank k) q ≡ true) (λ (k : KeptKey). nat_lt (rank k) q ≡ false) c.args.keys.now c.partition_point.result =
-    IsPartitionPoint-from_clause (λ (k : KeptKey). nat_lt (rank k) q) _ _ c.partition_point.ensures.partitioned
+    let point = IsPartitionPoint-from_clause (λ (k : KeptKey). nat_lt (rank k) q) _ _ c.partition_point.ensures.partitioned
     (IsPartitionedBy-ltb (λ (k : KeptKey). rank k) c.args.keys.now q (ordered c.args.keys.now c.requires)) (λ a r f k. search rules) in
     record { inside = c.partition_point.ensures.bound; before = before_by c.args.keys.now _ q point; later = not_before_by c.args.keys.now _ q point }

@@ -1,7 +1,7 @@
 use Rattle.std.proofs.Common.{◌≡◌, ◌+◌, ◌≤◌, OnOk, [], ◌∷◌, List, ℕ, length, ◌∙◌, ap, subst, arith}
 use Rattle.area_disk.specs.Disk.{overwritten, Torn}
 use Rattle.gate_journal.specs.Format.{open_gate}
-use Rattle.gate_journal.proofs.Adding.{staged, length-staged, behind_gate, at_gate, gate_opened}
+use Rattle.gate_journal.proofs.Laying.{staged, length-staged, behind_gate, at_gate, gate_opened}
 use Rattle.std.specs.Prelude.{is_err}
 use Rattle.area_disk.specs.declared.plan.Outcome3.{Outcome3}
 use Rattle.gate_journal.proofs.Plans.{append_stopped, append_ended}

@@ -1,7 +1,7 @@
 use Rattle.std.proofs.Common.{ℕ, List, get_or, ◌∙◌, sym, ap, subst}
 use Rattle.gate_journal.specs.Format.{header}
 use Rattle.gate_journal.specs.Opening.{IsLaid}
-use Rattle.gate_journal.proofs.Listing.{below_first, laid_listed}
+use Rattle.gate_journal.proofs.Openings.{below_first, laid_listed}
 use Rattle.gate_journal.specs.Spelling.{first-header}
 use Rattle.gate_journal.proofs.opening.lay.Goals as goal
 

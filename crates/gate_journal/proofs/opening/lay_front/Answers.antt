@@ -3,7 +3,7 @@ use Rattle.area_disk.specs.Disk.{overwritten, Torn}
 use Rattle.gate_journal.specs.Opening.{IsLaid}
 use Rattle.gate_journal.specs.Verdicts.{IsVerdict}
 use Rattle.gate_journal.specs.declared.reading.Verdict.TheVariants.{Starts as Begins}
-use Rattle.gate_journal.proofs.Contents.{length-rest}
+use Rattle.gate_journal.proofs.Turns.{length-rest}
 use Rattle.gate_journal.proofs.Laying.{laid_blank, laid_gate, torn_blank, torn_gate, on_ok}
 use Rattle.area_disk.specs.MomentLaws.{widen}
 use Rattle.std.proofs.lemmas.List.{length-append}

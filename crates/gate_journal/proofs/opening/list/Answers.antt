@@ -4,10 +4,9 @@ use Rattle.gate_journal.specs.State.{IsListed}
 use Rattle.gate_journal.specs.Verdicts.{IsScanned, LiesIn}
 use Rattle.gate_journal.specs.declared.journal.Front.TheVariants.{Founded}
 use Rattle.gate_journal.specs.declared.faults.OpenFault.TheVariants.{NotOurs}
-use Rattle.gate_journal.proofs.Listing.{scanned_listed, scanned_broken}
+use Rattle.gate_journal.proofs.Openings.{scanned_listed, scanned_broken, shut_or_broken}
 use Rattle.gate_journal.specs.Spelling.{length-header}
 use Rattle.gate_journal.proofs.Apart.{one_broken}
-use Rattle.gate_journal.proofs.Openings.{shut_or_broken}
 use Rattle.gate_journal.proofs.opening.list.Goals as goal
 
 pub over-requires-clause-listed : goal.over-requires-clause-listed

@@ -1,6 +1,6 @@
 use Rattle.std.proofs.Common.{◌∙◌, subst, sym}
 use Rattle.gate_journal.specs.Moments.{RoseUpTo}
-use Rattle.gate_journal.proofs.Calm.{first_runs, second_runs}
+use Rattle.gate_journal.proofs.Plans.{first_runs, second_runs}
 use Rattle.gate_journal.proofs.Counts.{more_calls}
 use Rattle.gate_journal.proofs.Turns.{other_bool}
 use Rattle.gate_journal.proofs.opening.make_anew.Goals as goal

@@ -2,7 +2,7 @@ use Rattle.std.proofs.Common.{refl, ◌∙◌, ap, List, ℕ, take, subst}
 use Rattle.gate_journal.specs.Verdicts.{IsVerdict}
 use Rattle.gate_journal.proofs.Seen.{verdict_from}
 use Rattle.area_disk.specs.CourseLaws.{read_on, read_runs}
-use Rattle.gate_journal.proofs.Syncs.{sync_ran}
+use Rattle.gate_journal.proofs.Plans.{sync_ran}
 use Rattle.gate_journal.proofs.Turns.{other_bool}
 use Rattle.gate_journal.proofs.reading.look.Goals as goal
 

@@ -1,7 +1,7 @@
 use Rattle.std.proofs.Common.{refl}
 use Rattle.area_disk.specs.CourseLaws.{read_on_trans, runs_on}
 use Rattle.area_disk.specs.MomentLaws.{follow, kept_leaves}
-use Rattle.gate_journal.proofs.Syncs.{sync_ran}
+use Rattle.gate_journal.proofs.Plans.{sync_ran}
 use Rattle.gate_journal.proofs.Turns.{other_bool}
 use Rattle.gate_journal.proofs.reading.see.Goals as goal
 

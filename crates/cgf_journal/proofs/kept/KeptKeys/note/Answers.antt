@@ -1,10 +1,13 @@
-use Rattle.std.proofs.Common.{◌≡◌, sym, ap, ◌∙◌, rules}
+use Rattle.std.proofs.Common.{◌≡◌, [], refl, sym, ap, ◌∙◌, arith, rules}
 use Rattle.std.specs.Prelude.{vec_capacity}
 use Rattle.gw_base.specs.Entry.{act_view}
+use Rattle.gw_base.specs.HeldKeys.{held_by}
+use Rattle.gw_base.specs.declared.history.HistoryAct.TheVariants.{Hold}
 use Rattle.gw_base.specs.declared.entry.Act.{Act}
 use Rattle.cgf_journal.specs.Sorted.{count_held}
 use Rattle.cgf_journal.specs.Tally.{held_after}
-use Rattle.cgf_journal.proofs.KeptLemmas.{keeps_so, ready_held, ready_let_go, seen, seen_held, seen_kept, seen_let_go, seen_same}
+use Rattle.cgf_journal.proofs.InOrder.{none_up}
+use Rattle.cgf_journal.proofs.KeptLemmas.{keeps_so, ready_held, ready_let_go, held_fits, seen, seen_kept, seen_live}
 use Rattle.cgf_journal.proofs.kept.KeptKeys.note.Goals as goal
 
 pub invariant_of-self-in-Hold : goal.invariant_of-self-in-Hold
@@ -15,28 +18,35 @@ invariant_of-self-in-Hold c =
 pub invariant_of-self-in-Start : goal.invariant_of-self-in-Start
 invariant_of-self-in-Start c =
     let none : count_held (act_view c.args.act.now) ≡ 0 = search rules in
-    ready_let_go (act_view c.args.act.now) c.self.inside.early c.self.inside.late c.let_go.new.early c.let_go.new.late (vec_capacity c.self.inside.spare) none c.let_go.ensures c.self.invariant
+    ready_let_go (act_view c.args.act.now) 0 c.self.inside.early c.self.inside.late c.let_go.new.early c.let_go.new.late (vec_capacity c.self.inside.spare) c.let_go.ensures c.self.invariant none
 
 pub returns-in_ok-make_room-in-Hold-clause-ok : goal.returns-in_ok-make_room-in-Hold-clause-ok
 returns-in_ok-make_room-in-Hold-clause-ok c =
-    seen_held c.in-Hold.node c.in-Hold.number c.in-Hold.packet.now c.hold.ensures.small c.self.inside.early c.self.inside.late c.make_room.new.early c.make_room.new.late c.hold.new.early c.hold.new.late
-    c.args.self.now c.self.view_is c.in_ok-make_room-in-Hold.ensures.ok c.hold.ensures.noted
+    seen_live (Hold c.in-Hold.node c.in-Hold.number c.in-Hold.packet.now) 1 c.self.inside.early c.self.inside.late c.make_room.new.early c.make_room.new.late
+    c.hold.new.early c.hold.new.late c.args.self.now c.self.view_is c.in_ok-make_room-in-Hold.ensures.ok.held
+    c.in_ok-make_room-in-Hold.ensures.ok.count c.in_ok-make_room-in-Hold.ensures.ok.reserved c.hold.ensures.noted
+    (held_fits c.in-Hold.node c.in-Hold.number c.in-Hold.packet.now c.hold.ensures.small)
     ∙ ap (λ (a : Act). held_after (act_view a) c.args.self.now.live) (sym c.in-Hold.is)
 
 pub returns-in_ok-make_room-in-Hold-clause-grows : goal.returns-in_ok-make_room-in-Hold-clause-grows
 returns-in_ok-make_room-in-Hold-clause-grows c =
     keeps_so 1 (count_held (act_view c.args.act.now)) c.args.self.now (seen c.hold.new.early c.hold.new.late)
-    (seen_kept c.in-Hold.node c.in-Hold.number c.in-Hold.packet.now c.hold.ensures.small c.self.inside.early c.self.inside.late c.make_room.new.early c.make_room.new.late c.hold.new.early c.hold.new.late
-    c.args.self.now c.self.view_is c.in_ok-make_room-in-Hold.ensures.ok c.hold.ensures.noted)
+    (seen_kept (Hold c.in-Hold.node c.in-Hold.number c.in-Hold.packet.now) 1 c.self.inside.early c.self.inside.late c.make_room.new.early c.make_room.new.late
+    c.hold.new.early c.hold.new.late c.args.self.now c.self.view_is c.in_ok-make_room-in-Hold.ensures.ok.held
+    c.in_ok-make_room-in-Hold.ensures.ok.count c.in_ok-make_room-in-Hold.ensures.ok.reserved c.hold.ensures.noted)
     (ap (λ (a : Act). count_held (act_view a)) c.in-Hold.is)
 
 pub returns-in-Start : goal.returns-in-Start
 returns-in-Start c =
     let none : count_held (act_view c.args.act.now) ≡ 0 = search rules in
     record {
-      ok = seen_let_go (act_view c.args.act.now) c.self.inside.early c.self.inside.late c.let_go.new.early c.let_go.new.late c.args.self.now c.self.view_is none c.let_go.ensures;
+      ok = seen_live (act_view c.args.act.now) 0 c.self.inside.early c.self.inside.late c.self.inside.early c.self.inside.late
+          c.let_go.new.early c.let_go.new.late c.args.self.now c.self.view_is (λ firm p. refl) (omega arith) refl
+          c.let_go.ensures (none_up (held_by (act_view c.args.act.now) []) none);
       grows = keeps_so 0 (count_held (act_view c.args.act.now)) c.args.self.now (seen c.let_go.new.early c.let_go.new.late)
-          (seen_same (act_view c.args.act.now) c.self.inside.early c.self.inside.late c.let_go.new.early c.let_go.new.late c.args.self.now c.self.view_is 0 c.let_go.ensures) none;
+          (seen_kept (act_view c.args.act.now) 0 c.self.inside.early c.self.inside.late c.self.inside.early c.self.inside.late
+          c.let_go.new.early c.let_go.new.late c.args.self.now c.self.view_is (λ firm p. refl) (omega arith) refl
+          c.let_go.ensures) none;
       err = tt;
       full = tt;
     }

@@ -1,5 +1,5 @@
 use Rattle.std.proofs.Common.{rules}
-use Rattle.cgf_journal.proofs.Ranks.{node_apart, number_apart}
+use Rattle.cgf_journal.proofs.KeysLemmas.{node_apart, number_apart}
 use Rattle.cgf_journal.proofs.key.KeptKey.is_at.Goals as goal
 
 pub returns-then-node-self-clause-apart : goal.returns-then-node-self-clause-apart

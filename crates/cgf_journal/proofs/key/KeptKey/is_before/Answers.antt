@@ -1,5 +1,5 @@
 use Rattle.std.proofs.Common.{rules}
-use Rattle.cgf_journal.proofs.Ranks.{by_node, by_number}
+use Rattle.cgf_journal.proofs.KeysLemmas.{by_node, by_number}
 use Rattle.cgf_journal.proofs.key.KeptKey.is_before.Goals as goal
 
 pub returns-then-self-node : goal.returns-then-self-node

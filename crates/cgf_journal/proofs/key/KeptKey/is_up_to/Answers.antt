@@ -1,5 +1,5 @@
 use Rattle.std.proofs.Common.{rules}
-use Rattle.cgf_journal.proofs.Ranks.{up_to_node}
+use Rattle.cgf_journal.proofs.KeysLemmas.{up_to_node}
 use Rattle.cgf_journal.proofs.key.KeptKey.is_up_to.Goals as goal
 
 pub returns : goal.returns

@@ -1,4 +1,4 @@
-use Rattle.std.proofs.Common.{◌≡◌, List, ◌++◌, length, take, drop, true, false, sym, ap, ◌∙◌, refl, arith}
+use Rattle.std.proofs.Common.{◌≡◌, List, length, true, false, ap, ◌∙◌, refl, arith}
 use Rattle.cgf_journal.specs.Merged.{merged, moved_key, moved_keys}
 use Rattle.cgf_journal.specs.declared.key.KeptKey.{KeptKey}
 use Rattle.std.proofs.lemmas.List.{length-map}
@@ -43,17 +43,9 @@ pub invariant_of-self : goal.invariant_of-self
 invariant_of-self c =
     let early = c.args.self.now in
     let late = c.args.late.now in
-    let at = c.count_before-at.result in
-    let stays : take at early.keys.items ++ merged early.round (drop at early.keys.items) (moved_keys late.round early.round late.keys.items) ≡ merged early.round early.keys.items (moved_keys late.round early.round late.keys.items) =
-    (λ i. take at (sym c.deref.ensures.value i) ++ merged early.round (drop at (sym c.deref.ensures.value i)) (moved_keys late.round early.round (sym c.deref-2.ensures.value i)))
-    ∙ c.count_before-at.ensures.stay late.round early.round
-    ∙ (λ i. merged early.round (c.deref.ensures.value i) (moved_keys late.round early.round (c.deref-2.ensures.value i))) in
-    let others = λ (l : List KeptKey). moved_keys late.round early.round l in
-    let is : c.replace_from.new.keys.items ≡ merged early.round early.keys.items (others late.keys.items) =
-    c.replace_from.ensures.items
-    ∙ ap (λ (l : List KeptKey). take at early.keys.items ++ l)
-    (c.in_ok-merge.ensures.ok ∙ (λ i. merged early.round ((c.split_at.ensures.back ∙ ap (λ (l : List KeptKey). drop at l) c.deref-3.ensures.value) i) (others (c.deref-4.ensures.value i))))
-    ∙ stays in
+    let is : c.replace_from.new.keys.items ≡ merged early.round early.keys.items (moved_keys late.round early.round late.keys.items) =
+    c.replace_from.ensures.items ∙ rw (c.in_ok-merge.ensures.ok, c.split_at.ensures.back, c.deref-3.ensures.value, c.deref-4.ensures.value)
+    (rw (c.deref.ensures.value, c.deref-2.ensures.value) at (c.count_before-at.ensures.stay late.round early.round)) in
     let room = c.replace_from.ensures.capacity early.reserved early.enough (omega (arith, c.requires.spare, c.merge.ensures.capacity)) in
     record {
       enough = room.0;
@@ -67,17 +59,9 @@ pub returns-clause-ok : goal.returns-clause-ok
 returns-clause-ok c =
     let early = c.args.self.now in
     let late = c.args.late.now in
-    let at = c.count_before-at.result in
-    let stays : take at early.keys.items ++ merged early.round (drop at early.keys.items) (moved_keys late.round early.round late.keys.items) ≡ merged early.round early.keys.items (moved_keys late.round early.round late.keys.items) =
-    (λ i. take at (sym c.deref.ensures.value i) ++ merged early.round (drop at (sym c.deref.ensures.value i)) (moved_keys late.round early.round (sym c.deref-2.ensures.value i)))
-    ∙ c.count_before-at.ensures.stay late.round early.round
-    ∙ (λ i. merged early.round (c.deref.ensures.value i) (moved_keys late.round early.round (c.deref-2.ensures.value i))) in
-    let others = λ (l : List KeptKey). moved_keys late.round early.round l in
-    let is : c.replace_from.new.keys.items ≡ merged early.round early.keys.items (others late.keys.items) =
-    c.replace_from.ensures.items
-    ∙ ap (λ (l : List KeptKey). take at early.keys.items ++ l)
-    (c.in_ok-merge.ensures.ok ∙ (λ i. merged early.round ((c.split_at.ensures.back ∙ ap (λ (l : List KeptKey). drop at l) c.deref-3.ensures.value) i) (others (c.deref-4.ensures.value i))))
-    ∙ stays in
+    let is : c.replace_from.new.keys.items ≡ merged early.round early.keys.items (moved_keys late.round early.round late.keys.items) =
+    c.replace_from.ensures.items ∙ rw (c.in_ok-merge.ensures.ok, c.split_at.ensures.back, c.deref-3.ensures.value, c.deref-4.ensures.value)
+    (rw (c.deref.ensures.value, c.deref-2.ensures.value) at (c.count_before-at.ensures.stay late.round early.round)) in
     record {
       held = absorbed_all early late c.replace_from.new.keys.items is c.requires.firm c.requires.live;
       count = absorbed_length early late c.replace_from.new.keys.items is;

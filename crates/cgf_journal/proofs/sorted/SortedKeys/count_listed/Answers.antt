@@ -7,9 +7,8 @@ use Rattle.gw_base.specs.declared.history.HistoryAct.TheVariants.{Release, Seal}
 use Rattle.gw_base.specs.View.{stays_held}
 use Rattle.cgf_journal.specs.Sorted.{keys_of}
 use Rattle.cgf_journal.specs.declared.sorted.SortedKeys.{SortedKeys}
-use Rattle.cgf_journal.proofs.Changes.{none_named}
+use Rattle.cgf_journal.proofs.Changes.{none_named, AreBelow, none_below, one_below, one_more_gone}
 use Rattle.cgf_journal.proofs.KeysLemmas.{counted_le}
-use Rattle.cgf_journal.proofs.Staying.{AreBelow, none_below, one_below, one_more_gone}
 use Rattle.cgf_journal.proofs.sorted.SortedKeys.count_listed.Goals as goal
 
 pub loop-number-init : goal.loop-number-init

@@ -3,7 +3,7 @@ use Rattle.gw_base.specs.declared.held.HeldKey.{HeldKey}
 use Rattle.gw_base.specs.declared.history.HistoryAct.TheVariants.{Release}
 use Rattle.gw_base.specs.View.{stays_held}
 use Rattle.cgf_journal.specs.Sorted.{keys_of}
-use Rattle.cgf_journal.proofs.Staying.{AreBelow}
+use Rattle.cgf_journal.proofs.Changes.{AreBelow}
 use Rattle.cgf_journal.proofs.sorted.SortedKeys.count_listed.Given as goal
 
 -- the numbers so far are counted, and each is below the least that may follow

@@ -1,19 +1,16 @@
-use Rattle.std.proofs.Common.{List, ◌∙◌, ap, subst}
+use Rattle.std.proofs.Common.{List, ◌∙◌, ap}
 use Rattle.std.specs.Prelude.{slice_index_or}
-use Rattle.cgf_journal.specs.Keys.{IsAbsent, IsFound}
 use Rattle.cgf_journal.specs.declared.key.KeptKey.{KeptKey}
-use Rattle.cgf_journal.proofs.Staying.{found_gone, none_gone}
+use Rattle.cgf_journal.proofs.Changes.{found_gone, none_gone}
 use Rattle.cgf_journal.proofs.sorted.SortedKeys.count_one.Goals as goal
 
 pub returns-in-Ok : goal.returns-in-Ok
 returns-in-Ok c =
-    let P : List KeptKey → Type 0 = λ l. IsFound l c.in-Ok.at c.args.node.0 c.args.number in
     let s = c.args.self.now in
-    rw (c.one_if.ensures, c.counts.ensures) (found_gone c.args.node c.args.number c.args.firm s.round s.keys.items c.in-Ok.at (subst P c.deref.ensures.value c.in-Ok.ensures.found) c.kept_at.result
+    rw (c.one_if.ensures, c.counts.ensures) (found_gone c.args.node c.args.number c.args.firm s.round s.keys.items c.in-Ok.at (rw c.deref.ensures.value at c.in-Ok.ensures.found) c.kept_at.result
     (c.kept_at.ensures c.kept_at.result ∙ ap (λ (l : List KeptKey). slice_index_or l c.in-Ok.at c.kept_at.result) c.deref-in-Ok.ensures.value))
 
 pub returns-in-Err : goal.returns-in-Err
 returns-in-Err c =
-    let P : List KeptKey → Type 0 = λ l. IsAbsent l c.in-Err.field-0 c.args.node.0 c.args.number in
     let s = c.args.self.now in
-    none_gone c.args.node c.args.number c.args.firm s.round s.keys.items c.in-Err.field-0 (subst P c.deref.ensures.value c.in-Err.ensures.absent)
+    none_gone c.args.node c.args.number c.args.firm s.round s.keys.items c.in-Err.field-0 (rw c.deref.ensures.value at c.in-Err.ensures.absent)

@@ -4,7 +4,7 @@ use Rattle.gw_base.specs.Entry.{act_view}
 use Rattle.gw_base.specs.View.{stays_held}
 use Rattle.cgf_journal.specs.Keys.{counts, key_of}
 use Rattle.cgf_journal.specs.declared.key.KeptKey.{KeptKey}
-use Rattle.cgf_journal.proofs.KeptSums.{length-staying}
+use Rattle.cgf_journal.proofs.KeptLemmas.{length-staying}
 use Rattle.cgf_journal.proofs.sorted.SortedKeys.count_staying.Goals as goal
 
 pub returns-in-None-clause-value : goal.returns-in-None-clause-value

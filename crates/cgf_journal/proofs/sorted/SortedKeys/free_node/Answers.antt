@@ -1,14 +1,11 @@
-use Rattle.std.proofs.Common.{◌+◌, List, subst, arith}
-use Rattle.cgf_journal.specs.Keys.{IsFirstOf}
-use Rattle.cgf_journal.specs.declared.key.KeptKey.{KeptKey}
+use Rattle.std.proofs.Common.{arith}
 use Rattle.cgf_journal.proofs.Changes.{begins, ends_free, goes_on}
 use Rattle.cgf_journal.proofs.sorted.SortedKeys.free_node.Goals as goal
 
 pub loop-at-init : goal.loop-at-init
 loop-at-init c =
-    let P : List KeptKey → Type 0 = λ l. IsFirstOf l c.first_of-at.result c.args.node.0 in
-    let Q : List KeptKey → Type 0 = λ l. IsFirstOf l c.end_of-end.result (c.args.node.0 + 1) in
-    begins c.args.node c.args.self.now c.first_of-at.result c.end_of-end.result (subst P c.deref.ensures.value c.first_of-at.ensures) (subst Q c.deref-2.ensures.value c.end_of-end.ensures)
+    begins c.args.node c.args.self.now c.first_of-at.result c.end_of-end.result (rw c.deref.ensures.value at c.first_of-at.ensures)
+    (rw c.deref-2.ensures.value at c.end_of-end.ensures)
 
 pub change-requires : goal.change-requires
 change-requires c = omega (arith, c.loop-at-test.true, c.loop-at.invariant.inside.1)

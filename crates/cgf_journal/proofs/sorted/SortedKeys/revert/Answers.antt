@@ -1,13 +1,15 @@
-use Rattle.std.proofs.Common.{◌≡◌, Bool, List, length, filter, map, true, false, subst, sym, ap, ◌∙◌, arith}
+use Rattle.std.proofs.Common.{◌≡◌, Bool, List, [], ◌∷◌, length, filter, map, true, false, refl, sym, ap, ◌∙◌, arith, inl, inr}
+use Rattle.std.proofs.lemmas.Bool.{cases_Bool}
 use Rattle.std.proofs.lemmas.List.{length-map}
+use Rattle.std.proofs.lemmas.List.Elements.{All-filter, All-map}
+use Rattle.std.proofs.lemmas.List.Kept.{AllPairs-filter}
 use Rattle.gw_base.specs.declared.held.HeldKey.{HeldKey}
-use Rattle.cgf_journal.specs.Keys.{AreAscending, AreUpTo, counted_keys, counts, key_of, settled_key}
+use Rattle.cgf_journal.specs.Keys.{counted_keys, counts, key_of, settled_key}
 use Rattle.cgf_journal.specs.Sorted.{firm_keys}
 use Rattle.cgf_journal.specs.declared.key.KeptKey.{KeptKey}
 use Rattle.cgf_journal.specs.declared.sorted.SortedKeys.{SortedKeys}
 use Rattle.cgf_journal.proofs.KeysLemmas.{counted-settled}
-use Rattle.cgf_journal.proofs.Orders.{ascending-settled, up_to-settled}
-use Rattle.cgf_journal.proofs.Reserves.{ascending-filter, filter-again, up_to-filter}
+use Rattle.cgf_journal.proofs.Orders.{Precedes, UpTo, ascending-map}
 use Rattle.cgf_journal.proofs.sorted.SortedKeys.revert.Goals as goal
 
 -- the keys that the firm entries hold, settled
@@ -18,38 +20,41 @@ abbrev settled : SortedKeys → List KeptKey
 settled old = map (λ (kept : KeptKey). settled_key true old.round kept) (held old)
 
 left : (old : SortedKeys) (mid now : List KeptKey) → mid ≡ held old → now ≡ map (λ (kept : KeptKey). settled_key true old.round kept) mid → now ≡ settled old
-left old mid now kept is = is ∙ ap (λ (l : List KeptKey). map (λ (k : KeptKey). settled_key true old.round k) l) kept
+left old mid now kept is = rw kept at is
 
-counted : (s : Bool) (old : SortedKeys) → counted_keys s old.round (settled old) ≡ firm_keys old
-counted s old =
-    counted-settled s old.round true old.round (held old)
-    ∙ ap (λ (l : List KeptKey). map key_of l) (filter-again (λ (kept : KeptKey). counts true old.round kept) old.keys.items)
+again : (p : KeptKey → Bool) (keys : List KeptKey) → filter p (filter p keys) ≡ filter p keys
+again p [] = refl
+again p (kept ∷ keys) =
+    elim (cases_Bool (p kept)) [
+      | inl is ↦ rw (is, is) (ap (λ (l : List KeptKey). kept ∷ l) (again p keys))
+      | inr isnt ↦ rw isnt (again p keys)
+    ]
+
+counted : (s : Bool) (old : SortedKeys) (now : List KeptKey) → now ≡ settled old → counted_keys s old.round now ≡ firm_keys old
+counted s old now is =
+    rw is (counted-settled s old.round true old.round (held old)
+    ∙ ap (λ (l : List KeptKey). map key_of l) (again (λ (kept : KeptKey). counts true old.round kept) old.keys.items))
 
 pub invariant_of-self : goal.invariant_of-self
 invariant_of-self c =
     let old = c.args.self.now in
     let is = left old c.keep_firm.new.keys.items c.settle_all.new.keys.items c.keep_firm.ensures.kept c.settle_all.ensures.settled in
-    let up : List KeptKey → Type 0 = λ l. AreAscending l in
-    let bound : List KeptKey → Type 0 = λ l. AreUpTo old.round l in
+    let P = UpTo old.round in
+    let firm = λ (kept : KeptKey). counts true old.round kept in
+    let now = λ (kept : KeptKey). settled_key true old.round kept in
     record {
       enough = omega (arith, old.enough, c.keep_firm.ensures.capacity, c.settle_all.ensures.capacity);
-      ascending = subst up (sym is) (ascending-settled true old.round (held old) (ascending-filter (λ (kept : KeptKey). counts true old.round kept) old.keys.items old.ascending));
-      up_to = subst bound (sym is) (up_to-settled old.round old.round true old.round (held old) (up_to-filter (λ (kept : KeptKey). counts true old.round kept) old.round old.keys.items old.up_to));
-      firm_counted = old.firm_counted ∙ ap (λ (l : List HeldKey). length l) (sym (ap (λ (l : List KeptKey). counted_keys true old.round l) is ∙ counted true old));
-      live_counted = old.firm_counted ∙ ap (λ (l : List HeldKey). length l) (sym (ap (λ (l : List KeptKey). counted_keys false old.round l) is ∙ counted false old));
+      ascending = rw is (ascending-map now (λ kept. refl) (held old) (AllPairs-filter Precedes firm old.keys.items old.ascending));
+      up_to = rw is (All-map P now (held old) (λ j d lt. (omega arith, (All-filter firm P old.keys.items old.up_to j d lt).1)));
+      firm_counted = old.firm_counted ∙ ap (λ (l : List HeldKey). length l) (sym (counted true old c.settle_all.new.keys.items is));
+      live_counted = old.firm_counted ∙ ap (λ (l : List HeldKey). length l) (sym (counted false old c.settle_all.new.keys.items is));
     }
 
 pub returns-clause-firm : goal.returns-clause-firm
-returns-clause-firm c =
-    let old = c.args.self.now in
-    let is = left old c.keep_firm.new.keys.items c.settle_all.new.keys.items c.keep_firm.ensures.kept c.settle_all.ensures.settled in
-    ap (λ (l : List KeptKey). counted_keys true old.round l) is ∙ counted true old
+returns-clause-firm c = counted true c.args.self.now c.settle_all.new.keys.items (left c.args.self.now c.keep_firm.new.keys.items c.settle_all.new.keys.items c.keep_firm.ensures.kept c.settle_all.ensures.settled)
 
 pub returns-clause-live : goal.returns-clause-live
-returns-clause-live c =
-    let old = c.args.self.now in
-    let is = left old c.keep_firm.new.keys.items c.settle_all.new.keys.items c.keep_firm.ensures.kept c.settle_all.ensures.settled in
-    ap (λ (l : List KeptKey). counted_keys false old.round l) is ∙ counted false old
+returns-clause-live c = counted false c.args.self.now c.settle_all.new.keys.items (left c.args.self.now c.keep_firm.new.keys.items c.settle_all.new.keys.items c.keep_firm.ensures.kept c.settle_all.ensures.settled)
 
 pub returns-clause-count : goal.returns-clause-count
 returns-clause-count c =

@@ -1,5 +1,5 @@
 use Rattle.gw_base.specs.Entry.{entry_view}
-use Rattle.cgf_journal.proofs.KeptSums.{key_refused, one_more}
+use Rattle.cgf_journal.proofs.KeptLemmas.{key_refused, one_more}
 use Rattle.cgf_journal.proofs.Trails.{on_err}
 use Rattle.cgf_journal.proofs.tally.Tally.add.Goals as goal
 

@@ -1,5 +1,5 @@
 use Rattle.std.proofs.Common.{arith}
-use Rattle.cgf_journal.proofs.KeptSums.{left_free}
+use Rattle.cgf_journal.proofs.KeptLemmas.{left_free}
 use Rattle.cgf_journal.proofs.tally.Tally.free.Goals as goal
 
 pub returns : goal.returns

@@ -1,4 +1,4 @@
-use Rattle.cgf_journal.proofs.KeptSums.{paid_settled}
+use Rattle.cgf_journal.proofs.KeptLemmas.{paid_settled}
 use Rattle.cgf_journal.proofs.tally.Tally.settle.Goals as goal
 
 pub invariant_of-self : goal.invariant_of-self

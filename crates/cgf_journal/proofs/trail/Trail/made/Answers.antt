@@ -1,27 +1,21 @@
-use Rattle.std.proofs.Common.{◌≡◌, if◌then◌else◌, [], length, refl, sym, ◌∙◌, ap, subst, arith}
+use Rattle.std.proofs.Common.{◌≡◌, if◌then◌else◌, length, refl, ◌∙◌, ap, arith}
 use Rattle.gw_base.specs.Buffer.{Buffered}
-use Rattle.gate_journal.specs.Format.{longest_batch}
 use Rattle.entry_codec.specs.Content.{entries_of}
 use Rattle.entry_codec.specs.Laws.{entries_of-nil}
-use Rattle.cgf_journal.specs.Sound.{IsSound}
 use Rattle.cgf_journal.specs.Tally.{Tallies}
 use Rattle.cgf_journal.specs.Trail.{firm_entries, waiting}
-use Rattle.cgf_journal.proofs.Founding.{all_batches, all_judged, made}
-use Rattle.cgf_journal.proofs.Reserves.{still_enough}
+use Rattle.cgf_journal.proofs.Sounds.{all_batches, all_judged, made}
+use Rattle.cgf_journal.proofs.Tallies.{still_enough}
 use Rattle.cgf_journal.proofs.Trails.{entries_firm, settled}
 use Rattle.cgf_journal.proofs.trail.Trail.made.Goals as goal
 
 pub invariant_of-result : goal.invariant_of-result
 invariant_of-result g c =
-    let j = c.args.journal in
-    let sound = made j c.args.size c.args.listing.places c.args.listing.tally c.requires.size c.requires.settled.place c.requires.taken c.requires.founded c.requires.ready in
     let counted : c.len.result ≡ length c.args.listing.places.items = omega (arith, c.len.ensures) in
     record {
       enough = still_enough c.args.size c.args.listing.places.reserved c.args.listing.places.reserved c.args.listing.tally.reserved c.settle.new.self.reserved refl (ap (λ (t : Tallies). t.reserved) c.settle.ensures) c.requires.taken.taken_in.enough;
-      sound =
-          subst (λ (w : Buffered). IsSound c.args.journal c.args.size w c.args.listing.places.items c.len.result c.settle.new.self) (sym c.requires.waiting)
-          (subst (λ (t : Tallies). IsSound c.args.journal c.args.size (record { octets = []; capacity = longest_batch }) c.args.listing.places.items c.len.result t) (sym c.settle.ensures)
-          (subst (λ n. IsSound c.args.journal c.args.size (record { octets = []; capacity = longest_batch }) c.args.listing.places.items n (record { firm = c.args.listing.tally.live; live = c.args.listing.tally.live; reserved = c.args.listing.tally.reserved })) (sym counted) sound));
+      sound = rw (c.requires.waiting, c.settle.ensures, counted)
+          (made c.args.journal c.args.size c.args.listing.places c.args.listing.tally c.requires.size c.requires.settled.place c.requires.taken c.requires.founded c.requires.ready);
     }
 
 pub returns-clause-entries : goal.returns-clause-entries

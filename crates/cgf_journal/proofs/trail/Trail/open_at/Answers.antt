@@ -1,5 +1,5 @@
 use Rattle.gate_journal.specs.Format.{header}
-use Rattle.cgf_journal.proofs.Fitting.{always_fit, foreign_unfit}
+use Rattle.cgf_journal.proofs.Meanings.{always_fit, foreign_unfit}
 use Rattle.cgf_journal.proofs.Opened.{err_always, ok_always}
 use Rattle.cgf_journal.proofs.trail.Trail.open_at.Goals as goal
 

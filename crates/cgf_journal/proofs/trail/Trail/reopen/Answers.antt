@@ -1,23 +1,41 @@
-use Rattle.std.proofs.Common.{◌≡◌, true, if◌then◌else◌, List, [], length, refl, sym, ◌∙◌, ap, arith, subst, slice_get, rules}
+use Rattle.std.proofs.Common.{◌≡◌, ◌⊎◌, inl, inr, ◌+◌, true, false, List, [], ◌∷◌, ◌++◌, length, refl, sym, ◌∙◌, ap, arith, slice_get, rules}
 use Rattle.std.specs.Prelude.{is_err}
+use Rattle.std.proofs.lemmas.Bool.{false_from_ne_true, true_from_ne_false}
 use Rattle.std.proofs.lemmas.List.{length-take-le}
+use Rattle.area_disk.specs.declared.area.Area.{Ghosts}
 use Rattle.gw_base.specs.Buffer.{Buffered}
 use Rattle.gw_base.specs.declared.place.Place.{Place}
 use Rattle.gate_journal.specs.Journal as journal
+use Rattle.gate_journal.specs.declared.journal.Journal.{Journal}
 use Rattle.entry_codec.specs.Content.{entries_of}
 use Rattle.entry_codec.specs.Laws.{entries_of-nil}
 use Rattle.cgf_journal.specs.Format.{entries_in}
-use Rattle.cgf_journal.specs.Sound.{IsSound, is_founded}
-use Rattle.cgf_journal.specs.Tally.{Tallies, TallyValue}
-use Rattle.cgf_journal.specs.Trail.{firm_entries, waiting}
+use Rattle.cgf_journal.specs.Sound.{is_founded}
+use Rattle.cgf_journal.specs.Tally.{Tallies}
+use Rattle.cgf_journal.specs.Trail.{firm_entries, is_closed, torn_stands, waiting}
+use Rattle.cgf_journal.specs.declared.trail.Trail.{Trail}
 use Rattle.cgf_journal.proofs.Coming.{reopen_failed, reopen_planned}
-use Rattle.cgf_journal.proofs.Entries.{entries_in-push}
-use Rattle.cgf_journal.proofs.Reopening.{either_way, end_goes, goes, list_goes, list_stays, stays}
-use Rattle.cgf_journal.proofs.Reserves.{still_enough}
+use Rattle.cgf_journal.proofs.Tallies.{entries_in-push, still_enough}
 use Rattle.cgf_journal.proofs.Sounds.{dropped, settled as settled_sound}
-use Rattle.cgf_journal.proofs.Standing.{founded_is}
-use Rattle.cgf_journal.proofs.Trails.{get_firm, kept, leaves_either, on_err, places_count, same_free, same_room, settled}
+use Rattle.cgf_journal.proofs.Trails.{founded_is, get_firm, kept, leaves_either, on_err, places_count, same_free, same_room, settled}
 use Rattle.cgf_journal.proofs.trail.Trail.reopen.Goals as goal
+
+-- what the end tells of the torn batch
+module _ {A : Type 0} {tells : Ghosts A} (t : Trail A tells) (new : Journal A tells) where
+  stays : journal.end new ≡ journal.reopened_end t.journal → journal.end new ≡ journal.end t.journal → torn_stands t ≡ false
+  stays is same = false_from_ne_true (torn_stands t) (λ stands. omega (arith, rw stands at is, same))
+
+  goes : journal.end new ≡ journal.reopened_end t.journal → (journal.end new ≡ journal.end t.journal → ⊥) → torn_stands t ≡ true
+  goes is other = true_from_ne_false (torn_stands t) (λ stands. other (rw stands at is))
+
+  module _ (closed : is_closed t ≡ true) where
+    list_goes : journal.batches new ≡ journal.reopened t.journal → torn_stands t ≡ true → journal.batches new ≡ journal.batches t.journal ++ t.waiting.octets ∷ []
+    list_goes is stands = rw (stands, t.sound.torn_waits closed) at is
+
+    end_goes : (journal.end new ≡ journal.end t.journal) ⊎ (journal.end new ≡ journal.end t.journal + 5 + length (journal.torn t.journal)) → (journal.end new ≡ journal.end t.journal → ⊥)
+        → journal.end new ≡ journal.end t.journal + 5 + length t.waiting.octets
+    end_goes (inl same) other = absurd (other same)
+    end_goes (inr is) other = rw (t.sound.torn_waits closed) at is
 
 pub returns-in_err-reopen-clause-err : goal.returns-in_err-reopen-clause-err
 returns-in_err-reopen-clause-err g c =
@@ -32,48 +50,40 @@ pub invariant_of-self-then-end : goal.invariant_of-self-then-end
 invariant_of-self-then-end g c =
     let t = c.args.self.now in
     let j = c.reopen.new.self in
+    let ok = c.in_ok-reopen.ensures.ok in
     let same_end : journal.end j ≡ journal.end t.journal = sym c.end.ensures.place ∙ c.if-end.true ∙ c.end-end.ensures.place in
-    let founded : is_founded (journal.front_of j) ≡ true = ap is_founded (c.reopen.ensures.stays.founded (founded_is _ t.sound.founded)) in
-    let is = dropped t.journal t.size t.waiting t.places.items t.firm t.tally t.sound j founded c.reopen.ensures.stays.size same_end
-    (λ told. list_stays t j (c.in_ok-reopen.ensures.ok.batches told) (stays t j (c.in_ok-reopen.ensures.ok.place told) same_end)) c.in_ok-reopen.ensures.ok.ready in
     record {
       enough = still_enough t.size t.places.reserved c.truncate.new.self.reserved t.tally.reserved c.revert.new.self.reserved c.truncate.ensures.reserved (ap (λ (v : Tallies). v.reserved) c.revert.ensures) t.enough;
-      sound =
-          subst (λ (w : Buffered). IsSound j t.size w c.truncate.new.self.items t.firm c.revert.new.self) (sym c.clear.ensures)
-          (subst (λ (v : Tallies). IsSound j t.size (record { octets = []; capacity = t.waiting.capacity }) c.truncate.new.self.items t.firm v) (sym c.revert.ensures)
-          (subst (λ (ps : List Place). IsSound j t.size (record { octets = []; capacity = t.waiting.capacity }) ps t.firm (record { firm = t.tally.firm; live = t.tally.firm; reserved = t.tally.reserved })) (sym c.truncate.ensures.items) is));
+      sound = rw (c.clear.ensures, t.sound.room, c.revert.ensures, c.truncate.ensures.items)
+          (dropped t j (ap is_founded (c.reopen.ensures.stays.founded (founded_is _ t.sound.founded))) ok.ready c.reopen.ensures.stays.size same_end
+          (λ told. rw (stays t j (ok.place told) same_end) at (ok.batches told)));
     }
 
 pub returns-then-end-clause-ok : goal.returns-then-end-clause-ok
 unfolding waiting
 returns-then-end-clause-ok g c =
     let t = c.args.self.now in
-    let j = c.reopen.new.self in
-    let same_end : journal.end j ≡ journal.end t.journal = sym c.end.ensures.place ∙ c.if-end.true ∙ c.end-end.ensures.place in
-    let left : length c.truncate.new.self.items ≡ t.firm = ap (λ (ps : List Place). length ps) c.truncate.ensures.items ∙ length-take-le t.firm t.places.items t.sound.firm_places in
+    let ok = c.in_ok-reopen.ensures.ok in
     record {
-      gate = λ told. sym (stays t j (c.in_ok-reopen.ensures.ok.place told) same_end);
+      gate = λ told. sym (stays t c.reopen.new.self (ok.place told) (sym c.end.ensures.place ∙ c.if-end.true ∙ c.end-end.ensures.place));
       none_waits = ap (λ (w : Buffered). entries_of w.octets) c.clear.ensures ∙ entries_of-nil;
       emptied = ap (λ (w : Buffered). length w.octets) c.clear.ensures;
-      opened = c.in_ok-reopen.ensures.ok.ready;
-      length = ap (λ b. if b then t.firm else length c.truncate.new.self.items) c.in_ok-reopen.ensures.ok.ready ∙ left;
-      settled = settled _ c.area_laws.ensures c.in_ok-reopen.ensures.ok.settled;
+      opened = ok.ready;
+      length = rw (ok.ready, c.truncate.ensures.items) (length-take-le t.firm t.places.items t.sound.firm_places);
+      settled = settled _ c.area_laws.ensures ok.settled;
     }
 
 pub returns-then-end-clause-dropped : goal.returns-then-end-clause-dropped
 unfolding firm_entries
 returns-then-end-clause-dropped g c = λ is.
     let t = c.args.self.now in
-    let j = c.reopen.new.self in
-    let same_end : journal.end j ≡ journal.end t.journal = sym c.end.ensures.place ∙ c.if-end.true ∙ c.end-end.ensures.place in
-    let tallies = ap (λ (v : Tallies). let w : TallyValue = if journal.is_closed j then v.firm else v.live in w) c.revert.ensures
-    ∙ either_way (journal.is_closed j) t.tally.firm
-    ∙ sym (ap (λ b. let w : TallyValue = if b then t.tally.firm else t.tally.live in w) c.requires.closed) in
+    let ok = c.in_ok-reopen.ensures.ok in
+    let same_end : journal.end c.reopen.new.self ≡ journal.end t.journal = sym c.end.ensures.place ∙ c.if-end.true ∙ c.end-end.ensures.place in
     record {
-      listed = λ told. ap entries_in (list_stays t j (c.in_ok-reopen.ensures.ok.batches told) (stays t j (c.in_ok-reopen.ensures.ok.place told) same_end));
+      listed = λ told. ap entries_in (rw (stays t c.reopen.new.self (ok.place told) same_end) at (ok.batches told));
       count = refl;
-      room = same_room _ _ c.reopen.ensures.stays.size tallies;
-      free = same_free _ _ c.reopen.ensures.stays.size tallies;
+      room = same_room _ _ c.reopen.ensures.stays.size (rw (ok.ready, c.requires.closed) (ap (λ (v : Tallies). v.live) c.revert.ensures));
+      free = same_free _ _ c.reopen.ensures.stays.size (rw (ok.ready, c.requires.closed) (ap (λ (v : Tallies). v.live) c.revert.ensures));
     }
 
 pub returns-then-end-clause-any_moment : goal.returns-then-end-clause-any_moment
@@ -92,34 +102,29 @@ pub invariant_of-self-2 : goal.invariant_of-self-2
 invariant_of-self-2 g c =
     let t = c.args.self.now in
     let j = c.reopen.new.self in
+    let ok = c.in_ok-reopen.ensures.ok in
     let other : journal.end j ≡ journal.end t.journal → ⊥ = λ e. c.if-end.false (c.end.ensures.place ∙ e ∙ sym c.end-end.ensures.place) in
-    let founded : is_founded (journal.front_of j) ≡ true = ap is_founded (c.reopen.ensures.stays.founded (founded_is _ t.sound.founded)) in
-    let counted : length t.places.items ≡ c.len-self.result = sym (search rules) in
-    let is = settled_sound t.journal t.size t.waiting t.places.items t.firm t.tally t.sound j founded c.reopen.ensures.stays.size
-    (end_goes t j c.requires.closed c.in_ok-reopen.ensures.ok.end other) c.in_ok-reopen.ensures.ok.settled.place
-    (λ told. list_goes t j c.requires.closed (c.in_ok-reopen.ensures.ok.batches told) (goes t j (c.in_ok-reopen.ensures.ok.place told) other)) (t.sound.some_torn c.requires.closed) c.in_ok-reopen.ensures.ok.ready in
+    let counted : c.len-self.result ≡ length t.places.items = search rules in
     record {
       enough = still_enough t.size t.places.reserved t.places.reserved t.tally.reserved c.settle.new.self.reserved refl (ap (λ (v : Tallies). v.reserved) c.settle.ensures) t.enough;
-      sound =
-          subst (λ (w : Buffered). IsSound j t.size w t.places.items c.len-self.result c.settle.new.self) (sym c.clear-2.ensures)
-          (subst (λ (v : Tallies). IsSound j t.size (record { octets = []; capacity = t.waiting.capacity }) t.places.items c.len-self.result v) (sym c.settle.ensures)
-          (subst (λ n. IsSound j t.size (record { octets = []; capacity = t.waiting.capacity }) t.places.items n (record { firm = t.tally.live; live = t.tally.live; reserved = t.tally.reserved })) counted is));
+      sound = rw (c.clear-2.ensures, t.sound.room, c.settle.ensures, counted)
+          (settled_sound t j (ap is_founded (c.reopen.ensures.stays.founded (founded_is _ t.sound.founded))) ok.ready c.reopen.ensures.stays.size (end_goes t j c.requires.closed ok.end other) ok.settled.place
+          (λ told. list_goes t j c.requires.closed (ok.batches told) (goes t j (ok.place told) other)) (t.sound.some_torn c.requires.closed));
     }
 
 pub returns-clause-ok : goal.returns-clause-ok
 unfolding waiting
 returns-clause-ok g c =
     let t = c.args.self.now in
-    let j = c.reopen.new.self in
-    let other : journal.end j ≡ journal.end t.journal → ⊥ = λ e. c.if-end.false (c.end.ensures.place ∙ e ∙ sym c.end-end.ensures.place) in
+    let ok = c.in_ok-reopen.ensures.ok in
     let counted : length t.places.items ≡ c.len-self.result = sym (search rules) in
     record {
-      gate = λ told. sym (goes t j (c.in_ok-reopen.ensures.ok.place told) other);
+      gate = λ told. sym (goes t c.reopen.new.self (ok.place told) (λ e. c.if-end.false (c.end.ensures.place ∙ e ∙ sym c.end-end.ensures.place)));
       none_waits = ap (λ (w : Buffered). entries_of w.octets) c.clear-2.ensures ∙ entries_of-nil;
       emptied = ap (λ (w : Buffered). length w.octets) c.clear-2.ensures;
-      opened = c.in_ok-reopen.ensures.ok.ready;
-      length = ap (λ b. if b then c.len-self.result else length t.places.items) c.in_ok-reopen.ensures.ok.ready ∙ counted;
-      settled = settled _ c.area_laws.ensures c.in_ok-reopen.ensures.ok.settled;
+      opened = ok.ready;
+      length = rw ok.ready counted;
+      settled = settled _ c.area_laws.ensures ok.settled;
     }
 
 pub returns-clause-taken_in : goal.returns-clause-taken_in
@@ -127,10 +132,11 @@ unfolding firm_entries waiting
 returns-clause-taken_in g c = λ is.
     let t = c.args.self.now in
     let j = c.reopen.new.self in
+    let ok = c.in_ok-reopen.ensures.ok in
     let other : journal.end j ≡ journal.end t.journal → ⊥ = λ e. c.if-end.false (c.end.ensures.place ∙ e ∙ sym c.end-end.ensures.place) in
     let counted : c.len-self.result ≡ length t.places.items = search rules in
     record {
-      listed = λ told. ap entries_in (list_goes t j c.requires.closed (c.in_ok-reopen.ensures.ok.batches told) (goes t j (c.in_ok-reopen.ensures.ok.place told) other)) ∙ entries_in-push (journal.batches t.journal) t.waiting.octets;
+      listed = λ told. ap entries_in (list_goes t j c.requires.closed (ok.batches told) (goes t j (ok.place told) other)) ∙ entries_in-push (journal.batches t.journal) t.waiting.octets;
       count = counted ∙ places_count t;
       places = λ k place is. is;
     }
@@ -153,10 +159,10 @@ returns-clause-any_moment g c = λ told.
 pub returns-in_err-reopen-clause-planned : goal.returns-in_err-reopen-clause-planned
 returns-in_err-reopen-clause-planned g c =
     let failing : is_err c.from_residual.result ≡ true = search rules in
-    reopen_failed _ _ _ failing (λ fate. let planned = c.in_err-reopen.ensures.planned fate in record { planned = planned.planned; stands = planned.stands })
+    reopen_failed _ _ _ failing c.in_err-reopen.ensures.planned
 
 pub returns-then-end-clause-planned : goal.returns-then-end-clause-planned
-returns-then-end-clause-planned g c = reopen_planned _ _ _ (λ fate. let planned = c.in_ok-reopen.ensures.planned fate in record { planned = planned.planned; stands = planned.stands })
+returns-then-end-clause-planned g c = reopen_planned _ _ _ c.in_ok-reopen.ensures.planned
 
 pub returns-clause-planned : goal.returns-clause-planned
-returns-clause-planned g c = reopen_planned _ _ _ (λ fate. let planned = c.in_ok-reopen.ensures.planned fate in record { planned = planned.planned; stands = planned.stands })
+returns-clause-planned g c = reopen_planned _ _ _ c.in_ok-reopen.ensures.planned

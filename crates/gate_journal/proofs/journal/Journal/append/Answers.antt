@@ -3,7 +3,7 @@ use Rattle.gate_journal.specs.Journal.{batches, torn, stop_stands}
 use Rattle.gate_journal.proofs.Turns.{other_bool}
 use Rattle.gate_journal.proofs.Kept.{as_before}
 use Rattle.area_disk.specs.MomentLaws.{begin}
-use Rattle.gate_journal.proofs.States.{closed_when_torn, settled, grown, grown_sound, left_or, only_octets, shut_gate, torn_sound, torn_stay}
+use Rattle.gate_journal.proofs.States.{closed_when_torn, settled, grown, left_or, only_octets, shut_gate, torn_over}
 use Rattle.gate_journal.proofs.journal.Journal.append.Goals as goal
 
 pub returns-then-free-length-clause-any_moment : goal.returns-then-free-length-clause-any_moment
@@ -17,20 +17,32 @@ pub returns-then-free-length-clause-planned : goal.returns-then-free-length-clau
 returns-then-free-length-clause-planned g c = λ fate told fits. absurd (omega (arith, c.length.ensures))
 
 pub invariant_of-self-in-Ok : goal.invariant_of-self-in-Ok
-invariant_of-self-in-Ok g c = record { sound = grown_sound g.A.Area c.area_laws.ensures c.args.self.now c.requires.ready c.args.batch.now _ c.fill.new.buffer.items c.add.new.area c.requires.short (c.as_slice.ensures.value ∙ c.fill.ensures.framed) c.fill.ensures.held c.fill.ensures.size (omega (arith, c.length.ensures)) c.add.ensures.size c.in-Ok.ensures.added c.in-Ok.ensures.durable; room = omega (arith, c.args.self.now.room, c.add.ensures.size, c.fill.ensures.capacity) }
+invariant_of-self-in-Ok g c = record {
+  sound = (grown g.A.Area c.area_laws.ensures c.args.self.now c.requires.ready c.args.batch.now _
+      c.fill.new.buffer.items c.add.new.area c.requires.short (c.as_slice.ensures.value ∙ c.fill.ensures.framed)
+      c.fill.ensures.held c.fill.ensures.size (omega (arith, c.length.ensures)) c.add.ensures.size c.in-Ok.ensures.added
+      c.in-Ok.ensures.durable).0;
+  room = omega (arith, c.args.self.now.room, c.add.ensures.size, c.fill.ensures.capacity);
+}
 
 pub invariant_of-self-in-Err : goal.invariant_of-self-in-Err
-invariant_of-self-in-Err g c = record { sound = torn_sound g.A.Area c.area_laws.ensures c.args.self.now c.requires.ready c.args.batch.now _ c.fill.new.buffer.items c.add.new.area c.requires.short (c.as_slice.ensures.value ∙ c.fill.ensures.framed) c.fill.ensures.held c.fill.ensures.size (omega (arith, c.length.ensures)) c.add.ensures.size c.add.ensures.any_moment; room = omega (arith, c.args.self.now.room, c.add.ensures.size, c.fill.ensures.capacity) }
+invariant_of-self-in-Err g c = record {
+  sound = (torn_over g.A.Area c.area_laws.ensures c.args.self.now c.requires.ready c.args.batch.now _
+      c.fill.new.buffer.items c.add.new.area c.requires.short (c.as_slice.ensures.value ∙ c.fill.ensures.framed)
+      c.fill.ensures.held c.fill.ensures.size (omega (arith, c.length.ensures)) c.add.ensures.size
+      c.add.ensures.any_moment).0;
+  room = omega (arith, c.args.self.now.room, c.add.ensures.size, c.fill.ensures.capacity);
+}
 
 pub returns-in-Ok-clause-ok : goal.returns-in-Ok-clause-ok
 unfolding batches
 returns-in-Ok-clause-ok g c = record {
   ready = c.requires.ready;
   settled = settled g.A.Area c.area_laws.ensures _ c.requires.ready;
-  batches = grown g.A.Area c.area_laws.ensures c.args.self.now c.requires.ready c.args.batch.now _
+  batches = (grown g.A.Area c.area_laws.ensures c.args.self.now c.requires.ready c.args.batch.now _
       c.fill.new.buffer.items c.add.new.area c.requires.short (c.as_slice.ensures.value ∙ c.fill.ensures.framed)
       c.fill.ensures.held c.fill.ensures.size (omega (arith, c.length.ensures)) c.add.ensures.size c.in-Ok.ensures.added
-      c.in-Ok.ensures.durable;
+      c.in-Ok.ensures.durable).1;
   end = refl;
 }
 
@@ -42,7 +54,10 @@ pub returns-in-Err-clause-torn : goal.returns-in-Err-clause-torn
 unfolding batches torn
 returns-in-Err-clause-torn g c = λ is. record {
   closed = closed_when_torn c.args.self.now.front;
-  batches = torn_stay g.A.Area c.area_laws.ensures c.args.self.now c.requires.ready c.args.batch.now _ c.fill.new.buffer.items c.add.new.area c.requires.short (c.as_slice.ensures.value ∙ c.fill.ensures.framed) c.fill.ensures.held c.fill.ensures.size (omega (arith, c.length.ensures)) c.add.ensures.size c.add.ensures.any_moment;
+  batches = (torn_over g.A.Area c.area_laws.ensures c.args.self.now c.requires.ready c.args.batch.now _
+      c.fill.new.buffer.items c.add.new.area c.requires.short (c.as_slice.ensures.value ∙ c.fill.ensures.framed)
+      c.fill.ensures.held c.fill.ensures.size (omega (arith, c.length.ensures)) c.add.ensures.size
+      c.add.ensures.any_moment).1;
   end = refl;
   torn = c.fill.ensures.held;
 }

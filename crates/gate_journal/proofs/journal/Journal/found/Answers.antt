@@ -1,23 +1,20 @@
 use Rattle.std.proofs.Common.{refl, ap, arith}
-use Rattle.std.specs.Prelude.{◌&&◌, ◌==◌}
-use Rattle.gate_journal.specs.Format.{open_gate, gate_at, header}
+use Rattle.gate_journal.specs.Format.{header}
 use Rattle.gate_journal.specs.Journal.{batches, torn, torn_stands}
-use Rattle.gate_journal.proofs.States.{settled, ready_of, founding_leaves, founding_batches, founding_sound, founded_sound}
+use Rattle.gate_journal.proofs.States.{settled, ready_of, founding_leaves, founding_over, founded_over}
 use Rattle.gate_journal.proofs.journal.Journal.found.Goals as goal
 
 pub invariant_of-self : goal.invariant_of-self
 invariant_of-self g c = record {
-  sound =
-      founded_sound g.A.Area c.area_laws.ensures c.args.self.now c.requires.ready c.put.new.area c.put.ensures.size
-      c.put.ensures.any_moment c.in-Ok.ensures.written c.in-Ok.ensures.durable;
+  sound = (founded_over g.A.Area c.area_laws.ensures c.args.self.now c.requires.ready c.put.new.area c.put.ensures.size
+      c.put.ensures.any_moment c.in-Ok.ensures.written c.in-Ok.ensures.durable).0;
   room = omega (arith, c.args.self.now.room, c.put.ensures.size);
 }
 
 pub invariant_of-self-in-Err : goal.invariant_of-self-in-Err
 invariant_of-self-in-Err g c = record {
-  sound =
-      founding_sound g.A.Area c.area_laws.ensures c.args.self.now c.requires.ready c.put.new.area c.put.ensures.size
-      c.put.ensures.any_moment;
+  sound = (founding_over g.A.Area c.area_laws.ensures c.args.self.now c.requires.ready c.put.new.area c.put.ensures.size
+      c.put.ensures.any_moment).0;
   room = omega (arith, c.args.self.now.room, c.put.ensures.size);
 }
 
@@ -33,14 +30,11 @@ returns-in-Ok-clause-stays g c =
     record {
       size = c.put.ensures.size;
       header = ap (λ n. header n j.address j.generation) c.put.ensures.size;
-      batches =
-          founding_batches g.A.Area c.area_laws.ensures j c.requires.ready c.put.new.area c.put.ensures.size
-          c.put.ensures.any_moment;
+      batches = (founding_over g.A.Area c.area_laws.ensures j c.requires.ready c.put.new.area c.put.ensures.size
+          c.put.ensures.any_moment).1;
       end = refl;
       torn = refl;
-      torn_stands =
-          ap (λ t. t && (gate_at (g.A.Area.octets c.put.new.area) j.gate == open_gate))
-          (ready_of j.front j.is_torn c.requires.ready).whole;
+      torn_stands = rw (ready_of j.front j.is_torn c.requires.ready).whole;
     }
 
 pub returns-in-Err-clause-any_moment : goal.returns-in-Err-clause-any_moment
@@ -55,14 +49,11 @@ returns-in-Err-clause-stays g c =
     record {
       size = c.put.ensures.size;
       header = ap (λ n. header n j.address j.generation) c.put.ensures.size;
-      batches =
-          founding_batches g.A.Area c.area_laws.ensures j c.requires.ready c.put.new.area c.put.ensures.size
-          c.put.ensures.any_moment;
+      batches = (founding_over g.A.Area c.area_laws.ensures j c.requires.ready c.put.new.area c.put.ensures.size
+          c.put.ensures.any_moment).1;
       end = refl;
       torn = refl;
-      torn_stands =
-          ap (λ t. t && (gate_at (g.A.Area.octets c.put.new.area) j.gate == open_gate))
-          (ready_of j.front j.is_torn c.requires.ready).whole;
+      torn_stands = rw (ready_of j.front j.is_torn c.requires.ready).whole;
     }
 
 pub returns-in-Ok-clause-ok : goal.returns-in-Ok-clause-ok

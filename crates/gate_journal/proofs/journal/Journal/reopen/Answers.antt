@@ -1,24 +1,20 @@
-use Rattle.std.proofs.Common.{◌≡◌, ◌⊎◌, ◌+◌, ℕ, false, List, [], ◌∷◌, ◌++◌, length, take, drop, refl, sym, ◌∙◌, ap, subst, arith}
-use Rattle.std.specs.Prelude.{◌&&◌, ◌==◌, if◌then◌else◌}
+use Rattle.std.proofs.Common.{ℕ, false, List, refl, sym, ◌∙◌, ap, arith}
+use Rattle.std.specs.Prelude.{◌&&◌, ◌==◌}
 use Rattle.gate_journal.specs.Format.{open_gate, gate_at, header}
-use Rattle.gate_journal.specs.State.{IsSound, batches_below, front_after, gate_after}
+use Rattle.gate_journal.specs.State.{front_after, gate_after}
 use Rattle.gate_journal.specs.Journal.{batches, torn, torn_stands, stop_stands, closed_by}
 use Rattle.gate_journal.proofs.Turns.{other_bool}
 use Rattle.area_disk.specs.MomentLaws.{widen}
-use Rattle.gate_journal.proofs.States.{settled, ready_of, open_after, length-last, gate_moves, moves_or_stays, keeps_any, kept_batches, kept_sound, reopened_sound, reopened_batches}
+use Rattle.gate_journal.proofs.States.{settled, ready_of, open_after, length-last, gate_moves, moves_or_stays, keeps_any, kept, reopened_over}
 use Rattle.gate_journal.proofs.journal.Journal.reopen.Goals as goal
 
 pub invariant_of-self : goal.invariant_of-self
 invariant_of-self g c =
     let j = c.args.self.now in
     record {
-      sound =
-          subst (λ n. IsSound g.A.Area c.see.new.area j.buffer.items n j.torn_length false c.next_front-self.result j.address j.generation) (sym c.next_gate-self.ensures)
-          (subst (λ f. IsSound g.A.Area c.see.new.area j.buffer.items
-          (gate_after j.is_torn j.gate j.torn_length c.in-Ok.ends.gate) j.torn_length false f
-          j.address j.generation) (sym c.next_front-self.ensures) (reopened_sound g.A.Area c.area_laws.ensures j
-          c.see.new.area c.see.ensures.size c.in-Ok.ensures.octets c.in-Ok.ensures.durable c.in-Ok.ends.first
-          c.in-Ok.ends.gate c.in-Ok.ensures.seen));
+      sound = rw (c.next_gate-self.ensures, c.next_front-self.ensures)
+          (reopened_over g.A.Area c.area_laws.ensures j c.see.new.area c.see.ensures.size c.in-Ok.ensures.octets
+          c.in-Ok.ensures.durable c.in-Ok.ends.first c.in-Ok.ends.gate c.in-Ok.ensures.seen).0;
       room = omega (arith, j.room, c.see.ensures.size);
     }
 
@@ -26,10 +22,8 @@ pub invariant_of-self-in-Err : goal.invariant_of-self-in-Err
 invariant_of-self-in-Err g c =
     let j = c.args.self.now in
     record {
-      sound = kept_sound g.A.Area c.area_laws.ensures j
-          c.see.new.area c.see.ensures.size c.see.ensures.any_moment.now;
-      room =
-          omega (arith, j.room, c.see.ensures.size);
+      sound = (kept g.A.Area c.area_laws.ensures j c.see.new.area c.see.ensures.size c.see.ensures.any_moment.now).0;
+      room = omega (arith, j.room, c.see.ensures.size);
     }
 
 pub returns-in-Ok-clause-ok : goal.returns-in-Ok-clause-ok
@@ -41,25 +35,16 @@ returns-in-Ok-clause-ok g c =
       ready = ready;
       settled = settled g.A.Area c.area_laws.ensures _ ready;
       front = λ told. c.next_front-self.ensures ∙ ap (λ n. front_after j.front n) (c.in-Ok.ensures.seen told.0).0;
-      batches = λ told.
-          ap (λ n. batches_below n (g.A.Area.octets c.see.new.area)) c.next_gate-self.ensures
-          ∙ reopened_batches g.A.Area c.area_laws.ensures j
-          c.see.new.area c.see.ensures.size c.in-Ok.ensures.octets c.in-Ok.ensures.durable c.in-Ok.ends.first
-          c.in-Ok.ends.gate c.in-Ok.ensures.seen told
-          ∙ ap (λ o. if j.is_torn && (o == open_gate) then batches_below j.gate (g.A.Area.octets j.area) ++ take j.torn_length (drop 4 j.buffer.items) ∷ [] else batches_below j.gate (g.A.Area.octets j.area)) (c.in-Ok.ensures.seen told.0).1;
+      batches = λ told. rw (c.next_gate-self.ensures, ← (c.in-Ok.ensures.seen told.0).1)
+          ((reopened_over g.A.Area c.area_laws.ensures j c.see.new.area c.see.ensures.size c.in-Ok.ensures.octets
+          c.in-Ok.ensures.durable c.in-Ok.ends.first c.in-Ok.ends.gate c.in-Ok.ensures.seen).1 told);
       place = λ told.
-          c.next_gate-self.ensures
-          ∙ gate_moves j.is_torn j.gate j.torn_length c.in-Ok.ends.gate
-          ∙ ap (λ o. if j.is_torn && (o == open_gate) then j.gate + 5 + j.torn_length else j.gate) (c.in-Ok.ensures.seen told.0).1
-          ∙ ap (λ n. if j.is_torn && (gate_at (g.A.Area.octets j.area) j.gate == open_gate) then j.gate + 5 + n else
-          j.gate) (sym (length-last g.A.Area c.area_laws.ensures j));
+          rw (← (c.in-Ok.ensures.seen told.0).1, length-last g.A.Area c.area_laws.ensures j)
+          (c.next_gate-self.ensures ∙ gate_moves j.is_torn j.gate j.torn_length c.in-Ok.ends.gate);
       end =
-          let moves = j.is_torn && (c.in-Ok.ends.gate == open_gate) in
-          subst (λ n. (n ≡ j.gate) ⊎ (n ≡ j.gate + 5 + length (take j.torn_length (drop 4 j.buffer.items)))) (sym (c.next_gate-self.ensures ∙ gate_moves j.is_torn j.gate j.torn_length c.in-Ok.ends.gate))
-          (subst (λ n. ((if moves then j.gate + 5 + j.torn_length else j.gate) ≡ j.gate) ⊎
-          ((if moves then j.gate + 5 + j.torn_length else j.gate) ≡ j.gate + 5 + n))
-          (sym (length-last g.A.Area c.area_laws.ensures j))
-          (moves_or_stays moves j.gate j.torn_length));
+          rw (c.next_gate-self.ensures ∙ gate_moves j.is_torn j.gate j.torn_length c.in-Ok.ends.gate,
+          length-last g.A.Area c.area_laws.ensures j)
+          (moves_or_stays (j.is_torn && (c.in-Ok.ends.gate == open_gate)) j.gate j.torn_length);
     }
 
 pub returns-in-Ok-clause-any_moment : goal.returns-in-Ok-clause-any_moment
@@ -95,8 +80,7 @@ returns-in-Err-clause-err g c =
     let j = c.args.self.now in
     record {
       front = refl;
-      batches = kept_batches g.A.Area c.area_laws.ensures j
-          c.see.new.area c.see.ensures.size c.see.ensures.any_moment.now;
+      batches = (kept g.A.Area c.area_laws.ensures j c.see.new.area c.see.ensures.size c.see.ensures.any_moment.now).1;
       end = refl;
       closed = refl;
       torn = refl;
