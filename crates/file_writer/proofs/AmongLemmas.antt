@@ -1,13 +1,14 @@
--- How many files items begin: more items begin no fewer, and a record goes to the last one that is begun.
-use Rattle.std.proofs.Common.{◌≡◌, inl, inr, ℕ, ◌+◌, ◌<◌, ◌≤◌, max, nat_lt, if◌then◌else◌, Bool, true, false, IsTrue, List, [], ◌∷◌, ◌++◌, length, take, drop, Option, None, Some, refl, sym, ap, ◌∙◌, subst, arith, append_assoc}
-use Rattle.std.proofs.lemmas.Bool.{cases_lt}
-use Rattle.std.proofs.lemmas.Bool.Decides.{nat_tests}
-use Rattle.std.proofs.lemmas.List.{append-nil, nil_from_length, take-append-drop}
+-- How many files items begin: more items begin no fewer, and a record goes to the last one that is begun. What is open
+-- then, and what isn't.
+use Rattle.std.proofs.Common.{◌≡◌, ◌↔◌, inl, inr, ℕ, ◌+◌, ◌<◌, ◌≤◌, max, nat_lt, if◌then◌else◌, Bool, IsTrue, List, [], ◌∷◌, ◌++◌, length, take, drop, Option, None, Some, refl, sym, ap, ◌∙◌, subst, arith, append_assoc}
+use Rattle.std.proofs.lemmas.Bool.{cases_lt, le-ltb, lt-ltb}
+use Rattle.std.proofs.lemmas.List.{append-nil, take-append-drop}
 use Rattle.cdr_file.specs.declared.closure.ClosureReason.{ClosureReason}
 use Rattle.cdr_shelf.specs.Files.{SealedFile, UnsealedFile, greatest_in}
+use Rattle.cdr_shelf.specs.declared.file_name.FileName.{FileName}
 use Rattle.cdr_shelf.specs.declared.shelf.Shelf.{Ghosts}
 use Rattle.file_rotate.specs.Division.{Cuts, Division, cuts_at, divided_from, run_after, with_cuts}
-use Rattle.file_rotate.specs.Items.{Filed, Record}
+use Rattle.file_rotate.specs.Items.{Filed, Record, record_in}
 use Rattle.file_rotate.specs.Items as rotate
 use Rattle.file_rotate.specs.declared.limits.Limits.{Limits}
 use Rattle.gw_base.specs.declared.item.Item.{Item}
@@ -15,11 +16,9 @@ use Rattle.file_writer.specs.AllStreams.{GoesShut}
 use Rattle.file_writer.specs.Calls.{closed_by}
 use Rattle.file_writer.specs.Files.{later_division}
 use Rattle.file_writer.specs.Laws.{DivisionGoesOn}
-use Rattle.file_writer.specs.Leaving.{AreAmong, AreOpenFiles, AreShut, IsOpenFile, LeavesUnsealed, begun_after, begun_of, count_open}
+use Rattle.file_writer.specs.Leaving.{AreAmong, AreOpenFiles, AreShut, IsOpenFile, IsOpenFileOf, LeavesUnsealed, begun_after, begun_of, count_open}
 use Rattle.file_writer.specs.Streams.{Settings, closed_of, stream_count, stream_division, stream_item, stream_items}
-use Rattle.file_writer.proofs.FilesLemmas.{closed_of-append}
-use Rattle.file_writer.proofs.LeavingLemmas.{none_counted, none_was_open}
-use Rattle.file_writer.proofs.StreamsLemmas.{left_open-append}
+use Rattle.file_writer.proofs.FilesLemmas.{closed_of-append, left_open-append}
 
 -- ---- more items
 
@@ -27,30 +26,35 @@ few_counted : (run : List (Filed (List ℕ))) → count_open run ≤ 1
 few_counted [] = omega arith
 few_counted (first ∷ later) = omega arith
 
+counted_more : (run more : List (Filed (List ℕ))) → count_open run ≤ count_open (run ++ more)
+counted_more [] more = omega arith
+counted_more (first ∷ later) more = omega arith
+
+cut_counts : (before after : Option ClosureReason) (run : List (Filed (List ℕ))) (item : rotate.Item (List ℕ))
+    (d : Division (List ℕ))
+    → count_open (run_after (record { before = before; after = after }) run item)
+    ≤ length d.closed + count_open d.left_open
+    → count_open run ≤ length (with_cuts (record { before = before; after = after }) run item d).closed
+    + count_open (with_cuts (record { before = before; after = after }) run item d).left_open
+cut_counts None None run item d h = omega (arith, h, counted_more run (record_in item))
+cut_counts _ _ run item d h = omega (arith, few_counted run)
+
 some_stay : (limits : Limits) (run : List (Filed (List ℕ))) (items : List (rotate.Item (List ℕ)))
     → count_open run
     ≤ length (divided_from limits run items).closed + count_open (divided_from limits run items).left_open
-some_stay limits run items =
-    let d : Division (List ℕ) = divided_from limits run items in
-    elim (cases_lt 0 (length d.closed + count_open d.left_open)) [
-      | inl some ↦ omega (arith, some, few_counted run)
-      | inr none ↦
-          let was : run ≡ [] = none_was_open limits run items (nil_from_length d.closed (omega (arith, none)))
-          (none_counted d.left_open (omega (arith, none))) in
-          omega (arith, ap count_open was)
-    ]
+some_stay limits run [] = omega arith
+some_stay limits run (item ∷ items) =
+    let cuts : Cuts = cuts_at limits run item in
+    cut_counts cuts.before cuts.after run item (divided_from limits (run_after cuts run item) items)
+    (some_stay limits (run_after cuts run item) items)
 
 -- more items begin no fewer files
 pub begun_grow : DivisionGoesOn → (settings : Settings) (closed : ℕ → ℕ) (items more : List Item) (s : ℕ)
     → begun_after settings closed items s ≤ begun_after settings closed (items ++ more) s
 begun_grow law settings closed items more s =
-    omega (
-      arith,
-      some_stay settings.limits (stream_division settings s items).left_open
-          (stream_items settings.profile settings.rules s more),
-      closed_of-append law settings s items more,
-      ap count_open (left_open-append law settings s items more),
-    )
+    omega (arith,
+    some_stay settings.limits (stream_division settings s items).left_open (stream_items settings.profile settings.rules s more),
+    closed_of-append law settings s items more, ap count_open (left_open-append law settings s items more))
 
 pub among_fewer : DivisionGoesOn → (settings : Settings) (closed : ℕ → ℕ) (items more : List Item) (most : ℕ → ℕ)
     → AreAmong settings closed (items ++ more) most → AreAmong settings closed items most
@@ -59,16 +63,13 @@ among_fewer law settings closed items more most among s h =
 
 -- ---- a record
 
+abbrev one_record : Cuts → List (Filed (List ℕ)) → Filed (List ℕ) → Division (List ℕ)
+one_record cuts run filed =
+    with_cuts cuts run (Record filed) (record { closed = []; left_open = run_after cuts run (Record filed) })
+
 number_by : (b a : Option ClosureReason) (run : List (Filed (List ℕ))) (filed : Filed (List ℕ)) (n m : ℕ)
-    → closed_by b (n + m) + 1
-    ≡ n + (m + length (with_cuts (record { before = b; after = a }) run (Record filed) (record {
-      closed = [];
-      left_open = run_after (record { before = b; after = a }) run (Record filed);
-    })).closed
-    + count_open (with_cuts (record { before = b; after = a }) run (Record filed) (record {
-      closed = [];
-      left_open = run_after (record { before = b; after = a }) run (Record filed);
-    })).left_open)
+    → closed_by b (n + m) + 1 ≡ n + (m + length (one_record (record { before = b; after = a }) run filed).closed
+    + count_open (one_record (record { before = b; after = a }) run filed).left_open)
 number_by None None run filed n m = omega (arith, one_open run)
   where
     one_open : (xs : List (Filed (List ℕ))) → count_open (xs ++ filed ∷ []) ≡ 1
@@ -88,37 +89,26 @@ module _ (law : DivisionGoesOn) (settings : Settings) (closed : ℕ → ℕ) (be
       (append-nil (stream_item settings.profile settings.rules s item) ∙ here)
 
   -- the file that a record goes to is the last one that is begun then
-  pub number_is : closed_by (cuts_at settings.limits left (Record filed)).before
+  number_is : closed_by (cuts_at settings.limits left (Record filed)).before
       (closed s + closed_of settings s before) + 1
       ≡ begun_after settings closed (before ++ item ∷ []) s
   number_is =
       let cuts : Cuts = cuts_at settings.limits left (Record filed) in
-      omega (
-        arith,
-        number_by cuts.before cuts.after left filed (closed s) (closed_of settings s before),
-        closed_of-append law settings s before (item ∷ []),
-        left_open_is,
-        ap (λ (d : Division (List ℕ)). length d.closed) division,
-      )
-    where
-      left_open_is : count_open (stream_division settings s (before ++ item ∷ [])).left_open
-          ≡ count_open (divided_from settings.limits left (Record filed ∷ [])).left_open
-      left_open_is = ap count_open (left_open-append law settings s before (item ∷ [])
-          ∙ ap (λ (d : Division (List ℕ)). d.left_open) division)
+      omega (arith, number_by cuts.before cuts.after left filed (closed s) (closed_of settings s before),
+      closed_of-append law settings s before (item ∷ []),
+      ap count_open (left_open-append law settings s before (item ∷ [])),
+      ap (λ (d : Division (List ℕ)). length d.closed) division,
+      ap (λ (d : Division (List ℕ)). count_open d.left_open) division)
 
   pub number_within : (limits : Limits) (n : ℕ) → limits ≡ settings.limits → n ≡ closed s + closed_of settings s before
       → (most : ℕ) → begun_after settings closed (before ++ item ∷ []) s ≤ most
       → closed_by (cuts_at limits left (Record filed)).before n + 1 ≤ most
-  number_within limits n e f most h =
-      subst (λ (k : ℕ). k ≤ most)
-      (sym ((λ i. closed_by (cuts_at (e i) left (Record filed)).before (f i) + 1) ∙ number_is)) h
+  number_within limits n e f most h = rw (e, f) (omega (arith, h, number_is))
 
 -- ---- items one after the other
 
 pub in_front : (before items : List Item) (n : ℕ) → before ++ items ≡ (before ++ take n items) ++ drop n items
-in_front before items n =
-    ap (λ (xs : List Item). before ++ xs) (sym (take-append-drop n items))
-    ∙ sym (append_assoc before (take n items) (drop n items))
+in_front before items n = cc (take-append-drop n items, append_assoc before (take n items) (drop n items))
 
 pub among_next : DivisionGoesOn → (settings : Settings) (closed : ℕ → ℕ) (before items : List Item) (i : ℕ) (x : Item)
     (most : ℕ → ℕ) → take (i + 1) items ≡ take i items ++ x ∷ []
@@ -135,42 +125,25 @@ abbrev most_of : (ℕ → ℕ) → ℕ → ℕ
 most_of begun s = if nat_lt s stream_count then begun s else 0
 
 inside : (begun : ℕ → ℕ) (s : ℕ) → s < stream_count → most_of begun s ≡ begun s
-inside begun s h = ap (λ (b : Bool). if b then begun s else 0) (is_less s stream_count h)
-  where
-    is_less : (n m : ℕ) → n < m → nat_lt n m ≡ true
-    is_less n m k = grind (arith, nat_tests)
+inside begun s h = ap (λ (b : Bool). if b then begun s else 0) (lt-ltb s stream_count h)
 
 outside : (begun : ℕ → ℕ) (s : ℕ) → stream_count ≤ s → most_of begun s ≡ 0
-outside begun s h = ap (λ (b : Bool). if b then begun s else 0) (is_not_less s stream_count h)
-  where
-    is_not_less : (n m : ℕ) → m ≤ n → nat_lt n m ≡ false
-    is_not_less n m k = grind (arith, nat_tests)
-
-shut_from : (begun : ℕ → ℕ) (files : List SealedFile) (unsealed : ℕ → Option UnsealedFile)
-    → AreShut begun files unsealed → (s : ℕ) → most_of begun s ≤ greatest_in s files → unsealed s ≡ None
-shut_from begun files unsealed shut s h =
-    elim (cases_lt s stream_count) [
-      | inl within ↦ shut.each s within (omega (arith, h, inside begun s within))
-      | inr far ↦ shut.beyond s far
-    ]
-
-shut_to : (begun : ℕ → ℕ) (files : List SealedFile) (unsealed : ℕ → Option UnsealedFile)
-    → ((s : ℕ) → most_of begun s ≤ greatest_in s files → unsealed s ≡ None) → AreShut begun files unsealed
-shut_to begun files unsealed shut = record {
-  each = λ s h few. shut s (omega (arith, few, inside begun s h));
-  beyond = λ s h. shut s (omega (arith, outside begun s h));
-}
+outside begun s h = ap (λ (b : Bool). if b then begun s else 0) (le-ltb s stream_count h)
 
 pub moves_shut : {A : Type 0} (tells : Ghosts A) (settings : Settings) (closed : ℕ → ℕ) (items : List Item)
     (old new : A) → GoesShut tells settings closed (λ s. items) old new
     → IsTrue tells.tells_files → IsTrue tells.tells_plan → (most : ℕ → ℕ) → AreAmong settings closed items most
     → AreShut most (tells.files old) (tells.unsealed old) → AreShut most (tells.files new) (tells.unsealed new)
 moves_shut tells settings closed items old new goes files plan most among shut =
-    shut_to most (tells.files new) (tells.unsealed new)
-    (goes files plan (most_of most) (λ s h. omega (arith, among s h, inside most s h))
-    (shut_from most (tells.files old) (tells.unsealed old) shut))
-
--- ---- laws
+    let kept = goes files plan (most_of most) (λ s h. omega (arith, among s h, inside most s h))
+    (λ s h. elim (cases_lt s stream_count) [
+      | inl within ↦ shut.each s within (omega (arith, h, inside most s within))
+      | inr far ↦ shut.beyond s far
+    ]) in
+    record {
+      each = λ s h few. kept s (omega (arith, few, inside most s h));
+      beyond = λ s h. kept s (omega (arith, outside most s h));
+    }
 
 pub shut_grow : DivisionGoesOn → (settings : Settings) (closed : ℕ → ℕ) (items more : List Item)
     (files : List SealedFile) (unsealed : ℕ → Option UnsealedFile)
@@ -181,22 +154,25 @@ shut_grow law settings closed items more files unsealed shut = record {
   beyond = shut.beyond;
 }
 
-none_open : (settings : Settings) (closed : ℕ → ℕ) (items : List Item) (s n : ℕ)
-    → begun_after settings closed items s ≤ n → n ≤ closed s + closed_of settings s items
-    → (stream_division settings s items).left_open ≡ []
-none_open settings closed items s n few most =
-    none_counted (stream_division settings s items).left_open (omega (arith, few, most))
+-- ---- where no file is open
+
+none_open : (name : FileName) (run : List (Filed (List ℕ))) (u : Option UnsealedFile) → count_open run ≡ 0
+    → IsOpenFile name run u ↔ (u ≡ None)
+none_open name [] u e = (λ h. h, λ h. h)
+none_open name (first ∷ later) u e = absurd (omega (arith, e))
+
+pub open_none : (settings : Settings) (closed : ℕ → ℕ) (items : List Item) (s : ℕ) (u : Option UnsealedFile)
+    → begun_of settings s items ≤ closed_of settings s items → IsOpenFileOf settings closed items s u ↔ (u ≡ None)
+open_none settings closed items s u few =
+    none_open (record { stream = s; sequence = closed s + closed_of settings s items + 1 })
+    (stream_division settings s items).left_open u (omega (arith, few))
 
 pub open_shut : (settings : Settings) (closed : ℕ → ℕ) (items : List Item) (files : List SealedFile)
     (unsealed : ℕ → Option UnsealedFile)
     → ((s : ℕ) → s < stream_count → greatest_in s files ≤ closed s + closed_of settings s items)
     → AreOpenFiles settings closed items unsealed → AreShut (begun_after settings closed items) files unsealed
 open_shut settings closed items files unsealed most are = record {
-  each = λ s h few.
-      subst (λ (run : List (Filed (List ℕ))). IsOpenFile (record {
-        stream = s;
-        sequence = closed s + closed_of settings s items + 1;
-      }) run (unsealed s)) (none_open settings closed items s (greatest_in s files) few (most s h)) (are.each s h);
+  each = λ s h few. (open_none settings closed items s (unsealed s) (omega (arith, few, most s h))).0 (are.each s h);
   beyond = are.beyond;
 }
 
@@ -208,19 +184,36 @@ pub shut_open : (settings : Settings) (closed sealed : ℕ → ℕ) (items : Lis
     → AreOpenFiles settings closed items new
 shut_open settings closed sealed items files old new firsts shut leaves = record {
   each = λ s h.
-      let first : ℕ = closed s + closed_of settings s [] in
-      elim (cases_lt (max first (sealed s)) (closed s + begun_of settings s items)) [
+      let f = firsts s h in
+      let no_file : closed_of settings s [] ≡ 0 = refl in
+      elim (cases_lt (max (closed s + closed_of settings s []) (sealed s)) (closed s + begun_of settings s items)) [
         | inl wrote ↦ leaves.wrote s h wrote
         | inr none ↦
-            let low = (firsts s h).0 in
-            let no_file : closed_of settings s [] ≡ 0 = refl in
-            let few : begun_after settings closed items s ≤ sealed s = omega (arith, none, low, no_file) in
-            let gone : old s ≡ None = shut.each s h (omega (arith, few, (firsts s h).2)) in
-            subst (λ (run : List (Filed (List ℕ))). IsOpenFile (record {
-              stream = s;
-              sequence = closed s + closed_of settings s items + 1;
-            }) run (new s)) (sym (none_open settings closed items s (sealed s) few (firsts s h).1))
-            (leaves.stays s h none ∙ gone)
+            (open_none settings closed items s (new s) (omega (arith, none, f.0, f.1, no_file))).1
+            (leaves.stays s h none ∙ shut.each s h (omega (arith, none, f.0, f.2, no_file)))
       ];
   beyond = λ s h. leaves.beyond s h ∙ shut.beyond s h;
+}
+
+pub open_go_on : DivisionGoesOn → (settings : Settings) (closed sealed : ℕ → ℕ) (before front rest : List Item)
+    (old new : ℕ → Option UnsealedFile)
+    → ((s : ℕ) → s < stream_count → sealed s ≤ closed s + closed_of settings s (before ++ front))
+    → AreOpenFiles settings closed (before ++ front) old
+    → LeavesUnsealed settings closed sealed before ((before ++ front) ++ rest) old new
+    → AreOpenFiles settings closed ((before ++ front) ++ rest) new
+open_go_on law settings closed sealed before front rest old new few are leaves = record {
+  each = λ s h.
+      let mid : List Item = before ++ front in
+      let first = closed_of-append law settings s before front in
+      let second = closed_of-append law settings s mid rest in
+      let grown = begun_grow law settings closed mid rest s in
+      elim (cases_lt (max (closed s + closed_of settings s before) (sealed s))
+      (closed s + begun_of settings s (mid ++ rest))) [
+        | inl wrote ↦ leaves.wrote s h wrote
+        | inr none ↦
+            (open_none settings closed (mid ++ rest) s (new s) (omega (arith, none, first, second, few s h))).1
+            (leaves.stays s h none
+            ∙ (open_none settings closed mid s (old s) (omega (arith, none, first, grown, few s h))).0 (are.each s h))
+      ];
+  beyond = λ s h. leaves.beyond s h ∙ are.beyond s h;
 }

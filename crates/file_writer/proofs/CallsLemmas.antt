@@ -1,15 +1,25 @@
--- What calls for items seal.
-use Rattle.std.proofs.Common.{◌≡◌, ℕ, zero, suc, ◌+◌, ◌-◌, Bool, true, false, nat_le, if◌then◌else◌, List, [], ◌∷◌, ◌++◌, drop, Option, Some, None, refl, sym, ap, ◌∙◌, arith, append_assoc}
-use Rattle.std.proofs.lemmas.Bool.Decides.{nat_tests}
+-- What calls for items seal: of each stream the files that the items close, but for those that are sealed already,
+-- which get no call.
+use Rattle.std.proofs.Common.{◌≡◌, ◌≢◌, inl, inr, ℕ, zero, suc, ◌+◌, ◌-◌, ◌≤◌, ◌<◌, Bool, true, false, nat_le, if◌then◌else◌, List, [], ◌∷◌, ◌++◌, length, take, drop, Option, Some, None, refl, sym, ap, ◌∙◌, subst, arith, append_assoc, max}
+use Rattle.std.proofs.lemmas.Bool.{cases_eq, leb-false, leb-true}
+use Rattle.std.proofs.lemmas.Grind.{flat_map-append}
+use Rattle.std.proofs.lemmas.List.{append-nil}
+use Rattle.std.proofs.lemmas.List.Elements.{All-append, All-cons, All-drop, All-head, All-nil, All-tail}
+use Rattle.std.proofs.Math.Seq.{drop-nil}
 use Rattle.cdr_file.specs.CdrFile.{FileSettings}
 use Rattle.cdr_file.specs.declared.closure.ClosureReason.{ClosureReason}
-use Rattle.cdr_shelf.specs.Files.{SealedFile}
-use Rattle.file_rotate.specs.Division.{Cuts, Division, closed_first, cuts_at, divided_from, joined, run_after, still, with_cuts}
-use Rattle.file_rotate.specs.Items.{Filed, Record, Tick, Close}
+use Rattle.cdr_shelf.specs.FileLaws.{in_stream-append}
+use Rattle.cdr_shelf.specs.Files.{SealedFile, in_stream}
+use Rattle.file_rotate.specs.Division.{ClosedRun, Cuts, Division, closed_first, cuts_at, divided_from, joined, run_after, still, with_cuts}
+use Rattle.file_rotate.specs.Items.{Filed, Record}
 use Rattle.file_rotate.specs.Items as stream
-use Rattle.file_writer.specs.Calls.{Call, Writes, Seals, appending, calls_at, calls_from, closed_by, closing, seals}
-use Rattle.file_writer.specs.Files.{files_from, sealed_file}
-use Rattle.file_writer.specs.Streams.{Settings}
+use Rattle.gw_base.specs.declared.item.Item.{Item}
+use Rattle.file_writer.specs.Calls.{Call, Writes, Seals, appending, calls_at, calls_below, calls_from, calls_of, closed_by, closing, seals, stream_calls, beginning, unless_sealed}
+use Rattle.file_writer.specs.Files.{AreOfStreams, files_from, later_division, sealed_file}
+use Rattle.file_writer.specs.Laws.{DivisionGoesOn}
+use Rattle.file_writer.specs.Streams.{Settings, closed_of, stream_count, stream_division, stream_item, stream_items}
+use Rattle.file_writer.proofs.FilesLemmas.{closed_of-append, files_from-append, in_stream-other, in_stream-own, left_open-append, length-files_from}
+use Rattle.std.proofs.lemmas.Bool.Decides.{nat_tests}
 
 pub seals-append : (xs ys : List Call) → seals (xs ++ ys) ≡ seals xs ++ seals ys
 seals-append [] ys = refl
@@ -28,17 +38,7 @@ seals-appending sealed sequence [] (Record filed) =
     none_if (nat_le sequence sealed) (Writes ∷ Writes ∷ Writes ∷ Writes ∷ []) refl
 seals-appending sealed sequence (first ∷ later) (Record filed) =
     none_if (nat_le sequence sealed) (Writes ∷ Writes ∷ []) refl
-seals-appending sealed sequence run (Tick moment) = refl
-seals-appending sealed sequence run (Close moment) = refl
-
-past_by_one : (sealed closed : ℕ) → nat_le (closed + 1) sealed ≡ true → sealed - closed ≡ suc (sealed - (closed + 1))
-past_by_one sealed closed e = grind (arith, nat_tests)
-
-none_past : (sealed closed : ℕ) → nat_le (closed + 1) sealed ≡ false → sealed - closed ≡ 0
-none_past sealed closed e = grind (arith, nat_tests)
-
-none_past_next : (sealed closed : ℕ) → nat_le (closed + 1) sealed ≡ false → sealed - (closed + 1) ≡ 0
-none_past_next sealed closed e = grind (arith, nat_tests)
+seals-appending sealed sequence _ _ = refl
 
 -- where the file is sealed already, and where it is sealed now
 closing-where : (sealed closed : ℕ) (file : SealedFile) (files : List SealedFile) (b : Bool)
@@ -46,10 +46,10 @@ closing-where : (sealed closed : ℕ) (file : SealedFile) (files : List SealedFi
     → seals (if b then [] else Writes ∷ Writes ∷ Seals file ∷ []) ++ drop (sealed - (closed + 1)) files
     ≡ drop (sealed - closed) (file ∷ files)
 closing-where sealed closed file files true e =
-    ap (λ (n : ℕ). drop n (file ∷ files)) (sym (past_by_one sealed closed e))
+    let past : sealed - closed ≡ suc (sealed - (closed + 1)) = omega (arith, leb-true (closed + 1) sealed e) in rw past
 closing-where sealed closed file files false e =
-    ap (λ (n : ℕ). file ∷ drop n files) (none_past_next sealed closed e)
-    ∙ ap (λ (n : ℕ). drop n (file ∷ files)) (sym (none_past sealed closed e))
+    let none : sealed - closed ≡ 0 = omega (arith, leb-false (closed + 1) sealed e) in
+    let next : sealed - (closed + 1) ≡ 0 = omega (arith, none) in rw (none, next)
 
 closing-first : (settings : FileSettings) (s sealed closed : ℕ) (reason : Option ClosureReason)
     (run : List (Filed (List ℕ))) (division : Division (List ℕ))
@@ -65,10 +65,7 @@ closing-first settings s sealed closed (Some reason) run division =
 seals-three : (xs ys zs : List Call) (files : List SealedFile) → seals ys ≡ [] → seals (xs ++ (ys ++ zs)) ++ files
     ≡ seals xs ++ (seals zs ++ files)
 seals-three xs ys zs files e =
-    ap (λ (f : List SealedFile). f ++ files) (seals-append xs (ys ++ zs))
-    ∙ append_assoc (seals xs) (seals (ys ++ zs)) files
-    ∙ ap (λ (f : List SealedFile). seals xs ++ (f ++ files)) (seals-append ys zs
-    ∙ ap (λ (f : List SealedFile). f ++ seals zs) e)
+    cc (seals-append xs (ys ++ zs), seals-append ys zs, append_assoc (seals xs) (seals zs) files)
 
 at-first : (settings : FileSettings) (s sealed closed : ℕ) (cuts : Cuts) (run : List (Filed (List ℕ)))
     (item : stream.Item (List ℕ)) (division : Division (List ℕ))
@@ -89,15 +86,11 @@ at-first settings s sealed closed cuts run item division =
 
 -- ---- items of a stream
 
-drop_none : (n : ℕ) → drop n (let none : List SealedFile = [] in none) ≡ []
-drop_none zero = refl
-drop_none (suc n) = refl
-
 pub seals-calls_from : (settings : Settings) (s sealed closed : ℕ) (run : List (Filed (List ℕ)))
     (items : List (stream.Item (List ℕ)))
     → seals (calls_from settings s sealed closed run items)
     ≡ drop (sealed - closed) (files_from settings.file s (closed + 1) (divided_from settings.limits run items).closed)
-seals-calls_from settings s sealed closed run [] = sym (drop_none (sealed - closed))
+seals-calls_from settings s sealed closed run [] = sym (drop-nil (sealed - closed))
 seals-calls_from settings s sealed closed run (item ∷ items) =
     let cuts : Cuts = cuts_at settings.limits run item in
     let after : ℕ = closed_by cuts.after (closed_by cuts.before closed) in
@@ -107,3 +100,218 @@ seals-calls_from settings s sealed closed run (item ∷ items) =
     (seals-calls_from settings s sealed after (run_after cuts run item) items)
     ∙ at-first settings.file s sealed closed cuts run item (divided_from settings.limits (run_after cuts run item)
     items)
+
+-- ---- some files, and later ones
+
+pub drop-append : {A : Type 0} (n : ℕ) (xs ys : List A) → drop n (xs ++ ys) ≡ drop n xs ++ drop (n - length xs) ys
+drop-append zero [] ys = refl
+drop-append (suc n) [] ys = let all : suc n ≡ suc n - 0 = omega arith in λ i. drop (all i) ys
+drop-append zero (x ∷ xs) ys = let none : 0 - suc (length xs) ≡ 0 = omega arith in rw none
+drop-append (suc n) (x ∷ xs) ys =
+    let less : n - length xs ≡ suc n - suc (length xs) = omega arith in
+    drop-append n xs ys ∙ (λ i. drop n xs ++ drop (less i) ys)
+
+in_turn : (file : FileSettings) (s sealed c : ℕ) (xs ys : List (ClosedRun (List ℕ)))
+    → drop (sealed - c) (files_from file s (c + 1) xs)
+    ++ drop (sealed - (c + length xs)) (files_from file s (c + length xs + 1) ys)
+    ≡ drop (sealed - c) (files_from file s (c + 1) (xs ++ ys))
+in_turn file s sealed c xs ys =
+    let front : List SealedFile = files_from file s (c + 1) xs in
+    let level : sealed - c - length front ≡ sealed - (c + length xs) =
+    omega (arith, length-files_from file s (c + 1) xs) in
+    let number : c + 1 + length xs ≡ c + length xs + 1 = omega arith in
+    sym (ap (λ (files : List SealedFile). drop (sealed - c) files) (files_from-append file s (c + 1) xs ys)
+    ∙ drop-append (sealed - c) front (files_from file s (c + 1 + length xs) ys)
+    ∙ (λ i. drop (sealed - c) front ++ drop (level i) (files_from file s (number i) ys)))
+
+later-closed : DivisionGoesOn → (settings : Settings) (s : ℕ) (before xs ys : List Item)
+    → (later_division settings s before (xs ++ ys)).closed ≡ (later_division settings s before xs).closed
+    ++ (later_division settings s (before ++ xs) ys).closed
+later-closed law settings s before xs ys =
+    let from : List (Filed (List ℕ)) = (stream_division settings s before).left_open in
+    let items : List Item → List (stream.Item (List ℕ)) = stream_items settings.profile settings.rules s in
+    ap (λ (zs : List (stream.Item (List ℕ))). (divided_from settings.limits from zs).closed)
+    (flat_map-append (stream_item settings.profile settings.rules s) xs ys)
+    ∙ ap (λ (d : Division (List ℕ)). d.closed) (law settings.limits from (items xs) (items ys))
+    ∙ ap (λ (run : List (Filed (List ℕ))). (later_division settings s before xs).closed
+    ++ (divided_from settings.limits run (items ys)).closed) (sym (left_open-append law settings s before xs))
+
+-- ---- all streams
+
+pub in_stream-seals : (s : ℕ) (xs ys : List Call)
+    → in_stream s (seals (xs ++ ys)) ≡ in_stream s (seals xs) ++ in_stream s (seals ys)
+in_stream-seals s xs ys = cc (seals-append xs ys, in_stream-append s (seals xs) (seals ys))
+
+-- what the calls of the first streams come to, where those of one stream alone come to something
+pub of_one : {X : Type 0} (of : List Call → List X) → of [] ≡ [] → ((xs ys : List Call) → of (xs ++ ys) ≡ of xs ++ of ys)
+    → (settings : Settings) (closed sealed : ℕ → ℕ) (before : List Item) (item : Item) (n s : ℕ)
+    → ((t : ℕ) → t ≢ s → of (stream_calls settings closed sealed before (item ∷ []) t) ≡ [])
+    → (n ≤ s → of (calls_below n settings closed sealed before item) ≡ [])
+    × (s < n → of (calls_below n settings closed sealed before item)
+    ≡ of (stream_calls settings closed sealed before (item ∷ []) s))
+unfolding calls_below
+of_one of none both settings closed sealed before item zero s h = (λ g. none, λ g. absurd (omega arith))
+of_one of none both settings closed sealed before item (suc n) s h =
+    let r = of_one of none both settings closed sealed before item n s h in
+    let own : ℕ → List Call = λ t. stream_calls settings closed sealed before (item ∷ []) t in
+    let split = both (calls_below n settings closed sealed before item) (own n) in (
+      λ g. split ∙ (λ i. r.0 (omega arith) i ++ h n (λ e. absurd (omega arith)) i),
+      λ g. elim (cases_eq n s) [
+        | inl same ↦ split ∙ (λ i. r.0 (omega arith) i ++ of (own (same i)))
+        | inr other ↦ split ∙ (λ i. r.1 (omega arith) i ++ h n other i) ∙ append-nil (of (own s))
+      ],
+    )
+
+pub seals-calls_of : DivisionGoesOn → (settings : Settings) (closed sealed : ℕ → ℕ) (before items : List Item) (s : ℕ)
+    → s < stream_count
+    → in_stream s (seals (calls_of settings closed sealed before items))
+    ≡ drop (sealed s - (closed s + closed_of settings s before))
+    (files_from settings.file s (closed s + closed_of settings s before + 1)
+    (later_division settings s before items).closed)
+seals-calls_of law settings closed sealed before [] s h =
+    sym (drop-nil (sealed s - (closed s + closed_of settings s before)))
+seals-calls_of law settings closed sealed before (item ∷ items) s h =
+    let up : ℕ → ℕ = λ t. closed t + closed_of settings t before in
+    let here : ℕ → List (ClosedRun (List ℕ)) = λ t. (later_division settings t before (item ∷ [])).closed in
+    let later : List (ClosedRun (List ℕ)) = (later_division settings s (before ++ item ∷ []) items).closed in
+    let sealed_by = λ (t : ℕ). seals-calls_from settings t (sealed t) (up t) (stream_division settings t before).left_open
+    (stream_items settings.profile settings.rules t (item ∷ [])) in
+    let first = (of_one (λ (calls : List Call). in_stream s (seals calls)) refl (in_stream-seals s) settings closed sealed
+    before item stream_count s (λ t other. ap (in_stream s) (sealed_by t)
+    ∙ in_stream-other settings.file s t (up t + 1) (sealed t - up t) (here t) other)).1 h in
+    let next : closed s + closed_of settings s (before ++ item ∷ []) ≡ up s + length (here s) =
+    omega (arith, closed_of-append law settings s before (item ∷ [])) in
+    in_stream-seals s (calls_below stream_count settings closed sealed before item)
+    (calls_of settings closed sealed (before ++ item ∷ []) items)
+    ∙ (λ i. (first ∙ ap (in_stream s) (sealed_by s)
+    ∙ in_stream-own settings.file s (up s + 1) (sealed s - up s) (here s)) i
+    ++ seals-calls_of law settings closed sealed (before ++ item ∷ []) items s h i)
+    ∙ ap (λ (n : ℕ). drop (sealed s - up s) (files_from settings.file s (up s + 1) (here s))
+    ++ drop (sealed s - n) (files_from settings.file s (n + 1) later)) next
+    ∙ in_turn settings.file s (sealed s) (up s) (here s) later
+    ∙ ap (λ (runs : List (ClosedRun (List ℕ))). drop (sealed s - up s) (files_from settings.file s (up s + 1) runs))
+    (sym (later-closed law settings s before (item ∷ []) items))
+
+-- ---- the sealed files are of the streams that there are
+
+abbrev IsOfStream : SealedFile → Type 0
+IsOfStream file = file.name.stream < stream_count
+
+files_of_stream : (settings : FileSettings) (s sequence : ℕ) (runs : List (ClosedRun (List ℕ))) → s < stream_count
+    → AreOfStreams (files_from settings s sequence runs)
+files_of_stream settings s sequence [] h = All-nil IsOfStream
+files_of_stream settings s sequence (closed ∷ later) h =
+    All-cons IsOfStream (sealed_file settings s sequence closed) (files_from settings s (sequence + 1) later) h
+    (files_of_stream settings s (sequence + 1) later h)
+
+both_of_streams : (xs ys : List Call) → AreOfStreams (seals xs) → AreOfStreams (seals ys) → AreOfStreams (seals (xs ++ ys))
+both_of_streams xs ys one other =
+    subst AreOfStreams (sym (seals-append xs ys)) (All-append IsOfStream (seals xs) (seals ys) one other)
+
+front_of_streams : (k : ℕ) (xs : List Call) → AreOfStreams (seals xs) → AreOfStreams (seals (take k xs))
+front_of_streams zero xs all = All-nil IsOfStream
+front_of_streams (suc k) [] all = all
+front_of_streams (suc k) (Writes ∷ xs) all = front_of_streams k xs all
+front_of_streams (suc k) (Seals file ∷ xs) all =
+    All-cons IsOfStream file (seals (take k xs)) (All-head IsOfStream file (seals xs) all)
+    (front_of_streams k xs (All-tail IsOfStream file (seals xs) all))
+
+module _ (settings : Settings) (closed sealed : ℕ → ℕ) where
+  below_of_streams : (before : List Item) (item : Item) (n : ℕ) → n < suc stream_count
+      → AreOfStreams (seals (calls_below n settings closed sealed before item))
+  unfolding calls_below
+  below_of_streams before item zero h = All-nil IsOfStream
+  below_of_streams before item (suc n) h =
+      let up : ℕ = closed n + closed_of settings n before in
+      both_of_streams (calls_below n settings closed sealed before item)
+      (stream_calls settings closed sealed before (item ∷ []) n) (below_of_streams before item n (omega arith))
+      (subst AreOfStreams (sym (seals-calls_from settings n (sealed n) up (stream_division settings n before).left_open
+      (stream_items settings.profile settings.rules n (item ∷ []))))
+      (All-drop IsOfStream _ _ (files_of_stream settings.file n (up + 1)
+      (later_division settings n before (item ∷ [])).closed (omega arith))))
+
+  calls_of_streams : (before items : List Item) → AreOfStreams (seals (calls_of settings closed sealed before items))
+  calls_of_streams before [] = All-nil IsOfStream
+  calls_of_streams before (item ∷ items) =
+      both_of_streams (calls_below stream_count settings closed sealed before item)
+      (calls_of settings closed sealed (before ++ item ∷ []) items)
+      (below_of_streams before item stream_count (omega arith)) (calls_of_streams (before ++ item ∷ []) items)
+
+  pub seals_of_streams : (before items : List Item) (k : ℕ)
+      → AreOfStreams (seals (take k (calls_of settings closed sealed before items)))
+  seals_of_streams before items k =
+      front_of_streams k (calls_of settings closed sealed before items) (calls_of_streams before items)
+
+-- ---- a file that is sealed already gets no call
+
+-- where files up to a number are closed, the same later files are sealed
+same_calls : (a b m sequence : ℕ) (calls : List Call) → max a m ≡ max b m → m < sequence →
+    unless_sealed a sequence calls ≡ unless_sealed b sequence calls
+same_calls a b m sequence calls e h = ap (λ (t : Bool). if t then [] else calls) (grind (arith, nat_tests))
+
+same_closing : (settings : FileSettings) (s a b m sequence : ℕ) (reason : Option ClosureReason)
+    (run : List (Filed (List ℕ))) → max a m ≡ max b m → m < sequence →
+    closing settings s a sequence reason run ≡ closing settings s b sequence reason run
+same_closing settings s a b m sequence None run e h = refl
+same_closing settings s a b m sequence (Some reason) run e h = same_calls a b m sequence _ e h
+
+same_appending : (a b m sequence : ℕ) (run : List (Filed (List ℕ))) (item : stream.Item (List ℕ)) →
+    max a m ≡ max b m → m < sequence → appending a sequence run item ≡ appending b sequence run item
+same_appending a b m sequence run (Record filed) e h =
+    same_calls a b m sequence (beginning run ++ Writes ∷ Writes ∷ []) e h
+same_appending a b m sequence run _ e h = refl
+
+no_fewer : (reason : Option ClosureReason) (closed : ℕ) → closed ≤ closed_by reason closed
+no_fewer None closed = omega arith
+no_fewer (Some reason) closed = omega arith
+
+-- one stream
+
+same_at : (settings : FileSettings) (s a b : ℕ) (cuts : Cuts) (closed : ℕ) (run : List (Filed (List ℕ)))
+    (item : stream.Item (List ℕ)) → max a closed ≡ max b closed →
+    calls_at settings s a cuts closed run item ≡ calls_at settings s b cuts closed run item
+same_at settings s a b cuts closed run item e =
+    let mid : ℕ = closed_by cuts.before closed in
+    let later : max a mid ≡ max b mid = omega (arith, e, no_fewer cuts.before closed) in
+    λ i. same_closing settings s a b closed (closed + 1) cuts.before run e (omega arith) i
+    ++ (same_appending a b mid (mid + 1) (still cuts.before run []) item later (omega arith) i
+    ++ same_closing settings s a b mid (mid + 1) cuts.after (joined cuts.before run item) later (omega arith) i)
+
+same_from : (settings : Settings) (s a b closed : ℕ) (run : List (Filed (List ℕ)))
+    (items : List (stream.Item (List ℕ))) → max a closed ≡ max b closed →
+    calls_from settings s a closed run items ≡ calls_from settings s b closed run items
+same_from settings s a b closed run [] e = refl
+same_from settings s a b closed run (item ∷ items) e =
+    let cuts : Cuts = cuts_at settings.limits run item in
+    let mid : ℕ = closed_by cuts.before closed in
+    let after : ℕ = closed_by cuts.after mid in
+    let later : max a after ≡ max b after = omega (arith, e, no_fewer cuts.before closed, no_fewer cuts.after mid) in
+    λ i. same_at settings.file s a b cuts closed run item e i
+    ++ same_from settings s a b after (run_after cuts run item) items later i
+
+-- all streams
+
+-- of each stream the same files are sealed already, of those behind the ones that are closed before the items
+abbrev pub SealedAlike : Settings → (ℕ → ℕ) → (ℕ → ℕ) → (ℕ → ℕ) → List Item → Type 0
+SealedAlike settings closed a b before =
+    (s : ℕ) → s < stream_count
+    → max (a s) (closed s + closed_of settings s before) ≡ max (b s) (closed s + closed_of settings s before)
+
+same_below : (n : ℕ) (settings : Settings) (closed a b : ℕ → ℕ) (before : List Item) (item : Item) → n ≤ stream_count →
+    SealedAlike settings closed a b before →
+    calls_below n settings closed a before item ≡ calls_below n settings closed b before item
+unfolding calls_below
+same_below zero settings closed a b before item h e = refl
+same_below (suc s) settings closed a b before item h e =
+    λ i. same_below s settings closed a b before item (omega (arith, h)) e i
+    ++ same_from settings s (a s) (b s) (closed s + closed_of settings s before) (stream_division settings s before).left_open
+    (stream_items settings.profile settings.rules s (item ∷ [])) (e s (omega (arith, h))) i
+
+pub same_of : DivisionGoesOn → (settings : Settings) (closed a b : ℕ → ℕ) (before items : List Item) →
+    SealedAlike settings closed a b before →
+    calls_of settings closed a before items ≡ calls_of settings closed b before items
+same_of law settings closed a b before [] e = refl
+same_of law settings closed a b before (item ∷ items) e =
+    λ i. same_below stream_count settings closed a b before item (omega arith) e i
+    ++ same_of law settings closed a b (before ++ item ∷ []) items
+    (λ s small. omega (arith, e s small, closed_of-append law settings s before (item ∷ []))) i

@@ -1,29 +1,21 @@
 -- Files of closed runs, and what more items add to them.
-use Rattle.std.proofs.Common.{◌≡◌, ◌≢◌, ℕ, zero, suc, ◌+◌, ◌==◌, Bool, true, false, cond, List, [], ◌∷◌, ◌++◌, length, drop, refl, ap, ◌∙◌, arith, length-append}
+use Rattle.std.proofs.Common.{◌≡◌, ◌≢◌, ℕ, zero, suc, ◌+◌, List, [], ◌∷◌, ◌++◌, length, drop, refl, ap, ◌∙◌, arith, length-append}
 use Rattle.std.proofs.lemmas.Grind.{flat_map-append}
-use Rattle.std.proofs.lemmas.Bool.Decides.{nat_tests}
+use Rattle.std.proofs.lemmas.Bool.{eq-eqb, ne_eqb}
 use Rattle.cdr_file.specs.CdrFile.{FileSettings}
-use Rattle.cdr_shelf.specs.Files.{SealedFile, in_stream}
+use Rattle.cdr_shelf.specs.Files.{in_stream}
 use Rattle.file_rotate.specs.Division.{ClosedRun, Division, division_of, goes_on}
 use Rattle.file_rotate.specs.Items as stream
 use Rattle.gw_base.specs.declared.item.Item.{Item}
-use Rattle.file_writer.specs.Files.{files_from, later_division, later_files, sealed_file, stream_files}
+use Rattle.file_writer.specs.Files.{files_from, later_division, later_files, stream_files}
 use Rattle.file_writer.specs.Laws.{DivisionGoesOn}
 use Rattle.file_writer.specs.Streams.{Settings, closed_of, stream_division, stream_item, stream_items}
 
-plus_none : (n : ℕ) → n ≡ n + 0
-plus_none n = omega arith
-
-one_then : (n k : ℕ) → n + 1 + k ≡ n + suc k
-one_then n k = omega arith
-
 pub files_from-append : (settings : FileSettings) (s n : ℕ) (xs ys : List (ClosedRun (List ℕ)))
     → files_from settings s n (xs ++ ys) ≡ files_from settings s n xs ++ files_from settings s (n + length xs) ys
-files_from-append settings s n [] ys = ap (λ (m : ℕ). files_from settings s m ys) (plus_none n)
+files_from-append settings s n [] ys = ap (λ (m : ℕ). files_from settings s m ys) (omega arith)
 files_from-append settings s n (x ∷ xs) ys =
-    ap (λ (files : List SealedFile). sealed_file settings s n x ∷ files)
-    (files_from-append settings s (n + 1) xs ys
-    ∙ ap (λ (m : ℕ). files_from settings s (n + 1) xs ++ files_from settings s m ys) (one_then n (length xs)))
+    let next : n + 1 + length xs ≡ n + suc (length xs) = omega arith in cc (files_from-append settings s (n + 1) xs ys)
 
 pub length-files_from : (settings : FileSettings) (s n : ℕ) (xs : List (ClosedRun (List ℕ)))
     → length (files_from settings s n xs) ≡ length xs
@@ -32,46 +24,35 @@ length-files_from settings s n (x ∷ xs) = ap (λ (k : ℕ). suc k) (length-fil
 
 -- ---- the files of one stream are all of it
 
-pub same_number : (s : ℕ) → (s == s) ≡ true
-same_number s = grind (arith, nat_tests)
-
-other_number : (s t : ℕ) → t ≢ s → (t == s) ≡ false
-other_number s t h = grind (arith, nat_tests)
-
 pub in_stream-own : (settings : FileSettings) (s n k : ℕ) (xs : List (ClosedRun (List ℕ)))
     → in_stream s (drop k (files_from settings s n xs)) ≡ drop k (files_from settings s n xs)
+in_stream-own settings s n zero (x ∷ xs) = cc (eq-eqb s s refl, in_stream-own settings s (n + 1) zero xs)
+in_stream-own settings s n (suc k) (x ∷ xs) = in_stream-own settings s (n + 1) k xs
 in_stream-own settings s n zero [] = refl
 in_stream-own settings s n (suc k) [] = refl
-in_stream-own settings s n zero (x ∷ xs) =
-    ap (λ (b : Bool). cond b (sealed_file settings s n x ∷ in_stream s (files_from settings s (n + 1) xs))
-    (in_stream s (files_from settings s (n + 1) xs))) (same_number s)
-    ∙ ap (λ (files : List SealedFile). sealed_file settings s n x ∷ files) (in_stream-own settings s (n + 1) zero xs)
-in_stream-own settings s n (suc k) (x ∷ xs) = in_stream-own settings s (n + 1) k xs
 
 pub in_stream-other : (settings : FileSettings) (s t n k : ℕ) (xs : List (ClosedRun (List ℕ))) → t ≢ s
     → in_stream s (drop k (files_from settings t n xs)) ≡ []
+in_stream-other settings s t n zero (x ∷ xs) h = cc (ne_eqb t s h, in_stream-other settings s t (n + 1) zero xs h)
+in_stream-other settings s t n (suc k) (x ∷ xs) h = in_stream-other settings s t (n + 1) k xs h
 in_stream-other settings s t n zero [] h = refl
 in_stream-other settings s t n (suc k) [] h = refl
-in_stream-other settings s t n zero (x ∷ xs) h =
-    ap (λ (b : Bool). cond b (sealed_file settings t n x ∷ in_stream s (files_from settings t (n + 1) xs))
-    (in_stream s (files_from settings t (n + 1) xs))) (other_number s t h)
-    ∙ in_stream-other settings s t (n + 1) zero xs h
-in_stream-other settings s t n (suc k) (x ∷ xs) h = in_stream-other settings s t (n + 1) k xs h
 
 -- ---- more items
-
-pub stream_items-append : (settings : Settings) (s : ℕ) (items more : List Item)
-    → stream_items settings.profile settings.rules s (items ++ more) ≡ stream_items settings.profile settings.rules s items
-    ++ stream_items settings.profile settings.rules s more
-stream_items-append settings s items more = flat_map-append (stream_item settings.profile settings.rules s) items more
 
 pub division-append : DivisionGoesOn → (settings : Settings) (s : ℕ) (items more : List Item)
     → stream_division settings s (items ++ more) ≡ goes_on settings.limits (stream_division settings s items)
     (stream_items settings.profile settings.rules s more)
 division-append law settings s items more =
     ap (λ (xs : List (stream.Item (List ℕ))). division_of settings.limits xs)
-    (stream_items-append settings s items more)
-    ∙ law settings.limits [] (stream_items settings.profile settings.rules s items) (stream_items settings.profile settings.rules s more)
+    (flat_map-append (stream_item settings.profile settings.rules s) items more)
+    ∙ law settings.limits [] (stream_items settings.profile settings.rules s items)
+    (stream_items settings.profile settings.rules s more)
+
+pub left_open-append : DivisionGoesOn → (settings : Settings) (s : ℕ) (items more : List Item)
+    → (stream_division settings s (items ++ more)).left_open ≡ (later_division settings s items more).left_open
+left_open-append law settings s items more =
+    ap (λ (d : Division (List ℕ)). d.left_open) (division-append law settings s items more)
 
 pub closed_of-append : DivisionGoesOn → (settings : Settings) (s : ℕ) (items more : List Item)
     → closed_of settings s (items ++ more)
@@ -80,15 +61,9 @@ closed_of-append law settings s items more =
     ap (λ (d : Division (List ℕ)). length d.closed) (division-append law settings s items more)
     ∙ length-append (stream_division settings s items).closed (later_division settings s items more).closed
 
-one_more : (n : ℕ) → 1 + n ≡ n + 1
-one_more n = omega arith
-
 pub files-append : DivisionGoesOn → (settings : Settings) (s : ℕ) (items more : List Item)
     → stream_files settings s (items ++ more) ≡ stream_files settings s items ++ later_files settings s items more
 files-append law settings s items more =
-    ap (λ (d : Division (List ℕ)). files_from settings.file s 1 d.closed) (division-append law settings s items more)
-    ∙ files_from-append settings.file s 1 (stream_division settings s items).closed
-    (later_division settings s items more).closed
-    ∙ ap (λ (n : ℕ). stream_files settings s items
-    ++ files_from settings.file s n (later_division settings s items more).closed)
-    (one_more (closed_of settings s items))
+    let number : 1 + closed_of settings s items ≡ closed_of settings s items + 1 = omega arith in
+    cc (division-append law settings s items more, files_from-append settings.file s 1
+    (stream_division settings s items).closed (later_division settings s items more).closed)

@@ -1,12 +1,11 @@
 -- How a stream's file and what is kept of it go on through closings and records.
-use Rattle.std.proofs.Common.{◌≡◌, ◌≢◌, ℕ, max, take, ◌+◌, ◌-◌, ◌==◌, ◌≤◌, Bool, true, false, nat_le, if◌then◌else◌, IsTrue, IfOk, OnOk, List, [], ◌∷◌, ◌++◌, length, Option, None, Some, Result, Ok, Err, refl, sym, ap, ◌∙◌, subst, arith}
+use Rattle.std.proofs.Common.{◌≡◌, ◌≢◌, ℕ, max, take, ◌+◌, ◌≤◌, Bool, true, false, nat_le, if◌then◌else◌, IsTrue, IfOk, OnOk, List, [], ◌∷◌, ◌++◌, length, Option, None, Some, Result, Ok, Err, refl, sym, ap, ◌∙◌, subst, arith}
 use Rattle.std.specs.Result.{IsErr, IsErrAnd}
-use Rattle.std.proofs.lemmas.Bool.Decides.{nat_tests}
+use Rattle.std.proofs.lemmas.Bool.{ne_eqb}
 use Rattle.std.proofs.lemmas.List.{append-nil, map-append}
 use Rattle.std.proofs.lemmas.Option.{same_Some}
-use Rattle.area_disk.specs.Armed.{Came, calls_under}
-use Rattle.area_disk.specs.Armed.Came.{Ran, FailedAt, StoppedAt}
-use Rattle.cdr_file.specs.CdrFile.{FileSettings, FiledRecord, cdr_header_length, cdr_octets, facts_of, facts_of_one, facts_with, file_octets, header_length, header_of, run_octets}
+use Rattle.area_disk.specs.Armed.{calls_under}
+use Rattle.cdr_file.specs.CdrFile.{FileSettings, FiledRecord, cdr_octets, facts_of, facts_of_one, facts_with, file_octets, header_of, run_octets}
 use Rattle.cdr_file.specs.FileHeader.{header_octets}
 use Rattle.cdr_file.specs.Profile.{IsFiledKind}
 use Rattle.cdr_file.specs.declared.closure.ClosureReason.{ClosureReason}
@@ -24,50 +23,22 @@ use Rattle.file_rotate.specs.declared.open_file.OpenFile.{OpenFile}
 use Rattle.file_writer.specs.Calls.{Call, Writes, Seals, appending, beginning, calls_at, closed_by, closing, seals, unless_sealed}
 use Rattle.file_writer.specs.Files.{record_of, run_records}
 use Rattle.file_writer.specs.Following.{BodyWhere, Follows, IsUp, Pairs, Stays, mark_item}
-use Rattle.file_writer.specs.Making.{Comes, Ending, HasSealed, Makes, Went, done_at}
-use Rattle.file_writer.specs.Writing.{ClosesOpen, GrownWhere, IsGrown, IsReady, ReadyWhere, StillOpen, appending_of, beginning_of, body_behind, closed_file, closed_progress, closing_of, filed_of, grown, grown_facts, growing_of, is_sealed, name_in}
+use Rattle.file_writer.specs.Making.{Comes, Ending, Makes, Went}
+use Rattle.file_writer.specs.Writing.{ClosesOpen, GrownWhere, IsGrown, IsReady, ReadyWhere, StillOpen, appending_of, beginning_of, body_behind, closed_file, closed_progress, closing_of, grown, grown_facts, growing_of, is_sealed, name_in}
 use Rattle.file_writer.specs.declared.fault.ShelfFault.{ShelfFault}
 use Rattle.file_writer.specs.declared.progress.Progress.{Progress}
-use Rattle.file_writer.proofs.MakingLemmas.{all_sealed}
+use Rattle.file_writer.proofs.MakingLemmas.{all_sealed, makes_as}
 use Rattle.file_writer.proofs.WritingLemmas.{own_number}
 
 -- ---- calls that are the same where the shelf tells its files
 
-comes_same : {A : Type 0} (tells : Ghosts A) (xs ys : List Call) (ended : Ending) (tried : ℕ) (old new : A)
-    → (IsTrue tells.tells_files → xs ≡ ys)
-    → (came : Came) → Comes tells xs ended tried old new came → Comes tells ys ended tried old new came
-comes_same tells xs ys ended tried old new same (Ran a) c = record { runs = c.runs; is_armed = c.is_armed }
-comes_same tells xs ys ended tried old new same (FailedAt k) c = record {
-  fails = c.fails;
-  number = c.number;
-  is_armed = c.is_armed;
-  sealed = λ told. c.sealed told ∙ ap (λ (cs : List Call). tells.files old ++ seals (take (k - 1) cs)) (same told);
-}
-comes_same tells xs ys ended tried old new same (StoppedAt k outcome) c = record {
-  fails = c.fails;
-  number = c.number;
-  stopped = c.stopped;
-  sealed = λ told. c.sealed told ∙ ap (λ (cs : List Call). tells.files old ++ seals (take (done_at k outcome) cs))
-      (same told);
-}
-
-pub makes_same : {A : Type 0} (tells : Ghosts A) (xs ys : List Call) (ended : Ending) (old new : A)
+makes_same : {A : Type 0} (tells : Ghosts A) (xs ys : List Call) (ended : Ending) (old new : A)
     → length xs ≡ length ys → (IsTrue tells.tells_files → xs ≡ ys)
     → Makes tells xs ended old new → Makes tells ys ended old new
-makes_same tells xs ys ended old new long same made = record {
-  tried = made.tried;
-  within = subst (λ (n : ℕ). made.tried ≤ n) long made.within;
-  all = λ e. made.all e ∙ long;
-  some = made.some;
-  called = made.called;
-  sealed = λ told. subst (λ (cs : List Call). HasSealed cs ended made.tried (tells.files old) (tells.files new))
-      (same told) (made.sealed told);
-  faults = made.faults;
-  planned = λ told memory a armed.
-      comes_same tells xs ys ended made.tried old new same (calls_under a (length ys))
-      (subst (λ (n : ℕ). Comes tells xs ended made.tried old new (calls_under a n)) long
-      (made.planned told memory a armed));
-}
+makes_same tells xs ys ended old new long same made =
+    makes_as tells xs ys ended old new made (omega (arith, made.within, long)) (λ e. long)
+    (λ told k h. ap (λ (cs : List Call). seals (take k cs)) (same told))
+    (λ a c. subst (λ (n : ℕ). Comes tells ys ended made.tried old new (calls_under a n)) long c)
 
 -- ---- closing
 
@@ -135,13 +106,9 @@ pub close_follows : {A : Type 0} (tells : Ghosts A) (s : ℕ) (run : List (Filed
     → (IsTrue tells.tells_files → StillOpen reason file (tells.unsealed old s) (tells.unsealed new s))
     → Follows tells s (still reason run []) later new
 close_follows tells s run file later None old new follows e opens =
-    subst (λ (f : Progress). Follows tells s run f new) (sym e) (record {
-      kept = follows.kept;
-      body = λ told. subst (λ (u : Option UnsealedFile). BodyWhere (is_sealed file) file.growing
-          (run_octets (run_records run)) u) (sym (opens told)) (follows.body told);
-    })
+    rw e (record { kept = follows.kept; body = λ told. rw (opens told) (follows.body told) })
 close_follows tells s run file later (Some reason) old new follows e opens =
-    subst (λ (f : Progress). Follows tells s [] f new) (sym e) (record {
+    rw e (record {
       kept = refl;
       body = λ told. none_body (nat_le (file.closed + 1 + 1) file.sealed) (tells.unsealed new s);
     })
@@ -187,14 +154,11 @@ pub append_follows : {A : Type 0} (tells : Ghosts A) (s : ℕ) (run : List (File
 append_follows tells s run filed file later old new laws follows e has_grown =
     let records : run_records (run ++ filed ∷ []) ≡ run_records run ++ record_of filed ∷ [] =
     map-append record_of run (filed ∷ []) in
-    subst (λ (f : Progress). Follows tells s (run ++ filed ∷ []) f new) (sym e) (record {
-      kept = ap (λ (g : Option RunFacts). Some (grown_facts g (record_of filed))) follows.kept
-          ∙ growing_grown laws (run_records run) (record_of filed)
-          ∙ ap (λ (rs : List FiledRecord). growing_of rs) (sym records);
-      body = λ told. subst (λ (rs : List FiledRecord). BodyWhere (is_sealed file)
-          (Some (grown_facts file.growing (record_of filed))) (run_octets rs) (tells.unsealed new s)) (sym records)
-          (grown_body laws (is_sealed file) (name_in s file) file.growing (run_records run) (record_of filed)
-          (tells.unsealed old s) (tells.unsealed new s) (follows.body told) (has_grown told));
+    rw e (record {
+      kept = rw records (ap (λ (g : Option RunFacts). Some (grown_facts g (record_of filed))) follows.kept
+          ∙ growing_grown laws (run_records run) (record_of filed));
+      body = λ told. rw records (grown_body laws (is_sealed file) (name_in s file) file.growing (run_records run)
+          (record_of filed) (tells.unsealed old s) (tells.unsealed new s) (follows.body told) (has_grown told));
     })
 
 beginning_is : (growing : Option RunFacts) (run : List (Filed (List ℕ))) → growing ≡ growing_of (run_records run)
@@ -222,6 +186,15 @@ greatest_if : (b : Bool) (s n : ℕ) (f : SealedFile) → number_in s f.name ≡
 greatest_if true s n f e = omega arith
 greatest_if false s n f e = omega arith
 
+sealed_by_closing : (settings : FileSettings) (s t : ℕ) (file : Progress) (u : Option UnsealedFile)
+    (reason : Option ClosureReason)
+    → greatest_in t (seals (closing_of settings s file u reason))
+    ≤ number_in t (record { stream = s; sequence = closed_by reason file.closed })
+sealed_by_closing settings s t file u None = omega arith
+sealed_by_closing settings s t file u (Some reason) =
+    greatest_if (is_sealed file) t _ (closed_file settings (name_in s file) reason file.growing u)
+    (ap (λ (name : FileName). number_in t name) (name_of_closed settings (name_in s file) reason file.growing u))
+
 greatest_closing : (settings : FileSettings) (s : ℕ) (file : Progress) (u : Option UnsealedFile)
     (reason : Option ClosureReason) (files : List SealedFile)
     → greatest_in s files ≤ max file.closed file.sealed
@@ -229,34 +202,18 @@ greatest_closing : (settings : FileSettings) (s : ℕ) (file : Progress) (u : Op
     ≤ max (closed_progress reason file).closed (closed_progress reason file).sealed
 greatest_closing settings s file u None files h = omega (arith, greatest_in-append s files [])
 greatest_closing settings s file u (Some reason) files h =
-    let f : SealedFile = closed_file settings (name_in s file) reason file.growing u in
-    omega (
-      arith,
-      greatest_in-append s files (seals (closing_of settings s file u (Some reason))),
-      greatest_if (is_sealed file) s (file.closed + 1) f
-          (ap (λ (name : FileName). number_in s name) (name_of_closed settings (name_in s file) reason file.growing u)
-          ∙ own_number s (file.closed + 1)),
-    )
+    omega (arith, greatest_in-append s files (seals (closing_of settings s file u (Some reason))),
+    sealed_by_closing settings s s file u (Some reason), own_number s (file.closed + 1))
 
 other_number : (s t n : ℕ) → t ≢ s → number_in t (record { stream = s; sequence = n }) ≡ 0
-other_number s t n h = ap (λ (b : Bool). if b then n else 0) (apart s t h)
-  where
-    apart : (a b : ℕ) → b ≢ a → (a == b) ≡ false
-    apart a b k = grind (arith, nat_tests)
+other_number s t n h = ap (λ (b : Bool). if b then n else 0) (ne_eqb s t (λ e. h (sym e)))
 
 greatest_elsewhere : (settings : FileSettings) (s t : ℕ) (file : Progress) (u : Option UnsealedFile)
     (reason : Option ClosureReason) (files : List SealedFile) → t ≢ s
     → greatest_in t (files ++ seals (closing_of settings s file u reason)) ≡ greatest_in t files
-greatest_elsewhere settings s t file u None files h = omega (arith, greatest_in-append t files [])
-greatest_elsewhere settings s t file u (Some reason) files h =
-    let f : SealedFile = closed_file settings (name_in s file) reason file.growing u in
-    omega (
-      arith,
-      greatest_in-append t files (seals (closing_of settings s file u (Some reason))),
-      greatest_if (is_sealed file) t 0 f
-          (ap (λ (name : FileName). number_in t name) (name_of_closed settings (name_in s file) reason file.growing u)
-          ∙ other_number s t (file.closed + 1) h),
-    )
+greatest_elsewhere settings s t file u reason files h =
+    omega (arith, greatest_in-append t files (seals (closing_of settings s file u reason)),
+    sealed_by_closing settings s t file u reason, other_number s t (closed_by reason file.closed) h)
 
 seals_if : (b : Bool) (growing : Option RunFacts)
     → seals (if b then [] else beginning_of growing ++ Writes ∷ Writes ∷ []) ≡ []
@@ -271,7 +228,7 @@ ready_if false name u = tt
 
 close_ready : (reason : Option ClosureReason) (s : ℕ) (file : Progress) (old new : Option UnsealedFile)
     → IsReady s file old → StillOpen reason file old new → IsReady s (closed_progress reason file) new
-close_ready None s file old new ready opens = subst (λ (u : Option UnsealedFile). IsReady s file u) (sym opens) ready
+close_ready None s file old new ready opens = rw opens ready
 close_ready (Some reason) s file old new ready opens =
     ready_if (nat_le (file.closed + 1 + 1) file.sealed) (record { stream = s; sequence = file.closed + 1 + 1 }) new
 
@@ -281,10 +238,8 @@ pub close_up : {A : Type 0} (tells : Ghosts A) (settings : FileSettings) (s : �
     → (IsTrue tells.tells_files → StillOpen reason file (tells.unsealed old s) (tells.unsealed new s))
     → Makes tells (closing_of settings s file (tells.unsealed old s) reason) Went old new → IsUp tells s later new
 close_up tells settings s file later reason old new up e opens made =
-    subst (λ (f : Progress). IsUp tells s f new) (sym e) (record {
-      fresh = λ told. subst (λ (files : List SealedFile). greatest_in s files
-          ≤ max (closed_progress reason file).closed (closed_progress reason file).sealed)
-          (sym (all_sealed tells (closing_of settings s file (tells.unsealed old s) reason) [] old new made told))
+    rw e (record {
+      fresh = λ told. rw (all_sealed tells (closing_of settings s file (tells.unsealed old s) reason) [] old new made told)
           (greatest_closing settings s file (tells.unsealed old s) reason (tells.files old) (up.fresh told));
       ready = λ told. close_ready reason s file _ _ (up.ready told) (opens told);
     })
@@ -307,9 +262,8 @@ pub append_up : {A : Type 0} (tells : Ghosts A) (s : ℕ) (file later : Progress
     → (IsTrue tells.tells_files → IsGrown s file r (tells.unsealed old s) (tells.unsealed new s))
     → Makes tells (appending_of file) Went old new → IsUp tells s later new
 append_up tells s file later r old new up e has_grown made =
-    subst (λ (f : Progress). IsUp tells s f new) (sym e) (record {
-      fresh = λ told. subst (λ (files : List SealedFile). greatest_in s files ≤ max file.closed file.sealed)
-          (sym (same_files tells file old new made told)) (up.fresh told);
+    rw e (record {
+      fresh = λ told. rw (same_files tells file old new made told) (up.fresh told);
       ready = λ told. grown_ready (is_sealed file) (name_in s file) file.growing r _ _ (has_grown told);
     })
 
@@ -330,64 +284,34 @@ close_stays tells settings s t file reason old new h told same made = record {
 pub append_stays : {A : Type 0} (tells : Ghosts A) (t : ℕ) (file : Progress) (old new : A) → IsTrue tells.tells_files
     → tells.unsealed new t ≡ tells.unsealed old t
     → Makes tells (appending_of file) Went old new → Stays tells t old new
-append_stays tells t file old new told same made =
-    record {
-      unsealed = same;
-      greatest = ap (λ (files : List SealedFile). greatest_in t files) (same_files tells file old new made told);
-    }
+append_stays tells t file old new told same made = record {
+  unsealed = same;
+  greatest = ap (λ (files : List SealedFile). greatest_in t files) (same_files tells file old new made told);
+}
 
 pub stays_then : {A : Type 0} (tells : Ghosts A) (t : ℕ) (old mid new : A) → Stays tells t old mid
     → Stays tells t mid new → Stays tells t old new
-stays_then tells t old mid new first next = record {
-  unsealed = next.unsealed ∙ first.unsealed;
-  greatest = next.greatest ∙ first.greatest;
-}
+stays_then tells t old mid new first next =
+    record { unsealed = next.unsealed ∙ first.unsealed; greatest = next.greatest ∙ first.greatest }
 
 -- ---- what a cutter keeps
 
 pub pairs_closed : (reason : Option ClosureReason) (kept : Option OpenFile) (file later : Progress)
     → Pairs kept file.growing → later ≡ closed_progress reason file → Pairs (still reason kept None) later.growing
-pairs_closed None kept file later pairs e = subst (λ (f : Progress). Pairs kept f.growing) (sym e) pairs
-pairs_closed (Some reason) kept file later pairs e = subst (λ (f : Progress). Pairs None f.growing) (sym e) tt
+pairs_closed None kept file later pairs e = rw e pairs
+pairs_closed (Some reason) kept file later pairs e = rw e tt
 
 pairs_with : (kept : Option OpenFile) (growing : Option RunFacts) (r : FiledRecord) → Pairs kept growing
     → IsFiledKind r.kind
     → Pairs (Some (with_record kept r.kind (length r.octets) r.moment)) (Some (grown_facts growing r))
 pairs_with None None r pairs kind = (refl, refl, kind)
-pairs_with None (Some run) r pairs kind = absurd pairs
-pairs_with (Some file) None r pairs kind = absurd pairs
-pairs_with (Some file) (Some run) r pairs kind = (
-  more_octets (header_length run.kind) file.octets run.octets (cdr_header_length r.kind + length r.octets) pairs.0,
-  ap (λ (n : ℕ). n + 1) pairs.1,
-  pairs.2,
-)
-  where
-    more_octets : (header a b n : ℕ) → a ≡ header + b → a + n ≡ header + (b + n)
-    more_octets header a b n e = omega arith
+pairs_with (Some file) (Some run) r pairs kind = (omega (arith, pairs.0), ap (λ (n : ℕ). n + 1) pairs.1, pairs.2)
+pairs_with _ _ r pairs kind = absurd pairs
 
 pub pairs_grown : (kept : Option OpenFile) (file later : Progress) (r : FiledRecord) → Pairs kept file.growing
     → IsFiledKind r.kind → later ≡ grown file r
     → Pairs (Some (with_record kept r.kind (length r.octets) r.moment)) later.growing
-pairs_grown kept file later r pairs kind e =
-    subst (λ (f : Progress). Pairs (Some (with_record kept r.kind (length r.octets) r.moment)) f.growing) (sym e)
-    (pairs_with kept file.growing r pairs kind)
-
--- the same record, where two kinds are one
-pub grown_as : (file later : Progress) (kind other : FiledKind) (octets : List ℕ) (moment : ℕ)
-    → later ≡ grown file (filed_of kind octets moment) → kind ≡ other
-    → later ≡ grown file (filed_of other octets moment)
-grown_as file later kind other octets moment e same =
-    e ∙ ap (λ (k : FiledKind). grown file (filed_of k octets moment)) same
-
-pub stands_as : {A : Type 0} (tells : Ghosts A) (s : ℕ) (file : Progress) (kind other : FiledKind)
-    (octets : List ℕ) (moment : ℕ) (old new : A)
-    → (IsTrue tells.tells_files
-    → IsGrown s file (filed_of kind octets moment) (tells.unsealed old s) (tells.unsealed new s)) → kind ≡ other
-    → IsTrue tells.tells_files
-    → IsGrown s file (filed_of other octets moment) (tells.unsealed old s) (tells.unsealed new s)
-stands_as tells s file kind other octets moment old new stands same told =
-    subst (λ (k : FiledKind). IsGrown s file (filed_of k octets moment) (tells.unsealed old s) (tells.unsealed new s))
-    same (stands told)
+pairs_grown kept file later r pairs kind e = rw e (pairs_with kept file.growing r pairs kind)
 
 -- where a function ended, it has no answer
 pub no_answer : {T : Type 0} (q : Result T ShelfFault) (e : ShelfFault) (P : T → Type 0) → IsErr q
@@ -433,24 +357,20 @@ closes_some (Some reason) run = tt
 pub mark_closes : (limits : Limits) (kept : Option OpenFile) (closes : Bool) (moment : ℕ) (growing : Option RunFacts)
     (reason : Option ClosureReason)
     → Pairs kept growing → reason ≡ mark_reason limits kept closes moment → ClosesOpen reason growing
-mark_closes limits None closes moment None reason pairs e =
-    subst (λ (r : Option ClosureReason). ClosesOpen r None) (sym e) tt
-mark_closes limits None closes moment (Some run) reason pairs e = absurd pairs
-mark_closes limits (Some file) closes moment None reason pairs e = absurd pairs
+mark_closes limits None closes moment None reason pairs e = rw e tt
 mark_closes limits (Some file) closes moment (Some run) reason pairs e = closes_some reason run
+mark_closes limits _ closes moment _ reason pairs e = absurd pairs
 
 pub record_closes : (kept : Option OpenFile) (kind : FiledKind) (growing : Option RunFacts)
     (reason : Option ClosureReason)
     → Pairs kept growing → reason ≡ kind_change kept kind → ClosesOpen reason growing
-record_closes None kind None reason pairs e = subst (λ (r : Option ClosureReason). ClosesOpen r None) (sym e) tt
-record_closes None kind (Some run) reason pairs e = absurd pairs
-record_closes (Some file) kind None reason pairs e = absurd pairs
+record_closes None kind None reason pairs e = rw e tt
 record_closes (Some file) kind (Some run) reason pairs e = closes_some reason run
+record_closes _ kind _ reason pairs e = absurd pairs
 
 pub grown_closes : (file later : Progress) (r : FiledRecord) (reason : Option ClosureReason) → later ≡ grown file r
     → ClosesOpen reason later.growing
-grown_closes file later r reason e = subst (λ (f : Progress). ClosesOpen reason f.growing) (sym e)
-    (closes_some reason (grown_facts file.growing r))
+grown_closes file later r reason e = rw e (closes_some reason (grown_facts file.growing r))
 
 pub no_result : {T : Type 0} (q : Result T ShelfFault) (e : ShelfFault) (P : Type 0) → IsErr q
     × IsErrAnd q (λ x. x ≡ e) → OnOk q P

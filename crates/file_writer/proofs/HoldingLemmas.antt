@@ -1,59 +1,54 @@
--- What stands of the files of items after some of the calls for more of them.
-use Rattle.std.proofs.Common.{◌≡◌, ℕ, zero, suc, max, ◌+◌, ◌-◌, ◌<◌, List, [], ◌∷◌, ◌++◌, length, take, drop, refl, sym, ap, ◌∙◌, arith, append_assoc, add_assoc, zero-add, length-drop}
-use Rattle.std.proofs.lemmas.List.{append-nil}
-use Rattle.std.proofs.Math.Seq.{take-append_seam, take-append-add}
-use Rattle.cdr_shelf.specs.Files.{SealedFile, in_stream}
-use Rattle.cdr_shelf.specs.FileLaws.{in_stream-append}
+-- What stands of the files of items after some of the calls for more of them, and when a writer recovers on a shelf that
+-- holds the first ones.
+use Rattle.std.proofs.Common.{◌≡◌, ℕ, suc, max, min, ◌+◌, ◌-◌, ◌<◌, ◌≤◌, Bool, true, false, ◌==◌, if◌then◌else◌, List, [], ◌∷◌, ◌++◌, length, take, drop, refl, sym, ap, ◌∙◌, arith, append_assoc, length-drop}
+use Rattle.std.proofs.lemmas.List.{append-nil, take-append-drop, take_min}
+use Rattle.std.proofs.Math.Seq.{take-add, take-append_seam, take-append-add}
+use Rattle.cdr_file.specs.CdrFile.{FileSettings}
+use Rattle.cdr_shelf.specs.FileLaws.{greatest_in-append, in_stream-append}
+use Rattle.cdr_shelf.specs.Files.{SealedFile, greatest_in, in_stream, number_in}
 use Rattle.file_rotate.specs.Division.{ClosedRun, Division}
 use Rattle.gw_base.specs.declared.item.Item.{Item}
 use Rattle.file_writer.specs.Calls.{Call, calls_of, seals}
-use Rattle.file_writer.specs.Files.{files_from, later_division}
+use Rattle.file_writer.specs.Files.{files_from, later_division, stream_files}
 use Rattle.file_writer.specs.Holding.{HoldsOf, files_after}
 use Rattle.file_writer.specs.Laws.{DivisionGoesOn}
 use Rattle.file_writer.specs.Streams.{Settings, closed_of, stream_count, stream_division}
-use Rattle.file_writer.proofs.CallsLemmas.{seals-append}
+use Rattle.file_writer.proofs.CallsLemmas.{drop-append, in_stream-seals, seals-calls_of}
 use Rattle.file_writer.proofs.FilesLemmas.{closed_of-append, division-append, files_from-append, length-files_from}
-use Rattle.file_writer.proofs.StreamsLemmas.{drop-append, seals-calls_of}
+use Rattle.file_writer.proofs.WritingLemmas.{own_number}
 
 -- ---- lists
-
-next_of : (k j : ℕ) → suc k + j ≡ suc (k + j)
-next_of k j = omega arith
-
-pub take_nothing : {A : Type 0} (n : ℕ) → take {A = A} n [] ≡ []
-take_nothing zero = refl
-take_nothing (suc n) = refl
-
-take-then : {A : Type 0} (k j : ℕ) (xs : List A) → take (k + j) xs ≡ take k xs ++ take j (drop k xs)
-take-then zero j xs = ap (λ (n : ℕ). take n xs) (zero-add j)
-take-then (suc k) j [] = take_nothing (suc k + j) ∙ sym (take_nothing j)
-take-then (suc k) j (x ∷ xs) = ap (λ (n : ℕ). take n (x ∷ xs)) (next_of k j)
-    ∙ ap (λ (ys : List _). x ∷ ys) (take-then k j xs)
 
 -- a list goes on from where another one is dropped
 take_on : {A : Type 0} (xs ys made left : List A) (k : ℕ) → made ++ left ≡ drop k xs → take k (xs ++ ys) ++ made
     ≡ take (k + length made) (xs ++ ys)
-take_on {A} xs ys made left k e =
-    sym (take-then k (length made) (xs ++ ys)
-    ∙ ap (λ (zs : List A). take k (xs ++ ys) ++ take (length made) zs)
-    (drop-append k xs ys ∙ ap (λ (zs : List A). zs ++ drop (k - length xs) ys) (sym e)
-    ∙ append_assoc made left (drop (k - length xs) ys))
-    ∙ ap (λ (zs : List A). take k (xs ++ ys) ++ zs) (take-append_seam made (left ++ drop (k - length xs) ys)))
+take_on xs ys made left k e =
+    cc (e, take-add k (length made) (xs ++ ys), drop-append k xs ys, append_assoc made left (drop (k - length xs) ys),
+    take-append_seam made (left ++ drop (k - length xs) ys))
 
-pub take_more : {A : Type 0} (front xs ys made left : List A) (k : ℕ) → made ++ left ≡ drop k xs
+take_more : {A : Type 0} (front xs ys made left : List A) (k : ℕ) → made ++ left ≡ drop k xs
     → take (length front + k) (front ++ (xs ++ ys)) ++ made
     ≡ take (length front + k + length made) (front ++ (xs ++ ys))
-take_more {A} front xs ys made left k e =
-    ap (λ (zs : List A). zs ++ made) (take-append-add front (xs ++ ys) k)
-    ∙ append_assoc front (take k (xs ++ ys)) made
-    ∙ ap (λ (zs : List A). front ++ zs) (take_on xs ys made left k e)
-    ∙ sym (take-append-add front (xs ++ ys) (k + length made))
-    ∙ ap (λ (n : ℕ). take n (front ++ (xs ++ ys))) (sym (add_assoc (length front) k (length made)))
+take_more front xs ys made left k e =
+    let same : length front + k + length made ≡ length front + (k + length made) = omega arith in
+    cc (take-append-add front (xs ++ ys) k, take-append-add front (xs ++ ys) (k + length made),
+    append_assoc front (take k (xs ++ ys)) made, take_on xs ys made left k e)
 
 -- ---- files
 
-counted_from : (c n : ℕ) → c + 1 + n ≡ c + n + 1
-counted_from c n = omega arith
+-- the files of items and of more of them
+more_files : DivisionGoesOn → (settings : Settings) (closed : ℕ → ℕ) (items more : List Item) (s : ℕ)
+    → files_after settings closed s (items ++ more) ≡ files_after settings closed s items
+    ++ files_from settings.file s (closed s + closed_of settings s items + 1)
+    (later_division settings s items more).closed
+more_files law settings closed items more s =
+    let first : List (ClosedRun (List ℕ)) = (stream_division settings s items).closed in
+    let number : closed s + 1 + length first ≡ closed s + closed_of settings s items + 1 = omega arith in
+    ap (λ (d : Division (List ℕ)). files_from settings.file s (closed s + 1) d.closed)
+    (division-append law settings s items more)
+    ∙ files_from-append settings.file s (closed s + 1) first (later_division settings s items more).closed
+    ∙ (λ i. files_from settings.file s (closed s + 1) first
+    ++ files_from settings.file s (number i) (later_division settings s items more).closed)
 
 -- the files of items, of more of them, and of the rest
 three_parts : DivisionGoesOn → (settings : Settings) (closed : ℕ → ℕ) (items more rest : List Item) (s : ℕ)
@@ -62,102 +57,122 @@ three_parts : DivisionGoesOn → (settings : Settings) (closed : ℕ → ℕ) (i
     ++ (files_from settings.file s (closed s + closed_of settings s items + 1)
     (later_division settings s items more).closed ++ later))
 three_parts law settings closed items more rest s =
-    let first : List (ClosedRun (List ℕ)) = (stream_division settings s items).closed in
-    let middle : List (ClosedRun (List ℕ)) = (later_division settings s items more).closed in
-    let last : List (ClosedRun (List ℕ)) = (later_division settings s (items ++ more) rest).closed in
-    let from : ℕ = closed s + 1 in (
-      files_from settings.file s (from + length (first ++ middle)) last,
-      ap (λ (d : Division (List ℕ)). files_from settings.file s from d.closed)
-          (division-append law settings s (items ++ more) rest)
-          ∙ ap (λ (d : Division (List ℕ)). files_from settings.file s from (d.closed ++ last))
-          (division-append law settings s items more)
-          ∙ files_from-append settings.file s from (first ++ middle) last
-          ∙ ap (λ (files : List SealedFile). files ++ files_from settings.file s (from + length (first ++ middle))
-          last) (files_from-append settings.file s from first middle)
-          ∙ append_assoc (files_from settings.file s from first)
-          (files_from settings.file s (from + length first) middle)
-          (files_from settings.file s (from + length (first ++ middle)) last)
-          ∙ ap (λ (n : ℕ). files_from settings.file s from first
-          ++ (files_from settings.file s n middle ++ files_from settings.file s (from + length (first ++ middle))
-          last)) (counted_from (closed s) (length first)),
+    let middle : List SealedFile = files_from settings.file s (closed s + closed_of settings s items + 1)
+    (later_division settings s items more).closed in
+    let later : List SealedFile = files_from settings.file s (closed s + closed_of settings s (items ++ more) + 1)
+    (later_division settings s (items ++ more) rest).closed in (
+      later,
+      more_files law settings closed (items ++ more) rest s
+          ∙ ap (λ (files : List SealedFile). files ++ later) (more_files law settings closed items more s)
+          ∙ append_assoc (files_after settings closed s items) middle later,
     )
 
--- how many files stand before any call, and after all of them
-pub first_count : (sealed closed n : ℕ) → max sealed (closed + n) - closed ≡ n + (sealed - (closed + n))
-first_count sealed closed n = omega arith
-
-last_count : (sealed closed n m after : ℕ) → after ≡ n + m
-    → n + (sealed - (closed + n)) + (m - (sealed - (closed + n))) ≡ max sealed (closed + after) - closed
-last_count sealed closed n m after e = omega arith
-
-module _ (law : DivisionGoesOn) (settings : Settings) (closed sealed : ℕ → ℕ)
-    (before : ℕ → List SealedFile) (items more rest : List Item) where
-  -- how many files of a stream are closed, and how many of the later ones are sealed
-  abbrev up : ℕ → ℕ
-  up s = closed s + closed_of settings s items
+module _ (law : DivisionGoesOn) (settings : Settings) (closed sealed : ℕ → ℕ) (before : ℕ → List SealedFile)
+    (items more rest : List Item) (files : List SealedFile)
+    (holds : (s : ℕ) → s < stream_count → HoldsOf settings closed before ((items ++ more) ++ rest) files s
+    (max (sealed s) (closed s + closed_of settings s items) - closed s)) where
+  -- how many files of a stream stand before any call, and how many of the later ones are sealed
+  abbrev stand : ℕ → ℕ
+  stand s = max (sealed s) (closed s + closed_of settings s items) - closed s
 
   abbrev past : ℕ → ℕ
-  past s = sealed s - up s
+  past s = sealed s - (closed s + closed_of settings s items)
 
   abbrev all : List Item
   all = (items ++ more) ++ rest
 
-  made_of : (made left : List Call) (s : ℕ) → s < stream_count → calls_of settings closed sealed items more
-      ≡ made ++ left
-      → in_stream s (seals made) ++ in_stream s (seals left)
-      ≡ drop (past s) (files_from settings.file s (up s + 1) (later_division settings s items more).closed)
+  abbrev calls : List Call
+  calls = calls_of settings closed sealed items more
+
+  abbrev middle : ℕ → List SealedFile
+  middle s =
+      files_from settings.file s (closed s + closed_of settings s items + 1) (later_division settings s items more).closed
+
+  made_of : (made left : List Call) (s : ℕ) → s < stream_count → calls ≡ made ++ left
+      → in_stream s (seals made) ++ in_stream s (seals left) ≡ drop (past s) (middle s)
   made_of made left s h e =
-      sym (in_stream-append s (seals made) (seals left))
-      ∙ ap (λ (files : List SealedFile). in_stream s files) (sym (seals-append made left))
-      ∙ ap (λ (calls : List Call). in_stream s (seals calls)) (sym e)
+      sym (in_stream-seals s made left) ∙ ap (λ (cs : List Call). in_stream s (seals cs)) (sym e)
       ∙ seals-calls_of law settings closed sealed items more s h
 
   -- after some of the calls
-  pub holds-some : (made left : List Call) (files : List SealedFile) (s : ℕ) → s < stream_count
-      → calls_of settings closed sealed items more ≡ made ++ left
-      → HoldsOf settings closed before all files s (max (sealed s) (up s) - closed s)
-      → HoldsOf settings closed before all (files ++ seals made) s
-      (closed_of settings s items + past s + length (in_stream s (seals made)))
-  holds-some made left files s h e stands =
+  some_stand : (made left : List Call) (s : ℕ) → s < stream_count → calls ≡ made ++ left
+      → HoldsOf settings closed before all (files ++ seals made) s (stand s + length (in_stream s (seals made)))
+  some_stand made left s h e =
       let parts = three_parts law settings closed items more rest s in
       let front : List SealedFile = files_after settings closed s items in
-      let middle : List SealedFile =
-      files_from settings.file s (up s + 1) (later_division settings s items more).closed in
-      let made_files : List SealedFile = in_stream s (seals made) in
-      in_stream-append s files (seals made)
-      ∙ ap (λ (fs : List SealedFile). fs ++ made_files) stands
-      ∙ append_assoc (before s) (take (max (sealed s) (up s) - closed s) (files_after settings closed s all)) made_files
-      ∙ ap (λ (n : ℕ). before s ++ (take n (files_after settings closed s all) ++ made_files))
-      (first_count (sealed s) (closed s) (closed_of settings s items))
-      ∙ ap (λ (n : ℕ). before s ++ (take (n + past s) (files_after settings closed s all) ++ made_files))
-      (sym (length-files_from settings.file s (closed s + 1) (stream_division settings s items).closed))
-      ∙ ap (λ (fs : List SealedFile). before s ++ (take (length front + past s) fs ++ made_files)) parts.1
-      ∙ ap (λ (fs : List SealedFile). before s ++ fs)
-      (take_more front middle parts.0 made_files (in_stream s (seals left)) (past s) (made_of made left s h e))
-      ∙ ap (λ (fs : List SealedFile). before s ++ take (length front + past s + length made_files) fs) (sym parts.1)
-      ∙ ap (λ (n : ℕ). before s ++ take (n + past s + length made_files) (files_after settings closed s all))
-      (length-files_from settings.file s (closed s + 1) (stream_division settings s items).closed)
+      let new : List SealedFile = in_stream s (seals made) in
+      let long : length front ≡ closed_of settings s items =
+      length-files_from settings.file s (closed s + 1) (stream_division settings s items).closed in
+      let count : stand s ≡ length front + past s = omega (arith, long) in
+      in_stream-append s files (seals made) ∙ ap (λ (fs : List SealedFile). fs ++ new) (holds s h)
+      ∙ append_assoc (before s) (take (stand s) (files_after settings closed s all)) new
+      ∙ (λ i. before s ++ (take (count i) (parts.1 i) ++ new))
+      ∙ ap (λ (fs : List SealedFile). before s ++ fs) (take_more front (middle s) parts.0 new
+      (in_stream s (seals left)) (past s) (made_of made left s h e))
+      ∙ (λ i. before s ++ take (sym count i + length new) (sym parts.1 i))
 
-  made_all : (made : List Call) (s : ℕ) → s < stream_count → calls_of settings closed sealed items more ≡ made ++ []
-      → length (in_stream s (seals made)) ≡ length (later_division settings s items more).closed - past s
-  made_all made s h e =
-      let middle : List SealedFile =
-      files_from settings.file s (up s + 1) (later_division settings s items more).closed in
-      ap (λ (fs : List SealedFile). length fs) (sym (append-nil (in_stream s (seals made))) ∙ made_of made [] s h e)
-      ∙ length-drop (past s) middle
-      ∙ ap (λ (n : ℕ). n - past s)
-      (length-files_from settings.file s (up s + 1) (later_division settings s items more).closed)
+  pub begun : (k s : ℕ) → s < stream_count
+      → HoldsOf settings closed before all (files ++ seals (take k calls)) s
+      (stand s + length (in_stream s (seals (take k calls))))
+  begun k s h = some_stand (take k calls) (drop k calls) s h (sym (take-append-drop k calls))
 
   -- after all of them
-  pub holds-all : (made : List Call) (files : List SealedFile) (s : ℕ) → s < stream_count
-      → calls_of settings closed sealed items more ≡ made ++ []
-      → HoldsOf settings closed before all files s (max (sealed s) (up s) - closed s)
-      → HoldsOf settings closed before all (files ++ seals made) s
-      (max (sealed s) (closed s + closed_of settings s (items ++ more)) - closed s)
-  holds-all made files s h e stands =
-      holds-some made [] files s h e stands
-      ∙ ap (λ (n : ℕ). before s ++ take n (files_after settings closed s all))
-      (ap (λ (n : ℕ). closed_of settings s items + past s + n) (made_all made s h e)
-      ∙ last_count (sealed s) (closed s) (closed_of settings s items)
-      (length (later_division settings s items more).closed) (closed_of settings s (items ++ more))
-      (closed_of-append law settings s items more))
+  pub all_stand : (later : ℕ → ℕ) (new : List SealedFile) → ((s : ℕ) → s < stream_count → later s ≡ sealed s)
+      → new ≡ files ++ seals calls → (s : ℕ) → s < stream_count
+      → HoldsOf settings closed before all new s
+      (max (later s) (closed s + closed_of settings s (items ++ more)) - closed s)
+  all_stand later new same e s h =
+      let made : List SealedFile = in_stream s (seals calls) in
+      let count : stand s + length made
+      ≡ max (later s) (closed s + closed_of settings s (items ++ more)) - closed s =
+      omega (arith, same s h, closed_of-append law settings s items more, length-drop (past s) (middle s),
+      ap length (sym (append-nil made) ∙ made_of calls [] s h (sym (append-nil calls))),
+      length-files_from settings.file s (closed s + closed_of settings s items + 1)
+      (later_division settings s items more).closed) in
+      ap (λ (fs : List SealedFile). in_stream s fs) e ∙ some_stand calls [] s h (sym (append-nil calls))
+      ∙ ap (λ (n : ℕ). before s ++ take n (files_after settings closed s all)) count
+
+-- ---- the greatest number of a stream is that of its own files
+
+own_first : (t : Bool) (s : ℕ) (f : SealedFile) (files : List SealedFile)
+    → number_in s f.name ≡ (if t then f.name.sequence else 0)
+    → greatest_in s (if t then f ∷ files else files) ≡ max (number_in s f.name) (greatest_in s files)
+own_first true s f files e = refl
+own_first false s f files e = omega (arith, e)
+
+greatest_own : (s : ℕ) (files : List SealedFile) → greatest_in s (in_stream s files) ≡ greatest_in s files
+greatest_own s [] = refl
+greatest_own s (f ∷ files) =
+    own_first (f.name.stream == s) s f (in_stream s files) refl
+    ∙ ap (λ (n : ℕ). max (number_in s f.name) n) (greatest_own s files)
+
+-- files that are numbered one after the other
+counted : (settings : FileSettings) (s before n : ℕ) (runs : List (ClosedRun (List ℕ)))
+    → max (greatest_in s (take n (files_from settings s (before + 1) runs))) before ≡ before + min n (length runs)
+counted settings s before (suc n) (run ∷ runs) =
+    omega (arith, own_number s (before + 1), counted settings s (before + 1) n runs)
+counted settings s before _ _ = omega arith
+
+-- the first files of a stream are as many as the greatest number among them
+pub first_counted : (settings : Settings) (s m : ℕ) (items : List Item) (files : List SealedFile)
+    → in_stream s files ≡ take m (stream_files settings s items) → m ≤ closed_of settings s items
+    → greatest_in s files ≡ m
+first_counted settings s m items files first h =
+    omega (arith, h, greatest_own s files, ap (greatest_in s) first,
+    counted settings.file s 0 m (stream_division settings s items).closed)
+
+-- A shelf holds the first files, however many: then it holds those up to the greatest number that is found there.
+pub holds_found : (settings : Settings) (closed : ℕ → ℕ) (before : ℕ → List SealedFile) (all : List Item)
+    (sealed : List SealedFile) (s n : ℕ) → greatest_in s (before s) ≤ closed s
+    → HoldsOf settings closed before all sealed s n
+    → HoldsOf settings closed before all sealed s
+    (max (greatest_in s sealed) (closed s + closed_of settings s []) - closed s)
+holds_found settings closed before all sealed s n low stands =
+    let runs : List (ClosedRun (List ℕ)) = (stream_division settings s all).closed in
+    let files : List SealedFile = files_after settings closed s all in
+    let count : min n (length runs) ≡ max (greatest_in s sealed) (closed s + 0) - closed s =
+    omega (arith, low, greatest_own s sealed, ap (greatest_in s) stands, greatest_in-append s (before s) (take n files),
+    counted settings.file s (closed s) n runs) in
+    stands ∙ ap (λ (fs : List SealedFile). before s ++ fs) (sym (take_min n files)
+    ∙ ap (λ (k : ℕ). take (min n k) files) (length-files_from settings.file s (closed s + 1) runs)
+    ∙ ap (λ (k : ℕ). take k files) count)

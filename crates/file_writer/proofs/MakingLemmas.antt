@@ -1,9 +1,9 @@
 -- One call, and calls one after the other.
 use Rattle.std.proofs.Common.{◌≡◌, ◌≢◌, ◌⊎◌, inl, inr, ℕ, zero, suc, ◌+◌, ◌-◌, ◌≤◌, Bool, true, false, ◌||◌, if◌then◌else◌, IsTrue, List, [], ◌∷◌, ◌++◌, length, take, Result, Ok, Err, refl, sym, ap, ◌∙◌, subst, arith, append_assoc, length-append}
 use Rattle.std.proofs.lemmas.List.{append-nil, take-append-le}
-use Rattle.std.proofs.Math.Seq.{take-append-add}
+use Rattle.std.proofs.Math.Seq.{take-append-add, take-length}
 use Rattle.area_disk.specs.Armed.{Armed, Came, IsArmed, after_one, calls_under, later_by, one_later, then_calls}
-use Rattle.area_disk.specs.Armed.Armed.{Nothing, Fail, Stop}
+use Rattle.area_disk.specs.Armed.Armed.{Fail, Stop}
 use Rattle.area_disk.specs.Armed.Came.{Ran, FailedAt, StoppedAt}
 use Rattle.area_disk.specs.ArmedLaws.{armed_failed, armed_next, armed_ran, calls_go_on}
 use Rattle.area_disk.specs.Disk.{Rose, counted}
@@ -13,27 +13,16 @@ use Rattle.area_disk.specs.declared.plan.Fate.TheVariants.{Runs, Fails, Stops}
 use Rattle.area_disk.specs.declared.plan.Outcome3.{Outcome3}
 use Rattle.area_disk.specs.declared.plan.Outcome3.TheVariants.{Old, New}
 use Rattle.cdr_shelf.specs.Files.{SealedFile}
-use Rattle.cdr_shelf.specs.Steps.{is_done}
+use Rattle.cdr_shelf.specs.Steps.{is_done, CallAsPlanned}
 use Rattle.cdr_shelf.specs.declared.shelf.Shelf.{Ghosts}
 use Rattle.file_writer.specs.Calls.{Call, seals}
-use Rattle.file_writer.specs.Making.{Comes, Ending, Failed, HasSealed, Makes, Went, calls_after, done_at, ending_at, ending_of}
+use Rattle.file_writer.specs.Making.{Comes, Ending, Failed, HasSealed, Makes, Went, calls_after, done_at, ending_at, ending_of, AllRan}
 use Rattle.std.specs.Result.{IsErr, IsErrAnd}
 use Rattle.file_writer.specs.declared.fault.ShelfFault.{ShelfFault}
 use Rattle.file_writer.specs.declared.fault.ShelfFault.TheVariants.{Device, NoMemory}
 use Rattle.file_writer.proofs.CallsLemmas.{seals-append}
 
 -- ---- one call
-
--- what came of the plan of a call that ran, or didn't
-pub record IsPlanned (failed : Bool) (old new : Schedule) : Type 0 where
-  pub fails : failed ≡ is_failure (next_fate old)
-  pub schedule : new ≡ after_call (next_fate old) old
-
-runs_on : (a : Armed) (old new : Schedule) (fate : Fate) → IsArmed a old → next_fate old ≡ fate → fate ≡ Runs
-    → new ≡ after_call (next_fate old) old → IsArmed (after_one a) new
-runs_on a old new fate armed e runs h =
-    subst (λ (s : Schedule). IsArmed (after_one a) s) (sym (h ∙ ap (λ (f : Fate). after_call f old) (e ∙ runs)))
-    (armed_ran a old armed)
 
 -- a call that seals nothing
 pub unsealed_by : {old new : List SealedFile} → new ≡ old → new ≡ old ++ []
@@ -44,86 +33,73 @@ pub left_by_write : (fate : Fate) (old new : List SealedFile) → new ≡ old
 left_by_write fate old new e = elim (is_done fate) as (λ b. new ≡ (if b then old ++ [] else old))
     [ true ↦ unsealed_by e | false ↦ e ]
 
+-- what so many calls sealed that have all done what they are to do
+all_done : (calls : List Call) (ended : Ending) (n : ℕ) (old new : List SealedFile)
+    → new ≡ old ++ seals (take n calls) → HasSealed calls ended n old new
+all_done calls ended n old new e =
+    record { count = n; at_most = omega arith; at_least = omega arith; each = λ f. refl; files = e }
+
 module _ {A : Type 0} (tells : Ghosts A) (call : Call) (old new : A) where
-  went_comes : IsPlanned false (tells.plan old) (tells.plan new) → (a : Armed) → IsArmed a (tells.plan old)
-      → Comes tells (call ∷ []) Went 1 old new (calls_under a 1)
-  went_comes planned Nothing armed =
-      record { runs = refl; is_armed = runs_on Nothing _ _ _ armed (armed_next Nothing _ armed) refl planned.schedule }
-  went_comes planned (Fail zero) armed = absurd (let e : false ≡ true = planned.fails
+  ran : {T E : Type 0} (x : T) (a : Armed) → CallAsPlanned {T = T} {E = E} (tells.plan old) (Ok x) (tells.plan new)
+      → IsArmed a (tells.plan old)
+      → next_fate (tells.plan old) ≡ Runs → AllRan tells (call ∷ []) Went 1 old new (after_one a)
+  ran x a planned armed e = record {
+    runs = refl;
+    is_armed = rw (planned.schedule ∙ ap (λ (f : Fate). after_call f (tells.plan old)) e)
+        (armed_ran a (tells.plan old) armed);
+  }
+
+  went_comes : {T E : Type 0} (x : T) → CallAsPlanned {T = T} {E = E} (tells.plan old) (Ok x) (tells.plan new) → (a : Armed)
+      → IsArmed a (tells.plan old) → Comes tells (call ∷ []) Went 1 old new (calls_under a 1)
+  went_comes x planned (Fail zero) armed = absurd (let e : false ≡ true = planned.fails
       ∙ ap is_failure (armed_next (Fail zero) _ armed) in cc)
-  went_comes planned (Fail (suc k)) armed =
-      record {
-        runs = refl;
-        is_armed = runs_on (Fail (suc k)) _ _ _ armed (armed_next (Fail (suc k)) _ armed) refl
-            planned.schedule;
-      }
-  went_comes planned (Stop zero outcome) armed = absurd (let e : false ≡ true = planned.fails
+  went_comes x planned (Stop zero outcome) armed = absurd (let e : false ≡ true = planned.fails
       ∙ ap is_failure (armed_next (Stop zero outcome) _ armed) in cc)
-  went_comes planned (Stop (suc k) outcome) armed =
-      record {
-        runs = refl;
-        is_armed = runs_on (Stop (suc k) outcome) _ _ _ armed (armed_next (Stop (suc k) outcome) _ armed) refl
-            planned.schedule;
-      }
+  went_comes x planned a armed = ran x a planned armed (armed_next a _ armed)
 
   -- a call that ran
-  pub one_went : (IsTrue tells.tells_calls → tells.calls new ≡ counted 1 (tells.calls old))
+  pub one_went : {T E : Type 0} {x : T} → (IsTrue tells.tells_calls → tells.calls new ≡ counted 1 (tells.calls old))
       → (IsTrue tells.tells_files → tells.files new ≡ tells.files old ++ seals (call ∷ []))
       → tells.faults new ≡ tells.faults old
-      → (IsTrue tells.tells_plan → IsPlanned false (tells.plan old) (tells.plan new))
+      → (IsTrue tells.tells_plan → CallAsPlanned {T = T} {E = E} (tells.plan old) (Ok x) (tells.plan new))
       → Makes tells (call ∷ []) Went old new
-  one_went called sealed same planned = record {
+  one_went {x = x} called sealed same planned = record {
     tried = 1;
     within = omega arith;
     all = λ e. refl;
     some = λ e. omega arith;
     called = called;
-    sealed = λ told. record {
-      count = 1;
-      at_most = omega arith;
-      at_least = omega arith;
-      each = λ e. refl;
-      files = sealed told;
-    };
+    sealed = λ told. all_done (call ∷ []) Went 1 (tells.files old) (tells.files new) (sealed told);
     faults = record { later = omega (arith, same); failed = λ e. absurd (cc); still = λ e. same };
-    planned = λ told memory. went_comes (planned told);
+    planned = λ told memory. went_comes x (planned told);
   }
 
   -- what a call that failed leaves by its fate
   abbrev Left : Fate → Type 0
   Left fate = tells.files new ≡ (if is_done fate then tells.files old ++ seals (call ∷ []) else tells.files old)
 
-  none_sealed : tells.files new ≡ tells.files old → tells.files new ≡ tells.files old ++ []
-  none_sealed e = e ∙ sym (append-nil (tells.files old))
-
   stopped_left : (outcome : Outcome3) → Left (Stops outcome)
       → tells.files new ≡ tells.files old ++ seals (take (done_at 1 outcome) (call ∷ []))
   stopped_left New left = left
-  stopped_left _ left = none_sealed left
+  stopped_left _ left = unsealed_by left
 
   or_true : (b : Bool) → (b || true) ≡ true
   or_true true = refl
   or_true false = refl
 
-  failed_comes : IsPlanned true (tells.plan old) (tells.plan new)
+  failed_comes : {T E : Type 0} (x : E) → CallAsPlanned {T = T} {E = E} (tells.plan old) (Err x) (tells.plan new)
       → (IsTrue tells.tells_files → Left (next_fate (tells.plan old)))
       → (a : Armed) → IsArmed a (tells.plan old) → Comes tells (call ∷ []) Failed 1 old new (calls_under a 1)
-  failed_comes planned left Nothing armed = absurd (let e : true ≡ false = planned.fails
-      ∙ ap is_failure (armed_next Nothing _ armed) in cc)
-  failed_comes planned left (Fail zero) armed =
+  failed_comes x planned left (Fail zero) armed =
       let e : next_fate (tells.plan old) ≡ Fails = armed_next (Fail zero) _ armed in
       record {
         fails = refl;
         number = refl;
-        is_armed =
-            subst (λ (s : Schedule). IsArmed Nothing s)
-            (sym (planned.schedule ∙ ap (λ (f : Fate). after_call f (tells.plan old)) e))
+        is_armed = rw (planned.schedule ∙ ap (λ (f : Fate). after_call f (tells.plan old)) e)
             (armed_failed (tells.plan old) armed);
-        sealed = λ told. none_sealed (subst (λ (f : Fate). Left f) e (left told));
+        sealed = λ told. unsealed_by (subst (λ (f : Fate). Left f) e (left told));
       }
-  failed_comes planned left (Fail (suc k)) armed = absurd (let e : true ≡ false = planned.fails
-      ∙ ap is_failure (armed_next (Fail (suc k)) _ armed) in cc)
-  failed_comes planned left (Stop zero outcome) armed =
+  failed_comes x planned left (Stop zero outcome) armed =
       let e : next_fate (tells.plan old) ≡ Stops outcome = armed_next (Stop zero outcome) _ armed in
       record {
         fails = refl;
@@ -132,8 +108,8 @@ module _ {A : Type 0} (tells : Ghosts A) (call : Call) (old new : A) where
             ∙ ap (λ (f : Fate). after_call f (tells.plan old)) e) ∙ or_true (tells.plan old).stopped;
         sealed = λ told. stopped_left outcome (subst (λ (f : Fate). Left f) e (left told));
       }
-  failed_comes planned left (Stop (suc k) outcome) armed = absurd (let e : true ≡ false = planned.fails
-      ∙ ap is_failure (armed_next (Stop (suc k) outcome) _ armed) in cc)
+  failed_comes x planned left a armed = absurd (let e : true ≡ false = planned.fails
+      ∙ ap is_failure (armed_next a _ armed) in cc)
 
   maybe_sealed : (tells.files new ≡ tells.files old) ⊎ (tells.files new ≡ tells.files old ++ seals (call ∷ []))
       → HasSealed (call ∷ []) Failed 1 (tells.files old) (tells.files new)
@@ -142,25 +118,19 @@ module _ {A : Type 0} (tells : Ghosts A) (call : Call) (old new : A) where
     at_most = omega arith;
     at_least = omega arith;
     each = λ f. absurd (cc);
-    files = none_sealed e;
+    files = unsealed_by e;
   }
-  maybe_sealed (inr e) = record {
-    count = 1;
-    at_most = omega arith;
-    at_least = omega arith;
-    each = λ f. refl;
-    files = e;
-  }
+  maybe_sealed (inr e) = all_done (call ∷ []) Failed 1 (tells.files old) (tells.files new) e
 
   -- a call that failed
-  pub one_failed : (IsTrue tells.tells_calls → tells.calls new ≡ counted 1 (tells.calls old))
+  pub one_failed : {T E : Type 0} {x : E} → (IsTrue tells.tells_calls → tells.calls new ≡ counted 1 (tells.calls old))
       → (IsTrue tells.tells_files → (tells.files new ≡ tells.files old)
       ⊎ (tells.files new ≡ tells.files old ++ seals (call ∷ [])))
       → tells.faults old ≤ tells.faults new → Rose (tells.faults old) (tells.faults new)
-      → (IsTrue tells.tells_plan → IsPlanned true (tells.plan old) (tells.plan new))
+      → (IsTrue tells.tells_plan → CallAsPlanned {T = T} {E = E} (tells.plan old) (Err x) (tells.plan new))
       → (IsTrue tells.tells_plan → IsTrue tells.tells_files → Left (next_fate (tells.plan old)))
       → Makes tells (call ∷ []) Failed old new
-  one_failed called sealed later rose planned left = record {
+  one_failed {x = x} called sealed later rose planned left = record {
     tried = 1;
     within = omega arith;
     all = λ e. refl;
@@ -168,48 +138,34 @@ module _ {A : Type 0} (tells : Ghosts A) (call : Call) (old new : A) where
     called = called;
     sealed = λ told. maybe_sealed (sealed told);
     faults = record { later = later; failed = λ e. rose; still = λ e. absurd (cc) };
-    planned = λ told memory. failed_comes (planned told) (left told);
+    planned = λ told memory. failed_comes x (planned told) (left told);
   }
 
 -- ---- calls one after the other
 
 after_both : (m n calls : ℕ) → calls_after (m + n) calls ≡ calls_after n (calls_after m calls)
-after_both m zero calls = ap (λ (k : ℕ). calls_after k calls) (no_more m)
-  where
-    no_more : (k : ℕ) → k + 0 ≡ k
-    no_more k = omega arith
-after_both m (suc n) calls = ap (λ (k : ℕ). calls_after k calls) (one_more m n) ∙ ap (counted 1) (after_both m n calls)
-  where
-    one_more : (j k : ℕ) → j + suc k ≡ suc (j + k)
-    one_more j k = omega arith
+after_both m zero calls = ap (λ (k : ℕ). calls_after k calls) (omega arith)
+after_both m (suc n) calls =
+    ap (λ (k : ℕ). calls_after k calls) {y = suc (m + n)} (omega arith) ∙ ap (counted 1) (after_both m n calls)
 
 later_ran : (n : ℕ) (a : Armed) → later_by n (Ran a) ≡ Ran a
 later_ran zero a = refl
 later_ran (suc n) a = ap one_later (later_ran n a)
 
-plus_suc : (n k : ℕ) → suc (n + k) ≡ suc n + k
-plus_suc n k = omega arith
-
-plus_zero : (k : ℕ) → k ≡ 0 + k
-plus_zero k = omega arith
-
 later_failed : (n k : ℕ) → later_by n (FailedAt k) ≡ FailedAt (n + k)
-later_failed zero k = ap FailedAt (plus_zero k)
-later_failed (suc n) k = ap one_later (later_failed n k) ∙ ap FailedAt (plus_suc n k)
+later_failed zero k = ap FailedAt (omega arith)
+later_failed (suc n) k = ap one_later (later_failed n k) ∙ ap FailedAt (omega arith)
 
 later_stopped : (n k : ℕ) (o : Outcome3) → later_by n (StoppedAt k o) ≡ StoppedAt (n + k) o
-later_stopped zero k o = ap (λ (j : ℕ). StoppedAt j o) (plus_zero k)
-later_stopped (suc n) k o = ap one_later (later_stopped n k o) ∙ ap (λ (j : ℕ). StoppedAt j o) (plus_suc n k)
+later_stopped zero k o = ap (λ (j : ℕ). StoppedAt j o) (omega arith)
+later_stopped (suc n) k o = ap one_later (later_stopped n k o) ∙ ap (λ (j : ℕ). StoppedAt j o) (omega arith)
 
 -- what calls seal that are the first ones of a list, and some behind them
 seals_behind : (files before after : List SealedFile) (xs ys : List Call) (n : ℕ) → before ≡ files ++ seals xs
     → after ≡ before ++ seals (take n ys)
     → after ≡ files ++ seals (take (length xs + n) (xs ++ ys))
 seals_behind files before after xs ys n e f =
-    f ∙ ap (λ (fs : List SealedFile). fs ++ seals (take n ys)) e
-    ∙ append_assoc files (seals xs) (seals (take n ys))
-    ∙ ap (λ (fs : List SealedFile). files ++ fs) (sym (seals-append xs (take n ys)))
-    ∙ ap (λ (cs : List Call). files ++ seals cs) (sym (take-append-add xs ys n))
+    cc (e, f, append_assoc files (seals xs) (seals (take n ys)), seals-append xs (take n ys), take-append-add xs ys n)
 
 less_one : (m k : ℕ) → 1 ≤ k → m + (k - 1) ≡ m + k - 1
 less_one m k h = omega arith
@@ -222,9 +178,50 @@ done_within : (k : ℕ) (o : Outcome3) → done_at k o ≤ k
 done_within k Old = omega arith
 done_within k _ = omega arith
 
-pub take-length : (xs : List Call) → take (length xs) xs ≡ xs
-take-length [] = refl
-take-length (x ∷ xs) = ap (λ (ys : List Call). x ∷ ys) (take-length xs)
+-- calls that seal the same, as far as they were made
+comes_as : {A : Type 0} (tells : Ghosts A) (xs ys : List Call) (ended : Ending) (tried : ℕ) (old new : A)
+    → (IsTrue tells.tells_files → (k : ℕ) → k ≤ tried → seals (take k xs) ≡ seals (take k ys))
+    → (came : Came) → Comes tells xs ended tried old new came → Comes tells ys ended tried old new came
+comes_as tells xs ys ended tried old new same (Ran a) c = record { runs = c.runs; is_armed = c.is_armed }
+comes_as tells xs ys ended tried old new same (FailedAt k) c = record {
+  fails = c.fails;
+  number = c.number;
+  is_armed = c.is_armed;
+  sealed = λ told. c.sealed told
+      ∙ ap (λ (files : List SealedFile). tells.files old ++ files) (same told (k - 1) (omega (arith, c.number)));
+}
+comes_as tells xs ys ended tried old new same (StoppedAt k o) c = record {
+  fails = c.fails;
+  number = c.number;
+  stopped = c.stopped;
+  sealed = λ told. c.sealed told ∙ ap (λ (files : List SealedFile). tells.files old ++ files)
+      (same told (done_at k o) (omega (arith, c.number, done_within k o)));
+}
+
+-- calls that seal the same, as far as they were made
+pub makes_as : {A : Type 0} (tells : Ghosts A) (xs ys : List Call) (ended : Ending) (old new : A)
+    (made : Makes tells xs ended old new) → made.tried ≤ length ys → (ended ≡ Went → length xs ≡ length ys)
+    → (IsTrue tells.tells_files → (k : ℕ) → k ≤ made.tried → seals (take k xs) ≡ seals (take k ys))
+    → ((a : Armed) → Comes tells ys ended made.tried old new (calls_under a (length xs))
+    → Comes tells ys ended made.tried old new (calls_under a (length ys)))
+    → Makes tells ys ended old new
+makes_as tells xs ys ended old new made within long same under = record {
+  tried = made.tried;
+  within = within;
+  all = λ e. made.all e ∙ long e;
+  some = made.some;
+  called = made.called;
+  sealed = λ told. let s = made.sealed told in record {
+    count = s.count;
+    at_most = s.at_most;
+    at_least = s.at_least;
+    each = s.each;
+    files = s.files ∙ ap (λ (files : List SealedFile). tells.files old ++ files) (same told s.count s.at_most);
+  };
+  faults = made.faults;
+  planned = λ told memory a armed. under a (comes_as tells xs ys ended made.tried old new same
+      (calls_under a (length xs)) (made.planned told memory a armed));
+}
 
 module _ {A : Type 0} (tells : Ghosts A) (xs ys : List Call) where
   -- the files after calls that all ran
@@ -240,31 +237,25 @@ module _ {A : Type 0} (tells : Ghosts A) (xs ys : List Call) where
       → Comes tells ys ended tried mid new came
       → Comes tells (xs ++ ys) ended (length xs + tried) old new (later_by (length xs) came)
   comes_behind ended tried old mid new first some (Ran a) c =
-      subst (λ (came : Came). Comes tells (xs ++ ys) ended (length xs + tried) old new came)
-      (sym (later_ran (length xs) a)) (record { runs = c.runs; is_armed = c.is_armed })
+      rw (later_ran (length xs) a) (record { runs = c.runs; is_armed = c.is_armed })
   comes_behind ended tried old mid new first some (FailedAt k) c =
-      subst (λ (came : Came). Comes tells (xs ++ ys) ended (length xs + tried) old new came)
-      (sym (later_failed (length xs) k)) (record {
+      rw (later_failed (length xs) k) (record {
         fails = c.fails;
         number = ap (λ (n : ℕ). length xs + n) c.number;
         is_armed = c.is_armed;
         sealed = λ told. seals_behind _ _ _ xs ys (k - 1) (all_sealed old mid first told) (c.sealed told)
             ∙ ap (λ (n : ℕ). tells.files old ++ seals (take n (xs ++ ys)))
-            (less_one (length xs) k (subst (λ (n : ℕ). 1 ≤ n) c.number (some c.fails)));
+            (less_one (length xs) k (omega (arith, c.number, some c.fails)));
       })
   comes_behind ended tried old mid new first some (StoppedAt k o) c =
-      subst (λ (came : Came). Comes tells (xs ++ ys) ended (length xs + tried) old new came)
-      (sym (later_stopped (length xs) k o)) (record {
+      rw (later_stopped (length xs) k o) (record {
         fails = c.fails;
         number = ap (λ (n : ℕ). length xs + n) c.number;
         stopped = c.stopped;
         sealed = λ told. seals_behind _ _ _ xs ys (done_at k o) (all_sealed old mid first told) (c.sealed told)
             ∙ ap (λ (n : ℕ). tells.files old ++ seals (take n (xs ++ ys)))
-            (done_later (length xs) k o (subst (λ (n : ℕ). 1 ≤ n) c.number (some c.fails)));
+            (done_later (length xs) k o (omega (arith, c.number, some c.fails)));
       })
-
-  went_not_failed : (P : Type 0) → Went ≡ Failed → P
-  went_not_failed P e = absurd (cc)
 
   comes_then : (ended : Ending) (tried : ℕ) (old mid new : A) → Makes tells xs Went old mid
       → (ended ≡ Failed → 1 ≤ tried) → (came : Came)
@@ -273,7 +264,7 @@ module _ {A : Type 0} (tells : Ghosts A) (xs ys : List Call) where
       → Comes tells (xs ++ ys) ended (length xs + tried) old new (then_calls (length xs) (length ys) came)
   comes_then ended tried old mid new first some (Ran b) c next =
       comes_behind ended tried old mid new first some (calls_under b (length ys)) (next b c.is_armed)
-  comes_then ended tried old mid new first some _ c next = went_not_failed _ c.fails
+  comes_then ended tried old mid new first some _ c next = absurd (let e : Went ≡ Failed = c.fails in cc)
 
   -- calls that all ran, and then others
   pub makes_then : (ended : Ending) (old mid new : A) → Makes tells xs Went old mid → Makes tells ys ended mid new
@@ -302,69 +293,26 @@ module _ {A : Type 0} (tells : Ghosts A) (xs ys : List Call) where
           still = λ e. next.faults.still e ∙ first.faults.still refl;
         };
         planned = λ told memory a armed.
-            subst (λ (came : Came). Comes tells (xs ++ ys) ended (length xs + next.tried) old new came)
-            (sym (ap (λ (n : ℕ). calls_under a n) long ∙ calls_go_on a (length xs) (length ys)))
+            rw (long, calls_go_on a (length xs) (length ys))
             (comes_then ended next.tried old mid new first next.some (calls_under a (length xs))
-            (subst (λ (n : ℕ). Comes tells xs Went n old mid (calls_under a (length xs))) (first.all refl)
-            (first.planned told refl a armed))
+            (rw (first.all refl) at (first.planned told refl a armed))
             (λ b is_armed. next.planned told memory b is_armed));
       }
 
-  -- ---- calls that didn't all run
-  first_of : (files after : List SealedFile) (n : ℕ) → n ≤ length xs → after ≡ files ++ seals (take n xs)
-      → after ≡ files ++ seals (take n (xs ++ ys))
-  first_of files after n h e = e ∙ ap (λ (cs : List Call). files ++ seals cs) (sym (take-append-le n xs ys h))
-
-  within_one : (k tried : ℕ) → tried ≡ k → tried ≤ length xs → k - 1 ≤ length xs
-  within_one k tried e h = omega arith
-
-  within_done : (k tried : ℕ) (o : Outcome3) → tried ≡ k → tried ≤ length xs → done_at k o ≤ length xs
-  within_done k tried o e h = omega (arith, done_within k o)
-
-  not_went : (P : Type 0) (ended : Ending) → ended ≢ Went → ended ≡ Went → P
-  not_went P ended h e = absurd (h e)
-
-  comes_first : (ended : Ending) (tried n : ℕ) (old new : A) → ended ≢ Went → tried ≤ length xs → (came : Came)
-      → Comes tells xs ended tried old new came
+  comes_first : (ended : Ending) (tried n : ℕ) (old new : A) → ended ≢ Went → (came : Came)
+      → Comes tells (xs ++ ys) ended tried old new came
       → Comes tells (xs ++ ys) ended tried old new (then_calls (length xs) n came)
-  comes_first ended tried n old new stops within (Ran b) c = not_went _ ended stops c.runs
-  comes_first ended tried n old new stops within (FailedAt k) c = record {
-    fails = c.fails;
-    number = c.number;
-    is_armed = c.is_armed;
-    sealed = λ told. first_of _ _ (k - 1) (within_one k tried c.number within) (c.sealed told);
-  }
-  comes_first ended tried n old new stops within (StoppedAt k o) c = record {
-    fails = c.fails;
-    number = c.number;
-    stopped = c.stopped;
-    sealed = λ told. first_of _ _ (done_at k o) (within_done k tried o c.number within) (c.sealed told);
-  }
+  comes_first ended tried n old new stops (Ran b) c = absurd (stops c.runs)
+  comes_first ended tried n old new stops _ c = c
 
   pub makes_stop : (ended : Ending) (old new : A) → ended ≢ Went → Makes tells xs ended old new
       → Makes tells (xs ++ ys) ended old new
   makes_stop ended old new stops first =
-      let long : length (xs ++ ys) ≡ length xs + length ys = length-append xs ys in
-      record {
-        tried = first.tried;
-        within = omega (arith, first.within);
-        all = λ e. absurd (stops e);
-        some = first.some;
-        called = first.called;
-        sealed = λ told. let s = first.sealed told in record {
-          count = s.count;
-          at_most = s.at_most;
-          at_least = s.at_least;
-          each = s.each;
-          files = first_of _ _ s.count (omega (arith, first.within, s.at_most)) s.files;
-        };
-        faults = first.faults;
-        planned = λ told memory a armed.
-            subst (λ (came : Came). Comes tells (xs ++ ys) ended first.tried old new came)
-            (sym (ap (λ (n : ℕ). calls_under a n) long ∙ calls_go_on a (length xs) (length ys)))
-            (comes_first ended first.tried (length ys) old new stops first.within (calls_under a (length xs))
-            (first.planned told memory a armed));
-      }
+      makes_as tells xs (xs ++ ys) ended old new first (omega (arith, first.within, length-append xs ys))
+      (λ e. absurd (stops e))
+      (λ told k h. ap seals (sym (take-append-le k xs ys (omega (arith, h, first.within)))))
+      (λ a c. rw (length-append xs ys, calls_go_on a (length xs) (length ys))
+      (comes_first ended first.tried (length ys) old new stops (calls_under a (length xs)) c))
 
 -- no calls
 pub makes_none : {A : Type 0} (tells : Ghosts A) (here : A) → Makes tells [] Went here here
@@ -374,37 +322,34 @@ makes_none tells here = record {
   all = λ e. refl;
   some = λ e. absurd (cc);
   called = λ told. refl;
-  sealed = λ told. record {
-    count = 0;
-    at_most = omega arith;
-    at_least = omega arith;
-    each = λ e. refl;
-    files = sym (append-nil (tells.files here));
-  };
+  sealed = λ told. all_done [] Went 0 (tells.files here) (tells.files here) (unsealed_by refl);
   faults = record { later = omega arith; failed = λ e. absurd (cc); still = λ e. refl };
   planned = λ told memory a armed. record { runs = refl; is_armed = armed };
 }
 
+-- calls that are the same
+pub by_calls : {A : Type 0} {tells : Ghosts A} {xs ys : List Call} {ended : Ending} {old new : A} → xs ≡ ys
+    → Makes tells xs ended old new → Makes tells ys ended old new
+by_calls {tells = tells} {ended = ended} {old = old} {new = new} e made =
+    subst (λ (cs : List Call). Makes tells cs ended old new) e made
+
 -- ---- by the results of functions
 
-ending_err : (e : ShelfFault) → ending_at e ≢ Went
+pub ending_err : (e : ShelfFault) → ending_at e ≢ Went
 ending_err Device same = absurd (cc)
 ending_err NoMemory same = absurd (cc)
-
--- the first calls didn't all run, and so the function ended
-pub stopped_at : {A U : Type 0} (tells : Ghosts A) (xs ys : List Call) (old new : A) (q : Result U ShelfFault)
-    (e : ShelfFault)
-    → IsErr q × IsErrAnd q (λ x. x ≡ e) → Makes tells xs (ending_at e) old new
-    → Makes tells (xs ++ ys) (ending_of q) old new
-stopped_at tells xs ys old new (Ok x) e h first = absurd h.1
-stopped_at tells xs ys old new (Err x) e h first =
-    subst (λ (fault : ShelfFault). Makes tells (xs ++ ys) (ending_at fault) old new) (sym h.1)
-    (makes_stop tells xs ys (ending_at e) old new (ending_err e) first)
 
 -- the last calls didn't all run, and so the function ended
 pub ended_at : {A U : Type 0} (tells : Ghosts A) (xs : List Call) (old new : A) (q : Result U ShelfFault)
     (e : ShelfFault)
     → IsErr q × IsErrAnd q (λ x. x ≡ e) → Makes tells xs (ending_at e) old new → Makes tells xs (ending_of q) old new
 ended_at tells xs old new (Ok x) e h made = absurd h.1
-ended_at tells xs old new (Err x) e h made = subst (λ (fault : ShelfFault). Makes tells xs (ending_at fault) old new)
-    (sym h.1) made
+ended_at tells xs old new (Err x) e h made = rw h.1 made
+
+-- the first calls didn't all run, and so the function ended
+pub stopped_at : {A U : Type 0} (tells : Ghosts A) (xs ys : List Call) (old new : A) (q : Result U ShelfFault)
+    (e : ShelfFault)
+    → IsErr q × IsErrAnd q (λ x. x ≡ e) → Makes tells xs (ending_at e) old new
+    → Makes tells (xs ++ ys) (ending_of q) old new
+stopped_at tells xs ys old new q e h first =
+    ended_at tells (xs ++ ys) old new q e h (makes_stop tells xs ys (ending_at e) old new (ending_err e) first)

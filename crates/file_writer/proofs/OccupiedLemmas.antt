@@ -1,7 +1,6 @@
 -- Where the files have a record, it is that of an item with this place.
-use Rattle.std.proofs.Common.{◌≡◌, ℕ, zero, suc, ◌+◌, ◌-◌, ◌<◌, ◌==◌, nat_lt, if◌then◌else◌, Bool, true, false, List, [], ◌∷◌, length, take, slice_get, Option, Some, refl, ap, ◌∙◌, arith, length-append}
-use Rattle.std.proofs.lemmas.Bool.{eqb-true}
-use Rattle.std.proofs.lemmas.Bool.Decides.{nat_tests}
+use Rattle.std.proofs.Common.{◌≡◌, ℕ, zero, suc, ◌+◌, ◌-◌, ◌<◌, ◌==◌, Bool, true, false, List, [], ◌∷◌, length, take, slice_get, Option, Some, refl, ap, ◌∙◌, arith, length-append, inl, inr, ◌≤◌}
+use Rattle.std.proofs.lemmas.Bool.{eqb-true, le-ltb, lt-ltb, cases_lt}
 use Rattle.std.proofs.lemmas.Option.{none-some, slice_get_within}
 use Rattle.file_rotate.specs.Items.{Filed, records_of}
 use Rattle.gw_base.specs.declared.item.Item.{Item}
@@ -11,7 +10,7 @@ use Rattle.gw_base.specs.declared.tag.Tag.{Tag}
 use Rattle.route_filter.specs.Rules.{stream_of}
 use Rattle.route_filter.specs.declared.rule.Rule.{Rule}
 use Rattle.file_writer.proofs.RecordsLemmas.{HasAll, all_of, all_of-runs, length-records}
-use Rattle.file_writer.specs.Places.{FilePlace, in_run, nth_place, place_in, place_of_item, record_at, records_to, run_with, runs_of}
+use Rattle.file_writer.specs.Places.{FilePlace, in_run, nth_place, place_in, record_at, run_with, runs_of}
 use Rattle.file_writer.specs.Streams.{Settings, record_if, stream_division, stream_item, stream_items, stream_record}
 
 -- ---- places of runs
@@ -25,21 +24,6 @@ record IsNth {P : Type 0} (s q : ℕ) (runs : List (List (Filed P))) (before ind
   within : n < length (all_of runs)
   found : nth_place s q runs n ≡ Some (place s (q + before) index)
 
-none_more : (q : ℕ) → q ≡ q + 0
-none_more q = omega arith
-
-one_sooner : (q before : ℕ) → q + 1 + before ≡ q + suc before
-one_sooner q before = omega arith
-
-behind : (a b : ℕ) → a + b - a ≡ b
-behind a b = omega arith
-
-is_less : (a b : ℕ) → a < b → nat_lt a b ≡ true
-is_less a b h = grind (arith, nat_tests)
-
-is_not_less : (a b : ℕ) → nat_lt (a + b) a ≡ false
-is_not_less a b = grind (arith, nat_tests)
-
 is_nth : {P : Type 0} (s q : ℕ) (runs : List (List (Filed P))) (before index : ℕ) (filed : Filed P)
     → in_run index (slice_get runs before) ≡ Some filed → IsNth s q runs before index
 is_nth s q [] before index filed h = let no : ⊥ = none-some filed h in absurd no
@@ -48,20 +32,16 @@ is_nth s q (run ∷ later) zero index filed h =
     record {
       n = index;
       within = omega (arith, less, length-append run (all_of later));
-      found = ap (λ (b : Bool). if b then Some (place s q index) else nth_place s (q + 1) later (index - length run))
-          (is_less index (length run) less)
-          ∙ ap (λ (sequence : ℕ). Some (place s sequence index)) (none_more q);
+      found = rw (lt-ltb index (length run) less) (ap (λ (sequence : ℕ). Some (place s sequence index)) (omega arith));
     }
 is_nth s q (run ∷ later) (suc before) index filed h =
     let rest = is_nth s (q + 1) later before index filed h in
-    let n : ℕ = length run + rest.n in
+    let left : length run + rest.n - length run ≡ rest.n = omega arith in
     record {
-      n = n;
+      n = length run + rest.n;
       within = omega (arith, rest.within, length-append run (all_of later));
-      found = ap (λ (b : Bool). if b then Some (place s q n) else nth_place s (q + 1) later (n - length run))
-          (is_not_less (length run) rest.n)
-          ∙ ap (λ (m : ℕ). nth_place s (q + 1) later m) (behind (length run) rest.n) ∙ rest.found
-          ∙ ap (λ (sequence : ℕ). Some (place s sequence index)) (one_sooner q before);
+      found = rw (le-ltb (length run + rest.n) (length run) (omega arith), left)
+          (rest.found ∙ ap (λ (sequence : ℕ). Some (place s sequence index)) (omega arith));
     }
 
 -- ---- the items of a stream's records
@@ -93,60 +73,49 @@ one_later profile rules s first items n m more there = record {
       ∙ ap (λ (i : ℕ). length (records_of (stream_item profile rules s first)) + i) there.before ∙ more;
 }
 
-none_in_front : (n : ℕ) → 0 + n ≡ n
-none_in_front n = omega arith
+one_if : (b : Bool) (filed : Filed (List ℕ)) → length (records_of (record_if b filed)) ≤ 1
+one_if true filed = omega arith
+one_if false filed = omega arith
 
-is_item : (profile : ℕ) (rules : List Rule) (s : ℕ) (items : List Item) (n : ℕ) → n < length (records_of (stream_items profile rules s items))
-    → IsItem profile rules s items n
-is_item profile rules s [] n h = let no : ⊥ = omega (arith, h) in absurd no
-is_item profile rules s (item.Tick moment ∷ items) n h =
-    one_later profile rules s (item.Tick moment) items n n (none_in_front n) (is_item profile rules s items n h)
-is_item profile rules s (item.Close moment ∷ items) n h =
-    one_later profile rules s (item.Close moment) items n n (none_in_front n) (is_item profile rules s items n h)
-is_item profile rules s (item.Part kind tag octets moment ∷ items) n h =
-    by (stream_of rules tag kind.format == s) refl n h (is_item profile rules s items)
-  where
-    first : Item
-    first = item.Part kind tag octets moment
+at_most_one : (profile : ℕ) (rules : List Rule) (s : ℕ) (first : Item)
+    → length (records_of (stream_item profile rules s first)) ≤ 1
+at_most_one profile rules s (item.Part kind tag octets moment) =
+    one_if (stream_of rules tag kind.format == s) (stream_record profile kind octets moment)
+at_most_one profile rules s _ = omega arith
 
-    one : (stream_of rules tag kind.format == s) ≡ true → length (records_of (stream_item profile rules s first)) ≡ 1
-    one e = ap (λ (b : Bool). length (records_of (record_if b (stream_record profile kind octets moment)))) e
+passes : (b : Bool) (filed : Filed (List ℕ)) → 0 < length (records_of (record_if b filed)) → b ≡ true
+passes true filed h = refl
+passes false filed h = absurd (omega (arith, h))
 
-    none : (stream_of rules tag kind.format == s) ≡ false → length (records_of (stream_item profile rules s first)) ≡ 0
-    none e = ap (λ (b : Bool). length (records_of (record_if b (stream_record profile kind octets moment)))) e
+the_first : (profile : ℕ) (rules : List Rule) (s : ℕ) (first : Item) (items : List Item)
+    → 0 < length (records_of (stream_item profile rules s first)) → IsItem profile rules s (first ∷ items) 0
+the_first profile rules s (item.Part kind tag octets moment) items h = record {
+  k = 0;
+  kind = kind;
+  tag = tag;
+  octets = octets;
+  moment = moment;
+  is = refl;
+  stream = eqb-true (stream_of rules tag kind.format) s
+      (passes (stream_of rules tag kind.format == s) (stream_record profile kind octets moment) h);
+  before = refl;
+}
+the_first profile rules s _ items h = absurd (omega (arith, h))
 
-    by : (b : Bool) → (stream_of rules tag kind.format == s) ≡ b → (n : ℕ)
-        → n < length (records_of (stream_items profile rules s (first ∷ items)))
-        → ((m : ℕ) → m < length (records_of (stream_items profile rules s items)) → IsItem profile rules s items m)
-        → IsItem profile rules s (first ∷ items) n
-    by true e zero h rest = record {
-      k = 0;
-      kind = kind;
-      tag = tag;
-      octets = octets;
-      moment = moment;
-      is = refl;
-      stream = eqb-true (stream_of rules tag kind.format) s e;
-      before = refl;
-    }
-    by true e (suc n) h rest =
-        one_later profile rules s first items n (suc n) (omega (arith, one e))
-        (rest n
-        (omega (
-          arith,
-          h,
-          one e,
-          length-records (stream_item profile rules s first) (stream_items profile rules s items),
-        )))
-    by false e n h rest =
-        one_later profile rules s first items n n (omega (arith, none e))
-        (rest n
-        (omega (
-          arith,
-          h,
-          none e,
-          length-records (stream_item profile rules s first) (stream_items profile rules s items),
-        )))
+is_item : (profile : ℕ) (rules : List Rule) (s : ℕ) (items : List Item) (n : ℕ)
+    → n < length (records_of (stream_items profile rules s items)) → IsItem profile rules s items n
+is_item profile rules s [] n h = absurd (omega (arith, h))
+is_item profile rules s (first ∷ items) n h =
+    let m : ℕ = length (records_of (stream_item profile rules s first)) in
+    elim (cases_lt n m) [
+      | inl less ↦
+          let none : n ≡ 0 = omega (arith, less, at_most_one profile rules s first) in
+          rw none (the_first profile rules s first items (omega (arith, less)))
+      | inr past ↦
+          one_later profile rules s first items (n - m) n (omega (arith, past))
+          (is_item profile rules s items (n - m) (omega (arith, h, past,
+          length-records (stream_item profile rules s first) (stream_items profile rules s items))))
+    ]
 
 -- ---- the item at a place
 
@@ -156,11 +125,7 @@ place_is : (settings : Settings) (items : List Item) (s before index sequence : 
     (found : IsItem settings.profile settings.rules s items nth.n) → 1 + before ≡ sequence
     → place_in settings items found.k ≡ Some (place s sequence index)
 place_is settings items s before index sequence nth found number =
-    ap (λ (o : Option Item). place_of_item settings items found.k o) found.is
-    ∙ ap (λ (t : ℕ). nth_place t 1 (runs_of (stream_division settings t items))
-    (records_to settings t (take found.k items))) found.stream
-    ∙ ap (λ (n : ℕ). nth_place s 1 (runs_of (stream_division settings s items)) n) found.before ∙ nth.found
-    ∙ ap (λ (q : ℕ). Some (place s q index)) number
+    rw (found.is, found.stream, found.before) (nth.found ∙ ap (λ (q : ℕ). Some (place s q index)) number)
 
 pub item-there : HasAll → (settings : Settings) (items : List Item) (at : FilePlace) (filed : Filed (List ℕ))
     → record_at settings items at ≡ Some filed → (k : ℕ) × (place_in settings items k ≡ Some at)
@@ -175,7 +140,7 @@ item-there law settings items at filed h = by at.sequence refl h
     all : length (all_of runs) ≡ length (records_of (stream_items settings.profile settings.rules s items))
     all = ap length
         (all_of-runs (stream_division settings s items).closed (stream_division settings s items).left_open
-        ∙ law settings s items)
+        ∙ law settings.limits (stream_items settings.profile settings.rules s items))
 
     by : (sequence : ℕ) → at.sequence ≡ sequence → in_run at.index (run_with sequence runs) ≡ Some filed
         → (k : ℕ) × (place_in settings items k ≡ Some at)

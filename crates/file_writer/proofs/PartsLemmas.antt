@@ -1,33 +1,28 @@
 -- A writer that takes items in parts.
-use Rattle.std.proofs.Common.{◌≡◌, ◌∙◌, refl, sym, ap, subst, ℕ, ◌+◌, ◌<◌, max, List, [], ◌++◌, length, take, drop, Result, Ok, Err, Option, None, inl, inr, arith, append-nil, append_assoc, length-take, take-add, take-append-drop}
+use Rattle.std.proofs.Common.{◌≡◌, ◌∙◌, refl, sym, ap, subst, ℕ, ◌+◌, ◌<◌, max, IsTrue, List, [], ◌++◌, length, take, drop, Result, Ok, Err, Option, inl, inr, arith, append_assoc, length-take, take-add, take-append-drop}
 use Rattle.std.specs.Prelude.{OnOk}
 use Rattle.std.proofs.lemmas.Bool.{cases_lt}
 use Rattle.std.proofs.lemmas.List.{take_min}
-use Rattle.cdr_shelf.specs.Files.{UnsealedFile}
-use Rattle.cdr_shelf.specs.declared.file_name.FileName.{FileName}
+use Rattle.cdr_shelf.specs.Files.{SealedFile, UnsealedFile}
 use Rattle.cdr_shelf.specs.declared.shelf.Shelf.{Ghosts}
-use Rattle.file_rotate.specs.Items.{Filed}
 use Rattle.gw_base.specs.declared.item.Item.{Item}
-use Rattle.file_writer.specs.Advancing.{Advances, calls}
+use Rattle.file_writer.specs.Advancing.{Advances, KeepsFiles, calls}
 use Rattle.file_writer.specs.Calls.{Call, calls_of}
 use Rattle.file_writer.specs.Laws.{DivisionGoesOn}
-use Rattle.file_writer.specs.Leaving.{AreAmong, IsOpenFile, LeavesUnsealed, begun_of}
-use Rattle.file_writer.specs.Making.{Makes, ending_of}
+use Rattle.file_writer.specs.Leaving.{AreAmong, LeavesUnsealed, begun_of}
+use Rattle.file_writer.specs.Making.{Ending, Makes, Went, ending_at, ending_of}
 use Rattle.file_writer.specs.Parts.{HasAdvanced, part_of}
-use Rattle.file_writer.specs.Streams.{Settings, closed_of, stream_count, stream_division}
+use Rattle.file_writer.specs.Streams.{Settings, closed_of, stream_count}
 use Rattle.file_writer.specs.Writer.{Holds, IsAt, sealed_in, settings_in, shelf_of}
 use Rattle.file_writer.specs.declared.fault.ShelfFault.{ShelfFault}
 use Rattle.file_writer.specs.declared.writer.Writer.{Writer}
-use Rattle.file_writer.proofs.AheadLemmas.{same_of}
+use Rattle.file_writer.proofs.CallsLemmas.{same_of}
 use Rattle.file_writer.proofs.AllLemmas.{calls-append}
-use Rattle.file_writer.proofs.AmongLemmas.{among_fewer, begun_grow}
-use Rattle.file_writer.proofs.LeavingLemmas.{closed_grow, none_counted, was_shut}
-use Rattle.file_writer.proofs.MakingLemmas.{makes_none, makes_then, stopped_at}
-use Rattle.file_writer.proofs.WriterLemmas.{begun}
-
-on_ok : {P Q : Type 0} (q : Result ℕ ShelfFault) → (P → Q) → OnOk q P → OnOk q Q
-on_ok (Ok n) f p = f p
-on_ok (Err fault) f p = p
+use Rattle.file_writer.proofs.AmongLemmas.{among_fewer, begun_grow, open_none}
+use Rattle.file_writer.proofs.FilesLemmas.{closed_of-append}
+use Rattle.file_writer.proofs.HoldingLemmas.{begun}
+use Rattle.file_writer.proofs.WritingLemmas.{on_ok}
+use Rattle.file_writer.proofs.MakingLemmas.{by_calls, ending_err, makes_none, makes_stop, makes_then}
 
 -- what calls leave unsealed, and others after them
 leaves_then : DivisionGoesOn → (settings : Settings) (closed sealed later : ℕ → ℕ) (before items more : List Item)
@@ -39,28 +34,35 @@ leaves_then : DivisionGoesOn → (settings : Settings) (closed sealed later : �
 leaves_then law settings closed sealed later before items more old mid new same first next = record {
   wrote = λ s h some.
       let front : List Item = before ++ items in
-      let all : List Item = front ++ more in
-      let run : List (Filed (List ℕ)) = (stream_division settings s all).left_open in
-      elim (cases_lt (max (closed s + closed_of settings s front) (later s)) (closed s + begun_of settings s all)) [
+      let longer = closed_of-append law settings s front more in
+      let grown = begun_grow law settings closed front more s in
+      elim (cases_lt (max (closed s + closed_of settings s front) (later s))
+      (closed s + begun_of settings s (front ++ more))) [
         | inl more_written ↦ next.wrote s h more_written
         | inr none ↦
-            let grown = closed_grow law settings s front more in
-            let shut : run ≡ [] = none_counted run (omega (arith, none, some, grown, same s h)) in
-            let was : (stream_division settings s front).left_open ≡ [] =
-            was_shut law settings s front more (omega (arith, none, some, same s h)) shut in
-            let name : ℕ → FileName = λ n. record { stream = s; sequence = n } in
-            let opened = first.wrote s h (omega (arith, none, some, same s h)) in
-            let gone : mid s ≡ None = subst (λ (r : List (Filed (List ℕ))). IsOpenFile
-            (name (closed s + closed_of settings s front + 1)) r (mid s)) was opened in
-            subst (λ (r : List (Filed (List ℕ))). IsOpenFile (name (closed s + closed_of settings s all + 1)) r (new s))
-            (sym shut) (next.stays s h none ∙ gone)
+            (open_none settings closed (front ++ more) s (new s) (omega (arith, none, some, longer, same s h))).1
+            (next.stays s h none
+            ∙ (open_none settings closed front s (mid s) (omega (arith, none, some, grown, same s h))).0
+            (first.wrote s h (omega (arith, none, some, same s h))))
       ];
   stays = λ s h few.
-      let front : List Item = before ++ items in
-      let grown = closed_grow law settings s before items in
-      let begins = begun_grow law settings closed front more s in
-      next.stays s h (omega (arith, few, grown, same s h)) ∙ first.stays s h (omega (arith, few, begins));
+      let longer = closed_of-append law settings s before items in
+      let begins = begun_grow law settings closed (before ++ items) more s in
+      next.stays s h (omega (arith, few, longer, same s h)) ∙ first.stays s h (omega (arith, few, begins));
   beyond = λ s h. next.beyond s h ∙ first.beyond s h;
+}
+
+-- however many calls were made, the files are the first ones
+pub keeps_by : {A : Type 0} (tells : Ghosts A) → DivisionGoesOn → (closed : ℕ → ℕ) (before items : List Item)
+    (old new : Writer A tells) (ended : Ending)
+    → Makes tells (calls tells closed before items old new) ended (shelf_of old) (shelf_of new)
+    → IsTrue tells.tells_files → (stood : ℕ → List SealedFile) (rest : List Item)
+    → Holds old closed stood ((before ++ items) ++ rest) before
+    → KeepsFiles tells closed before items old new stood ((before ++ items) ++ rest)
+keeps_by tells law closed before items old new ended made told stood rest holds = record {
+  at_any_moment = begun law (settings_in old) closed (sealed_in old) stood before items rest
+      (tells.files (shelf_of old)) holds;
+  now = ((made.sealed told).count, (made.sealed told).files);
 }
 
 module _ {A : Type 0} (tells : Ghosts A) (law : DivisionGoesOn) (closed : ℕ → ℕ) (before items more : List Item) where
@@ -82,10 +84,8 @@ module _ {A : Type 0} (tells : Ghosts A) (law : DivisionGoesOn) (closed : ℕ �
       (λ s h. ap (λ (m : ℕ). max m (closed s + closed_of q s (before ++ items))) (first.sealed s h)) in
       let made : Makes tells (calls_of q closed (sealed_in old) before (items ++ more)) (ending_of result)
       (shelf_of old) (shelf_of new) =
-      subst (λ (cs : List Call). Makes tells cs (ending_of result) (shelf_of old) (shelf_of new))
-      (sym (calls-append q closed (sealed_in old) before items more))
-      (makes_then tells xs ys _ _ _ _ first.makes
-      (subst (λ (cs : List Call). Makes tells cs (ending_of result) (shelf_of mid) (shelf_of new)) later next.makes)) in
+      by_calls (sym (calls-append q closed (sealed_in old) before items more))
+      (makes_then tells xs ys _ _ _ _ first.makes (by_calls later next.makes)) in
       record {
         makes = made;
         at = subst (λ (all : List Item). OnOk result (IsAt new closed all)) joined next.at;
@@ -103,11 +103,7 @@ module _ {A : Type 0} (tells : Ghosts A) (law : DivisionGoesOn) (closed : ℕ �
             next.shut files plan most
             (subst (λ (p : Settings). AreAmong p closed ((before ++ items) ++ more) most) (sym stays) all)
             (first.shut files plan most (among_fewer law q closed (before ++ items) more most all) shut);
-        keeps = λ told stood rest holds. record {
-          at_any_moment = begun law q closed (sealed_in old) stood before (items ++ more) rest
-              (tells.files (shelf_of old)) holds;
-          now = ((made.sealed told).count, (made.sealed told).files);
-        };
+        keeps = keeps_by tells law closed before (items ++ more) old new (ending_of result) made;
         holds = λ told stood rest holds.
             let whole : (before ++ (items ++ more)) ++ rest ≡ (before ++ items) ++ (more ++ rest) =
             ap (λ (some : List Item). some ++ rest) (sym joined) ∙ append_assoc (before ++ items) more rest in
@@ -125,12 +121,11 @@ module _ {A : Type 0} (tells : Ghosts A) (law : DivisionGoesOn) (closed : ℕ �
       → Advances tells closed before (items ++ more) old new (Err fault)
   first_alone old new fault first =
       let q : Settings = settings_in old in
-      let made : Makes tells (calls_of q closed (sealed_in old) before (items ++ more)) (ending_of {T = ℕ} (Err fault))
+      let made : Makes tells (calls_of q closed (sealed_in old) before (items ++ more)) (ending_at fault)
       (shelf_of old) (shelf_of new) =
-      subst (λ (cs : List Call). Makes tells cs (ending_of {T = ℕ} (Err fault)) (shelf_of old) (shelf_of new))
-      (sym (calls-append q closed (sealed_in old) before items more))
-      (stopped_at {U = ℕ} tells (calls_of q closed (sealed_in old) before items)
-      (calls_of q closed (sealed_in old) (before ++ items) more) _ _ (Err fault) fault (refl, refl) first.makes) in
+      by_calls (sym (calls-append q closed (sealed_in old) before items more))
+      (makes_stop tells (calls_of q closed (sealed_in old) before items)
+      (calls_of q closed (sealed_in old) (before ++ items) more) (ending_at fault) _ _ (ending_err fault) first.makes) in
       record {
         makes = made;
         at = first.at;
@@ -140,11 +135,7 @@ module _ {A : Type 0} (tells : Ghosts A) (law : DivisionGoesOn) (closed : ℕ �
             first.shut files plan most
             (among_fewer law q closed (before ++ items) more most
             (subst (λ (some : List Item). AreAmong q closed some most) (sym joined) among)) shut;
-        keeps = λ told stood rest holds. record {
-          at_any_moment = begun law q closed (sealed_in old) stood before (items ++ more) rest
-              (tells.files (shelf_of old)) holds;
-          now = ((made.sealed told).count, (made.sealed told).files);
-        };
+        keeps = keeps_by tells law closed before (items ++ more) old new (ending_at fault) made;
         holds = λ told stood rest holds. tt;
       }
 
@@ -161,11 +152,7 @@ none_taken tells law closed writer at n = record {
     beyond = λ s h. refl;
   };
   shut = λ files plan most among shut. shut;
-  keeps = λ told stood rest holds. record {
-    at_any_moment = begun law (settings_in writer) closed (sealed_in writer) stood [] [] rest
-        (tells.files (shelf_of writer)) holds;
-    now = (0, sym (append-nil (tells.files (shelf_of writer))));
-  };
+  keeps = keeps_by tells law closed [] [] writer writer Went (makes_none tells (shelf_of writer));
   holds = λ told stood rest holds. holds;
 }
 
@@ -190,15 +177,7 @@ module _ {A : Type 0} (tells : Ghosts A) (law : DivisionGoesOn) (closed : ℕ �
       → HasAdvanced tells closed (take (from + length part) all) first later
   part_taken n done k =
       let made = with_part (Ok n) done in
-      subst (λ (items : List Item). Advances tells closed [] items first later (Ok k)) (sym reached) (record {
-        makes = made.makes;
-        at = made.at;
-        sealed = made.sealed;
-        leaves = made.leaves;
-        shut = made.shut;
-        keeps = made.keeps;
-        holds = made.holds;
-      })
+      subst (λ (items : List Item). Advances tells closed [] items first later (Ok k)) (sym reached) (assumption made)
 
   pub part_broken : (fault : ShelfFault) → Advances tells closed (take from all) part now later (Err fault)
       → Advances tells closed [] all first later (Err fault)

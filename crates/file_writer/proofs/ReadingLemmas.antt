@@ -1,7 +1,7 @@
 -- The files of items are read back: each number that a header says of their records fits its field.
-use Rattle.std.proofs.Common.{◌≡◌, ℕ, zero, suc, ◌+◌, ◌^◌, ◌<◌, ◌≤◌, ◌==◌, ◌&&◌, ◌||◌, nat_le, if◌then◌else◌, Bool, true, false, All, Contains, List, [], ◌∷◌, ◌++◌, length, map, slice_get, sum_by, Option, None, Some, Ok, refl, sym, ap, ◌∙◌, subst, arith, ℤ, append-nil}
+use Rattle.std.proofs.Common.{◌≡◌, ℕ, zero, suc, ◌+◌, ◌^◌, ◌<◌, ◌≤◌, ◌==◌, ◌&&◌, ◌||◌, Bool, true, false, All, Contains, List, [], ◌∷◌, ◌++◌, length, map, slice_get, sum_by, Option, None, Some, Ok, refl, sym, ap, ◌∙◌, subst, arith, ℤ, append-nil, inl, inr}
 use Rattle.std.specs.Prelude.{is_some}
-use Rattle.std.proofs.lemmas.Bool.{and_parts, eqb-true, leb-false}
+use Rattle.std.proofs.lemmas.Bool.{and_parts, eqb-true, cases_Bool, cases_lt, le-leb}
 use Rattle.std.proofs.lemmas.List.Elements.{All-head, All-tail}
 use Rattle.std.proofs.lemmas.List.Sums.{sum_by-append, sum_by-cons}
 use Rattle.std.proofs.lemmas.Option.{get_or_from_slice_get, none-some, slice_get_within}
@@ -18,7 +18,7 @@ use Rattle.cdr_file.specs.declared.closure.ClosureReason.{ClosureReason}
 use Rattle.cdr_file.specs.declared.closure.ClosureReason.TheVariants as reason
 use Rattle.cdr_file.specs.declared.filed_kind.FiledKind.{FiledKind}
 use Rattle.file_rotate.specs.Division.{ClosedRun, Division, cdr_length, closed_first, divided_from, ends_after, ends_before, joined, run_length, run_limit_reached, still}
-use Rattle.file_rotate.specs.Items.{AreLimits, Filed, Record, Tick, Close, same_extension, same_kind}
+use Rattle.file_rotate.specs.Items.{AreLimits, Filed, Record, same_extension, same_kind}
 use Rattle.file_rotate.specs.Items as stream
 use Rattle.file_rotate.specs.declared.limits.Limits.{Limits}
 use Rattle.gw_base.specs.declared.item.Item.{Item}
@@ -29,7 +29,7 @@ use Rattle.file_writer.specs.AllStreams.{IsFit}
 use Rattle.file_writer.specs.Files.{files_from, record_of, run_records, sealed_file, stream_files}
 use Rattle.file_writer.specs.Places.{FilePlace, in_run, record_at, run_with, runs_of}
 use Rattle.file_writer.specs.Reading.{IsStamped, ReadsAt}
-use Rattle.file_writer.specs.Streams.{Settings, closed_of, record_if, stream_division, stream_items, stream_record}
+use Rattle.file_writer.specs.Streams.{Settings, closed_of, record_if, stream_division, stream_items, stream_record, stream_item}
 
 -- ---- what a header says of a record
 
@@ -39,10 +39,6 @@ record IsSayable (offset : ℤ) (filed : Filed (List ℕ)) : Type 0 where
   stated : filed.octets ≡ length filed.payload
   stamp : stamp_of filed.moment offset < 2 ^ 32
 
-abbrev AreSayable : ℤ → List (Filed (List ℕ)) → Type 0
-AreSayable offset [] = Unit {0}
-AreSayable offset (filed ∷ run) = IsSayable offset filed × AreSayable offset run
-
 abbrev IsItemSayable : ℤ → stream.Item (List ℕ) → Type 0
 IsItemSayable offset (Record filed) = IsSayable offset filed
 IsItemSayable offset _ = Unit {0}
@@ -51,89 +47,76 @@ abbrev AreItemsSayable : ℤ → List (stream.Item (List ℕ)) → Type 0
 AreItemsSayable offset [] = Unit {0}
 AreItemsSayable offset (i ∷ items) = IsItemSayable offset i × AreItemsSayable offset items
 
+both_sayable : (offset : ℤ) (xs ys : List (stream.Item (List ℕ))) → AreItemsSayable offset xs
+    → AreItemsSayable offset ys → AreItemsSayable offset (xs ++ ys)
+both_sayable offset [] ys h k = k
+both_sayable offset (x ∷ xs) ys h k = (h.0, both_sayable offset xs ys h.1 k)
+
+item_sayable : (profile : ℕ) (rules : List Rule) (file : FileSettings) (s : ℕ) (first : Item) → IsFit first
+    → IsStamped file first → AreItemsSayable file.offset (stream_item profile rules s first)
+item_sayable profile rules file s (item.Part kind tag octets moment) fit stamped =
+    by (stream_of rules tag kind.format == s)
+  where
+    by : (b : Bool) → AreItemsSayable file.offset (record_if b (stream_record profile kind octets moment))
+    by true = (record { kind = in_profile-fits profile kind fit.0; octets = fit.1; stated = refl; stamp = stamped }, tt)
+    by false = tt
+item_sayable profile rules file s _ fit stamped = (tt, tt)
+
 items_sayable : (profile : ℕ) (rules : List Rule) (file : FileSettings) (s : ℕ) (items : List Item) → All IsFit items
     → All (IsStamped file) items → AreItemsSayable file.offset (stream_items profile rules s items)
 items_sayable profile rules file s [] fit stamped = tt
-items_sayable profile rules file s (item.Tick moment ∷ items) fit stamped = (
-  tt,
-  items_sayable profile rules file s items (All-tail IsFit (item.Tick moment) items fit)
-      (All-tail (IsStamped file) (item.Tick moment) items stamped),
-)
-items_sayable profile rules file s (item.Close moment ∷ items) fit stamped = (
-  tt,
-  items_sayable profile rules file s items (All-tail IsFit (item.Close moment) items fit)
-      (All-tail (IsStamped file) (item.Close moment) items stamped),
-)
-items_sayable profile rules file s (item.Part kind tag octets moment ∷ items) fit stamped =
-    by (stream_of rules tag kind.format == s)
-    (items_sayable profile rules file s items (All-tail IsFit first items fit) (All-tail (IsStamped file) first items stamped))
-  where
-    first : Item
-    first = item.Part kind tag octets moment
-
-    fits : IsFit first
-    fits = All-head IsFit first items fit
-
-    by : (b : Bool) → AreItemsSayable file.offset (stream_items profile rules s items)
-        → AreItemsSayable file.offset (record_if b (stream_record profile kind octets moment) ++ stream_items profile rules s items)
-    by true rest = (
-      record {
-        kind = in_profile-fits profile kind fits.0;
-        octets = fits.1;
-        stated = refl;
-        stamp = All-head (IsStamped file) first items stamped;
-      },
-      rest,
-    )
-    by false rest = rest
-
-sayable_more : (offset : ℤ) (run : List (Filed (List ℕ))) (filed : Filed (List ℕ)) → AreSayable offset run
-    → IsSayable offset filed → AreSayable offset (run ++ filed ∷ [])
-sayable_more offset [] filed all is = (is, tt)
-sayable_more offset (x ∷ run) filed all is = (all.0, sayable_more offset run filed all.1 is)
+items_sayable profile rules file s (first ∷ items) fit stamped =
+    both_sayable file.offset (stream_item profile rules s first) (stream_items profile rules s items)
+    (item_sayable profile rules file s first (All-head IsFit first items fit)
+    (All-head (IsStamped file) first items stamped))
+    (items_sayable profile rules file s items (All-tail IsFit first items fit)
+    (All-tail (IsStamped file) first items stamped))
 
 -- ---- of which kind the records of runs are
 
-abbrev AreOf : FiledKind → List (Filed (List ℕ)) → Type 0
-AreOf kind [] = Unit {0}
-AreOf kind (filed ∷ run) = (filed.kind ≡ kind) × AreOf kind run
+-- each can be said, and is of this kind
+abbrev AreOf : ℤ → FiledKind → List (Filed (List ℕ)) → Type 0
+AreOf offset kind [] = Unit {0}
+AreOf offset kind (filed ∷ run) = IsSayable offset filed × (filed.kind ≡ kind) × AreOf offset kind run
 
 -- all of that of the first
-abbrev IsOneKind : List (Filed (List ℕ)) → Type 0
-IsOneKind [] = Unit {0}
-IsOneKind (first ∷ later) = AreOf first.kind later
+abbrev AreSayable : ℤ → List (Filed (List ℕ)) → Type 0
+AreSayable offset [] = Unit {0}
+AreSayable offset (first ∷ later) = AreOf offset first.kind (first ∷ later)
 
 -- an item that is a record is of that kind too
 abbrev Joins : List (Filed (List ℕ)) → stream.Item (List ℕ) → Type 0
 Joins (first ∷ later) (Record filed) = filed.kind ≡ first.kind
 Joins _ _ = Unit {0}
 
-of_more : (kind : FiledKind) (run : List (Filed (List ℕ))) (filed : Filed (List ℕ)) → AreOf kind run
-    → filed.kind ≡ kind → AreOf kind (run ++ filed ∷ [])
-of_more kind [] filed are is = (is, tt)
-of_more kind (x ∷ run) filed are is = (are.0, of_more kind run filed are.1 is)
+of_more : (offset : ℤ) (kind : FiledKind) (run : List (Filed (List ℕ))) (filed : Filed (List ℕ)) → AreOf offset kind run
+    → IsSayable offset filed → filed.kind ≡ kind → AreOf offset kind (run ++ filed ∷ [])
+of_more offset kind [] filed are sayable is = (sayable, is, tt)
+of_more offset kind (x ∷ run) filed are sayable is =
+    (are.0, are.1, of_more offset kind run filed are.2 sayable is)
 
-kinds_more : (run : List (Filed (List ℕ))) (filed : Filed (List ℕ)) → IsOneKind run → Joins run (Record filed)
-    → IsOneKind (run ++ filed ∷ [])
-kinds_more [] filed one is = tt
-kinds_more (first ∷ later) filed one is = of_more first.kind later filed one is
+sayable_more : (offset : ℤ) (run : List (Filed (List ℕ))) (filed : Filed (List ℕ)) → AreSayable offset run
+    → IsSayable offset filed → Joins run (Record filed) → AreSayable offset (run ++ filed ∷ [])
+sayable_more offset [] filed are sayable is = (sayable, refl, tt)
+sayable_more offset (first ∷ later) filed are sayable is =
+    of_more offset first.kind (first ∷ later) filed are sayable is
 
 extension_is : (extension other : Option ℕ) → same_extension extension other ≡ true → extension ≡ other
 extension_is None None e = refl
-extension_is None (Some other) e = absurd (cc)
-extension_is (Some extension) None e = absurd (cc)
 extension_is (Some extension) (Some other) e = ap (λ (x : ℕ). Some x) (eqb-true extension other e)
+extension_is _ _ e = absurd (cc)
 
 kind_is : (kind other : FiledKind) → same_kind kind other ≡ true → kind ≡ other
 kind_is kind other e =
     let first = and_parts (kind.release == other.release) _ e in
     let second = and_parts (kind.version == other.version) _ first.1 in
     let third = and_parts (kind.format == other.format) _ second.1 in
-    let release : kind.release ≡ other.release = eqb-true kind.release other.release first.0 in
-    let version : kind.version ≡ other.version = eqb-true kind.version other.version second.0 in
-    let format : kind.format ≡ other.format = eqb-true kind.format other.format third.0 in
-    let extension : kind.extension ≡ other.extension = extension_is kind.extension other.extension third.1 in
-    λ i. record { release = release i; version = version i; format = format i; extension = extension i }
+    λ i. record {
+      release = eqb-true kind.release other.release first.0 i;
+      version = eqb-true kind.version other.version second.0 i;
+      format = eqb-true kind.format other.format third.0 i;
+      extension = extension_is kind.extension other.extension third.1 i;
+    }
 
 -- a file that isn't closed before a record is one of records of its kind
 joins : (limits : Limits) (run : List (Filed (List ℕ))) (i : stream.Item (List ℕ)) (before : Option ClosureReason)
@@ -141,14 +124,12 @@ joins : (limits : Limits) (run : List (Filed (List ℕ))) (i : stream.Item (List
 unfolding ends_before
 joins limits run i (Some reason) e = tt
 joins limits [] i None e = tt
-joins limits (first ∷ later) (Record filed) None e = by (same_kind first.kind filed.kind) refl e
-  where
-    by : (b : Bool) → same_kind first.kind filed.kind ≡ b
-        → (if b then None else Some reason.KindChange) ≡ None → filed.kind ≡ first.kind
-    by true same h = sym (kind_is first.kind filed.kind same)
-    by false same h = let no : ⊥ = none-some reason.KindChange (sym h) in absurd no
-joins limits (first ∷ later) (Tick moment) None e = tt
-joins limits (first ∷ later) (Close moment) None e = tt
+joins limits (first ∷ later) (Record filed) None e =
+    elim (cases_Bool (same_kind first.kind filed.kind)) [
+      | inl same ↦ sym (kind_is first.kind filed.kind same)
+      | inr other ↦ absurd (cc (other, e))
+    ]
+joins limits (first ∷ later) _ None e = tt
 
 -- ---- how long runs are
 
@@ -160,24 +141,15 @@ one_longer : (run : List (Filed (List ℕ))) (filed : Filed (List ℕ)) → run_
     ≤ run_length run + (59 + filed.octets)
 one_longer [] filed = omega (arith, few_octets filed.kind.extension, sum_by-cons cdr_length filed [])
 one_longer (x ∷ run) filed =
-    omega (
-      arith,
-      few_octets filed.kind.extension,
-      sum_by-append cdr_length (x ∷ run) (filed ∷ []),
-      sum_by-cons cdr_length filed [],
-    )
+    omega (arith, few_octets filed.kind.extension, sum_by-append cdr_length (x ∷ run) (filed ∷ []),
+    sum_by-cons cdr_length filed [])
 
-as_long : (offset : ℤ) (run : List (Filed (List ℕ))) → AreSayable offset run
+as_long : (offset : ℤ) (kind : FiledKind) (run : List (Filed (List ℕ))) → AreOf offset kind run
     → sum_by cdr.cdr_length (run_records run) ≡ sum_by cdr_length run
-as_long offset [] all = refl
-as_long offset (x ∷ run) all =
-    omega (
-      arith,
-      all.0.stated,
-      as_long offset run all.1,
-      sum_by-cons cdr.cdr_length (record_of x) (run_records run),
-      sum_by-cons cdr_length x run,
-    )
+as_long offset kind [] all = refl
+as_long offset kind (x ∷ run) all =
+    omega (arith, all.0.stated, as_long offset kind run all.2,
+    sum_by-cons cdr.cdr_length (record_of x) (run_records run), sum_by-cons cdr_length x run)
 
 no_more : (run : List (Filed (List ℕ))) → length run ≤ sum_by cdr_length run
 no_more [] = omega arith
@@ -192,7 +164,6 @@ as_many (x ∷ run) = ap suc (as_many run)
 record IsReadable (offset : ℤ) (run : List (Filed (List ℕ))) : Type 0 where
   long : run_length run < 2 ^ 32
   each : AreSayable offset run
-  kinds : IsOneKind run
 
 abbrev AllReadable : ℤ → List (ClosedRun (List ℕ)) → Type 0
 AllReadable offset [] = Unit {0}
@@ -209,37 +180,33 @@ module _ (limits : Limits) (are : AreLimits limits) (offset : ℤ) where
   record IsOpen (run : List (Filed (List ℕ))) : Type 0 where
     short : run_length run < limits.size
     each : AreSayable offset run
-    kinds : IsOneKind run
 
   none_open : IsOpen []
-  none_open = record { short = are.size_from; each = tt; kinds = tt }
+  none_open = record { short = are.size_from; each = tt }
 
   still_open : (reason : Option ClosureReason) (run : List (Filed (List ℕ))) → IsOpen run → IsOpen (still reason run [])
   still_open None run is = is
   still_open (Some reason) run is = none_open
 
   readable : (run : List (Filed (List ℕ))) → IsOpen run → IsReadable offset run
-  readable run is = record { long = omega (arith, is.short, are.size_to); each = is.each; kinds = is.kinds }
+  readable run is = record { long = omega (arith, is.short, are.size_to); each = is.each }
 
   -- a run with an item more, which may be closed after it
   with_item : (run : List (Filed (List ℕ))) (i : stream.Item (List ℕ)) → IsOpen run → IsItemSayable offset i
       → Joins run i → IsReadable offset (run ++ stream.record_in i)
   with_item run (Record filed) is sayable joint = record {
     long = omega (arith, is.short, are.size_to, sayable.octets, one_longer run filed);
-    each = sayable_more offset run filed is.each sayable;
-    kinds = kinds_more run filed is.kinds joint;
+    each = sayable_more offset run filed is.each sayable joint;
   }
   with_item run _ is sayable joint = subst (IsReadable offset) (sym (append-nil run)) (readable run is)
 
   short_of : (run : List (Filed (List ℕ))) → run_limit_reached limits run ≡ None → run_length run < limits.size
   unfolding run_limit_reached
-  short_of run h = by (nat_le limits.size (run_length run)) refl h
-    where
-      by : (b : Bool) → nat_le limits.size (run_length run) ≡ b
-          → (if b then Some reason.SizeLimit else if nat_le limits.count (length run) then Some reason.CountLimit
-          else None) ≡ None → run_length run < limits.size
-      by true e h = let no : ⊥ = none-some reason.SizeLimit (sym h) in absurd no
-      by false e h = leb-false limits.size (run_length run) e
+  short_of run h =
+      elim (cases_lt (run_length run) limits.size) [
+        | inl less ↦ less
+        | inr reached ↦ absurd (cc (le-leb limits.size (run_length run) reached, h))
+      ]
 
   -- what is left open
   left_open : (run : List (Filed (List ℕ))) (i : stream.Item (List ℕ)) → IsOpen run → IsItemSayable offset i
@@ -247,11 +214,8 @@ module _ (limits : Limits) (are : AreLimits limits) (offset : ℤ) where
       → IsOpen (still after (run ++ stream.record_in i) [])
   unfolding ends_after
   left_open run i is sayable joint (Some reason) e = none_open
-  left_open run (Record filed) is sayable joint None e = record {
-    short = short_of (run ++ filed ∷ []) e;
-    each = sayable_more offset run filed is.each sayable;
-    kinds = kinds_more run filed is.kinds joint;
-  }
+  left_open run (Record filed) is sayable joint None e =
+      record { short = short_of (run ++ filed ∷ []) e; each = sayable_more offset run filed is.each sayable joint }
   left_open run _ is sayable joint None e = subst IsOpen (sym (append-nil run)) is
 
   all_closed : (run : List (Filed (List ℕ))) → IsOpen run → (items : List (stream.Item (List ℕ)))
@@ -279,23 +243,23 @@ reason_is : (r : ClosureReason) → code_of r < 256
 reason_is reason.Normal = omega arith
 reason_is _ = omega arith
 
-last_stamp : (offset : ℤ) (first : Filed (List ℕ)) (later : List (Filed (List ℕ))) → AreSayable offset (first ∷ later)
-    → stamp_of (last_moment (run_records (first ∷ later))) offset < 2 ^ 32
-last_stamp offset first [] all = all.0.stamp
-last_stamp offset first (next ∷ later) all = last_stamp offset next later all.1
+last_stamp : (offset : ℤ) (kind : FiledKind) (first : Filed (List ℕ)) (later : List (Filed (List ℕ)))
+    → AreOf offset kind (first ∷ later) → stamp_of (last_moment (run_records (first ∷ later))) offset < 2 ^ 32
+last_stamp offset kind first [] all = all.0.stamp
+last_stamp offset kind first (next ∷ later) all = last_stamp offset kind next later all.2
 
 header_fits : (settings : FileSettings) (first : Filed (List ℕ)) (later : List (Filed (List ℕ))) (sequence : ℕ)
     (r : ClosureReason) → IsReadable settings.offset (first ∷ later) → sequence < 2 ^ 32
     → IsFileHeader (file_header (run_records (first ∷ later)) sequence r settings)
 header_fits settings first later sequence r is low =
-    let long = as_long settings.offset (first ∷ later) is.each in
+    let long = as_long settings.offset first.kind (first ∷ later) is.each in
     record {
       address = address_is settings.address;
       file_length = omega (arith, is.long, long);
       header_length = omega (arith, few_octets first.kind.extension);
       high = (is.each.0.kind.release, is.each.0.kind.version);
       low = (is.each.0.kind.release, is.each.0.kind.version);
-      stamps = (is.each.0.stamp, last_stamp settings.offset first later is.each);
+      stamps = (is.each.0.stamp, last_stamp settings.offset first.kind first later is.each);
       count = omega (arith, is.long, no_more (first ∷ later), as_many (first ∷ later));
       sequence = low;
       octets = (reason_is r, omega arith);
@@ -303,10 +267,10 @@ header_fits settings first later sequence r is low =
       low_extension = extends_one first.kind.release first.kind.extension is.each.0.kind.extension;
     }
 
-cdrs_fit : (offset : ℤ) (kind : FiledKind) (run : List (Filed (List ℕ))) → AreSayable offset run → AreOf kind run
+cdrs_fit : (offset : ℤ) (kind : FiledKind) (run : List (Filed (List ℕ))) → AreOf offset kind run
     → AreCdrs (is_some kind.extension || is_some kind.extension) (map cdr_of (run_records run))
-cdrs_fit offset kind [] all are = tt
-cdrs_fit offset kind (x ∷ run) all are = (
+cdrs_fit offset kind [] all = tt
+cdrs_fit offset kind (x ∷ run) all = (
   record {
     header = record {
       length = omega (arith, all.0.octets, all.0.stated);
@@ -317,11 +281,11 @@ cdrs_fit offset kind (x ∷ run) all are = (
       extension = all.0.kind.extension;
     };
     extension = subst (λ (k : FiledKind). IsExtension ((is_some k.extension || is_some k.extension)
-        && (x.kind.release == 7)) x.kind.extension) are.0
+        && (x.kind.release == 7)) x.kind.extension) all.1
         (extends_one x.kind.release x.kind.extension all.0.kind.extension);
     stated = refl;
   },
-  cdrs_fit offset kind run all.1 are.1,
+  cdrs_fit offset kind run all.2,
 )
 
 cdr_at : (run : List (Filed (List ℕ))) (index : ℕ) (filed : Filed (List ℕ)) → slice_get run index ≡ Some filed
@@ -340,12 +304,6 @@ record IsClosedAt (settings : FileSettings) (s q : ℕ) (closed : List (ClosedRu
   file_is : slice_get (files_from settings s q closed) before ≡ Some (sealed_file settings s (q + before) c)
   is : IsReadable settings.offset c.run
 
-none_more : (q : ℕ) → q ≡ q + 0
-none_more q = omega arith
-
-one_sooner : (q before : ℕ) → q + 1 + before ≡ q + suc before
-one_sooner q before = omega arith
-
 closed_at : (settings : FileSettings) (s q : ℕ) (closed : List (ClosedRun (List ℕ))) (left : List (Filed (List ℕ)))
     (before : ℕ) → before < length closed → AllReadable settings.offset closed
     → IsClosedAt settings s q closed left before
@@ -353,7 +311,7 @@ closed_at settings s q [] left before less all = let no : ⊥ = omega (arith, le
 closed_at settings s q (x ∷ closed) left zero less all = record {
   c = x;
   run_is = refl;
-  file_is = ap (λ (n : ℕ). Some (sealed_file settings s n x)) (none_more q);
+  file_is = ap (λ (n : ℕ). Some (sealed_file settings s n x)) (omega arith);
   is = all.0;
 }
 closed_at settings s q (x ∷ closed) left (suc before) less all =
@@ -361,7 +319,7 @@ closed_at settings s q (x ∷ closed) left (suc before) less all =
     record {
       c = rest.c;
       run_is = rest.run_is;
-      file_is = rest.file_is ∙ ap (λ (n : ℕ). Some (sealed_file settings s n rest.c)) (one_sooner q before);
+      file_is = rest.file_is ∙ ap (λ (n : ℕ). Some (sealed_file settings s n rest.c)) (omega arith);
       is = rest.is;
     }
 
@@ -383,7 +341,7 @@ reads : ReadsBack → (settings : FileSettings) (run : List (Filed (List ℕ))) 
 reads law settings [] sequence r index filed is low h = let no : ⊥ = none-some filed h in absurd no
 reads law settings (first ∷ later) sequence r index filed is low h =
     law (run_records (first ∷ later)) sequence r settings (header_fits settings first later sequence r is low)
-    (cdrs_fit settings.offset first.kind (first ∷ later) is.each (refl, is.kinds))
+    (cdrs_fit settings.offset first.kind (first ∷ later) is.each)
 
 pub read-there : ReadsBack → (settings : Settings) (items : List Item) (place : FilePlace) (filed : Filed (List ℕ))
     → AreLimits settings.limits → All IsFit items → All (IsStamped settings.file) items → place.sequence < 2 ^ 32

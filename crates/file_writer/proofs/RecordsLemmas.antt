@@ -1,40 +1,131 @@
--- Each record has one place, and stands there.
-use Rattle.std.proofs.Common.{◌≡◌, ℕ, zero, suc, ◌+◌, ◌-◌, ◌<◌, ◌≤◌, ◌==◌, nat_lt, if◌then◌else◌, Bool, true, false, List, [], ◌∷◌, ◌++◌, length, map, take, slice_get, Option, None, Some, refl, sym, ap, ◌∙◌, subst, arith, append_assoc, append-nil, length-append}
-use Rattle.std.specs.List.{flat_map}
-use Rattle.std.proofs.lemmas.Bool.{ltb-false, ltb-true}
-use Rattle.std.proofs.lemmas.Option.{none-some, same_Some, slice_get_within}
-use Rattle.file_rotate.specs.Division.{ClosedRun, Division}
-use Rattle.file_rotate.specs.Items.{Filed, Record, record_in, records_of}
+-- Where records stand in runs, that more items leave them there, and that each record has one place.
+use Rattle.std.proofs.Common.{◌≡◌, ℕ, ◌+◌, ◌-◌, ◌<◌, nat_lt, if◌then◌else◌, Bool, true, false, List, [], ◌∷◌, ◌++◌, length, map, take, slice_get, Option, None, Some, refl, sym, ap, ◌∙◌, arith, append_assoc, append-nil, length-append, inl, inr, ◌⊎◌, zero, suc, ◌≤◌, subst}
+use Rattle.std.proofs.lemmas.List.{take-append-le, map-append}
+use Rattle.std.proofs.lemmas.Option.{none-some, slice_get_within, same_Some}
+use Rattle.cdr_file.specs.declared.closure.ClosureReason.{ClosureReason}
+use Rattle.file_rotate.specs.Division.{ClosedRun, Division, closed_first, divided_from, goes_on, joined, still, with_cuts, Cuts, cuts_at, run_after, division_of}
+use Rattle.file_rotate.specs.Items.{Filed, record_in, Record, records_of}
 use Rattle.file_rotate.specs.Items as stream
+use Rattle.file_rotate.specs.declared.limits.Limits.{Limits}
 use Rattle.gw_base.specs.declared.item.Item.{Item}
 use Rattle.gw_base.specs.declared.item.Item.TheVariants as item
+use Rattle.route_filter.specs.Rules.{stream_of}
+use Rattle.file_writer.proofs.FilesLemmas.{division-append}
+use Rattle.file_writer.specs.Laws.{DivisionGoesOn}
+use Rattle.file_writer.specs.Places.{FilePlace, nth_place, place_after, place_in, place_of_item, records_to, runs_of, HasPlace, in_run, record_at, run_with}
+use Rattle.file_writer.specs.Streams.{Settings, stream_division, stream_items, record_if, stream_item, stream_record}
+use Rattle.std.proofs.lemmas.Bool.{cases_lt, le-ltb, lt-ltb, cases_order, eq-eqb, ltb-false}
+use Rattle.std.specs.List.{flat_map}
 use Rattle.gw_base.specs.declared.kind.CdrKind.{CdrKind}
 use Rattle.gw_base.specs.declared.tag.Tag.{Tag}
-use Rattle.route_filter.specs.Rules.{stream_of}
 use Rattle.route_filter.specs.declared.rule.Rule.{Rule}
-use Rattle.file_writer.specs.Places.{FilePlace, HasPlace, in_run, nth_place, place_in, place_of_item, record_at, records_to, run_with, runs_of}
-use Rattle.file_writer.specs.Streams.{Settings, record_if, stream_division, stream_item, stream_items, stream_record}
-use Rattle.file_writer.proofs.FilesLemmas.{same_number as same}
 
 -- ---- elements of joined lists
 
-minus_none : (i : ℕ) → i ≡ i - 0
-minus_none i = omega arith
-
 slice_get-front : {X : Type 0} (xs ys : List X) (i : ℕ) → i < length xs → slice_get (xs ++ ys) i ≡ slice_get xs i
-slice_get-front [] ys i h = let no : ⊥ = omega (arith, h) in absurd no
+slice_get-front [] ys i h = absurd (omega arith)
 slice_get-front (x ∷ xs) ys zero h = refl
 slice_get-front (x ∷ xs) ys (suc i) h = slice_get-front xs ys i (omega (arith, h))
 
-both_less : (i n : ℕ) → i - n ≡ suc i - suc n
-both_less i n = omega arith
-
 slice_get-after : {X : Type 0} (xs ys : List X) (i : ℕ) → length xs ≤ i → slice_get (xs ++ ys) i
     ≡ slice_get ys (i - length xs)
-slice_get-after [] ys i h = ap (λ (j : ℕ). slice_get ys j) (minus_none i)
-slice_get-after (x ∷ xs) ys zero h = let no : ⊥ = omega (arith, h) in absurd no
+slice_get-after [] ys i h = ap (λ (j : ℕ). slice_get ys j) (omega arith)
+slice_get-after (x ∷ xs) ys zero h = absurd (omega arith)
 slice_get-after (x ∷ xs) ys (suc i) h = slice_get-after xs ys i (omega (arith, h))
-    ∙ ap (λ (j : ℕ). slice_get ys j) (both_less i (length xs))
+    ∙ ap (λ (j : ℕ). slice_get ys j) (omega arith)
+
+-- ---- places in runs
+
+-- what follows another choice
+if_later : {A : Type 0} (b : Bool) (x y z r : A) → (y ≡ r → z ≡ r) → (if b then x else y) ≡ r → (if b then x else z) ≡ r
+if_later true x y z r f h = h
+if_later false x y z r f h = f h
+
+-- a place behind runs that stay, where what follows them keeps its places
+nth_place-front : {P : Type 0} (s q : ℕ) (xs ys zs : List (List (Filed P))) (n : ℕ) (p : FilePlace)
+    → ((q n : ℕ) → nth_place s q ys n ≡ Some p → nth_place s q zs n ≡ Some p)
+    → nth_place s q (xs ++ ys) n ≡ Some p → nth_place s q (xs ++ zs) n ≡ Some p
+nth_place-front s q [] ys zs n p later h = later q n h
+nth_place-front s q (x ∷ xs) ys zs n p later h =
+    if_later (nat_lt n (length x)) (Some (record { stream = s; sequence = q; index = n }))
+    (nth_place s (q + 1) (xs ++ ys) (n - length x)) (nth_place s (q + 1) (xs ++ zs) (n - length x)) (Some p)
+    (nth_place-front s (q + 1) xs ys zs (n - length x) p later) h
+
+-- a place in the last run, which grows
+nth_place-last : {P : Type 0} (s q : ℕ) (run more : List (Filed P)) (later : List (List (Filed P))) (n : ℕ)
+    (p : FilePlace)
+    → nth_place s q (run ∷ []) n ≡ Some p → nth_place s q ((run ++ more) ∷ later) n ≡ Some p
+nth_place-last s q run more later n p h =
+    elim (cases_lt n (length run)) [
+      | inl less ↦
+          rw (lt-ltb n (length (run ++ more)) (omega (arith, less, length-append run more)))
+          (rw (lt-ltb n (length run) less) at h)
+      | inr past ↦ absurd (cc (le-ltb n (length run) past, h))
+    ]
+
+-- ---- the first run of a division
+
+-- the first of these runs begins with this one
+abbrev Begins : {P : Type 0} → List (Filed P) → List (List (Filed P)) → Type 0
+Begins {P} run runs = (rest : List (Filed P)) × (later : List (List (Filed P))) × (runs ≡ (run ++ rest) ∷ later)
+
+begins_cut : {P : Type 0} (before after : Option ClosureReason) (run : List (Filed P)) (item : stream.Item P)
+    (division : Division P)
+    → Begins (still after (joined before run item) []) (runs_of division)
+    → Begins run (runs_of (with_cuts (record { before = before; after = after }) run item division))
+begins_cut (Some reason) after run item division h = (
+  [],
+  runs_of (closed_first after (joined (Some reason) run item) division),
+  ap (λ (r : List (Filed _)). r ∷ runs_of (closed_first after (joined (Some reason) run item) division))
+      (sym (append-nil run)),
+)
+begins_cut None (Some reason) run item division h = (record_in item, runs_of division, refl)
+begins_cut None None run item division h =
+    (record_in item ++ h.0, h.1, h.2 ∙ ap (λ (r : List (Filed _)). r ∷ h.1) (append_assoc run (record_in item) h.0))
+
+begins : {P : Type 0} (limits : Limits) (run : List (Filed P)) (items : List (stream.Item P))
+    → Begins run (runs_of (divided_from limits run items))
+begins limits run [] = ([], [], ap (λ (r : List (Filed _)). r ∷ []) (sym (append-nil run)))
+begins limits run (item ∷ items) =
+    let cuts : Cuts = cuts_at limits run item in
+    begins_cut cuts.before cuts.after run item (divided_from limits (run_after cuts run item) items)
+    (begins limits (run_after cuts run item) items)
+
+-- ---- more items
+
+nth_place-goes_on : {P : Type 0} (limits : Limits) (s q : ℕ) (division : Division P) (items : List (stream.Item P))
+    (n : ℕ) (p : FilePlace)
+    → nth_place s q (runs_of division) n ≡ Some p → nth_place s q (runs_of (goes_on limits division items)) n ≡ Some p
+nth_place-goes_on {P} limits s q division items n p h =
+    let first = begins limits division.left_open items in
+    let more : Division P = divided_from limits division.left_open items in
+    let runs : List (ClosedRun P) → List (List (Filed P)) = λ closed. map (λ (c : ClosedRun P). c.run) closed in
+    ap (λ (rs : List (List (Filed P))). nth_place s q rs n)
+    (ap (λ (rs : List (List (Filed P))). rs ++ more.left_open ∷ [])
+    (map-append (λ (c : ClosedRun P). c.run) division.closed more.closed)
+    ∙ append_assoc (runs division.closed) (runs more.closed) (more.left_open ∷ []))
+    ∙ nth_place-front s q (runs division.closed) (division.left_open ∷ []) (runs_of more) n p
+    (λ (r : ℕ) (m : ℕ) there. ap (λ (rs : List (List (Filed P))). nth_place s r rs m) first.2
+    ∙ nth_place-last s r division.left_open first.0 first.1 m p there) h
+
+pub place-stays : DivisionGoesOn → (settings : Settings) (items more : List Item) (k : ℕ) (place : FilePlace)
+    → place_in settings items k ≡ Some place → place_in settings (items ++ more) k ≡ Some place
+place-stays law settings items more k place h = by (slice_get items k) refl h
+  where
+    by : (found : Option Item) → slice_get items k ≡ found → place_of_item settings items k found ≡ Some place
+        → place_in settings (items ++ more) k ≡ Some place
+    by (Some (item.Part kind tag octets moment)) e h =
+        let s : ℕ = stream_of settings.rules tag kind.format in
+        let within : k < length items = slice_get_within items k (item.Part kind tag octets moment) e in
+        ap (λ (o : Option Item). place_of_item settings (items ++ more) k o)
+        (slice_get-front items more k within ∙ e)
+        ∙ ap (λ (front : List Item). place_after settings (items ++ more) s (records_to settings s front))
+        (take-append-le k items more (omega (arith, within)))
+        ∙ ap (λ (d : Division (List ℕ)). nth_place s 1 (runs_of d) (records_to settings s (take k items)))
+        (division-append law settings s items more)
+        ∙ nth_place-goes_on settings.limits s 1 (stream_division settings s items)
+        (stream_items settings.profile settings.rules s more) (records_to settings s (take k items)) place h
+    by _ e h = let no : ⊥ = none-some place h in absurd no
 
 -- ---- all records of runs
 
@@ -58,50 +149,36 @@ record Placed {P : Type 0} (s q : ℕ) (runs : List (List (Filed P))) (n : ℕ) 
   from : q ≤ place.sequence
   there : in_run place.index (slice_get runs (place.sequence - q)) ≡ slice_get (all_of runs) n
 
-no_less : (q : ℕ) → q - q ≡ 0
-no_less q = omega arith
-
-next_run : (q sequence : ℕ) → q + 1 ≤ sequence → sequence - q ≡ suc (sequence - (q + 1))
-next_run q sequence h = omega (arith, h)
-
 placed : {P : Type 0} (s q : ℕ) (runs : List (List (Filed P))) (n : ℕ) → n < length (all_of runs) → Placed s q runs n
-placed s q [] n h = let no : ⊥ = omega (arith, h) in absurd no
+placed s q [] n h = absurd (omega arith)
 placed s q (run ∷ later) n h =
-    by (nat_lt n (length run)) refl (λ within. placed s (q + 1) later (n - length run) within)
-  where
-    by : (b : Bool) → nat_lt n (length run) ≡ b
-        → (n - length run < length (all_of later) → Placed s (q + 1) later (n - length run))
-        → Placed s q (run ∷ later) n
-    by true e rest = record {
-      place = record { stream = s; sequence = q; index = n };
-      found = ap (λ (b : Bool). if b then Some (record { stream = s; sequence = q; index = n }) else nth_place s
-          (q + 1) later (n - length run)) e;
-      stream = refl;
-      from = omega arith;
-      there = ap (λ (i : ℕ). in_run n (slice_get (run ∷ later) i)) (no_less q)
-          ∙ sym (slice_get-front run (all_of later) n (ltb-true n (length run) e));
-    }
-    by false e rest =
-        let past : length run ≤ n = ltb-false n (length run) e in
-        let r = rest (omega (arith, past, h, length-append run (all_of later))) in
-        record {
-          place = r.place;
-          found = ap (λ (b : Bool). if b then Some (record { stream = s; sequence = q; index = n }) else nth_place s
-              (q + 1) later (n - length run)) e ∙ r.found;
-          stream = r.stream;
-          from = omega (arith, r.from);
-          there = ap (λ (i : ℕ). in_run r.place.index (slice_get (run ∷ later) i)) (next_run q r.place.sequence r.from)
-              ∙ r.there ∙ sym (slice_get-after run (all_of later) n past);
-        }
-
-before_it : (before : ℕ) → before ≡ suc before - 1
-before_it before = omega arith
+    elim (cases_lt n (length run)) [
+      | inl within ↦
+          let none : q - q ≡ 0 = omega arith in
+          record {
+            place = record { stream = s; sequence = q; index = n };
+            found = rw (lt-ltb n (length run) within) refl;
+            stream = refl;
+            from = omega arith;
+            there = rw none (sym (slice_get-front run (all_of later) n within));
+          }
+      | inr past ↦
+          let r = placed s (q + 1) later (n - length run) (omega (arith, past, h, length-append run (all_of later))) in
+          let next : r.place.sequence - q ≡ suc (r.place.sequence - (q + 1)) = omega (arith, r.from) in
+          record {
+            place = r.place;
+            found = rw (le-ltb n (length run) past) r.found;
+            stream = r.stream;
+            from = omega (arith, r.from);
+            there = rw next (r.there ∙ sym (slice_get-after run (all_of later) n past));
+          }
+    ]
 
 -- numbers of files count from 1
 run_is : {P : Type 0} (sequence : ℕ) (runs : List (List (Filed P))) → 1 ≤ sequence
     → run_with sequence runs ≡ slice_get runs (sequence - 1)
-run_is zero runs h = let no : ⊥ = omega (arith, h) in absurd no
-run_is (suc before) runs h = ap (λ (n : ℕ). slice_get runs n) (before_it before)
+run_is zero runs h = absurd (omega arith)
+run_is (suc before) runs h = ap (λ (n : ℕ). slice_get runs n) (omega arith)
 
 stands : {P : Type 0} (s : ℕ) (runs : List (List (Filed P))) (n : ℕ) (p : Placed s 1 runs n)
     → in_run p.place.index (run_with p.place.sequence runs) ≡ slice_get (all_of runs) n
@@ -109,73 +186,42 @@ stands s runs n p = ap (in_run p.place.index) (run_is p.place.sequence runs p.fr
 
 -- ---- one record at a place
 
-stream_at : {P : Type 0} (s q : ℕ) (runs : List (List (Filed P))) (n : ℕ) (p : FilePlace) → nth_place s q runs n
-    ≡ Some p → s ≡ p.stream
-stream_at s q [] n p h = let no : ⊥ = none-some p h in absurd no
-stream_at s q (run ∷ later) n p h = by (nat_lt n (length run)) (stream_at s (q + 1) later (n - length run) p) h
-  where
-    by : (b : Bool) → (nth_place s (q + 1) later (n - length run) ≡ Some p → s ≡ p.stream)
-        → (if b then Some (record { stream = s; sequence = q; index = n }) else nth_place s (q + 1) later
-        (n - length run)) ≡ Some p → s ≡ p.stream
-    by true rest h =
-        ap (λ (place : FilePlace). place.stream) (same_Some (record { stream = s; sequence = q; index = n }) p h)
-    by false rest h = rest h
+of_test : {X : Type 0} (b : Bool) (x y : X) (rest : Option X) → (if b then Some x else rest) ≡ Some y
+    → ((b ≡ true) × (x ≡ y)) ⊎ ((b ≡ false) × (rest ≡ Some y))
+of_test true x y rest h = inl (refl, same_Some x y h)
+of_test false x y rest h = inr (refl, h)
 
-sequence_from : {P : Type 0} (s q : ℕ) (runs : List (List (Filed P))) (n : ℕ) (p : FilePlace) → nth_place s q runs n
-    ≡ Some p → q ≤ p.sequence
-sequence_from s q [] n p h = let no : ⊥ = none-some p h in absurd no
-sequence_from s q (run ∷ later) n p h = by (nat_lt n (length run)) (sequence_from s (q + 1) later (n - length run) p) h
-  where
-    by : (b : Bool) → (nth_place s (q + 1) later (n - length run) ≡ Some p → q + 1 ≤ p.sequence)
-        → (if b then Some (record { stream = s; sequence = q; index = n }) else nth_place s (q + 1) later
-        (n - length run)) ≡ Some p → q ≤ p.sequence
-    by true rest h =
-        omega (
-          arith,
-          ap (λ (place : FilePlace). place.sequence) (same_Some (record { stream = s; sequence = q; index = n }) p h),
-        )
-    by false rest h = omega (arith, rest h)
+from_there : {P : Type 0} (s q : ℕ) (runs : List (List (Filed P))) (n : ℕ) (p : FilePlace)
+    → nth_place s q runs n ≡ Some p → (s ≡ p.stream) × (q ≤ p.sequence)
+from_there s q [] n p h = let no : ⊥ = none-some p h in absurd no
+from_there s q (run ∷ later) n p h =
+    elim (of_test (nat_lt n (length run)) _ p _ h) [
+      | inl here ↦
+          (ap (λ (at : FilePlace). at.stream) here.1, omega (arith, ap (λ (at : FilePlace). at.sequence) here.1))
+      | inr past ↦ let r = from_there s (q + 1) later (n - length run) p past.1 in (r.0, omega (arith, r.1))
+    ]
 
 same_number : {P : Type 0} (s q : ℕ) (runs : List (List (Filed P))) (n m : ℕ) (p : FilePlace)
     → nth_place s q runs n ≡ Some p → nth_place s q runs m ≡ Some p → n ≡ m
 same_number s q [] n m p h k = let no : ⊥ = none-some p h in absurd no
 same_number s q (run ∷ later) n m p h k =
-    by (nat_lt n (length run)) refl (nat_lt m (length run)) refl
-    (λ there. sequence_from s (q + 1) later (n - length run) p there)
-    (λ there. sequence_from s (q + 1) later (m - length run) p there)
-    (same_number s (q + 1) later (n - length run) (m - length run) p) h k
+    elim (of_test (nat_lt n (length run)) _ p _ h) [
+      | inl here ↦
+          elim (of_test (nat_lt m (length run)) _ p _ k) [
+            | inl there ↦ ap (λ (at : FilePlace). at.index) (here.1 ∙ sym there.1)
+            | inr past ↦ absurd (omega (arith, ap (λ (at : FilePlace). at.sequence) here.1, (beyond m past.1).1))
+          ]
+      | inr past ↦
+          elim (of_test (nat_lt m (length run)) _ p _ k) [
+            | inl here ↦ absurd (omega (arith, ap (λ (at : FilePlace). at.sequence) here.1, (beyond n past.1).1))
+            | inr there ↦
+                omega (arith, same_number s (q + 1) later (n - length run) (m - length run) p past.1 there.1,
+                ltb-false n (length run) past.0, ltb-false m (length run) there.0)
+          ]
+    ]
   where
-    by : (b : Bool) → nat_lt n (length run) ≡ b → (c : Bool) → nat_lt m (length run) ≡ c
-        → (nth_place s (q + 1) later (n - length run) ≡ Some p → q + 1 ≤ p.sequence)
-        → (nth_place s (q + 1) later (m - length run) ≡ Some p → q + 1 ≤ p.sequence)
-        → (nth_place s (q + 1) later (n - length run) ≡ Some p → nth_place s (q + 1) later (m - length run) ≡ Some p
-        → n - length run ≡ m - length run)
-        → (if b then Some (record { stream = s; sequence = q; index = n }) else nth_place s (q + 1) later
-        (n - length run)) ≡ Some p
-        → (if c then Some (record { stream = s; sequence = q; index = m }) else nth_place s (q + 1) later
-        (m - length run)) ≡ Some p
-        → n ≡ m
-    by true e true f low high rest h k =
-        ap (λ (place : FilePlace). place.index) (same_Some (record { stream = s; sequence = q; index = n }) p h)
-        ∙ sym (ap (λ (place : FilePlace). place.index) (same_Some (record { stream = s; sequence = q; index = m }) p k))
-    by true e false f low high rest h k =
-        let no : ⊥ =
-        omega (
-          arith,
-          ap (λ (place : FilePlace). place.sequence) (same_Some (record { stream = s; sequence = q; index = n }) p
-              h),
-          high k,
-        ) in absurd no
-    by false e true f low high rest h k =
-        let no : ⊥ =
-        omega (
-          arith,
-          ap (λ (place : FilePlace). place.sequence) (same_Some (record { stream = s; sequence = q; index = m }) p
-              k),
-          low h,
-        ) in absurd no
-    by false e false f low high rest h k =
-        omega (arith, rest h k, ltb-false n (length run) e, ltb-false m (length run) f)
+    beyond : (i : ℕ) → nth_place s (q + 1) later (i - length run) ≡ Some p → (s ≡ p.stream) × (q + 1 ≤ p.sequence)
+    beyond i = from_there s (q + 1) later (i - length run) p
 
 -- ---- records of items
 
@@ -189,12 +235,6 @@ pub length-records : {P : Type 0} (xs ys : List (stream.Item P)) → length (rec
     ≡ length (records_of xs) + length (records_of ys)
 length-records xs ys = ap length (records_of-append xs ys) ∙ length-append (records_of xs) (records_of ys)
 
-without_front : (a b : ℕ) → a + b - a ≡ b
-without_front a b = omega arith
-
-front_within : (a b : ℕ) → a ≤ a + b
-front_within a b = omega arith
-
 -- an item that is a record of a stream is the one after the records of the items before it
 record_there : (profile : ℕ) (rules : List Rule) (s : ℕ) (items : List Item) (k : ℕ) (found : Item) (filed : Filed (List ℕ))
     → slice_get items k ≡ Some found
@@ -207,15 +247,12 @@ record_there profile rules s (x ∷ xs) zero found filed h is =
     (ap (λ (i : Item). stream_item profile rules s i) (same_Some x found h) ∙ is)
 record_there profile rules s (x ∷ xs) (suc k) found filed h is =
     let here : List (Filed (List ℕ)) = records_of (stream_item profile rules s x) in
-    let later : List (Filed (List ℕ)) = records_of (stream_items profile rules s xs) in
     let before : List (Filed (List ℕ)) = records_of (stream_items profile rules s (take k xs)) in
-    ap (λ (n : ℕ). slice_get (records_of (stream_item profile rules s x ++ stream_items profile rules s xs)) n)
-    (length-records (stream_item profile rules s x) (stream_items profile rules s (take k xs)))
-    ∙ ap (λ (all : List (Filed (List ℕ))). slice_get all (length here + length before))
-    (records_of-append (stream_item profile rules s x) (stream_items profile rules s xs))
-    ∙ slice_get-after here later (length here + length before) (front_within (length here) (length before))
-    ∙ ap (λ (n : ℕ). slice_get later n) (without_front (length here) (length before))
-    ∙ record_there profile rules s xs k found filed h is
+    let left : length here + length before - length here ≡ length before = omega arith in
+    cc (length-records (stream_item profile rules s x) (stream_items profile rules s (take k xs)),
+    records_of-append (stream_item profile rules s x) (stream_items profile rules s xs),
+    slice_get-after here (records_of (stream_items profile rules s xs)) (length here + length before) (omega arith), left,
+    record_there profile rules s xs k found filed h is)
 
 -- a record of a stream is one more for the items after it
 one_more_after : (profile : ℕ) (rules : List Rule) (s : ℕ) (items : List Item) (k l : ℕ) (found : Item) (filed : Filed (List ℕ))
@@ -224,38 +261,31 @@ one_more_after : (profile : ℕ) (rules : List Rule) (s : ℕ) (items : List Ite
     → length (records_of (stream_items profile rules s (take k items))) < length
     (records_of (stream_items profile rules s (take l items)))
 one_more_after profile rules s [] k l found filed h is less = let no : ⊥ = none-some found h in absurd no
-one_more_after profile rules s (x ∷ xs) k zero found filed h is less = let no : ⊥ = omega (arith, less) in absurd no
+one_more_after profile rules s (x ∷ xs) k zero found filed h is less = absurd (omega arith)
 one_more_after profile rules s (x ∷ xs) zero (suc l) found filed h is less =
     let one : length (records_of (stream_item profile rules s x)) ≡ 1 =
     ap (λ (front : List (stream.Item (List ℕ))). length (records_of front))
     (ap (λ (i : Item). stream_item profile rules s i) (same_Some x found h) ∙ is) in
     omega (arith, one, length-records (stream_item profile rules s x) (stream_items profile rules s (take l xs)))
 one_more_after profile rules s (x ∷ xs) (suc k) (suc l) found filed h is less =
-    omega (
-      arith,
-      one_more_after profile rules s xs k l found filed h is (omega (arith, less)),
-      length-records (stream_item profile rules s x) (stream_items profile rules s (take k xs)),
-      length-records (stream_item profile rules s x) (stream_items profile rules s (take l xs)),
-    )
+    omega (arith, one_more_after profile rules s xs k l found filed h is (omega (arith, less)),
+    length-records (stream_item profile rules s x) (stream_items profile rules s (take k xs)),
+    length-records (stream_item profile rules s x) (stream_items profile rules s (take l xs)))
 
 -- ---- items that are records
 
 -- the division of a stream has each of its records, in order
 abbrev pub HasAll : Type 0
-HasAll = (settings : Settings) (s : ℕ) (items : List Item)
-    → flat_map (λ (c : ClosedRun (List ℕ)). c.run) (stream_division settings s items).closed
-    ++ (stream_division settings s items).left_open
-    ≡ records_of (stream_items settings.profile settings.rules s items)
+HasAll = (limits : Limits) (items : List (stream.Item (List ℕ)))
+    → flat_map (λ (c : ClosedRun (List ℕ)). c.run) (division_of limits items).closed ++ (division_of limits items).left_open
+    ≡ records_of items
 
 -- a record of a stream stands at its place
 stands_there : (settings : Settings) (items : List Item) (s n : ℕ) (filed : Filed (List ℕ))
     (p : Placed s 1 (runs_of (stream_division settings s items)) n)
     → slice_get (all_of (runs_of (stream_division settings s items))) n ≡ Some filed
     → record_at settings items p.place ≡ Some filed
-stands_there settings items s n filed p is =
-    ap (λ (t : ℕ). in_run p.place.index (run_with p.place.sequence (runs_of (stream_division settings t items))))
-    p.stream
-    ∙ stands s (runs_of (stream_division settings s items)) n p ∙ is
+stands_there settings items s n filed p is = rw p.stream (stands s (runs_of (stream_division settings s items)) n p ∙ is)
 
 pub place-has : HasAll → (settings : Settings) (items : List Item) (k : ℕ) (kind : CdrKind) (tag : Option Tag)
     (octets : List ℕ) (moment : ℕ)
@@ -264,19 +294,17 @@ place-has law settings items k kind tag octets moment h =
     let s : ℕ = stream_of settings.rules tag kind.format in
     let filed : Filed (List ℕ) = stream_record settings.profile kind octets moment in
     let is : stream_item settings.profile settings.rules s (item.Part kind tag octets moment) ≡ Record filed ∷ [] =
-    ap (λ (b : Bool). record_if b filed) (same s) in
+    ap (λ (b : Bool). record_if b filed) (eq-eqb s s refl) in
     let n : ℕ = records_to settings s (take k items) in
     let there : slice_get (records_of (stream_items settings.profile settings.rules s items)) n ≡ Some filed =
     record_there settings.profile settings.rules s items k (item.Part kind tag octets moment) filed h is in
     let division : Division (List ℕ) = stream_division settings s items in
     let all : all_of (runs_of division) ≡ records_of (stream_items settings.profile settings.rules s items) =
-    all_of-runs division.closed division.left_open ∙ law settings s items in
+    all_of-runs division.closed division.left_open
+    ∙ law settings.limits (stream_items settings.profile settings.rules s items) in
     let p = placed s 1 (runs_of division) n
-    (omega (
-      arith,
-      slice_get_within (records_of (stream_items settings.profile settings.rules s items)) n filed there,
-      ap length all,
-    )) in
+    (omega (arith, slice_get_within (records_of (stream_items settings.profile settings.rules s items)) n filed there,
+    ap length all)) in
     record {
       place = p.place;
       found = ap (λ (o : Option Item). place_of_item settings items k o) h ∙ p.found;
@@ -300,26 +328,28 @@ is_there settings items k p h = by (slice_get items k) refl h
   where
     by : (found : Option Item) → slice_get items k ≡ found → place_of_item settings items k found ≡ Some p
         → IsThere settings items k p
-    by None e h = let no : ⊥ = none-some p h in absurd no
-    by (Some (item.Tick moment)) e h = let no : ⊥ = none-some p h in absurd no
-    by (Some (item.Close moment)) e h = let no : ⊥ = none-some p h in absurd no
     by (Some (item.Part kind tag octets moment)) e h =
         let s : ℕ = stream_of settings.rules tag kind.format in
-        let at : s ≡ p.stream = stream_at s 1 (runs_of (stream_division settings s items))
-        (records_to settings s (take k items)) p h in
+        let at : s ≡ p.stream = (from_there s 1 (runs_of (stream_division settings s items))
+        (records_to settings s (take k items)) p h).0 in
         record {
           found = item.Part kind tag octets moment;
           filed = stream_record settings.profile kind octets moment;
           is = e;
-          record_is = ap (λ (t : ℕ). record_if (s == t) (stream_record settings.profile kind octets moment)) (sym at)
-              ∙ ap (λ (b : Bool). record_if b (stream_record settings.profile kind octets moment)) (same s);
+          record_is = ap (λ (b : Bool). record_if b (stream_record settings.profile kind octets moment)) (eq-eqb s p.stream at);
           nth = subst (λ (t : ℕ). nth_place t 1 (runs_of (stream_division settings t items))
               (records_to settings t (take k items)) ≡ Some p) at h;
         }
+    by found e h = let no : ⊥ = none-some p h in absurd no
 
 pub place-only : (settings : Settings) (items : List Item) (k l : ℕ) (p : FilePlace)
     → place_in settings items k ≡ Some p → place_in settings items l ≡ Some p → k ≡ l
-place-only settings items k l p h g = by (nat_lt k l) refl (nat_lt l k) refl
+place-only settings items k l p h g =
+    elim (cases_order k l) [
+      | inl same ↦ same
+      | inr (inl less) ↦ absurd (omega (arith, equal, later k l one less))
+      | inr (inr more) ↦ absurd (omega (arith, equal, later l k other more))
+    ]
   where
     one : IsThere settings items k p
     one = is_there settings items k p h
@@ -332,21 +362,6 @@ place-only settings items k l p h g = by (nat_lt k l) refl (nat_lt l k) refl
         (records_to settings p.stream (take k items))
         (records_to settings p.stream (take l items)) p one.nth other.nth
 
-    by : (b : Bool) → nat_lt k l ≡ b → (c : Bool) → nat_lt l k ≡ c → k ≡ l
-    by true e c f =
-        let no : ⊥ =
-        omega (
-          arith,
-          equal,
-          one_more_after settings.profile settings.rules p.stream items k l one.found one.filed one.is one.record_is (ltb-true k l e),
-        )
-        in absurd no
-    by false e true f =
-        let no : ⊥ =
-        omega (
-          arith,
-          equal,
-          one_more_after settings.profile settings.rules p.stream items l k other.found other.filed other.is
-              other.record_is (ltb-true l k f),
-        ) in absurd no
-    by false e false f = omega (arith, ltb-false k l e, ltb-false l k f)
+    later : (i j : ℕ) (there : IsThere settings items i p) → i < j
+        → records_to settings p.stream (take i items) < records_to settings p.stream (take j items)
+    later i j there = one_more_after settings.profile settings.rules p.stream items i j there.found there.filed there.is there.record_is

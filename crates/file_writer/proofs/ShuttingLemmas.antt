@@ -1,5 +1,6 @@
 -- Calls keep streams shut of which all files are sealed, whatever comes of them.
-use Rattle.std.proofs.Common.{◌≡◌, ◌≢◌, inl, inr, ℕ, ◌<◌, ◌≤◌, max, Bool, true, false, if◌then◌else◌, IsTrue, List, [], ◌∷◌, ◌++◌, None, Some, Result, refl, sym, ap, ◌∙◌, subst, arith}
+use Rattle.std.proofs.Common.{◌≡◌, ◌≢◌, inl, inr, ℕ, ◌<◌, ◌≤◌, max, Bool, true, false, if◌then◌else◌, IsTrue, List, [], ◌∷◌, ◌++◌, None, Some, Result, refl, sym, ap, ◌∙◌, subst, arith, Ok, Err}
+use Rattle.std.proofs.lemmas.Bool.{cases_eq, ne_eqb}
 use Rattle.area_disk.specs.declared.plan.Fate.{Fate}
 use Rattle.area_disk.specs.declared.plan.Fate.TheVariants.{Runs, Fails, Stops}
 use Rattle.area_disk.specs.Plan.{next_fate}
@@ -10,7 +11,9 @@ use Rattle.cdr_shelf.specs.Steps.{LeavesAfter, SealLeaves, files_after, is_done,
 use Rattle.cdr_shelf.specs.declared.file_name.FileName.{FileName}
 use Rattle.cdr_shelf.specs.declared.shelf.Shelf.{Ghosts}
 use Rattle.file_writer.specs.Shutting.{BeginsShut, StaysShut}
-use Rattle.file_writer.proofs.AllLemmas.{is_same, unequal_numbers}
+use Rattle.file_writer.specs.Calls.{Writes}
+use Rattle.file_writer.specs.Making.{Failed, Makes, Went}
+use Rattle.file_writer.proofs.MakingLemmas.{left_by_write, one_failed, one_went, unsealed_by}
 
 -- ---- one call
 
@@ -26,27 +29,18 @@ by_fate : (fate : Fate) (most : ℕ → ℕ) (old_files new_files : List SealedF
     → (fate ≡ Fails → greatest_in stream new_files ≡ greatest_in stream old_files)
     → LeavesAfter fate stream step old new → Shut most old_files old → Shut most new_files new
 by_fate Runs most old_files new_files stream step old new here same failed leaves shut s h =
-    elim (is_same stream s) [
-      | inl e ↦
-          let there : most stream ≤ greatest_in stream new_files =
-          subst (λ (k : ℕ). most k ≤ greatest_in k new_files) e h in
-          ap new e ∙ leaves.here ∙ here there
+    elim (cases_eq s stream) [
+      | inl e ↦ rw e (leaves.here ∙ here (rw e at h))
       | inr other ↦ leaves.others s other ∙ shut s (omega (arith, h, same s other))
     ]
 by_fate Fails most old_files new_files stream step old new here same failed leaves shut s h =
-    elim (is_same stream s) [
-      | inl e ↦
-          let g : greatest_in s new_files ≡ greatest_in s old_files =
-          subst (λ (k : ℕ). greatest_in k new_files ≡ greatest_in k old_files) (sym e) (failed refl) in
-          leaves s ∙ shut s (omega (arith, h, g))
+    elim (cases_eq s stream) [
+      | inl e ↦ rw e (leaves stream ∙ shut stream (omega (arith, rw e at h, failed refl)))
       | inr other ↦ leaves s ∙ shut s (omega (arith, h, same s other))
     ]
 by_fate (Stops outcome) most old_files new_files stream step old new here same failed leaves shut s h =
-    elim (is_same stream s) [
-      | inl e ↦
-          let there : most stream ≤ greatest_in stream new_files =
-          subst (λ (k : ℕ). most k ≤ greatest_in k new_files) e h in
-          ap new e ∙ leaves.here ∙ ap (left_by outcome) (here there)
+    elim (cases_eq s stream) [
+      | inl e ↦ rw e (leaves.here ∙ ap (left_by outcome) (here (rw e at h)))
       | inr other ↦ leaves.others s other ∙ ap (left_by outcome) (shut s (omega (arith, h, same s other)))
     ]
 
@@ -57,11 +51,10 @@ steps_shut : {T E : Type 0} (told : Told) (stream : ℕ) (step : Unsealed → Un
     → (most stream ≤ greatest_in stream old.files → old.unsealed stream ≡ None → step (old.unsealed stream) ≡ None)
     → Shut most old.files old.unsealed → Shut most new.files new.unsealed
 steps_shut told stream step true old new result files plan e most here shut s h =
-    (e.no_memory refl).2 s ∙ shut s (subst (λ (fs : List SealedFile). most s ≤ greatest_in s fs) e.files h)
+    (e.no_memory refl).2 s ∙ shut s (rw e.files at h)
 steps_shut told stream step false old new result files plan e most here shut s h =
     by_fate (next_fate old.plan) most old.files old.files stream step old.unsealed new.unsealed
-    (λ k. here k (shut stream k)) (λ t other. refl) (λ f. refl) (e.leaves files plan refl) shut s
-    (subst (λ (fs : List SealedFile). most s ≤ greatest_in s fs) e.files h)
+    (λ k. here k (shut stream k)) (λ t other. refl) (λ f. refl) (e.leaves files plan refl) shut s (rw e.files at h)
 
 module _ {A : Type 0} (tells : Ghosts A) (old new : A) where
   abbrev state : A → State
@@ -76,8 +69,18 @@ module _ {A : Type 0} (tells : Ghosts A) (old new : A) where
   abbrev told : Told
   told = record { files = tells.tells_files; calls = tells.tells_calls; plan = tells.tells_plan }
 
-  nothing_written : (at : ℕ) (from : List ℕ) (u : Unsealed) → u ≡ None → written at from u ≡ None
-  nothing_written at from u e = ap (written at from) e
+  -- what was made of a call that seals nothing: it went, or it failed
+  pub went : {T E : Type 0} {x : T} (stream : ℕ) (step : Unsealed → Unsealed)
+      → Steps {T = T} {E = E} told stream step false (state old) (state new) (Ok x) → Makes tells (Writes ∷ []) Went old new
+  went stream step e =
+      one_went tells Writes old new (λ known. e.calls known refl) (λ known. unsealed_by e.files) e.cause.ok
+      (λ known. e.planned known refl)
+
+  pub failed : {T E : Type 0} {x : E} (stream : ℕ) (step : Unsealed → Unsealed) (starved : Bool) → starved ≡ false
+      → Steps {T = T} {E = E} told stream step starved (state old) (state new) (Err x) → Makes tells (Writes ∷ []) Failed old new
+  failed stream step starved m e =
+      one_failed tells Writes old new (λ known. e.calls known m) (λ known. inl e.files) e.cause.later (e.cause.failed m)
+      (λ known. e.planned known m) (λ planned known. left_by_write _ _ _ e.files)
 
   pub begins : {T E : Type 0} (name : FileName) (step : Unsealed → Unsealed) (starved : Bool) (result : Result T E)
       → Steps told name.stream step starved (state old) (state new) result
@@ -115,7 +118,7 @@ gone (Some f) file e = gone_where f.is_synced f file e
 -- a name of another stream
 other_number : (s stream : ℕ) (name : FileName) → name.stream ≡ stream → s ≢ stream → number_in s name ≡ 0
 other_number s stream name e h =
-    ap (λ (b : Bool). if b then name.sequence else 0) (unequal_numbers s name.stream (λ (same : s ≡ name.stream). h (same ∙ e)))
+    ap (λ (b : Bool). if b then name.sequence else 0) (ne_eqb name.stream s (λ same. h (sym same ∙ e)))
 
 here_by : (b : Bool) (most : ℕ → ℕ) (stream : ℕ) (u : Unsealed) (files : List SealedFile) (file : SealedFile)
     → sealed_as u ≡ file ∷ [] → (most stream ≤ greatest_in stream files → u ≡ None)
@@ -150,18 +153,3 @@ module _ {A : Type 0} (tells : Ghosts A) (old new : A) where
       (λ s other. others_by (is_done fate) s stream u (tells.files old) file is own other)
       (λ f. ap (λ (x : Fate). greatest_in stream (files_after x u (tells.files old))) f)
       left.unsealed shut)
-
--- ---- calls one after the other
-
-pub then_shut : {A : Type 0} (tells : Ghosts A) (old mid new : A) → StaysShut tells old mid → StaysShut tells mid new
-    → StaysShut tells old new
-then_shut tells old mid new first second files plan most shut = second files plan most (first files plan most shut)
-
-pub begun_then : {A : Type 0} (tells : Ghosts A) (s sequence : ℕ) (old mid new : A)
-    → BeginsShut tells s sequence old mid → StaysShut tells mid new → BeginsShut tells s sequence old new
-begun_then tells s sequence old mid new first second files plan most within shut =
-    second files plan most (first files plan most within shut)
-
-pub any_begun : {A : Type 0} (tells : Ghosts A) (s sequence : ℕ) (old new : A) → StaysShut tells old new
-    → BeginsShut tells s sequence old new
-any_begun tells s sequence old new stays files plan most within shut = stays files plan most shut

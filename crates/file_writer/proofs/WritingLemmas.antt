@@ -1,9 +1,9 @@
 -- What writes do to the file that is being written.
-use Rattle.std.proofs.Common.{◌≡◌, ◌≢◌, ℕ, suc, max, ◌+◌, ◌==◌, ◌≤◌, ◌<◌, Bool, true, false, nat_le, if◌then◌else◌, List, [], ◌∷◌, ◌++◌, length, take, drop, Option, None, Some, Result, Ok, Err, OnOk, refl, sym, ap, ◌∙◌, subst, arith, append_assoc, length-append}
-use Rattle.std.proofs.lemmas.Bool.Decides.{nat_tests}
-use Rattle.std.proofs.lemmas.List.{append-nil, drop-append-le}
+use Rattle.std.proofs.Common.{◌≡◌, ◌≢◌, ℕ, max, ◌+◌, ◌≤◌, ◌<◌, Bool, false, if◌then◌else◌, List, [], ◌∷◌, ◌++◌, length, drop, Option, None, Some, Result, Ok, Err, OnOk, refl, sym, ap, ◌∙◌, arith, append_assoc, length-append}
+use Rattle.std.proofs.lemmas.Bool.{eq-eqb, lt-leb}
+use Rattle.std.proofs.lemmas.List.{append-nil, drop-append-le, drop_all}
 use Rattle.std.proofs.lemmas.List.Elements.{All-cons, All-nil}
-use Rattle.std.proofs.Math.Seq.{drop-length}
+use Rattle.std.proofs.Math.Seq.{take-length}
 use Rattle.area_disk.specs.Disk.{overwritten}
 use Rattle.cdr_file.specs.CdrFile.{FiledRecord, cdr_length, cdr_octets, header_length}
 use Rattle.cdr_file.specs.Laws.{length-cdr_octets}
@@ -16,48 +16,27 @@ use Rattle.cdr_shelf.specs.Steps.{StepsAt, TakesWrite, begun, synced, written}
 use Rattle.file_writer.specs.Calls.{Call, unless_sealed}
 use Rattle.file_writer.specs.Making.{Ending, Makes}
 use Rattle.file_writer.specs.Writing.{HasLength, IsBegun, IsOpenAt, appended, body_behind, body_of, grown_facts}
-use Rattle.file_writer.proofs.StreamsLemmas.{drop_nothing}
-
-zero_plus : (n : ℕ) → 0 + n ≡ n
-zero_plus n = omega arith
-
-suc_plus : (k n : ℕ) → suc k + n ≡ suc (k + n)
-suc_plus k n = omega arith
-
-drop_past : (xs : List ℕ) (n : ℕ) → drop (length xs + n) xs ≡ []
-drop_past [] n = drop_nothing (0 + n)
-drop_past (x ∷ xs) n = ap (λ (k : ℕ). drop k (x ∷ xs)) (suc_plus (length xs) n) ∙ drop_past xs n
-
-take_all : (xs : List ℕ) → take (length xs) xs ≡ xs
-take_all [] = refl
-take_all (x ∷ xs) = ap (λ (ys : List ℕ). x ∷ ys) (take_all xs)
 
 -- octets written at the end
 overwritten-end : (xs from : List ℕ) → overwritten xs (length xs) from ≡ xs ++ from
 overwritten-end xs from =
-    ap (λ (ys : List ℕ). (ys ++ from) ++ drop (length xs + length from) xs) (take_all xs)
-    ∙ ap (λ (ys : List ℕ). (xs ++ from) ++ ys) (drop_past xs (length from))
+    ap (λ (ys : List ℕ). (ys ++ from) ++ drop (length xs + length from) xs) (take-length xs)
+    ∙ ap (λ (ys : List ℕ). (xs ++ from) ++ ys) (drop_all (length xs + length from) xs (omega arith))
     ∙ append-nil (xs ++ from)
+
+-- a file that is written, with these octets
+abbrev with_octets : UnsealedFile → List ℕ → Option UnsealedFile
+with_octets f octets = Some (record { name = f.name; octets = octets; is_synced = false })
 
 pub written_end : (at : ℕ) (from : List ℕ) (u : Option UnsealedFile) → HasLength at u → written at from u
     ≡ appended from u
 written_end at from None h = absurd h
 written_end at from (Some f) h =
-    ap (λ (octets : List ℕ). Some (let file : UnsealedFile = record {
-      name = f.name;
-      octets = octets;
-      is_synced = false;
-    } in file))
-    (ap (λ (n : ℕ). overwritten f.octets n from) (sym h) ∙ overwritten-end f.octets from)
+    ap (with_octets f) (ap (λ (n : ℕ). overwritten f.octets n from) (sym h) ∙ overwritten-end f.octets from)
 
 appended_both : (xs ys : List ℕ) (u : Option UnsealedFile) → appended ys (appended xs u) ≡ appended (xs ++ ys) u
 appended_both xs ys None = refl
-appended_both xs ys (Some f) =
-    ap (λ (octets : List ℕ). Some (let file : UnsealedFile = record {
-      name = f.name;
-      octets = octets;
-      is_synced = false;
-    } in file)) (append_assoc f.octets xs ys)
+appended_both xs ys (Some f) = ap (with_octets f) (append_assoc f.octets xs ys)
 
 longer : (at n m : ℕ) (from : List ℕ) (u : Option UnsealedFile) → length from ≡ m → HasLength at u
     → HasLength (at + m) (appended from u)
@@ -67,9 +46,7 @@ longer at n m from (Some f) e h = omega (arith, length-append f.octets from)
 -- behind a first write at the end
 pub has_longer : (at m : ℕ) (from : List ℕ) (old new : Option UnsealedFile) → length from ≡ m → HasLength at old
     → new ≡ written at from old → HasLength (at + m) new
-has_longer at m from old new e h same =
-    subst (λ (u : Option UnsealedFile). HasLength (at + m) u) (sym (same ∙ written_end at from old h))
-    (longer at 0 m from old e h)
+has_longer at m from old new e h same = rw (same ∙ written_end at from old h) (longer at 0 m from old e h)
 
 pub takes_end : (at : ℕ) (u : Option UnsealedFile) → HasLength at u → TakesWrite at u
 takes_end at None h = absurd h
@@ -100,74 +77,45 @@ pub sealed_of : (name : FileName) (kind : FiledKind) (n : ℕ) (header : List �
     → sealed_as w ≡ record { name = name; octets = header ++ body_of kind u } ∷ []
 sealed_of name kind n header None v w h long e f = absurd h
 sealed_of name kind n header (Some file) v w h long e f =
-    ap sealed_as (f ∙ ap synced e)
-    ∙ ap (λ (m : ℕ). named_file file.name (header ++ drop m file.octets) ∷ []) (zero_plus (length header) ∙ long)
-    ∙ ap (λ (own : FileName). named_file own (header ++ drop (header_length kind) file.octets) ∷ []) h.0
+    let end : 0 + length header ≡ header_length kind = omega (arith, long) in
+    ap sealed_as (f ∙ ap synced e) ∙ (λ i. named_file (h.0 i) (header ++ drop (end i) file.octets) ∷ [])
 
 -- ---- names
 
 pub own_number : (s n : ℕ) → number_in s (record { stream = s; sequence = n }) ≡ n
-own_number s n = ap (λ (b : Bool). if b then n else 0) (same_stream s)
-  where
-    same_stream : (k : ℕ) → (k == k) ≡ true
-    same_stream k = grind (arith, nat_tests)
-
-too_great : (a b n : ℕ) → max a b < n → a ≡ n → ⊥
-too_great a b n h e = omega arith
-
-lesser : (a b n : ℕ) → max a b < n → b < n
-lesser a b n h = omega arith
+own_number s n = ap (λ (b : Bool). if b then n else 0) (eq-eqb s s refl)
 
 fresh_above : (s n : ℕ) (files : List SealedFile) → greatest_in s files < n
     → IsFresh (record { stream = s; sequence = n }) files
 fresh_above s n [] h = All-nil (λ (f : SealedFile). f.name ≢ record { stream = s; sequence = n })
 fresh_above s n (f ∷ files) h =
     All-cons (λ (g : SealedFile). g.name ≢ record { stream = s; sequence = n }) f files
-    (λ same. too_great (number_in s f.name) (greatest_in s files) n h (ap (λ (name : FileName). number_in s name) same
-    ∙ own_number s n))
-    (fresh_above s n files (lesser (number_in s f.name) (greatest_in s files) n h))
-
--- the next number is above those of the sealed files
-pub is_above : (closed sealed most : ℕ) → most ≤ max closed sealed → sealed < closed + 1 → most < closed + 1
-is_above closed sealed most h k = omega arith
+    (λ same. omega (arith, h, ap (λ (name : FileName). number_in s name) same, own_number s n))
+    (fresh_above s n files (omega (arith, h)))
 
 -- no file is sealed that has the next number
 pub is_fresh : (s closed sealed : ℕ) (files : List SealedFile) → greatest_in s files ≤ max closed sealed
     → sealed < closed + 1
     → IsFresh (record { stream = s; sequence = closed + 1 }) files
-is_fresh s closed sealed files h k = fresh_above s (closed + 1) files (is_above closed sealed (greatest_in s files) h k)
+is_fresh s closed sealed files h k = fresh_above s (closed + 1) files (omega (arith, h, k))
 
 -- ---- a record more
-
-and_none : (n : ℕ) → n + 0 ≡ n
-and_none n = omega arith
 
 -- a header at the front of a file that was begun
 pub opened_at : (name : FileName) (kind : FiledKind) (header : List ℕ) (old mid new : Option UnsealedFile)
     → mid ≡ begun name old → new ≡ written 0 header mid → length header ≡ header_length kind
     → IsOpenAt name kind 0 new
 opened_at name kind header old mid new e f long =
-    subst (λ (u : Option UnsealedFile). IsOpenAt name kind 0 u) (sym (f ∙ ap (written 0 header) e)) (
-      refl,
-      ap (λ (xs : List ℕ). length xs) (overwritten-end [] header) ∙ long ∙ sym (and_none (header_length kind)),
-    )
+    rw (f ∙ ap (written 0 header) e) (refl, omega (arith, ap length (overwritten-end [] header), long))
 
 pub begun_at : (name : FileName) (kind : FiledKind) (u : Option UnsealedFile) → IsOpenAt name kind 0 u
     → IsOpenAt name kind 0 u × (body_of kind u ≡ [])
 begun_at name kind None h = absurd h
-begun_at name kind (Some f) h =
-    (h, ap (λ (n : ℕ). drop n f.octets) (sym (h.1 ∙ and_none (header_length kind))) ∙ drop-length f.octets)
+begun_at name kind (Some f) h = (h, drop_all (header_length kind) f.octets (omega (arith, h.1)))
 
 pub none_begun : (name : FileName) (kind : FiledKind) (growing : Option RunFacts) (old new : Option UnsealedFile)
     → growing ≡ None → IsOpenAt name kind 0 new → IsBegun name kind growing old new
-none_begun name kind growing old new e h =
-    subst (λ (before : Option RunFacts). IsBegun name kind before old new) (sym e) (begun_at name kind new h)
-
-longer_by : (header n m k l : ℕ) → k ≡ header + n → l ≡ k + m → l ≡ header + (n + m)
-longer_by header n m k l e f = omega arith
-
-within : (header n m : ℕ) → m ≡ header + n → header ≤ m
-within header n m e = omega arith
+none_begun name kind growing old new e h = rw e (begun_at name kind new h)
 
 -- a record more at the end of a file of records of this kind
 more_at : (name : FileName) (kind : FiledKind) (n m : ℕ) (filed : FiledRecord) (body : List ℕ)
@@ -176,17 +124,9 @@ more_at : (name : FileName) (kind : FiledKind) (n m : ℕ) (filed : FiledRecord)
     → IsOpenAt name kind m new × (body_of kind new ≡ body ++ cdr_octets filed)
 more_at name kind n m filed body None new sum h e f = absurd h
 more_at name kind n m filed body (Some file) new sum h e f =
-    let Q : Option UnsealedFile → Type 0 = λ u. IsOpenAt name kind m u × (body_of kind u ≡ body ++ cdr_octets filed) in
-    subst Q (sym f) (
-      (
-        h.0,
-        longer_by (header_length kind) n (cdr_length filed) (length file.octets)
-            (length (file.octets ++ cdr_octets filed)) h.1
-            (length-append file.octets (cdr_octets filed)
-            ∙ ap (λ (k : ℕ). length file.octets + k) (length-cdr_octets filed))
-            ∙ ap (λ (k : ℕ). header_length kind + k) (sym sum),
-      ),
-      drop-append-le (header_length kind) file.octets (cdr_octets filed) (within (header_length kind) n (length file.octets) h.1)
+    rw f (
+      (h.0, omega (arith, h.1, length-append file.octets (cdr_octets filed), length-cdr_octets filed, sum)),
+      drop-append-le (header_length kind) file.octets (cdr_octets filed) (omega (arith, h.1))
           ∙ ap (λ (octets : List ℕ). octets ++ cdr_octets filed) e,
     )
 
@@ -196,16 +136,12 @@ pub grown_at : (name : FileName) (growing : Option RunFacts) (filed : FiledRecor
     → IsOpenAt name (grown_facts growing filed).kind (grown_facts growing filed).octets new
     × (body_of (grown_facts growing filed).kind new ≡ body_behind growing old ++ cdr_octets filed)
 grown_at name None filed old mid new h f =
-    more_at name filed.kind 0 (cdr_length filed) filed [] mid new (sym (zero_plus (cdr_length filed))) h.0 h.1 f
+    more_at name filed.kind 0 (cdr_length filed) filed [] mid new (omega arith) h.0 h.1 f
 grown_at name (Some run) filed old mid new h f =
     more_at name run.kind run.octets (run.octets + cdr_length filed) filed (body_of run.kind old) mid new refl h.0 h.1 f
-
-pub not_sealed : (closed sealed : ℕ) → sealed < closed + 1 → nat_le (closed + 1) sealed ≡ false
-not_sealed closed sealed h = grind (arith, nat_tests)
 
 -- the calls are made, since the file isn't sealed yet
 pub makes_unsealed : {A : Type 0} (tells : Ghosts A) (closed sealed : ℕ) (calls : List Call) (ended : Ending)
     (old new : A) → sealed < closed + 1
     → Makes tells calls ended old new → Makes tells (unless_sealed sealed (closed + 1) calls) ended old new
-makes_unsealed tells closed sealed calls ended old new h made =
-    subst (λ (b : Bool). Makes tells (if b then [] else calls) ended old new) (sym (not_sealed closed sealed h)) made
+makes_unsealed tells closed sealed calls ended old new h made = rw (lt-leb (closed + 1) sealed h) made

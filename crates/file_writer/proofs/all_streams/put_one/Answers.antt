@@ -1,49 +1,36 @@
-use Rattle.std.proofs.Common.{◌≡◌, ℕ, ◌<◌, List, [], ◌∷◌, ◌++◌, slice_index_or, sym, ap, ◌∙◌, subst}
-use Rattle.cdr_file.specs.CdrFile.{FileSettings}
-use Rattle.file_rotate.specs.Division.{cuts_at}
+use Rattle.std.proofs.Common.{◌≡◌, ℕ, List, [], ◌∷◌, ◌++◌, slice_index_or, sym, ap, ◌∙◌, arith}
 use Rattle.file_rotate.specs.Items.{Item, Record}
 use Rattle.file_writer.specs.AllStreams.{StreamAt}
-use Rattle.file_writer.specs.Calls.{Call, calls_at, calls_below}
-use Rattle.file_writer.specs.Following.{IsLeft, IsSafe}
-use Rattle.file_writer.specs.Making.{Makes, Went, ending_at}
+use Rattle.file_writer.specs.Calls.{calls_below}
 use Rattle.file_writer.specs.Streams.{stream_count, stream_division, stream_item, stream_record}
 use Rattle.file_writer.specs.declared.stream.Stream.{Stream}
-use Rattle.file_writer.proofs.AllLemmas.{at_stays, calls_are, each_set, no_calls, not_taken, only_one, safe_stays, taken_at}
+use Rattle.file_writer.proofs.AllLemmas.{at_stays, calls_are, each_set, not_taken, only_calls, safe_set, taken_at}
 use Rattle.file_writer.proofs.AmongLemmas.{number_within}
 use Rattle.file_writer.proofs.FollowingLemmas.{no_result}
-use Rattle.file_writer.proofs.MakingLemmas.{ended_at}
 use Rattle.file_writer.proofs.LeavingLemmas.{left_set}
+use Rattle.file_writer.proofs.MakingLemmas.{by_calls, ended_at}
 use Rattle.file_writer.proofs.all_streams.put_one.Goals as goal
 
 pub returns-in_err-streams-clause-takes : goal.returns-in_err-streams-clause-takes
 returns-in_err-streams-clause-takes g c = λ settings closed sealed before item same goes each.
     let s : ℕ = c.args.s in
     let stream : Stream = c.index-streams-s.result in
-    let filed_in : ℕ → Item (List ℕ) = λ profile. Record (stream_record profile c.args.next.kind c.args.next.octets.now c.args.next.moment) in
-    let x : Item (List ℕ) = filed_in stream.cutter.profile in
+    let filed_in : ℕ → Item (List ℕ) =
+    λ profile. Record (stream_record profile c.args.next.kind c.args.next.octets.now c.args.next.moment) in
     let at : StreamAt g.F.Shelf settings closed sealed before s stream c.args.shelf.now =
-    subst (λ (st : Stream). StreamAt g.F.Shelf settings closed sealed before s st c.args.shelf.now)
-    (sym c.index-streams-s.is) (each s stream c.requires.within) in
-    let here : stream_item settings.profile settings.rules s item ≡ x ∷ [] =
+    rw c.index-streams-s.is (each s stream c.requires.within) in
+    let here : stream_item settings.profile settings.rules s item ≡ filed_in stream.cutter.profile ∷ [] =
     goes.here ∙ ap (λ (profile : ℕ). filed_in profile ∷ []) (sym at.profile) in
-    let run = (stream_division settings s before).left_open in
-    let taken = c.in_err-streams.ensures.takes run at.behind in
     let law = c.division_goes_on.ensures in
-    let calls =
-    ap (λ (fs : FileSettings). calls_at fs s stream.file.sealed (cuts_at stream.cutter.limits run x)
-    stream.file.closed run x) (sym same)
-    ∙ calls_are law g.F.Shelf settings closed sealed before item s x stream c.args.shelf.now here at
-    ∙ sym ((only_one settings closed sealed before item stream_count s
-    (λ t other. no_calls law g.F.Shelf settings closed sealed before item t (goes.others t other))).1
-    c.requires.within) in
     record {
       makes = ended_at g.F.Shelf (calls_below stream_count settings closed sealed before item) _ _ _ _
           c.from_residual.ensures
-          (subst (λ (cs : List Call). Makes g.F.Shelf cs (ending_at c.in_err-streams.field-0.0) c.args.shelf.now
-          c.put.new.shelf) calls taken.makes);
+          (by_calls (calls_are law g.F.Shelf settings closed sealed before item s _ _ stream c.args.shelf.now same here at
+          ∙ sym (only_calls settings closed sealed before item s goes.others c.requires.within))
+          (c.in_err-streams.ensures.takes (stream_division settings s before).left_open at.behind).makes);
       at = no_result c.from_residual.result c.in_err-streams.field-0.0 _ c.from_residual.ensures;
       shut = λ files plan most among shut.
-          c.in_err-streams.ensures.shut run at.behind files plan most
+          c.in_err-streams.ensures.shut (stream_division settings s before).left_open at.behind files plan most
           (number_within law settings closed before item s _ here _ _ at.limits at.has_closed (most s)
           (among s c.requires.within)) shut;
     }
@@ -52,29 +39,22 @@ pub returns-clause-takes : goal.returns-clause-takes
 returns-clause-takes g c = λ settings closed sealed before item same goes each.
     let s : ℕ = c.args.s in
     let stream : Stream = c.index-streams-s.result in
-    let filed_in : ℕ → Item (List ℕ) = λ profile. Record (stream_record profile c.args.next.kind c.args.next.octets.now c.args.next.moment) in
-    let x : Item (List ℕ) = filed_in stream.cutter.profile in
+    let filed_in : ℕ → Item (List ℕ) =
+    λ profile. Record (stream_record profile c.args.next.kind c.args.next.octets.now c.args.next.moment) in
     let at : StreamAt g.F.Shelf settings closed sealed before s stream c.args.shelf.now =
-    subst (λ (st : Stream). StreamAt g.F.Shelf settings closed sealed before s st c.args.shelf.now)
-    (sym c.index-streams-s.is) (each s stream c.requires.within) in
-    let here : stream_item settings.profile settings.rules s item ≡ x ∷ [] =
+    rw c.index-streams-s.is (each s stream c.requires.within) in
+    let here : stream_item settings.profile settings.rules s item ≡ filed_in stream.cutter.profile ∷ [] =
     goes.here ∙ ap (λ (profile : ℕ). filed_in profile ∷ []) (sym at.profile) in
     let run = (stream_division settings s before).left_open in
     let taken = c.in_ok-streams.ensures.takes run at.behind in
     let law = c.division_goes_on.ensures in
-    let calls =
-    ap (λ (fs : FileSettings). calls_at fs s stream.file.sealed (cuts_at stream.cutter.limits run x)
-    stream.file.closed run x) (sym same)
-    ∙ calls_are law g.F.Shelf settings closed sealed before item s x stream c.args.shelf.now here at
-    ∙ sym ((only_one settings closed sealed before item stream_count s
-    (λ t other. no_calls law g.F.Shelf settings closed sealed before item t (goes.others t other))).1
-    c.requires.within) in
     record {
-      makes = subst (λ (cs : List Call). Makes g.F.Shelf cs Went c.args.shelf.now c.put.new.shelf) calls taken.makes;
+      makes = by_calls (calls_are law g.F.Shelf settings closed sealed before item s _ _ stream c.args.shelf.now same here
+          at ∙ sym (only_calls settings closed sealed before item s goes.others c.requires.within)) taken.makes;
       at = each_set (λ (t : ℕ) (st : Stream). StreamAt g.F.Shelf settings closed sealed (before ++ item ∷ []) t st
           c.put.new.shelf) c.args.streams.now s c.in_ok-streams.field-0
-          (subst (λ (n : ℕ). s < n) (sym c.requires.sixteen) c.requires.within)
-          (taken_at law g.F.Shelf settings closed sealed before item s x stream c.in_ok-streams.field-0 _ _ here
+          (omega (arith, c.requires.sixteen, c.requires.within))
+          (taken_at law g.F.Shelf settings closed sealed before item s _ stream c.in_ok-streams.field-0 _ _ here
           at taken.after)
           (λ t d other h.
           not_taken law g.F.Shelf settings closed sealed before item t (slice_index_or c.args.streams.now t d)
@@ -89,20 +69,14 @@ returns-clause-takes g c = λ settings closed sealed before item same goes each.
 
 pub returns-clause-safe : goal.returns-clause-safe
 returns-clause-safe g c =
-    each_set (λ (t : ℕ) (st : Stream). IsSafe g.F.Shelf t st c.put.new.shelf) c.args.streams.now c.args.s
-    c.in_ok-streams.field-0
-    (subst (λ (n : ℕ). c.args.s < n) (sym c.requires.sixteen) c.requires.within)
-    c.in_ok-streams.ensures.safe
-    (λ t d other h. safe_stays g.F.Shelf t _ _ _ (λ told. c.in_ok-streams.ensures.others told t other)
-    (c.requires.safe t d h))
+    safe_set g.F.Shelf c.args.streams.now c.args.s c.in_ok-streams.field-0 c.args.shelf.now c.put.new.shelf
+    c.requires.within c.requires.sixteen c.in_ok-streams.ensures.safe c.in_ok-streams.ensures.others c.requires.safe
 
 pub returns-clause-left : goal.returns-clause-left
 returns-clause-left g c = λ told start stale left.
     let s : ℕ = c.args.s in
-    let stream : Stream = c.index-streams-s.result in
     left_set g.F.Shelf start stale c.args.streams.now s c.in_ok-streams.field-0 c.args.shelf.now c.put.new.shelf
     c.requires.within c.requires.sixteen
     (c.in_ok-streams.ensures.left told (start s) (stale s)
-    (subst (λ (st : Stream). IsLeft (start s) (stale s) st.file (g.F.Shelf.unsealed c.args.shelf.now s))
-    (sym c.index-streams-s.is) (left.each s stream c.requires.within)))
+    (rw c.index-streams-s.is (left.each s c.index-streams-s.result c.requires.within)))
     (λ t other. (c.in_ok-streams.ensures.others told t other).unsealed) left

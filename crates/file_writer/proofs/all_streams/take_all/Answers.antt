@@ -2,15 +2,21 @@ use Rattle.std.proofs.Common.{◌≡◌, ℕ, ◌+◌, ◌-◌, ◌^◌, List, [
 use Rattle.std.proofs.lemmas.List.{take-append-drop, take_all}
 use Rattle.gw_base.specs.declared.item.Item.{Item}
 use Rattle.file_writer.specs.AllStreams.{AllAt, GoesShut}
-use Rattle.file_writer.specs.Calls.{Call, calls_below, calls_of}
+use Rattle.file_writer.specs.Calls.{calls_below, calls_of}
 use Rattle.file_writer.specs.Leaving.{AreAmong}
-use Rattle.file_writer.specs.Making.{Makes, Went, ending_at, ending_of}
-use Rattle.file_writer.specs.Streams.{stream_count}
+use Rattle.file_writer.specs.Streams.{stream_count, Settings}
 use Rattle.file_writer.proofs.AllLemmas.{calls-append, calls-one, take_next}
 use Rattle.file_writer.proofs.AmongLemmas.{among_fewer, among_next, in_front}
 use Rattle.file_writer.proofs.FollowingLemmas.{no_result}
-use Rattle.file_writer.proofs.MakingLemmas.{makes_then, stopped_at}
+use Rattle.file_writer.proofs.MakingLemmas.{makes_then, stopped_at, by_calls}
 use Rattle.file_writer.proofs.all_streams.take_all.Goals as goal
+
+one_more : (settings : Settings) (closed sealed : ℕ → ℕ) (before items : List Item) (i : ℕ) (x : Item)
+    → take (i + 1) items ≡ take i items ++ x ∷ []
+    → calls_of settings closed sealed before (take i items)
+    ++ calls_below stream_count settings closed sealed (before ++ take i items) x
+    ≡ calls_of settings closed sealed before (take (i + 1) items)
+one_more settings closed sealed before items i x more = rw more (calls-one settings closed sealed before (take i items) x)
 
 pub take_item-requires-clause-few : goal.take_item-requires-clause-few
 take_item-requires-clause-few g c = λ s d h.
@@ -26,20 +32,16 @@ returns-in_err-take_item-clause-takes g c = λ settings closed sealed before sam
     let prev = c.loop-item.invariant.takes settings closed sealed before same rules at in
     let next = c.in_err-take_item.ensures.takes settings closed sealed (before ++ take i items) same rules prev.1 in
     let more : take (i + 1) items ≡ take i items ++ x ∷ [] = take_next items i x (omega arith) c.item-item.is in
-    let made = makes_then g.F.Shelf (calls_of settings closed sealed before (take i items))
-    (calls_below stream_count settings closed sealed (before ++ take i items) x) _ _ _ _ prev.0 next.makes in
-    let calls = calls-one settings closed sealed before (take i items) x
-    ∙ ap (λ (xs : List Item). calls_of settings closed sealed before xs) (sym more) in
     let whole = sym (calls-append settings closed sealed before (take (i + 1) items) (drop (i + 1) items))
     ∙ ap (λ (xs : List Item). calls_of settings closed sealed before xs) (take-append-drop (i + 1) items) in
     record {
-      makes = subst (λ (cs : List Call). Makes g.F.Shelf cs (ending_of c.from_residual.result) c.args.shelf.now
-          c.take_item.new.shelf) whole
+      makes = by_calls whole
           (stopped_at g.F.Shelf (calls_of settings closed sealed before (take (i + 1) items))
           (calls_of settings closed sealed (before ++ take (i + 1) items) (drop (i + 1) items)) _ _ _ _
           c.from_residual.ensures
-          (subst (λ (cs : List Call). Makes g.F.Shelf cs (ending_at c.in_err-take_item.field-0.0) c.args.shelf.now
-          c.take_item.new.shelf) calls made));
+          (by_calls (one_more settings closed sealed before items i x more)
+          (makes_then g.F.Shelf (calls_of settings closed sealed before (take i items))
+          (calls_below stream_count settings closed sealed (before ++ take i items) x) _ _ _ _ prev.0 next.makes)));
       at = no_result c.from_residual.result c.in_err-take_item.field-0.0 _ c.from_residual.ensures;
       shut = λ files plan most among shut.
           let later = among_next law settings closed before items i x most more
@@ -66,9 +68,7 @@ loop-item-preserved g c =
       takes = λ settings closed sealed before same rules at.
           let prev = inv.takes settings closed sealed before same rules at in
           let next = e.takes settings closed sealed (before ++ take i items) same rules prev.1 in (
-            subst (λ (cs : List Call). Makes g.F.Shelf cs Went c.args.shelf.now c.take_item.new.shelf)
-                (calls-one settings closed sealed before (take i items) x
-                ∙ ap (λ (xs : List Item). calls_of settings closed sealed before xs) (sym more))
+            by_calls (one_more settings closed sealed before items i x more)
                 (makes_then g.F.Shelf (calls_of settings closed sealed before (take i items))
                 (calls_below stream_count settings closed sealed (before ++ take i items) x) _ _ _ _ prev.0
                 next.makes),
@@ -90,8 +90,7 @@ returns-clause-takes g c = λ settings closed sealed before same rules at.
     let all = c.loop-item.invariant.takes settings closed sealed before same rules at in
     let whole : take c.loop-item.item-index items ≡ items = take_all c.loop-item.item-index items (omega arith) in
     record {
-      makes = subst (λ (xs : List Item). Makes g.F.Shelf (calls_of settings closed sealed before xs) Went
-          c.args.shelf.now c.loop-item.shelf) whole all.0;
+      makes = by_calls (ap (λ (xs : List Item). calls_of settings closed sealed before xs) whole) all.0;
       at = subst (λ (xs : List Item). AllAt g.F.Shelf settings closed sealed (before ++ xs) c.loop-item.streams
           c.loop-item.shelf) whole all.1;
       shut = subst (λ (xs : List Item). GoesShut g.F.Shelf settings closed (λ s. before ++ xs) c.args.shelf.now

@@ -2,9 +2,6 @@ use Rattle.std.proofs.Common.{◌≡◌, true, false, ◌∙◌}
 use Rattle.area_disk.specs.ArmedLaws.{armed_reads_run, reads_run}
 use Rattle.file_writer.proofs.asking.fresh_stream.Goals as goal
 
-not_both : {P : Type 0} → true ≡ false → P
-not_both e = absurd (cc)
-
 pub returns-in-Err-clause-asked : goal.returns-in-Err-clause-asked
 returns-in-Err-clause-asked g c =
     let e = c.in-Err.ensures in
@@ -14,7 +11,7 @@ returns-in-Err-clause-asked g c =
       calls = e.calls;
       later = e.cause.later;
       rose = λ h. e.cause.failed;
-      still = λ h. not_both h;
-      planned = λ told a armed. not_both ((e.planned told).fails
-          ∙ reads_run (g.F.Shelf.plan c.args.shelf.now) (armed_reads_run a (g.F.Shelf.plan c.args.shelf.now) armed));
+      still = λ h. absurd (cc);
+      planned = λ told a armed. absurd (let both : true ≡ false = (e.planned told).fails
+          ∙ reads_run (g.F.Shelf.plan c.args.shelf.now) (armed_reads_run a (g.F.Shelf.plan c.args.shelf.now) armed) in cc);
     }

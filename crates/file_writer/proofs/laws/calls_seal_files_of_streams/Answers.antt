@@ -1,4 +1,4 @@
-use Rattle.file_writer.proofs.OfStreamsLemmas.{seals_of_streams}
+use Rattle.file_writer.proofs.CallsLemmas.{seals_of_streams}
 use Rattle.file_writer.proofs.laws.calls_seal_files_of_streams.Goals as goal
 
 pub returns : goal.returns

@@ -1,4 +1,4 @@
-use Rattle.file_writer.proofs.FirstFilesLemmas.{first_counted}
+use Rattle.file_writer.proofs.HoldingLemmas.{first_counted}
 use Rattle.file_writer.proofs.laws.first_files_are_counted.Goals as goal
 
 pub returns : goal.returns

@@ -2,4 +2,4 @@ use Rattle.file_writer.proofs.AmongLemmas.{shut_open}
 use Rattle.file_writer.proofs.laws.shut_streams_come_to_open_files.Goals as goal
 
 pub returns : goal.returns
-returns c = λ settings closed sealed items files old new firsts shut leaves. shut_open settings closed sealed items files old new firsts shut leaves
+returns c = shut_open

@@ -5,7 +5,6 @@ use Rattle.cdr_shelf.specs.Steps.{StepsAt}
 use Rattle.file_writer.specs.Calls.{Writes}
 use Rattle.file_writer.specs.Writing.{appended}
 use Rattle.file_writer.proofs.MakingLemmas.{makes_then, stopped_at}
-use Rattle.file_writer.proofs.ShuttingLemmas.{then_shut}
 use Rattle.file_writer.proofs.WritingLemmas.{has_longer, on_ok, takes_end, written_both}
 use Rattle.file_writer.proofs.one_file.append_cdr.Goals as goal
 
@@ -46,4 +45,5 @@ pub returns-in_err-write-clause-shut : goal.returns-in_err-write-clause-shut
 returns-in_err-write-clause-shut g c = c.in_err-write.ensures.shut
 
 pub returns-clause-shut : goal.returns-clause-shut
-returns-clause-shut g c = then_shut g.F.Shelf _ _ _ c.in_ok-write.ensures.shut c.write-2.ensures.shut
+returns-clause-shut g c = λ files plan most shut.
+    c.write-2.ensures.shut files plan most (c.in_ok-write.ensures.shut files plan most shut)

@@ -1,7 +1,6 @@
 use Rattle.std.proofs.Common.{[], ◌∷◌, ℕ, List, length, ap, ◌∙◌}
 use Rattle.file_writer.specs.Calls.{Writes}
 use Rattle.file_writer.proofs.MakingLemmas.{makes_then, stopped_at}
-use Rattle.file_writer.proofs.ShuttingLemmas.{begun_then}
 use Rattle.file_writer.proofs.WritingLemmas.{on_ok, opened_at}
 use Rattle.file_writer.proofs.one_file.begin_file.Goals as goal
 
@@ -26,4 +25,5 @@ pub returns-in_err-begin-clause-shut : goal.returns-in_err-begin-clause-shut
 returns-in_err-begin-clause-shut g c = c.in_err-begin.ensures.shut
 
 pub returns-clause-shut : goal.returns-clause-shut
-returns-clause-shut g c = λ above. begun_then g.F.Shelf _ _ _ _ _ (c.in_ok-begin.ensures.shut above) c.write.ensures.shut
+returns-clause-shut g c = λ above files plan most within shut.
+    c.write.ensures.shut files plan most (c.in_ok-begin.ensures.shut above files plan most within shut)

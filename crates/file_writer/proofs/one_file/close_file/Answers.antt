@@ -5,7 +5,6 @@ use Rattle.cdr_file.specs.declared.filed_kind.FiledKind.{FiledKind}
 use Rattle.cdr_shelf.specs.Files.{UnsealedFile}
 use Rattle.file_writer.specs.Writing.{body_of, settings_of}
 use Rattle.file_writer.proofs.LeavingLemmas.{gone_by}
-use Rattle.file_writer.proofs.ShuttingLemmas.{then_shut}
 use Rattle.file_writer.proofs.WritingLemmas.{named_file, on_ok, sealed_of}
 use Rattle.file_writer.specs.Calls.{Writes, Seals}
 use Rattle.file_writer.proofs.MakingLemmas.{makes_then, stopped_at}
@@ -49,7 +48,8 @@ pub returns-in_err-write-clause-shut : goal.returns-in_err-write-clause-shut
 returns-in_err-write-clause-shut g c = c.in_err-write.ensures.shut
 
 pub returns-in_err-sync-clause-shut : goal.returns-in_err-sync-clause-shut
-returns-in_err-sync-clause-shut g c = then_shut g.F.Shelf _ _ _ c.in_ok-write.ensures.shut c.in_err-sync.ensures.shut
+returns-in_err-sync-clause-shut g c = λ files plan most shut.
+    c.in_err-sync.ensures.shut files plan most (c.in_ok-write.ensures.shut files plan most shut)
 
 pub returns-clause-shut : goal.returns-clause-shut
 returns-clause-shut g c = λ files plan most shut.

@@ -1,4 +1,4 @@
-use Rattle.file_writer.proofs.PlacesLemmas.{place-stays}
+use Rattle.file_writer.proofs.RecordsLemmas.{place-stays}
 use Rattle.file_writer.proofs.places.a_place_stays.Goals as goal
 
 pub returns : goal.returns

@@ -1,4 +1,5 @@
-use Rattle.std.proofs.Common.{Bool, Option, [], ◌∷◌, subst, sym}
+use Rattle.std.proofs.Common.{arith, ◌+◌, Bool, Option, [], ◌∷◌, subst, sym}
+use Rattle.std.proofs.lemmas.Bool.{lt-leb}
 use Rattle.cdr_file.specs.CdrFile.{FiledRecord}
 use Rattle.cdr_file.specs.declared.run.RunFacts.{RunFacts}
 use Rattle.cdr_shelf.specs.Files.{UnsealedFile}
@@ -6,8 +7,7 @@ use Rattle.cdr_shelf.specs.declared.file_name.FileName.{FileName}
 use Rattle.file_writer.specs.Calls.{Writes}
 use Rattle.file_writer.specs.Writing.{GrownWhere, IsBegun, beginning_of, filed_of, name_in}
 use Rattle.file_writer.proofs.MakingLemmas.{ended_at, makes_then, stopped_at}
-use Rattle.file_writer.proofs.ShuttingLemmas.{begun_then}
-use Rattle.file_writer.proofs.WritingLemmas.{grown_at, is_above, is_fresh, makes_unsealed, not_sealed}
+use Rattle.file_writer.proofs.WritingLemmas.{grown_at, is_fresh, makes_unsealed}
 use Rattle.file_writer.proofs.progress.append.Goals as goal
 
 pub end_of_file-requires-clause-fresh : goal.end_of_file-requires-clause-fresh
@@ -43,24 +43,19 @@ returns-clause-stands g c = λ told.
     subst (λ (run : RunFacts). IsBegun name run.kind c.args.file.growing old
     (g.F.Shelf.unsealed c.end_of_file.new.shelf c.args.stream)) c.with_record-run.ensures (c.in_ok-at.ensures.stands told) in
     subst (λ (b : Bool). GrownWhere b name c.args.file.growing filed old new)
-    (sym (not_sealed c.args.file.closed c.args.file.sealed c.if-sequence-sealed.false))
+    (sym (lt-leb (c.args.file.closed + 1) c.args.file.sealed c.if-sequence-sealed.false))
     (grown_at name c.args.file.growing filed old _ new begun (c.in_ok-append_cdr.ensures.appended told).here)
 
 pub returns-in_err-at-clause-shut : goal.returns-in_err-at-clause-shut
 returns-in_err-at-clause-shut g c = λ files.
-    c.in_err-at.ensures.shut
-    (is_above c.args.file.closed c.args.file.sealed _ (c.requires.fresh files) c.if-sequence-sealed.false) files
+    c.in_err-at.ensures.shut (omega (arith, c.requires.fresh files, c.if-sequence-sealed.false)) files
 
 pub returns-in_err-append_cdr-clause-shut : goal.returns-in_err-append_cdr-clause-shut
-returns-in_err-append_cdr-clause-shut g c = λ files.
-    begun_then g.F.Shelf _ _ _ _ _
-    (c.in_ok-at.ensures.shut
-    (is_above c.args.file.closed c.args.file.sealed _ (c.requires.fresh files) c.if-sequence-sealed.false))
-    c.in_err-append_cdr.ensures.shut files
+returns-in_err-append_cdr-clause-shut g c = λ files plan most within shut.
+    c.in_err-append_cdr.ensures.shut files plan most (c.in_ok-at.ensures.shut
+    (omega (arith, c.requires.fresh files, c.if-sequence-sealed.false)) files plan most within shut)
 
 pub returns-clause-shut : goal.returns-clause-shut
-returns-clause-shut g c = λ files.
-    begun_then g.F.Shelf _ _ _ _ _
-    (c.in_ok-at.ensures.shut
-    (is_above c.args.file.closed c.args.file.sealed _ (c.requires.fresh files) c.if-sequence-sealed.false))
-    c.in_ok-append_cdr.ensures.shut files
+returns-clause-shut g c = λ files plan most within shut.
+    c.in_ok-append_cdr.ensures.shut files plan most (c.in_ok-at.ensures.shut
+    (omega (arith, c.requires.fresh files, c.if-sequence-sealed.false)) files plan most within shut)

@@ -13,7 +13,7 @@ returns-in-Ok-clause-makes g c = λ file as_file.
     one_went g.F.Shelf (Seals file) _ _ (λ told. e.calls told)
     (λ told. e.sealed told ∙ ap (λ (files : List SealedFile). g.F.Shelf.files c.args.shelf.now ++ files)
     (as_file told)) e.cause.ok
-    (λ told. let p = e.planned told in record { fails = p.fails; schedule = p.schedule })
+    (λ told. e.planned told)
 
 maybe_file : (new old files : List SealedFile) (file : SealedFile) → files ≡ file ∷ [] → (new ≡ old)
     ⊎ (new ≡ old ++ files) → (new ≡ old) ⊎ (new ≡ old ++ file ∷ [])
@@ -26,7 +26,7 @@ returns-in-Err-clause-makes g c = λ file as_file.
     let files : List SealedFile = g.F.Shelf.files c.args.shelf.now in
     one_failed g.F.Shelf (Seals file) _ _ (λ told. e.calls told)
     (λ told. maybe_file _ files _ file (as_file told) (e.any_moment told)) e.cause.later e.cause.failed
-    (λ told. let p = e.planned told in record { fails = p.fails; schedule = p.schedule })
+    (λ told. e.planned told)
     (λ planned told. (e.leaves told planned).files
     ∙ ap (λ (fs : List SealedFile). if is_done (next_fate (g.F.Shelf.plan c.args.shelf.now)) then files
     ++ fs else files) (as_file told))

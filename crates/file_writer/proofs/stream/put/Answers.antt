@@ -1,29 +1,54 @@
-use Rattle.std.proofs.Common.{◌≡◌, ◌≤◌, ℕ, List, length, Option, Some, None, sym, ap, ◌∙◌, subst}
+use Rattle.std.proofs.Common.{◌≡◌, ◌≤◌, ◌+◌, IsTrue, ℕ, List, length, Option, Some, None, sym, ap, ◌∙◌, subst}
 use Rattle.cdr_file.specs.CdrFile.{FiledRecord}
 use Rattle.cdr_file.specs.Profile.{IsFiledKind, in_profile}
 use Rattle.cdr_file.specs.declared.closure.ClosureReason.{ClosureReason}
 use Rattle.cdr_file.specs.declared.filed_kind.FiledKind.{FiledKind}
 use Rattle.file_rotate.specs.Cutting.{Cutting, file_with, kind_change, limit_reached, record_file, with_record}
-use Rattle.file_rotate.specs.Division.{still}
+use Rattle.file_rotate.specs.Division.{cuts_at, still}
 use Rattle.file_rotate.specs.Items.{AreLimits, Filed, Record}
 use Rattle.file_rotate.specs.declared.limits.Limits.{Limits}
 use Rattle.file_rotate.specs.declared.cut.Cut.{Cut}
 use Rattle.file_rotate.specs.declared.open_file.OpenFile.{OpenFile}
-use Rattle.file_writer.specs.Following.{IsUp, Pairs}
+use Rattle.file_writer.specs.Calls.{closed_by}
+use Rattle.file_writer.specs.Following.{IsBehind, Pairs}
 use Rattle.file_writer.specs.Streams.{stream_record}
-use Rattle.file_writer.specs.Writing.{filed_of, grown, settings_of}
-use Rattle.file_writer.proofs.FollowingLemmas.{append_stays, append_up, close_stays, close_up, grown_as, grown_closes, pairs_closed, pairs_grown, record_closes, stands_as, stays_then}
+use Rattle.file_writer.specs.Writing.{IsGrown, filed_of, grown, settings_of}
+use Rattle.file_writer.proofs.FollowingLemmas.{FactsLaws, append_stays, append_up, close_stays, close_up, grown_closes, pairs_closed, pairs_grown, record_closes, stays_then}
 use Rattle.file_writer.proofs.LeavingLemmas.{append_left, close_left}
 use Rattle.file_writer.proofs.PuttingLemmas.{all_went, first_ended, number_1, second_ended, third_ended}
-use Rattle.file_writer.proofs.ShuttingLemmas.{any_begun}
 use Rattle.file_writer.specs.declared.progress.Progress.{Progress}
 use Rattle.file_writer.proofs.stream.put.Goals as goal
+use Rattle.file_writer.proofs.stream.put.Goals.{In_ok-file, In_ok-file-2}
+
+-- the number of the file that the record goes to
+number : (g : _) (c : In_ok-file g) (run : List (Filed (List ℕ))) → IsBehind g.F.Shelf c.args.s run c.args.stream c.args.shelf.now
+    → closed_by (cuts_at c.args.stream.cutter.limits run (Record (stream_record c.args.stream.cutter.profile c.args.next.kind c.args.next.octets.now c.args.next.moment))).before
+    c.args.stream.file.closed + 1 ≡ c.in_ok-file.file.closed + 1
+number g c run behind =
+    number_1 _ _ _ _ _ _ _ c.requires.safe.pairs (c.reason_of.ensures _ (ap (λ (cut : Cut). cut.before) c.put-cut.ensures.cut))
+    c.cutter_keeps_the_run.ensures.cuts run behind _ _ c.in_ok-file.ensures.closed c.in_ok-file.ensures.still c.in_ok-file.ensures.makes
+
+-- the file grew by the record
+grows : (g : _) (c : In_ok-file-2 g)
+    → c.in_ok-file-2.file ≡ grown c.in_ok-file.file (filed_of (in_profile c.args.stream.cutter.profile c.args.next.kind) c.args.next.octets.now c.args.next.moment)
+grows g c = c.in_ok-file-2.ensures.grown
+    ∙ ap (λ (k : FiledKind). grown c.in_ok-file.file (filed_of k c.args.next.octets.now c.args.next.moment)) c.kind.ensures.kind
+
+stands : (g : _) (c : In_ok-file-2 g) → IsTrue g.F.Shelf.tells_files
+    → IsGrown c.args.s c.in_ok-file.file (filed_of (in_profile c.args.stream.cutter.profile c.args.next.kind) c.args.next.octets.now c.args.next.moment)
+    (g.F.Shelf.unsealed c.close.new.shelf c.args.s) (g.F.Shelf.unsealed c.append.new.shelf c.args.s)
+stands g c told =
+    subst (λ (k : FiledKind). IsGrown c.args.s c.in_ok-file.file (filed_of k c.args.next.octets.now c.args.next.moment)
+    (g.F.Shelf.unsealed c.close.new.shelf c.args.s) (g.F.Shelf.unsealed c.append.new.shelf c.args.s))
+    c.kind.ensures.kind (c.in_ok-file-2.ensures.stands told)
+
+laws : (g : _) (c : In_ok-file-2 g) → FactsLaws
+laws g c = record { first = c.run_facts_law.ensures.first; more = c.run_facts_law.ensures.more; growth = c.file_octets_law.ensures.growth }
 
 pub returns-in_err-file-clause-takes : goal.returns-in_err-file-clause-takes
 returns-in_err-file-clause-takes g c = λ run behind.
-    first_ended g.F.Shelf (settings_of c.args.gateway.now) c.args.s (stream_record c.args.stream.cutter.profile c.args.next.kind c.args.next.octets.now c.args.next.moment) c.args.stream c.reason_of.result c.args.shelf.now c.requires.safe.pairs
-    (c.reason_of.ensures _ (ap (λ (cut : Cut). cut.before) c.put-cut.ensures.cut)) c.cutter_keeps_the_run.ensures.cuts run behind
-    c.close.new.shelf c.from_residual.result _ c.from_residual.ensures c.in_err-file.ensures.makes
+    first_ended _ _ _ _ _ _ _ c.requires.safe.pairs (c.reason_of.ensures _ (ap (λ (cut : Cut). cut.before) c.put-cut.ensures.cut))
+    c.cutter_keeps_the_run.ensures.cuts run behind _ _ _ c.from_residual.ensures c.in_err-file.ensures.makes
 
 pub append-requires-clause-fresh : goal.append-requires-clause-fresh
 append-requires-clause-fresh g c = λ told.
@@ -33,31 +58,28 @@ append-requires-clause-fresh g c = λ told.
 
 pub returns-in_err-file-2-clause-takes : goal.returns-in_err-file-2-clause-takes
 returns-in_err-file-2-clause-takes g c = λ run behind.
-    second_ended g.F.Shelf (settings_of c.args.gateway.now) c.args.s (stream_record c.args.stream.cutter.profile c.args.next.kind c.args.next.octets.now c.args.next.moment) c.args.stream c.reason_of.result c.args.shelf.now c.requires.safe.pairs
-    (c.reason_of.ensures _ (ap (λ (cut : Cut). cut.before) c.put-cut.ensures.cut)) c.cutter_keeps_the_run.ensures.cuts run behind
-    c.in_ok-file.file c.close.new.shelf c.in_ok-file.ensures.closed c.in_ok-file.ensures.still c.in_ok-file.ensures.makes
-    c.append.new.shelf c.from_residual-in_err-file-2.result _ c.from_residual-in_err-file-2.ensures c.in_err-file-2.ensures.makes
+    second_ended _ _ _ _ _ _ _ c.requires.safe.pairs (c.reason_of.ensures _ (ap (λ (cut : Cut). cut.before) c.put-cut.ensures.cut))
+    c.cutter_keeps_the_run.ensures.cuts run behind _ _ c.in_ok-file.ensures.closed c.in_ok-file.ensures.still c.in_ok-file.ensures.makes
+    _ _ _ c.from_residual-in_err-file-2.ensures c.in_err-file-2.ensures.makes
 
 pub returns-in_err-file-3-clause-takes : goal.returns-in_err-file-3-clause-takes
 returns-in_err-file-3-clause-takes g c = λ run behind.
-    third_ended g.F.Shelf (settings_of c.args.gateway.now) c.args.s (stream_record c.args.stream.cutter.profile c.args.next.kind c.args.next.octets.now c.args.next.moment) c.args.stream c.reason_of.result c.args.shelf.now c.requires.safe.pairs
-    (c.reason_of.ensures _ (ap (λ (cut : Cut). cut.before) c.put-cut.ensures.cut)) c.cutter_keeps_the_run.ensures.cuts run behind
-    c.in_ok-file.file c.close.new.shelf c.in_ok-file.ensures.closed c.in_ok-file.ensures.still c.in_ok-file.ensures.makes
-    (record { first = c.run_facts_law.ensures.first; more = c.run_facts_law.ensures.more; growth = c.file_octets_law.ensures.growth }) c.in_ok-file-2.file c.append.new.shelf (grown_as c.in_ok-file.file c.in_ok-file-2.file c.kind.result _ c.args.next.octets.now c.args.next.moment c.in_ok-file-2.ensures.grown c.kind.ensures.kind)
-    (stands_as g.F.Shelf c.args.s c.in_ok-file.file c.kind.result _ c.args.next.octets.now c.args.next.moment c.close.new.shelf c.append.new.shelf c.in_ok-file-2.ensures.stands c.kind.ensures.kind)
-    c.in_ok-file-2.ensures.makes c.reason_of-2.result (c.reason_of-2.ensures _ (ap (λ (cut : Cut). cut.after) c.put-cut.ensures.cut))
-    c.close-2.new.shelf c.from_residual-in_err-file-3.result _ c.from_residual-in_err-file-3.ensures c.in_err-file-3.ensures.makes
+    let at = (goal.at.returns-in_err-file-3-clause-takes g c).In_ok-file-2 in
+    third_ended _ _ _ _ _ _ _ c.requires.safe.pairs (c.reason_of.ensures _ (ap (λ (cut : Cut). cut.before) c.put-cut.ensures.cut))
+    c.cutter_keeps_the_run.ensures.cuts run behind _ _ c.in_ok-file.ensures.closed c.in_ok-file.ensures.still c.in_ok-file.ensures.makes
+    (laws g at) _ _ (grows g at) (stands g at)
+    c.in_ok-file-2.ensures.makes _ (c.reason_of-2.ensures _ (ap (λ (cut : Cut). cut.after) c.put-cut.ensures.cut))
+    _ _ _ c.from_residual-in_err-file-3.ensures c.in_err-file-3.ensures.makes
 
 pub returns-clause-takes : goal.returns-clause-takes
 returns-clause-takes g c = λ run behind.
+    let at = (goal.at.returns-clause-takes g c).In_ok-file-2 in
     let filed : Filed (List ℕ) = stream_record c.args.stream.cutter.profile c.args.next.kind c.args.next.octets.now c.args.next.moment in
-    all_went g.F.Shelf (settings_of c.args.gateway.now) c.args.s (stream_record c.args.stream.cutter.profile c.args.next.kind c.args.next.octets.now c.args.next.moment) c.args.stream c.reason_of.result c.args.shelf.now c.requires.safe.pairs
-    (c.reason_of.ensures _ (ap (λ (cut : Cut). cut.before) c.put-cut.ensures.cut)) c.cutter_keeps_the_run.ensures.cuts run behind
-    c.in_ok-file.file c.close.new.shelf c.in_ok-file.ensures.closed c.in_ok-file.ensures.still c.in_ok-file.ensures.makes
-    (record { first = c.run_facts_law.ensures.first; more = c.run_facts_law.ensures.more; growth = c.file_octets_law.ensures.growth }) c.in_ok-file-2.file c.append.new.shelf (grown_as c.in_ok-file.file c.in_ok-file-2.file c.kind.result _ c.args.next.octets.now c.args.next.moment c.in_ok-file-2.ensures.grown c.kind.ensures.kind)
-    (stands_as g.F.Shelf c.args.s c.in_ok-file.file c.kind.result _ c.args.next.octets.now c.args.next.moment c.close.new.shelf c.append.new.shelf c.in_ok-file-2.ensures.stands c.kind.ensures.kind)
-    c.in_ok-file-2.ensures.makes c.reason_of-2.result (c.reason_of-2.ensures _ (ap (λ (cut : Cut). cut.after) c.put-cut.ensures.cut))
-    _ c.close-2.new.shelf c.in_ok-file-3.ensures.closed c.in_ok-file-3.ensures.still c.in_ok-file-3.ensures.makes
+    all_went _ _ _ _ _ _ _ c.requires.safe.pairs (c.reason_of.ensures _ (ap (λ (cut : Cut). cut.before) c.put-cut.ensures.cut))
+    c.cutter_keeps_the_run.ensures.cuts run behind _ _ c.in_ok-file.ensures.closed c.in_ok-file.ensures.still c.in_ok-file.ensures.makes
+    (laws g at) _ _ (grows g at) (stands g at)
+    c.in_ok-file-2.ensures.makes _ (c.reason_of-2.ensures _ (ap (λ (cut : Cut). cut.after) c.put-cut.ensures.cut))
+    _ _ c.in_ok-file-3.ensures.closed c.in_ok-file-3.ensures.still c.in_ok-file-3.ensures.makes
     (ap (λ (k : Cutting). k.file) c.put-cut.ensures.kept
     ∙ ap (λ (k : Option OpenFile). record_file c.args.stream.cutter.limits k filed.kind filed.octets filed.moment) behind.cut
     ∙ c.cutter_keeps_the_run.ensures.kept c.args.stream.cutter.limits run (Record filed))
@@ -69,14 +91,9 @@ returns-clause-safe g c =
     let s : ℕ = c.args.s in
     let kept : Option OpenFile = stream.cutter.file in
     let settings = settings_of c.args.gateway.now in
-    let kind : FiledKind = in_profile c.args.stream.cutter.profile c.args.next.kind in
-    let next : FiledRecord = filed_of kind c.args.next.octets.now c.args.next.moment in
-    let is_grown : c.in_ok-file-2.file ≡ grown c.in_ok-file.file next =
-    grown_as c.in_ok-file.file c.in_ok-file-2.file c.kind.result kind c.args.next.octets.now c.args.next.moment
-    c.in_ok-file-2.ensures.grown c.kind.ensures.kind in
-    let stands =
-    stands_as g.F.Shelf c.args.s c.in_ok-file.file c.kind.result kind c.args.next.octets.now c.args.next.moment
-    c.close.new.shelf c.append.new.shelf c.in_ok-file-2.ensures.stands c.kind.ensures.kind in
+    let next : FiledRecord =
+    filed_of (in_profile c.args.stream.cutter.profile c.args.next.kind) c.args.next.octets.now c.args.next.moment in
+    let at = (goal.at.returns-clause-safe g c).In_ok-file-2 in
     let b : Option ClosureReason = c.reason_of.result in
     let is_b : b ≡ kind_change kept next.kind =
     c.reason_of.ensures _ (ap (λ (cut : Cut). cut.before) c.put-cut.ensures.cut) in
@@ -85,30 +102,25 @@ returns-clause-safe g c =
     c.reason_of-2.ensures _ (ap (λ (cut : Cut). cut.after) c.put-cut.ensures.cut) in
     let file : Progress = c.in_ok-file.file in
     let later : Progress = c.in_ok-file-2.file in
-    let last : Progress = c.in_ok-file-3.file in
-    let up_1 : IsUp g.F.Shelf s file c.close.new.shelf =
-    close_up g.F.Shelf settings s stream.file file b _ _ c.requires.safe.up c.in_ok-file.ensures.closed
+    let up_1 = close_up g.F.Shelf settings s stream.file file b _ _ c.requires.safe.up c.in_ok-file.ensures.closed
     c.in_ok-file.ensures.still c.in_ok-file.ensures.makes in
-    let up_2 : IsUp g.F.Shelf s later c.append.new.shelf =
-    append_up g.F.Shelf s file later next _ _ up_1 is_grown stands
-    c.in_ok-file-2.ensures.makes in
+    let up_2 = append_up g.F.Shelf s file later next _ _ up_1 (grows g at) (stands g at) c.in_ok-file-2.ensures.makes in
     let after_first : Option ClosureReason → Option OpenFile =
     λ r. Some (with_record (still r kept None) next.kind (length next.octets) next.moment) in
     record {
-      limits =
-          subst (λ (limits : Limits). AreLimits limits) (sym (ap (λ (k : Cutting). k.limits) c.put-cut.ensures.kept))
-          c.requires.safe.limits;
-      pairs = subst (λ (k : Option OpenFile). Pairs k last.growing)
+      limits = subst (λ (limits : Limits). AreLimits limits)
+          (sym (ap (λ (k : Cutting). k.limits) c.put-cut.ensures.kept)) c.requires.safe.limits;
+      pairs = subst (λ (k : Option OpenFile). Pairs k c.in_ok-file-3.file.growing)
           (ap (λ (r : Option ClosureReason). still a (after_first r) None) is_b
           ∙ ap (λ (r : Option ClosureReason). still r
           (Some (file_with kept next.kind (length next.octets) next.moment)) None) is_a
           ∙ sym (ap (λ (k : Cutting). k.file) c.put-cut.ensures.kept))
-          (pairs_closed a (after_first b) later last
+          (pairs_closed a (after_first b) later c.in_ok-file-3.file
           (pairs_grown (still b kept None) file later next (pairs_closed b kept stream.file file c.requires.safe.pairs
           c.in_ok-file.ensures.closed)
-          (subst (λ (k : FiledKind). IsFiledKind k) c.kind.ensures.kind (c.kind.ensures.fits c.requires.kind)) is_grown)
+          (subst (λ (k : FiledKind). IsFiledKind k) c.kind.ensures.kind (c.kind.ensures.fits c.requires.kind)) (grows g at))
           c.in_ok-file-3.ensures.closed);
-      up = close_up g.F.Shelf settings s later last a _ _ up_2 c.in_ok-file-3.ensures.closed
+      up = close_up g.F.Shelf settings s later c.in_ok-file-3.file a _ _ up_2 c.in_ok-file-3.ensures.closed
           c.in_ok-file-3.ensures.still c.in_ok-file-3.ensures.makes;
     }
 
@@ -130,54 +142,38 @@ returns-clause-left g c = λ told start stale left.
     let stream = c.args.stream in
     let kind : FiledKind = in_profile c.args.stream.cutter.profile c.args.next.kind in
     let next : FiledRecord = filed_of kind c.args.next.octets.now c.args.next.moment in
-    let is_grown : c.in_ok-file-2.file ≡ grown c.in_ok-file.file next =
-    grown_as c.in_ok-file.file c.in_ok-file-2.file c.kind.result kind c.args.next.octets.now c.args.next.moment
-    c.in_ok-file-2.ensures.grown c.kind.ensures.kind in
-    let stands =
-    stands_as g.F.Shelf c.args.s c.in_ok-file.file c.kind.result kind c.args.next.octets.now c.args.next.moment
-    c.close.new.shelf c.append.new.shelf c.in_ok-file-2.ensures.stands c.kind.ensures.kind in
-    let b : Option ClosureReason = c.reason_of.result in
-    let is_b : b ≡ kind_change stream.cutter.file next.kind =
-    c.reason_of.ensures _ (ap (λ (cut : Cut). cut.before) c.put-cut.ensures.cut) in
+    let at = (goal.at.returns-clause-left g c).In_ok-file-2 in
     let file : Progress = c.in_ok-file.file in
     let later : Progress = c.in_ok-file-2.file in
-    let a : Option ClosureReason = c.reason_of-2.result in
-    close_left start stale later c.in_ok-file-3.file a _ _
-    (grown_closes file later next a is_grown) c.in_ok-file-3.ensures.closed
+    let is_b : c.reason_of.result ≡ kind_change stream.cutter.file next.kind =
+    c.reason_of.ensures _ (ap (λ (cut : Cut). cut.before) c.put-cut.ensures.cut) in
+    close_left start stale later c.in_ok-file-3.file c.reason_of-2.result _ _
+    (grown_closes file later next c.reason_of-2.result (grows g at)) c.in_ok-file-3.ensures.closed
     (c.in_ok-file-3.ensures.still told)
-    (append_left start stale c.args.s file later next _ _ is_grown (stands told)
-    (close_left start stale stream.file file b _ _
-    (record_closes stream.cutter.file next.kind stream.file.growing b c.requires.safe.pairs is_b)
+    (append_left start stale c.args.s file later next _ _ (grows g at) (stands g at told)
+    (close_left start stale stream.file file c.reason_of.result _ _
+    (record_closes stream.cutter.file next.kind stream.file.growing c.reason_of.result c.requires.safe.pairs is_b)
     c.in_ok-file.ensures.closed (c.in_ok-file.ensures.still told) left))
 
 pub returns-in_err-file-clause-shut : goal.returns-in_err-file-clause-shut
-returns-in_err-file-clause-shut g c = λ run behind. any_begun g.F.Shelf _ _ _ _ c.in_err-file.ensures.shut
+returns-in_err-file-clause-shut g c = λ run behind files plan most within. c.in_err-file.ensures.shut files plan most
 
 pub returns-in_err-file-2-clause-shut : goal.returns-in_err-file-2-clause-shut
 returns-in_err-file-2-clause-shut g c = λ run behind files plan most within shut.
-    let number =
-    number_1 g.F.Shelf (settings_of c.args.gateway.now) c.args.s (stream_record c.args.stream.cutter.profile c.args.next.kind c.args.next.octets.now c.args.next.moment) c.args.stream c.reason_of.result c.args.shelf.now c.requires.safe.pairs
-    (c.reason_of.ensures _ (ap (λ (cut : Cut). cut.before) c.put-cut.ensures.cut)) c.cutter_keeps_the_run.ensures.cuts run behind
-    c.in_ok-file.file c.close.new.shelf c.in_ok-file.ensures.closed c.in_ok-file.ensures.still c.in_ok-file.ensures.makes in
-    c.in_err-file-2.ensures.shut files plan most (subst (λ (n : ℕ). n ≤ most c.args.s) number within)
+    let here = number g (goal.at.returns-in_err-file-2-clause-shut g c).In_ok-file run behind in
+    c.in_err-file-2.ensures.shut files plan most (subst (λ (n : ℕ). n ≤ most c.args.s) here within)
     (c.in_ok-file.ensures.shut files plan most shut)
 
 pub returns-in_err-file-3-clause-shut : goal.returns-in_err-file-3-clause-shut
 returns-in_err-file-3-clause-shut g c = λ run behind files plan most within shut.
-    let number =
-    number_1 g.F.Shelf (settings_of c.args.gateway.now) c.args.s (stream_record c.args.stream.cutter.profile c.args.next.kind c.args.next.octets.now c.args.next.moment) c.args.stream c.reason_of.result c.args.shelf.now c.requires.safe.pairs
-    (c.reason_of.ensures _ (ap (λ (cut : Cut). cut.before) c.put-cut.ensures.cut)) c.cutter_keeps_the_run.ensures.cuts run behind
-    c.in_ok-file.file c.close.new.shelf c.in_ok-file.ensures.closed c.in_ok-file.ensures.still c.in_ok-file.ensures.makes in
+    let here = number g (goal.at.returns-in_err-file-3-clause-shut g c).In_ok-file run behind in
     c.in_err-file-3.ensures.shut files plan most
-    (c.in_ok-file-2.ensures.shut files plan most (subst (λ (n : ℕ). n ≤ most c.args.s) number within)
+    (c.in_ok-file-2.ensures.shut files plan most (subst (λ (n : ℕ). n ≤ most c.args.s) here within)
     (c.in_ok-file.ensures.shut files plan most shut))
 
 pub returns-clause-shut : goal.returns-clause-shut
 returns-clause-shut g c = λ run behind files plan most within shut.
-    let number =
-    number_1 g.F.Shelf (settings_of c.args.gateway.now) c.args.s (stream_record c.args.stream.cutter.profile c.args.next.kind c.args.next.octets.now c.args.next.moment) c.args.stream c.reason_of.result c.args.shelf.now c.requires.safe.pairs
-    (c.reason_of.ensures _ (ap (λ (cut : Cut). cut.before) c.put-cut.ensures.cut)) c.cutter_keeps_the_run.ensures.cuts run behind
-    c.in_ok-file.file c.close.new.shelf c.in_ok-file.ensures.closed c.in_ok-file.ensures.still c.in_ok-file.ensures.makes in
+    let here = number g (goal.at.returns-clause-shut g c).In_ok-file run behind in
     c.in_ok-file-3.ensures.shut files plan most
-    (c.in_ok-file-2.ensures.shut files plan most (subst (λ (n : ℕ). n ≤ most c.args.s) number within)
+    (c.in_ok-file-2.ensures.shut files plan most (subst (λ (n : ℕ). n ≤ most c.args.s) here within)
     (c.in_ok-file.ensures.shut files plan most shut))

@@ -3,9 +3,10 @@ use Rattle.file_writer.specs.Calls.{Call, calls_of}
 use Rattle.file_writer.specs.Writer.{sealed_in, settings_in}
 use Rattle.file_writer.proofs.AmongLemmas.{moves_shut}
 use Rattle.file_writer.proofs.FollowingLemmas.{no_result}
-use Rattle.file_writer.proofs.LeavingLemmas.{all_left_now, leaves_unsealed}
+use Rattle.file_writer.proofs.HoldingLemmas.{all_stand}
+use Rattle.file_writer.proofs.LeavingLemmas.{all_left_now, at_self, leaves_unsealed, more_below, no_stream, sealed_same}
 use Rattle.file_writer.proofs.MakingLemmas.{all_sealed, ended_at}
-use Rattle.file_writer.proofs.WriterLemmas.{all_stand, at_self, begun, more_below, no_stream, sealed_same}
+use Rattle.file_writer.proofs.PartsLemmas.{keeps_by}
 use Rattle.file_writer.proofs.writer.Writer.advance.Goals as goal
 
 pub returns-in_err-take_all-clause-moves : goal.returns-in_err-take_all-clause-moves
@@ -23,11 +24,7 @@ returns-in_err-take_all-clause-moves g c = λ closed before at.
       sealed = no_result c.from_residual.result fault _ c.from_residual.ensures;
       leaves = λ told. no_result c.from_residual.result fault _ c.from_residual.ensures;
       shut = moves_shut g.F.Shelf (settings_in w) closed (before ++ items) _ _ goes.shut;
-      keeps = λ told stood rest holds. record {
-        at_any_moment = begun law (settings_in w) closed (sealed_in w) stood before items rest
-            (g.F.Shelf.files w.shelf) holds;
-        now = ((made.sealed told).count, (made.sealed told).files);
-      };
+      keeps = keeps_by g.F.Shelf law closed before items w _ _ made;
       holds = λ told stood rest holds. no_result c.from_residual.result fault _ c.from_residual.ensures;
     }
 
@@ -63,13 +60,8 @@ returns-clause-moves g c = λ closed before at.
           (c.in_ok-take_all.ensures.left told (λ s. (slice_index_or w.streams s no_stream).file.closed)
           (g.F.Shelf.unsealed w.shelf) (all_left_now g.F.Shelf w.streams w.shelf long));
       shut = moves_shut g.F.Shelf (settings_in w) closed (before ++ items) _ _ goes.shut;
-      keeps = λ told stood rest holds. record {
-        at_any_moment = begun law (settings_in w) closed (sealed_in w) stood before items rest
-            (g.F.Shelf.files w.shelf) holds;
-        now = ((made.sealed told).count, (made.sealed told).files);
-      };
+      keeps = keeps_by g.F.Shelf law closed before items w _ _ made;
       holds = λ told stood rest holds.
-          all_stand law (settings_in w) closed (sealed_in w) _ stood before items rest (g.F.Shelf.files w.shelf) _
-          holds same
-          (all_sealed g.F.Shelf calls calls _ _ made told);
+          all_stand law (settings_in w) closed (sealed_in w) stood before items rest (g.F.Shelf.files w.shelf) holds _ _
+          same (all_sealed g.F.Shelf calls calls _ _ made told);
     }

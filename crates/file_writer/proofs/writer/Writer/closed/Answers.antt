@@ -1,6 +1,6 @@
 use Rattle.std.proofs.Common.{rules, ◌≡◌, length, ◌∙◌, arith}
 use Rattle.std.proofs.lemmas.List.{length-set}
-use Rattle.file_writer.proofs.WriterLemmas.{no_stream, one_closed}
+use Rattle.file_writer.proofs.LeavingLemmas.{no_stream, one_closed}
 use Rattle.file_writer.proofs.writer.Writer.closed.Goals as goal
 
 pub loop-s-preserved : goal.loop-s-preserved

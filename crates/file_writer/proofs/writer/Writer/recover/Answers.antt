@@ -1,6 +1,6 @@
 use Rattle.std.proofs.Common.{ℕ, OnOk, subst}
 use Rattle.file_writer.specs.Advancing.{HasRecovered}
-use Rattle.file_writer.proofs.WriterLemmas.{zeros_at}
+use Rattle.file_writer.proofs.LeavingLemmas.{zeros_at}
 use Rattle.file_writer.proofs.writer.Writer.recover.Goals as goal
 
 pub returns-clause-recovered : goal.returns-clause-recovered

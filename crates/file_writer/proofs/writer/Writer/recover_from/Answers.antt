@@ -1,10 +1,9 @@
-use Rattle.std.proofs.Common.{◌≡◌, ℕ, ◌<◌, max, ◌+◌, ◌-◌, [], slice_index, ap, sym, subst, ◌∙◌, refl, IsTrue}
+use Rattle.std.proofs.Common.{arith, ◌≡◌, ℕ, ◌<◌, slice_index, ap, sym, ◌∙◌, refl, IsTrue}
 use Rattle.cdr_shelf.specs.Files.{greatest_in}
-use Rattle.file_writer.specs.Holding.{HoldsOf}
-use Rattle.file_writer.specs.Streams.{closed_of, stream_count}
+use Rattle.file_writer.specs.Streams.{stream_count}
 use Rattle.file_writer.specs.Writer.{settings_in}
-use Rattle.file_writer.proofs.RecoveringLemmas.{holds_found}
-use Rattle.file_writer.proofs.WriterLemmas.{no_stream, recovered_at, sealed_at, sealed_is}
+use Rattle.file_writer.proofs.HoldingLemmas.{holds_found}
+use Rattle.file_writer.proofs.LeavingLemmas.{no_stream, recovered_at, sealed_at, sealed_is}
 use Rattle.file_writer.proofs.writer.Writer.recover_from.Goals as goal
 
 pub returns-clause-recovered : goal.returns-clause-recovered
@@ -14,7 +13,7 @@ returns-clause-recovered g c =
     let files = g.F.Shelf.files c.ask_all.new.shelf in
     let found : IsTrue g.F.Shelf.tells_files → (s : ℕ) → s < stream_count
     → sealed_at c.ask_all.new.streams s ≡ greatest_in s files = λ told s h.
-    sealed_is c.ask_all.new.streams s no_stream (subst (λ (n : ℕ). s < n) (sym asked.sixteen) h)
+    sealed_is c.ask_all.new.streams s no_stream (omega (arith, h, asked.sixteen))
     ∙ asked.greatest told s no_stream h
     ∙ ap (λ files. greatest_in s files) (sym asked.asked.files) in
     record {
@@ -23,9 +22,7 @@ returns-clause-recovered g c =
       taken = refl;
       sealed = found;
       holds = λ told stood all low begun s h.
-          subst (λ (n : ℕ). HoldsOf settings (λ s. slice_index c.args.sequences s) stood all files s
-          (max n (slice_index c.args.sequences s + closed_of settings s []) - slice_index c.args.sequences s))
-          (sym (found told s h))
+          rw (found told s h)
           (holds_found settings (λ s. slice_index c.args.sequences s) stood all files s (begun s h).0
           (low s h) (begun s h).1);
     }
