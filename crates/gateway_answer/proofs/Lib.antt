@@ -1,10 +1,7 @@
 pub mod FewItems
-pub mod FiledCounts
 pub mod FilingLemmas
 pub mod FitLemmas
 pub mod ListsLemmas
-pub mod MarksLemmas
 pub mod PlainLemmas
-pub mod RecordsLemmas
 pub mod ReleasedCounts
 pub mod WindowLemmas
