@@ -1,6 +1,6 @@
 -- A history makes no more items than its entries cost of a journal: each record of a packet is an octet at least, and is
 -- filed as it comes or held; and each held copy is released once.
-use Rattle.std.proofs.Common.{◌≡◌, ◌∙◌, refl, ap, ℕ, ◌+◌, ◌≤◌, ◌==◌, ◌&&◌, not, Bool, true, false, if◌then◌else◌, List, [], ◌∷◌, ◌++◌, filter, length, Option, Some, option_and_then, arith, append_assoc, append-nil, eq-eqb, length-append}
+use Rattle.std.proofs.Common.{◌≡◌, ◌∙◌, refl, ap, ℕ, ◌+◌, ◌≤◌, ◌==◌, ◌&&◌, not, Bool, true, false, if◌then◌else◌, List, [], ◌∷◌, ◌++◌, filter, length, Option, Some, option_and_then, arith, append_assoc, append-nil, eq-eqb, length-append, sym}
 use Rattle.std.proofs.lemmas.Bool.{false≢true}
 use Rattle.std.proofs.lemmas.List.{length-map}
 use Rattle.std.proofs.lemmas.List.Sums.{sum_by-append}
@@ -23,8 +23,7 @@ use Rattle.gateway_answer.specs.Filed.{along, filed_under, packet_of_hold, prese
 use Rattle.gateway_answer.specs.Items.{items_by, items_by_act, items_of, part_of}
 use Rattle.gateway_answer.specs.ListFitLaws.{distinct_once}
 use Rattle.gateway_answer.specs.OnceLaws.{any_once}
-use Rattle.gateway_answer.proofs.FiledCounts.{filed_count, key_count, load, load_cons, load_less, load_part, packet_count, packet_few, released_all}
-use Rattle.gateway_answer.proofs.ReleasedCounts.{HeldKeysAreHeld, all_stay, apart, held_there, less_all, named_after}
+use Rattle.gateway_answer.proofs.ReleasedCounts.{filed_count, key_count, load, load_cons, load_less, load_part, packet_count, packet_few, released_all, HeldKeysAreHeld, all_stay, apart, held_there, less_all, named_after}
 
 -- ---- one entry more
 
@@ -35,24 +34,23 @@ load_of h = load h (held_keys h)
 new_load : (h : List HistoryEntry) (e : HistoryEntry)
     → load_of (h ++ e ∷ []) ≡ load h (filter (λ (key : HeldKey). stays_held e.act key) (held_keys h)) + load (h ++ e ∷ []) (held_by e.act [])
 new_load h e =
-    let kept : List HeldKey = filter (λ (key : HeldKey). stays_held e.act key) (held_keys h) in
-    let stay = all_stay h e (held_keys h) in
     ap (λ (ks : List HeldKey). load (h ++ e ∷ []) ks) (held_keys-append h e)
-    ∙ sum_by-append (λ (key : HeldKey). key_count (h ++ e ∷ []) key) kept (held_by e.act [])
-    ∙ ap (λ (k : ℕ). k + load (h ++ e ∷ []) (held_by e.act [])) stay
+    ∙ sum_by-append (λ (key : HeldKey). key_count (h ++ e ∷ []) key) (filter (λ (key : HeldKey). stays_held e.act key) (held_keys h)) (held_by e.act [])
+    ∙ ap (λ (k : ℕ). k + load (h ++ e ∷ []) (held_by e.act [])) (all_stay h e (held_keys h))
 
-apart_once : (h : List HistoryEntry) (n : NodeId) (xs : List ℕ) (key : HeldKey) → stays_held (act.Release n xs) key ≡ true → apart h n.0 (once (λ x y. x == y) xs) key ≡ true
+not_both : (a b c : Bool) → (b ≡ true → c ≡ true) → not (a && c) ≡ true → not (a && b) ≡ true
+not_both true true c more is = absurd (false≢true (sym (ap not (more refl)) ∙ is))
+not_both true false c more is = refl
+not_both false b c more is = refl
+
+apart_once : (h : List HistoryEntry) (n : NodeId) (xs : List ℕ) (key : HeldKey) → stays_held (act.Release n xs) key ≡ true
+    → apart h n.0 (once (λ x y. x == y) xs) key ≡ true
 apart_once h n xs key stays =
-    by_tests (n.0 == key.node.0) (list_any (λ x. x == key.number) (once (λ x y. x == y) xs)) (list_any (λ x. x == key.number) xs) (any_once (λ x. x == key.number) xs) stays
-  where
-    by_tests : (a b c : Bool) → (b ≡ true → c ≡ true) → not (a && c) ≡ true → not (a && b) ≡ true
-    by_tests true true true more is = is
-    by_tests true true false more is = absurd (false≢true (more refl))
-    by_tests true false c more is = refl
-    by_tests false b c more is = refl
+    not_both (n.0 == key.node.0) (list_any (λ x. x == key.number) (once (λ x y. x == y) xs)) (list_any (λ x. x == key.number) xs)
+    (any_once (λ x. x == key.number) xs) stays
 
 body_long : (a b packet : List ℕ) → length packet ≤ length (a ++ (b ++ packet))
-body_long a b packet = let first = length-append a (b ++ packet) in let second = length-append b packet in omega (arith, first, second)
+body_long a b packet = omega (arith, length-append a (b ++ packet), length-append b packet)
 
 module _ (law : HeldKeysAreHeld) (h : List HistoryEntry) (e : HistoryEntry) where
   abbrev Step : HistoryAct → Type 0
@@ -75,49 +73,30 @@ module _ (law : HeldKeysAreHeld) (h : List HistoryEntry) (e : HistoryEntry) wher
       let count : key_count (h ++ e ∷ []) key ≡ packet_count packet =
       ap (λ (o : Option HistoryEntry). option_map_or packet_count (option_and_then (λ (d : HistoryEntry). packet_of_hold d.act) o) 0) last
       ∙ ap (λ (a : HistoryAct). option_map_or packet_count (packet_of_hold a) 0) is in
-      let sum = load_cons (h ++ e ∷ []) key [] in
-      omega (arith, sum, count)
+      omega (arith, load_cons (h ++ e ∷ []) key [], count)
 
   step_act : (a : HistoryAct) → e.act ≡ a → Step a
-  step_act act.Start is = let less = part act.Start in omega (arith, less)
-  step_act (act.Path n port counter) is = let less = part (act.Path n port counter) in omega (arith, less)
   step_act (act.File n x packet) is =
-      let less = part (act.File n x packet) in
-      let mapped = length-map (filed_under (present_key h n x) e.moment packet) part_of in
-      let count = filed_count (present_key h n x) e.moment packet in
-      let few = packet_few packet in
-      let long : length packet ≤ length (body (act.File n x packet)) = body_long (big_bytes 4 n.0) (big_bytes 8 x) packet in
-      omega (arith, less, mapped, count, few, long)
+      omega (arith, part (act.File n x packet), length-map (filed_under (present_key h n x) e.moment packet) part_of,
+        filed_count (present_key h n x) e.moment packet, packet_few packet, body_long (big_bytes 4 n.0) (big_bytes 8 x) packet)
   step_act (act.Hold n x packet) is =
-      let less = part (act.Hold n x packet) in
-      let held = held_now n x packet is in
-      let few = packet_few packet in
-      let long : length packet ≤ length (body (act.Hold n x packet)) = body_long (big_bytes 4 n.0) (big_bytes 8 x) packet in
-      omega (arith, less, held, few, long)
-  step_act (act.Seal n x) is = let less = part (act.Seal n x) in omega (arith, less)
+      omega (arith, part (act.Hold n x packet), held_now n x packet is, packet_few packet, body_long (big_bytes 4 n.0) (big_bytes 8 x) packet)
   step_act (act.Release n xs) is =
       let ns : List ℕ = once (λ x y. x == y) xs in
-      let less = load_less h (λ (key : HeldKey). stays_held (act.Release n xs) key) (apart h n.0 ns) (apart_once h n xs) (held_keys h) in
-      let all = less_all h n.0 (held_keys h) (λ x. held_there law h n x) ns (distinct_once xs) in
-      let mapped = length-map (released_by h e.moment n ns) part_of in
-      let count = released_all h e.moment n ns in
-      omega (arith, less, all, mapped, count)
-  step_act (act.Cancel n xs) is = let less = part (act.Cancel n xs) in omega (arith, less)
-  step_act act.Tick is = let less = part act.Tick in omega (arith, less)
-  step_act act.Close is = let less = part act.Close in omega (arith, less)
+      omega (arith, load_less h (λ (key : HeldKey). stays_held (act.Release n xs) key) (apart h n.0 ns) (apart_once h n xs) (held_keys h),
+        less_all h n.0 (held_keys h) (λ x. held_there law h n x) ns (distinct_once xs), length-map (released_by h e.moment n ns) part_of,
+        released_all h e.moment n ns)
+  step_act other is = omega (arith, part other)
 
   step : length (items_by h e) + load_of (h ++ e ∷ []) ≤ load_of h + cost_of e
-  step = let by = step_act e.act refl in let new = new_load h e in omega (arith, by, new)
+  step = omega (arith, step_act e.act refl, new_load h e)
 
 items_cost : HeldKeysAreHeld → (before h : List HistoryEntry) → length (along items_by before h) + load_of (before ++ h) ≤ load_of before + costs_of h
-items_cost law before [] = let same = ap load_of (append-nil before) in omega (arith, same)
+items_cost law before [] = omega (arith, ap load_of (append-nil before))
 items_cost law before (e ∷ h) =
-    let first = step law before e in
-    let later = items_cost law (before ++ e ∷ []) h in
-    let joined = length-append (items_by before e) (along items_by (before ++ e ∷ []) h) in
-    let same = ap load_of (append_assoc before (e ∷ []) h) in
-    omega (arith, first, later, joined, same)
+    omega (arith, step law before e, items_cost law (before ++ e ∷ []) h,
+      length-append (items_by before e) (along items_by (before ++ e ∷ []) h), ap load_of (append_assoc before (e ∷ []) h))
 
 -- the items of a history are no more than what its entries cost
 pub few_items : HeldKeysAreHeld → (h : List HistoryEntry) → length (items_of h) ≤ costs_of h
-few_items law h = let all = items_cost law [] h in omega (arith, all)
+few_items law h = omega (arith, items_cost law [] h)

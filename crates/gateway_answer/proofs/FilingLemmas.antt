@@ -1,6 +1,5 @@
 -- Lemmas on filed records, for the loops that go over a history, the numbers of a release and the records of a packet.
-use Rattle.std.proofs.Common.{◌≡◌, ℕ, suc, ◌+◌, ◌<◌, List, [], ◌∷◌, ◌++◌, length, get_or, take, drop, fold, Option, None, ap, sym, ◌∙◌, arith, append_assoc}
-use Rattle.std.proofs.Math.Seq.{drop-cons, take-suc}
+use Rattle.std.proofs.Common.{◌≡◌, ℕ, ◌+◌, ◌<◌, List, [], ◌∷◌, ◌++◌, length, get_or, take, drop, fold, Option, None, ap, sym, ◌∙◌, append_assoc, Bool, true, false, refl}
 use Rattle.gtpp_message.specs.Packet as packet
 use Rattle.gw_base.specs.ListLaws.{fold_is}
 use Rattle.gw_base.specs.declared.history.HistoryEntry.{HistoryEntry}
@@ -9,6 +8,8 @@ use Rattle.gateway_answer.specs.Filed.{along, filed, filed_by, filed_record, fil
 use Rattle.gateway_answer.specs.FiledLaws.{held_packet-push}
 use Rattle.gateway_answer.specs.Steps.{packet_after}
 use Rattle.gateway_answer.specs.declared.filing.FiledRecord.{FiledRecord}
+use Rattle.std.proofs.lemmas.List.{drop_more, take_more}
+use Rattle.std.specs.List.{list_all}
 
 -- the records so far, and those that the rest of the history files, are all of them
 abbrev pub IsFiledSoFar : List HistoryEntry → ℕ → List FiledRecord → Type 0
@@ -18,15 +19,9 @@ pub step_filed : (h : List HistoryEntry) (place : ℕ) (e : HistoryEntry) (befor
     e ≡ get_or h place e → before ≡ take place h → new ≡ found ++ filed_by before e →
     IsFiledSoFar h place found → IsFiledSoFar h (place + 1) new
 step_filed h place e before found new lt here front grown so_far =
-    let next : place + 1 ≡ suc place = omega arith in
-    let rest : drop place h ≡ e ∷ drop (suc place) h = drop-cons h place e lt ∙ ap (λ x. x ∷ drop (suc place) h) (sym here) in
-    let with_one : take (suc place) h ≡ take place h ++ e ∷ [] = take-suc h place e lt ∙ ap (λ x. take place h ++ x ∷ []) (sym here) in
-    rw next (
-    ap (λ n. n ++ along filed_by (take (suc place) h) (drop (suc place) h)) (grown ∙ ap (λ b. found ++ filed_by b e) front)
-    ∙ ap (λ b. (found ++ filed_by (take place h) e) ++ along filed_by b (drop (suc place) h)) with_one
-    ∙ append_assoc found (filed_by (take place h) e) (along filed_by (take place h ++ e ∷ []) (drop (suc place) h))
-    ∙ ap (λ r. found ++ along filed_by (take place h) r) (sym rest)
-    ∙ so_far)
+    let rest : drop place h ≡ e ∷ drop (place + 1) h = drop_more h place e lt ∙ ap (λ x. x ∷ drop (place + 1) h) (sym here) in
+    rw (grown, front, take_more h place e lt, ← here, append_assoc)
+    (ap (λ r. found ++ along filed_by (take place h) r) (sym rest) ∙ so_far)
 
 -- ---- the held packet, entry by entry
 
@@ -48,7 +43,14 @@ records_filed key moment count format version value is = ap (records_if key mome
 pub filed_more : (key : PacketKey) (moment format version index : ℕ) (old rest : List (List ℕ)) (r : List ℕ) (front new : List FiledRecord) → old ≡ r ∷ rest →
     new ≡ front ++ filed_record key moment format version (index, r) ∷ [] →
     new ++ records_from key moment format version (index + 1) rest ≡ front ++ records_from key moment format version index old
-filed_more key moment format version index old rest r front new is grown =
-    ap (λ n. n ++ records_from key moment format version (index + 1) rest) grown
-    ∙ append_assoc front (filed_record key moment format version (index, r) ∷ []) (records_from key moment format version (index + 1) rest)
-    ∙ ap (λ o. front ++ records_from key moment format version index o) (sym is)
+filed_more key moment format version index old rest r front new is grown = rw (grown, is, append_assoc) refl
+
+-- ---- lemmas on the records of packets, for the loops that walk them
+
+-- All of some records.
+
+pub all_more : (p : List ℕ → Bool) (old new : List (List ℕ)) (r : List ℕ) → old ≡ r ∷ new → p r ≡ true → list_all p new ≡ list_all p old
+all_more p old new r is e = rw is (rw e refl)
+
+pub all_but_one : (p : List ℕ → Bool) (old new : List (List ℕ)) (r : List ℕ) → old ≡ r ∷ new → p r ≡ false → list_all p old ≡ false
+all_but_one p old new r is e = rw is (rw e refl)

@@ -1,11 +1,8 @@
 pub mod CountLemmas
 pub mod FewItems
-pub mod FiledCounts
 pub mod FilingLemmas
 pub mod FitLemmas
 pub mod ListsLemmas
-pub mod MarksLemmas
 pub mod PlainLemmas
-pub mod RecordsLemmas
 pub mod ReleasedCounts
 pub mod WindowLemmas

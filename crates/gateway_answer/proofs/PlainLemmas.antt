@@ -1,6 +1,5 @@
 -- What is promised behind an act.
-use Rattle.std.proofs.Common.{◌≡◌, ℕ, suc, ◌+◌, ◌*◌, ◌<◌, if◌then◌else◌, List, [], ◌∷◌, ◌++◌, length, length-append, drop, get_or, filter, refl, sym, ap, ◌∙◌, arith}
-use Rattle.std.proofs.Math.Seq.{drop-cons}
+use Rattle.std.proofs.Common.{◌≡◌, ℕ, ◌+◌, ◌*◌, ◌<◌, if◌then◌else◌, List, [], ◌∷◌, ◌++◌, length, length-append, drop, get_or, filter, refl, sym, ap, ◌∙◌}
 use Rattle.entry_codec.specs.Room.{costs_of}
 use Rattle.entry_codec.specs.Spelling.{cost_of}
 use Rattle.gw_base.specs.EntryLaws.{is_close_due-append}
@@ -13,6 +12,7 @@ use Rattle.gw_base.specs.declared.history.HistoryAct.{HistoryAct}
 use Rattle.gw_base.specs.declared.history.HistoryAct.TheVariants.{Start}
 use Rattle.gw_base.specs.declared.history.HistoryEntry.{HistoryEntry}
 use Rattle.gateway_answer.specs.Steps.{holds_one, promised_by}
+use Rattle.std.proofs.lemmas.List.{at_drop_more}
 
 held_alone : (a : HistoryAct) → length (held_by a []) ≡ holds_one a
 held_alone Start = refl
@@ -31,6 +31,4 @@ promised_after h e = λ i. 76 * keys i + (if is_close_due-append h e i then 30 e
 pub rest_costs : (h : List HistoryEntry) (place : ℕ) (e : HistoryEntry) → place < length h → e ≡ get_or h place e
     → costs_of (drop place h) ≡ cost_of e + costs_of (drop (place + 1) h)
 rest_costs h place e lt is =
-    let next : place + 1 ≡ suc place = omega arith in
-    let rest : drop place h ≡ e ∷ drop (suc place) h = drop-cons h place e lt ∙ ap (λ x. x ∷ drop (suc place) h) (sym is) in
-    rw next (ap (λ (es : List HistoryEntry). costs_of es) rest)
+    at_drop_more costs_of h place e lt ∙ ap (λ (d : HistoryEntry). cost_of d + costs_of (drop (place + 1) h)) (sym is)

@@ -72,6 +72,7 @@ pub fn fit_histories_go_on()
 
 /// A request within the limits, with room for what it calls for, isn't refused for want of
 /// resources.
+#[tactic(auto, using(crate::specs::ResourceLaws::room_is_enough))]
 pub fn room_is_enough()
     ensures { (o : Observed) (from : Addr) (number : ℕ) (body : TransferValue) (room : HistoryAct → Bool) →
         IsWithinLimits o number → HasRoomFor o from (Request number body) room →

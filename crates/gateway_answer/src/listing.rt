@@ -140,7 +140,7 @@ fn find_held<O: Observe>(
 }
 
 /// The same of few numbers: each is sought among those found.
-#[tactic(auto, using(crate::proofs::MarksLemmas::step_held))]
+#[tactic(auto, using(crate::proofs::ListsLemmas::step_held))]
 fn find_few<O: Observe>(
     seen: &O,
     node: NodeId,
@@ -170,7 +170,7 @@ fn keep_new<O: Observe>(seen: &O, node: NodeId, number: Absolute, into: &mut Res
 }
 
 /// The same of many numbers: those found are marked.
-#[tactic(auto, using(crate::proofs::MarksLemmas::step_held))]
+#[tactic(auto, using(crate::proofs::ListsLemmas::step_held))]
 fn find_many<O: Observe>(
     seen: &O,
     node: NodeId,

@@ -141,7 +141,7 @@ pub(crate) fn has_values(packet: Packet<'_>) -> bool
 }
 
 /// Whether each of these records is one BER value.
-#[tactic(auto, using(crate::proofs::RecordsLemmas::all_more, crate::proofs::RecordsLemmas::all_but_one))]
+#[tactic(auto, using(crate::proofs::FilingLemmas::all_more, crate::proofs::FilingLemmas::all_but_one))]
 fn are_values(mut records: Records<'_>) -> bool
     ensures { result ≡ list_all is_one_value records.entry }
 {

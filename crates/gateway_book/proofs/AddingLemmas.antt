@@ -11,7 +11,7 @@ use Rattle.gw_base.specs.declared.address.Addr.{Addr}
 use Rattle.gw_base.specs.declared.history.Caller.{Caller}
 use Rattle.gw_base.specs.declared.history.HistoryAct.{HistoryAct}
 use Rattle.gateway_book.specs.Adding.{AddsIf, IsSame, MayAdd, room_in}
-use Rattle.gateway_answer.specs.Answer.{Decided, Given, Drops, Replies, Says, Silent, answer_within, decided, may_record, node_of}
+use Rattle.gateway_answer.specs.Answer.{Decided, Given, Replies, Says, Silent, answer_within, decided, may_record, node_of}
 use Rattle.gateway_answer.specs.Answered.{act_decided, act_given}
 use Rattle.gateway_answer.specs.Fit.{is_act_fit, is_packet_fit}
 use Rattle.gateway_answer.specs.FitLaws.{records_fit}
@@ -26,17 +26,18 @@ use Rattle.gateway_index.specs.declared.index.Index.{Index}
 
 -- what holds of what an answer records holds of the act that is decided
 recorded_holds : (P : HistoryAct → Type 0) (given : Given) (a : HistoryAct) → IfRecords (λ number message b. P b) given → act_given given ≡ Some a → P a
-recorded_holds P (Drops why) a is e = absurd (cc e)
-recorded_holds P (Replies number message None) a is e = absurd (cc e)
 recorded_holds P (Replies number message (Some b)) a is e = let same : b ≡ a = cc e in subst P same is
+recorded_holds P _ a is e = absurd (cc e)
 
 module _ {A : Type 0} {tells : Ghosts A} (trail : Trail A tells) (index : Index) (moment : ℕ) (who : Caller) where
-  may_add_if : (o : Option HistoryAct) → ((a : HistoryAct) → o ≡ Some a → MayCome a index × IsBrief a) → waiting_octets trail + most_for_one ≤ longest_batch → MayAdd o trail index moment who
+  may_add_if : (o : Option HistoryAct) → ((a : HistoryAct) → o ≡ Some a → MayCome a index × IsBrief a) → waiting_octets trail + most_for_one ≤ longest_batch
+      → MayAdd o trail index moment who
   may_add_if None facts free = tt
   may_add_if (Some a) facts free = let f = facts a refl in (f.0, omega (arith, f.1, free))
 
   -- what an answer records where there is room for any act may be added
-  pub may_add : (from : Addr) (datagram : PreparedValue) (decision : Decided) → decision ≡ decided (answer_within (observed_by false index (node_of from)) from datagram (λ b. true)) → IsWhole datagram → IsShort datagram
+  pub may_add : (from : Addr) (datagram : PreparedValue) (decision : Decided)
+      → decision ≡ decided (answer_within (observed_by false index (node_of from)) from datagram (λ b. true)) → IsWhole datagram → IsShort datagram
       → waiting_octets trail + most_for_one ≤ longest_batch → MayAdd (act_decided decision) trail index moment who
   may_add from datagram decision is whole short free = may_add_if (act_decided decision) facts free
     where
@@ -46,82 +47,79 @@ module _ {A : Type 0} {tells : Ghosts A} (trail : Trail A tells) (index : Index)
       facts : (a : HistoryAct) → act_decided decision ≡ Some a → MayCome a index × IsBrief a
       facts a e =
           let recorded : act_given given ≡ Some a = ap (λ (d : Decided). act_decided d) (sym is) ∙ e in (
-            fits_with_any is_packet_fit (observed_by false index) a (recorded_fits given a (records_fit (observed_by false index) from datagram (λ b. true) whole) recorded),
-            recorded_holds IsBrief given a (records_brief (observed_by false index (node_of from)) from datagram (may_record (observed_by false index (node_of from)) (λ b. true)) short) recorded,
+            fits_with_any is_packet_fit (observed_by false index) a
+                (recorded_fits given a (records_fit (observed_by false index) from datagram (λ b. true) whole) recorded),
+            recorded_holds IsBrief given a (records_brief (observed_by false index (node_of from)) from datagram
+                (may_record (observed_by false index (node_of from)) (λ b. true)) short) recorded,
           )
         where
-          recorded_fits : (given : Given) (a : HistoryAct) → IfRecords (Fits (observed_by false index) (λ b. true)) given → act_given given ≡ Some a → is_act_fit (observed_by false index) a ≡ true
-          recorded_fits (Drops why) a is e = absurd (cc e)
-          recorded_fits (Replies number message None) a is e = absurd (cc e)
-          recorded_fits (Replies number message (Some b)) a is e = let same : b ≡ a = cc e in subst (λ (c : HistoryAct). is_act_fit (observed_by false index) c ≡ true) same is.0
-
--- where there is room for the act that is recorded, or none is, the answer is the one with room for any
-pub answer_is : (o : Observed) (from : Addr) (datagram : PreparedValue) (room : HistoryAct → Bool) → ((a : HistoryAct) → act_given (answer_within o from datagram (λ b. true)) ≡ Some a → room a ≡ true)
-    → decided (answer_within o from datagram room) ≡ decided (answer_within o from datagram (λ b. true))
-answer_is o from datagram room has = ap decided (room_asked o from datagram room (λ b. true) has)
-
--- where there isn't, it is the one with room for none
-pub answer_is_without : (o : Observed) (from : Addr) (datagram : PreparedValue) (room : HistoryAct → Bool) (a : HistoryAct) → act_given (answer_within o from datagram (λ b. true)) ≡ Some a → room a ≡ false
-    → decided (answer_within o from datagram room) ≡ decided (answer_within o from datagram (λ b. false))
-answer_is_without o from datagram room a recorded none = ap decided (room_asked o from datagram room (λ b. false) same)
-  where
-    same : (b : HistoryAct) → act_given (answer_within o from datagram (λ c. true)) ≡ Some b → room b ≡ false
-    same b e = let one : ◌≡◌ {A = Option HistoryAct} (Some a) (Some b) = sym recorded ∙ e in let there : a ≡ b = cc one in subst (λ (c : HistoryAct). room c ≡ false) there none
+          recorded_fits : (given : Given) (a : HistoryAct) → IfRecords (Fits (observed_by false index) (λ b. true)) given → act_given given ≡ Some a
+              → is_act_fit (observed_by false index) a ≡ true
+          recorded_fits (Replies number message (Some b)) a is e = let same : b ≡ a = cc e in rw (← same) is.0
+          recorded_fits _ a is e = absurd (cc e)
 
 -- tests of room that agree on what is recorded where there is room for any act lead to the same answer
-pub answer_alike : (o : Observed) (from : Addr) (datagram : PreparedValue) (room other : HistoryAct → Bool) → ((a : HistoryAct) → act_given (answer_within o from datagram (λ b. true)) ≡ Some a → room a ≡ other a)
+pub answer_alike : (o : Observed) (from : Addr) (datagram : PreparedValue) (room other : HistoryAct → Bool)
+    → ((a : HistoryAct) → act_given (answer_within o from datagram (λ b. true)) ≡ Some a → room a ≡ other a)
     → decided (answer_within o from datagram room) ≡ decided (answer_within o from datagram other)
 answer_alike o from datagram room other alike = ap decided (room_asked o from datagram room other alike)
 
+-- where there isn't, it is the one with room for none
+pub answer_is_without : (o : Observed) (from : Addr) (datagram : PreparedValue) (room : HistoryAct → Bool) (a : HistoryAct)
+    → act_given (answer_within o from datagram (λ b. true)) ≡ Some a → room a ≡ false
+    → decided (answer_within o from datagram room) ≡ decided (answer_within o from datagram (λ b. false))
+answer_is_without o from datagram room a recorded none = answer_alike o from datagram room (λ b. false)
+    (λ b e. let there : a ≡ b = cc (recorded, e) in rw (← there) none)
+
 if_some : (P : HistoryAct → Type 0) (o : Option HistoryAct) (a : HistoryAct) → IfSome o P → o ≡ Some a → P a
-if_some P None a is e = absurd (cc e)
-if_some P (Some b) a is e = let same : b ≡ a = cc e in subst P same is
+if_some P o a is e = rw e at is
 
 -- where there is room for no act, none is recorded
-none_without : (index : Index) (from : Addr) (datagram : PreparedValue) → IsWhole datagram → (a : HistoryAct) → act_given (answer_within (observed_by false index (node_of from)) from datagram (λ b. false)) ≡ Some a → ⊥
-none_without index from datagram whole a e = by_given (answer_within (observed_by false index (node_of from)) from datagram (λ b. false)) (records_fit (observed_by false index) from datagram (λ b. false) whole) e
+none_without : (index : Index) (from : Addr) (datagram : PreparedValue) → IsWhole datagram → (a : HistoryAct)
+    → act_given (answer_within (observed_by false index (node_of from)) from datagram (λ b. false)) ≡ Some a → ⊥
+none_without index from datagram whole a e =
+    by_given (answer_within (observed_by false index (node_of from)) from datagram (λ b. false)) (records_fit (observed_by false index) from datagram (λ b. false) whole) e
   where
     by_given : (given : Given) → IfRecords (Fits (observed_by false index) (λ b. false)) given → act_given given ≡ Some a → ⊥
-    by_given (Drops why) fits e = absurd (cc e)
-    by_given (Replies number message None) fits e = absurd (cc e)
     by_given (Replies number message (Some b)) fits e = true≢false (sym fits.1)
+    by_given _ fits e = cc e
 
 module _ {A : Type 0} {tells : Ghosts A} (old new : Trail A tells) (before after : Index) (moment : ℕ) (who : Caller) (from : Addr) (datagram : PreparedValue) where
   -- what is decided, by a test of room
   abbrev decided_by : (HistoryAct → Bool) → Decided
   decided_by room = decided (answer_within (observed_by false before (node_of from)) from datagram room)
 
-  pub silent_with : (why : Why) → (decided_by (λ b. true) ≡ Silent why) × IsSame old new before after → (decided_by (room_in old moment who) ≡ Silent why) × IsSame old new before after
-  silent_with why p = (answer_is (observed_by false before (node_of from)) from datagram (room_in old moment who) (λ a e. absurd (cc (sym e ∙ ap act_decided p.0))) ∙ p.0, p.1)
+  pub silent_with : (why : Why) → (decided_by (λ b. true) ≡ Silent why) × IsSame old new before after
+      → (decided_by (room_in old moment who) ≡ Silent why) × IsSame old new before after
+  silent_with why p =
+      (answer_alike (observed_by false before (node_of from)) from datagram (room_in old moment who) (λ b. true) (λ a e. absurd (cc (sym e ∙ ap act_decided p.0))) ∙ p.0, p.1)
 
   pub said_with : (reply : List ℕ) → (o : Option HistoryAct) × (decided_by (λ b. true) ≡ Says reply o) × IfSome o (λ a. room_in old moment who a ≡ true) × AddsIf old new before after moment who o
       → (o : Option HistoryAct) × (decided_by (room_in old moment who) ≡ Says reply o) × AddsIf old new before after moment who o
   said_with reply p =
-      (p.0, answer_is (observed_by false before (node_of from)) from datagram (room_in old moment who) (λ a e. if_some (λ b. room_in old moment who b ≡ true) p.0 a p.2 (sym (ap act_decided p.1) ∙ e)) ∙ p.1, p.3)
+      (p.0, answer_alike (observed_by false before (node_of from)) from datagram (room_in old moment who) (λ b. true) (λ a e. if_some (λ b. room_in old moment who b ≡ true) p.0 a p.2 (sym (ap act_decided p.1) ∙ e)) ∙ p.1, p.3)
 
   -- there isn't room for what is recorded
-  record HasNoRoom : Type 0 where
-    given : List ℕ
-    wanted : HistoryAct
-    decides : decided_by (λ b. true) ≡ Says given (Some wanted)
-    none : room_in old moment who wanted ≡ false
-    same : IsSame old new before after
+  abbrev HasNoRoom : Type 0
+  HasNoRoom = (reply : List ℕ) × (a : HistoryAct) × (decided_by (λ b. true) ≡ Says reply (Some a)) × (room_in old moment who a ≡ false) × IsSame old new before after
 
-  without : HasNoRoom → decided_by (room_in old moment who) ≡ decided (answer_within (observed_by false after (node_of from)) from datagram (λ b. false))
+  -- what is decided then
+  abbrev decided_after : Decided
+  decided_after = decided (answer_within (observed_by false after (node_of from)) from datagram (λ b. false))
+
+  without : HasNoRoom → decided_by (room_in old moment who) ≡ decided_after
   without p =
-      answer_is_without (observed_by false before (node_of from)) from datagram (room_in old moment who) p.wanted (ap act_decided p.decides) p.none
-      ∙ ap (λ (index : Index). decided (answer_within (observed_by false index (node_of from)) from datagram (λ b. false))) (sym p.same.index)
+      answer_is_without (observed_by false before (node_of from)) from datagram (room_in old moment who) p.1 (ap act_decided p.2) p.3
+      ∙ ap (λ (index : Index). decided (answer_within (observed_by false index (node_of from)) from datagram (λ b. false))) (sym p.4.index)
 
-  pub silent_without : (why : Why) → (reply : List ℕ) × (a : HistoryAct) × (decided_by (λ b. true) ≡ Says reply (Some a)) × (room_in old moment who a ≡ false) × IsSame old new before after
-      → decided (answer_within (observed_by false after (node_of from)) from datagram (λ b. false)) ≡ Silent why → (decided_by (room_in old moment who) ≡ Silent why) × IsSame old new before after
-  silent_without why p e = (without (record { given = p.0; wanted = p.1; decides = p.2; none = p.3; same = p.4 }) ∙ e, p.4)
+  pub silent_without : (why : Why) → HasNoRoom → decided_after ≡ Silent why → (decided_by (room_in old moment who) ≡ Silent why) × IsSame old new before after
+  silent_without why p e = (without p ∙ e, p.4)
 
-  pub said_without : IsWhole datagram → (reply : List ℕ) → (reply : List ℕ) × (a : HistoryAct) × (decided_by (λ b. true) ≡ Says reply (Some a)) × (room_in old moment who a ≡ false) × IsSame old new before after
-      → (o : Option HistoryAct) × (decided (answer_within (observed_by false after (node_of from)) from datagram (λ b. false)) ≡ Says reply o)
+  pub said_without : IsWhole datagram → (reply : List ℕ) → HasNoRoom → (o : Option HistoryAct) × (decided_after ≡ Says reply o)
       → (o : Option HistoryAct) × (decided_by (room_in old moment who) ≡ Says reply o) × AddsIf old new before after moment who o
   said_without whole reply p q = by_act q.0 q.1
     where
-      by_act : (o : Option HistoryAct) → decided (answer_within (observed_by false after (node_of from)) from datagram (λ b. false)) ≡ Says reply o
+      by_act : (o : Option HistoryAct) → decided_after ≡ Says reply o
           → (o : Option HistoryAct) × (decided_by (room_in old moment who) ≡ Says reply o) × AddsIf old new before after moment who o
-      by_act None e = (None, without (record { given = p.0; wanted = p.1; decides = p.2; none = p.3; same = p.4 }) ∙ e, p.4)
+      by_act None e = (None, without p ∙ e, p.4)
       by_act (Some a) e = absurd (none_without after from datagram whole a (ap act_decided e))

@@ -2,7 +2,7 @@
 use Rattle.std.proofs.Common.{◌≡◌, ⊎_elim, inr, ℕ, Bool, true, false, List, [], ◌∷◌, Option, refl, sym, ap, ◌∙◌, arith}
 use Rattle.std.proofs.lemmas.Bool.{false≢true}
 use Rattle.entry_codec.specs.Room.{IsWithin}
-use Rattle.gtpp_message.specs.Message.{Cancel, MessageValue, Release, TransferValue, EchoRequest, EchoResponse, VersionNotSupported, NodeAliveRequest, NodeAliveResponse, RedirectionRequest, RedirectionResponse, TransferRequest, TransferResponse}
+use Rattle.gtpp_message.specs.Message.{Cancel, MessageValue, Release, TransferValue, TransferResponse}
 use Rattle.gtpp_message.specs.Writing.{written}
 use Rattle.gtpp_message.specs.declared.reading.Why.{Why}
 use Rattle.gtpp_message.specs.declared.reading.Why.TheVariants.{Device}
@@ -43,21 +43,14 @@ abbrev IsBy : ℕ → MessageValue → Type 0
 IsBy cause message = (responded : List ℕ) × (message ≡ TransferResponse cause responded)
 
 by_octets : (number n cause : ℕ) (message : MessageValue) → written n message ≡ written number (TransferResponse cause (number ∷ [])) → IsBy cause message
-by_octets number n cause EchoRequest same = let kind : 1 ≡ 241 = ap type_in same in absurd (omega (arith, kind))
-by_octets number n cause (EchoResponse counter) same = let kind : 2 ≡ 241 = ap type_in same in absurd (omega (arith, kind))
-by_octets number n cause VersionNotSupported same = let kind : 3 ≡ 241 = ap type_in same in absurd (omega (arith, kind))
-by_octets number n cause (NodeAliveRequest address) same = let kind : 4 ≡ 241 = ap type_in same in absurd (omega (arith, kind))
-by_octets number n cause NodeAliveResponse same = let kind : 5 ≡ 241 = ap type_in same in absurd (omega (arith, kind))
-by_octets number n cause (RedirectionRequest why to) same = let kind : 6 ≡ 241 = ap type_in same in absurd (omega (arith, kind))
-by_octets number n cause (RedirectionResponse why) same = let kind : 7 ≡ 241 = ap type_in same in absurd (omega (arith, kind))
-by_octets number n cause (TransferRequest body) same = let kind : 240 ≡ 241 = ap type_in same in absurd (omega (arith, kind))
 by_octets number n cause (TransferResponse other responded) same = (responded, ap (λ (c : ℕ). TransferResponse c responded) (ap cause_in same))
+by_octets number n cause _ same = absurd (omega (arith, ap type_in same))
 
 tells_by : (n : ℕ) (message : MessageValue) (act : Option HistoryAct) → IsBy SYSTEM_FAILURE message → tells_a_fault (Replies n message act) ≡ true
-tells_by n message act is = ap (λ (m : MessageValue). tells_a_fault (Replies n m act)) is.1
+tells_by n message act is = rw is.1 refl
 
 lacks_by : (n : ℕ) (message : MessageValue) (act : Option HistoryAct) → IsBy NO_RESOURCES message → is_without_resources (Replies n message act) ≡ true
-lacks_by n message act is = ap (λ (m : MessageValue). is_without_resources (Replies n m act)) is.1
+lacks_by n message act is = rw is.1 refl
 
 abbrev octets_of : Decided → List ℕ
 octets_of (Silent why) = []
@@ -67,7 +60,7 @@ octets_of (Says octets act) = octets
 
 module _ (from : Addr) (octets : List ℕ) where
   never_dropped : (given : Given) → tells_a_fault given ≡ false → ¬ (decided given ≡ Silent Device)
-  never_dropped (Drops why) sound same = let is : why ≡ Device = cc same in false≢true (sym sound ∙ ap (λ (w : Why). tells_a_fault (Drops w)) is)
+  never_dropped (Drops why) sound same = let is : why ≡ Device = cc same in false≢true (sym sound ∙ rw is refl)
   never_dropped (Replies n message act) sound same = cc same
 
   never_failed : (given : Given) → tells_a_fault given ≡ false → (number : ℕ) (reply : List ℕ) (act : Option HistoryAct) → decided given ≡ Says reply act
@@ -79,17 +72,20 @@ module _ (from : Addr) (octets : List ℕ) where
   -- what the definition decides tells no fault
   pub running_is_sound : (result : Outcome) → IsAnswered from (prepared_of octets) result → ¬ (TellsFault result)
   running_is_sound (Drop why) is = ⊎_elim
-      (λ e. let dropped : why ≡ Device = cc e in never_dropped (answer_within is.0 from (prepared_of octets) is.1) (running_tells_none is.0 from octets (may_record is.0 is.1)) (is.2 ∙ ap (λ (w : Why). Silent w) dropped))
+      (λ e. let dropped : why ≡ Device = cc e in
+      never_dropped (answer_within is.0 from (prepared_of octets) is.1) (running_tells_none is.0 from octets (may_record is.0 is.1))
+      (is.2 ∙ ap (λ (w : Why). Silent w) dropped))
       (λ by. cc (by.1.1))
   running_is_sound (Answer receipt) is = ⊎_elim (λ e. cc e)
-      (λ by.
-      let same : receipt ≡ by.1.0 = cc (by.1.1) in
-      never_failed (answer_within is.1.0 from (prepared_of octets) is.1.1) (running_tells_none is.1.0 from octets (may_record is.1.0 is.1.1)) by.0 receipt.reply is.0 is.1.2
-      (ap (λ (r : Receipt). r.reply) same ∙ by.1.2))
+      (λ by. let same : receipt ≡ by.1.0 = cc (by.1.1) in
+      never_failed (answer_within is.1.0 from (prepared_of octets) is.1.1) (running_tells_none is.1.0 from octets (may_record is.1.0 is.1.1)) by.0 receipt.reply
+      is.0 is.1.2 (ap (λ (r : Receipt). r.reply) same ∙ by.1.2))
 
 -- what was done is what the definition decides by an index
-pub done_by : (from : Addr) (datagram : PreparedValue) (o : Observed) (room : HistoryAct → Bool) (finished : Done) → ((why : Why) → finished ≡ done.Silent why → decided (answer_within o from datagram room) ≡ Silent why)
-    → ((reply : List ℕ) → finished ≡ done.Said reply → (a : Option HistoryAct) × (decided (answer_within o from datagram room) ≡ Says reply a)) → IsDoneBy from datagram finished
+pub done_by : (from : Addr) (datagram : PreparedValue) (o : Observed) (room : HistoryAct → Bool) (finished : Done)
+    → ((why : Why) → finished ≡ done.Silent why → decided (answer_within o from datagram room) ≡ Silent why)
+    → ((reply : List ℕ) → finished ≡ done.Said reply → (a : Option HistoryAct) × (decided (answer_within o from datagram room) ≡ Says reply a))
+    → IsDoneBy from datagram finished
 done_by from datagram o room (done.Silent why) silent said = (o, room, silent why refl)
 done_by from datagram o room (done.Said reply) silent said = ((said reply refl).0, (o, room, (said reply refl).1))
 

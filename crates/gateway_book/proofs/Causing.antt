@@ -1,7 +1,6 @@
 -- What a call of a book counts.
-use Rattle.std.proofs.Common.{◌≡◌, ℕ, zero, suc, ◌≤◌, ◌==◌, Bool, true, false, if◌then◌else◌, refl, sym, ap, ◌∙◌, arith}
-use Rattle.std.proofs.Math.Dec.{eqb-suc-zero}
-use Rattle.std.proofs.lemmas.Bool.{false≢true}
+use Rattle.std.proofs.Common.{◌≡◌, ℕ, ◌≤◌, ◌==◌, Bool, true, false, if◌then◌else◌, refl, sym, ap, ◌∙◌, arith}
+use Rattle.std.proofs.lemmas.Bool.{false≢true, ne_eqb}
 use Rattle.area_disk.specs.Disk.{Rose, counted}
 use Rattle.area_disk.specs.declared.area.Area.{Ghosts}
 use Rattle.cgf_journal.specs.Outcomes.{TornDropped, TornStand}
@@ -13,17 +12,17 @@ use Rattle.gateway_book.specs.Marking.{OnlyAdds}
 use Rattle.gateway_book.specs.declared.book.Book.{Book}
 
 pub not_zero : (n : ℕ) → 1 ≤ n → (n == 0) ≡ false
-not_zero zero le = absurd (omega (arith, le))
-not_zero (suc n) le = eqb-suc-zero n
+not_zero n le = ne_eqb n 0 (λ same. omega (arith, le, same))
 
 -- after a failure the length is the one that is kept
 kept_on : (cuts now firm kept after : ℕ) → now ≡ counted 1 cuts → after ≡ length_at cuts firm kept → length_at now firm after ≡ length_at cuts firm kept
 kept_on cuts now firm kept after cut at = ap (λ b. if b then firm else after) (not_zero now (omega (arith, cut))) ∙ at
 
 -- the torn entries stand again or are dropped
-pub not_fewer : {A : Type 0} {tells : Ghosts A} (old new : Trail A tells) (stands : Bool) → (stands ≡ true → TornStand old new) → (stands ≡ false → TornDropped old new) → firm_length old ≤ firm_length new
-not_fewer old new true stand dropped = let count = (stand refl).count in omega (arith, count)
-not_fewer old new false stand dropped = let count = (dropped refl).count in omega (arith, count)
+pub not_fewer : {A : Type 0} {tells : Ghosts A} {old new : Trail A tells} (stands : Bool) → (stands ≡ true → TornStand old new)
+    → (stands ≡ false → TornDropped old new) → firm_length old ≤ firm_length new
+not_fewer true stand dropped = omega (arith, (stand refl).count)
+not_fewer false stand dropped = omega (arith, (dropped refl).count)
 
 -- a closed trail has its firm entries alone
 pub closed_length : {A : Type 0} {tells : Ghosts A} (t : Trail A tells) → is_closed t ≡ true → length_of t ≡ firm_length t
@@ -31,8 +30,9 @@ closed_length t closed = rw closed
 
 module _ {A : Type 0} {tells : Ghosts A} where
   -- a book that goes on
-  pub cause_done : (old new : Book A tells) → is_closed new.trail ≡ false → tells.faults (area_of new) ≡ tells.faults (area_of old) → firm_length old.trail ≤ firm_length new.trail → length_of old.trail ≤ length_of new.trail
-      → new.cuts ≡ old.cuts → new.kept ≡ old.kept → HasCause old new
+  pub cause_done : (old new : Book A tells) → is_closed new.trail ≡ false → tells.faults (area_of new) ≡ tells.faults (area_of old)
+      → firm_length old.trail ≤ firm_length new.trail → length_of old.trail ≤ length_of new.trail → new.cuts ≡ old.cuts → new.kept ≡ old.kept
+      → HasCause old new
   cause_done old new goes faults firm entries cuts kept = record {
     later = omega (arith, faults);
     broken = λ closed. absurd (false≢true (sym goes ∙ closed));
@@ -65,24 +65,20 @@ module _ {A : Type 0} {tells : Ghosts A} where
   cause_same book goes = cause_done book book goes refl (omega arith) (omega arith) refl refl
 
   -- then entries were added
-  pub cause_then : (old mid new : Book A tells) → HasCause old mid → OnlyAdds mid new → HasCause old new
-  cause_then old mid new cause adds =
+  pub cause_then : {old mid new : Book A tells} → HasCause old mid → OnlyAdds mid new → HasCause old new
+  cause_then {old} {mid} {new} cause adds =
       let faults : tells.faults (area_of new) ≡ tells.faults (area_of mid) = ap (λ (a : A). tells.faults a) adds.stays.area in
       let opened = adds.stays.opened in
       let count = adds.stays.count in
-      let later = cause.later in
-      let more = cause.more in
-      let firm = cause.firm in
-      let entries = adds.entries in
       let cuts = adds.uncut in
       record {
-        later = omega (arith, later, faults);
-        broken = λ closed. let rose = cause.broken (sym opened ∙ closed) in omega (arith, rose, faults);
+        later = omega (arith, cause.later, faults);
+        broken = λ closed. omega (arith, cause.broken (sym opened ∙ closed), faults);
         still = λ goes. faults ∙ cause.still (sym opened ∙ goes);
         cut = λ closed. cuts ∙ cause.cut (sym opened ∙ closed);
         uncut = λ goes. cuts ∙ cause.uncut (sym opened ∙ goes);
-        more = omega (arith, more, cuts);
-        firm = omega (arith, firm, count);
-        entries = λ goes. let before = cause.entries (sym opened ∙ goes) in omega (arith, before, entries);
+        more = omega (arith, cause.more, cuts);
+        firm = omega (arith, cause.firm, count);
+        entries = λ goes. omega (arith, cause.entries (sym opened ∙ goes), adds.entries);
         length = (λ i. length_at (cuts i) (count i) (adds.kept i)) ∙ cause.length ∙ (λ i. length_at old.cuts (sym count i) old.kept);
       }

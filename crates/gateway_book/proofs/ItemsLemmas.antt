@@ -1,10 +1,12 @@
 -- The items of packets, of releases and of the entries of a history.
-use Rattle.std.proofs.Common.{◌≡◌, ℕ, zero, suc, ◌+◌, ◌-◌, ◌<◌, ◌≤◌, ◌==◌, not, Bool, true, false, if◌then◌else◌, List, [], ◌∷◌, ◌++◌, length, drop, take, filter, get_or, map, Option, Some, None, option_map, refl, sym, ap, subst, ◌∙◌, true≢false, arith, append_assoc, length-append}
-use Rattle.std.specs.Prelude.{min, slice_get}
+use Rattle.std.proofs.Common.{◌≡◌, ℕ, zero, suc, ◌-◌, List, [], ◌∷◌, ◌++◌, length, take, drop, sym, ap, ◌∙◌, arith, append_assoc, length-append, ◌+◌, ◌<◌, ◌≤◌, ◌==◌, not, Bool, true, false, if◌then◌else◌, filter, get_or, map, Option, Some, None, option_map, refl, subst, true≢false}
+use Rattle.std.proofs.lemmas.List.{append-nil, map-append, at_drop_all, at_drop_more, drop_more, length-drop, take_all, take_more}
+use Rattle.gw_base.specs.declared.item.Item.{Item}
+use Rattle.gateway_book.specs.Gathering.{Gathered, gathered, packet_items, record_item}
+use Rattle.std.proofs.Math.Seq.{drop-nil, take-nil}
+use Rattle.std.specs.Prelude.{slice_get}
 use Rattle.std.specs.List.{list_all}
-use Rattle.std.proofs.Math.Seq.{drop-cons, take-suc}
 use Rattle.std.proofs.lemmas.Bool.{and_parts}
-use Rattle.std.proofs.lemmas.List.{append-nil, map-append}
 use Rattle.std.proofs.lemmas.Option.{get_or_from_slice_get, none-some, slice_get_within}
 use Rattle.gtpp_message.specs.Packet.{PacketForm, PacketValue, Empty, Full, full_packet, is_empty_packet, packet_in, packet_of, packet_reading}
 use Rattle.gtpp_header.specs.Header.{two_octets}
@@ -15,15 +17,65 @@ use Rattle.gw_base.specs.declared.history.HistoryAct.{HistoryAct}
 use Rattle.gw_base.specs.declared.history.HistoryAct.TheVariants.{File, Release}
 use Rattle.gw_base.specs.declared.history.HistoryEntry.{HistoryEntry}
 use Rattle.gw_base.specs.declared.history.PacketKey.{PacketKey}
-use Rattle.gw_base.specs.declared.item.Item.{Item}
 use Rattle.gateway_book.specs.Cursor.{NamesOnce, items_from}
 use Rattle.gateway_answer.specs.Filed.{along, filed_under, present_key, records_from, records_if, released_by, released_records}
 use Rattle.gateway_answer.specs.FiledLaws.{along-append}
 use Rattle.gateway_answer.specs.Fit.{IsFit, are_distinct, is_act_fit}
 use Rattle.gateway_answer.specs.FitHistory.{FitBehind}
-use Rattle.gateway_book.specs.Gathering.{Gathered, gathered, packet_items, record_item}
 use Rattle.gateway_answer.specs.Items.{items_by, items_by_act, items_of, part_of}
-use Rattle.gateway_book.proofs.GatheringLemmas.{gathered_on, none_more}
+
+pub drop_over : (n : ℕ) (xs ys : List Item) → drop n (xs ++ ys) ≡ drop n xs ++ drop (n - length xs) ys
+drop_over zero xs ys = ap (λ (m : ℕ). xs ++ drop m ys) {x = 0} {y = 0 - length xs} (omega arith)
+drop_over (suc n) [] ys = ap (λ (m : ℕ). drop m ys) {x = suc n} {y = suc n - 0} (omega arith)
+drop_over (suc n) (x ∷ xs) ys =
+    drop_over n xs ys ∙ ap (λ (m : ℕ). drop n xs ++ drop m ys) {x = n - length xs} {y = suc n - suc (length xs)} (omega arith)
+
+take_over : (n : ℕ) (xs ys : List Item) → take n (xs ++ ys) ≡ take n xs ++ take (n - length xs) ys
+take_over zero xs ys = ap (λ (m : ℕ). take m ys) {x = 0} {y = 0 - length xs} (omega arith)
+take_over (suc n) [] ys = ap (λ (m : ℕ). take m ys) {x = suc n} {y = suc n - 0} (omega arith)
+take_over (suc n) (x ∷ xs) ys = ap (λ (l : List Item). x ∷ l)
+    (take_over n xs ys ∙ ap (λ (m : ℕ). take n xs ++ take m ys) {x = n - length xs} {y = suc n - suc (length xs)} (omega arith))
+
+-- what is gathered in two parts
+pub gathered_on : (some more : List Item) (g : Gathered) → gathered more (gathered some g) ≡ gathered (some ++ more) g
+gathered_on some more g = λ i. record { skip = skips i; room = rooms i; items = items i }
+  where
+    skips : g.skip - length some - length more ≡ g.skip - length (some ++ more)
+    skips = omega (arith, length-append some more)
+
+    rooms : g.room - length (drop g.skip some) - length (drop (g.skip - length some) more) ≡ g.room - length (drop g.skip (some ++ more))
+    rooms = omega (arith, ap (λ (l : List Item). length l) (drop_over g.skip some more), length-append (drop g.skip some) (drop (g.skip - length some) more))
+
+    items : (g.items ++ take g.room (drop g.skip some)) ++ take (g.room - length (drop g.skip some)) (drop (g.skip - length some) more)
+        ≡ g.items ++ take g.room (drop g.skip (some ++ more))
+    items =
+        append_assoc g.items (take g.room (drop g.skip some)) (take (g.room - length (drop g.skip some)) (drop (g.skip - length some) more))
+        ∙ ap (λ (l : List Item). g.items ++ l) (sym (ap (λ (l : List Item). take g.room l) (drop_over g.skip some more)
+          ∙ take_over g.room (drop g.skip some) (drop (g.skip - length some) more)))
+
+pub one_and_more : (item : Item) (more : List Item) (g : Gathered) → gathered more (gathered (item ∷ []) g) ≡ gathered (item ∷ more) g
+one_and_more item more g = gathered_on (item ∷ []) more g
+
+pub none_more : (g : Gathered) → gathered [] g ≡ g
+none_more g = λ i. record { skip = skips i; room = rooms i; items = items i }
+  where
+    none : drop g.skip [] ≡ []
+    none = drop-nil {A = Item} g.skip
+
+    skips : g.skip - 0 ≡ g.skip
+    skips = omega arith
+
+    rooms : g.room - length (drop {A = Item} g.skip []) ≡ g.room
+    rooms = omega (arith, ap (λ (l : List Item). length l) none)
+
+    items : g.items ++ take g.room (drop g.skip []) ≡ g.items
+    items = ap (λ (l : List Item). g.items ++ take g.room l) none ∙ ap (λ (l : List Item). g.items ++ l) (take-nil g.room) ∙ append-nil g.items
+
+-- where there is no room left nothing more is taken
+pub full_stays : (more : List Item) (g : Gathered) → g.room ≡ 0 → (gathered more g).items ≡ g.items
+full_stays more g full = ap (λ (n : ℕ). g.items ++ take n (drop g.skip more)) full ∙ append-nil g.items
+
+-- ---- the items of packets, of releases and of the entries of a history
 
 -- ---- packets
 
@@ -42,31 +94,26 @@ empty_is_none (count ∷ format ∷ high ∷ low ∷ x ∷ octets) empty = absur
 empty_is_none _ empty = refl
 
 -- the items of what a packet's octets say
-pub items_of_packet : (key : PacketKey) (moment : ℕ) (octets : List ℕ) (value : PacketValue) → Some value ≡ packet_reading octets → packet_items moment value ≡ map part_of (filed_under key moment octets)
+pub items_of_packet : (key : PacketKey) (moment : ℕ) (octets : List ℕ) (value : PacketValue) → Some value ≡ packet_reading octets
+    → packet_items moment value ≡ map part_of (filed_under key moment octets)
 items_of_packet key moment octets value reads = by_test (is_empty_packet octets) refl reads
   where
-    in_packet : (form : Option PacketForm) → packet_of octets ≡ form → Some value ≡ option_map (λ f. Full f octets) form → packet_items moment value ≡ map part_of (records_if key moment form)
-    in_packet None is e = absurd (none-some value (sym e))
-    in_packet (Some form) is e =
-        ap (λ (o : Option PacketValue). items_in o) e ∙ records_items key moment form.format form.version 0 form.records
-      where
-        items_in : Option PacketValue → List Item
-        items_in None = []
-        items_in (Some v) = packet_items moment v
+    in_packet : (form : Option PacketForm) → Some value ≡ option_map (λ f. Full f octets) form → packet_items moment value ≡ map part_of (records_if key moment form)
+    in_packet None e = absurd (none-some value (sym e))
+    in_packet (Some form) e =
+        let same : value ≡ Full form octets = cc in rw same (records_items key moment form.format form.version 0 form.records)
 
-    by_test : (b : Bool) → is_empty_packet octets ≡ b → Some value ≡ (if b then Some Empty else full_packet octets) → packet_items moment value ≡ map part_of (filed_under key moment octets)
-    by_test true empty e =
-        ap (λ (o : Option PacketValue). items_in o) e ∙ sym (ap (λ (form : Option PacketForm). map part_of (records_if key moment form)) (empty_is_none octets empty))
-      where
-        items_in : Option PacketValue → List Item
-        items_in None = []
-        items_in (Some v) = packet_items moment v
-    by_test false empty e = in_packet (packet_of octets) refl e
+    by_test : (b : Bool) → is_empty_packet octets ≡ b → Some value ≡ (if b then Some Empty else full_packet octets)
+        → packet_items moment value ≡ map part_of (filed_under key moment octets)
+    by_test true empty e = let same : value ≡ Empty = cc in rw (same, empty_is_none octets empty) refl
+    by_test false empty e = in_packet (packet_of octets) e
 
-pub no_items_of_packet : (key : PacketKey) (moment : ℕ) (octets : List ℕ) → ◌≡◌ {A = Option PacketValue} None (packet_reading octets) → map part_of (filed_under key moment octets) ≡ []
+pub no_items_of_packet : (key : PacketKey) (moment : ℕ) (octets : List ℕ) → ◌≡◌ {A = Option PacketValue} None (packet_reading octets)
+    → map part_of (filed_under key moment octets) ≡ []
 no_items_of_packet key moment octets reads = by_test (is_empty_packet octets) reads
   where
-    in_packet : (form : Option PacketForm) → ◌≡◌ {A = Option PacketValue} None (option_map (λ f. Full f octets) form) → map part_of (records_if key moment form) ≡ []
+    in_packet : (form : Option PacketForm) → ◌≡◌ {A = Option PacketValue} None (option_map (λ f. Full f octets) form)
+        → map part_of (records_if key moment form) ≡ []
     in_packet None e = refl
     in_packet (Some form) e = absurd (none-some (Full form octets) e)
 
@@ -79,7 +126,8 @@ no_items_of_packet key moment octets reads = by_test (is_empty_packet octets) re
 -- a list that names each number once is each of its numbers once
 all_apart : (x : ℕ) (xs : List ℕ) → list_all (λ y. not (x == y)) xs ≡ true → filter (λ y. not (x == y)) xs ≡ xs
 all_apart x [] all = refl
-all_apart x (y ∷ xs) all = let parts = and_parts (not (x == y)) (list_all (λ z. not (x == z)) xs) all in rw parts.0 (ap (λ (ys : List ℕ). y ∷ ys) (all_apart x xs parts.1))
+all_apart x (y ∷ xs) all =
+    let parts = and_parts (not (x == y)) (list_all (λ z. not (x == z)) xs) all in rw parts.0 (ap (λ (ys : List ℕ). y ∷ ys) (all_apart x xs parts.1))
 
 pub distinct_is_once : (xs : List ℕ) → are_distinct xs ≡ true → once (λ (x : ℕ) (y : ℕ). x == y) xs ≡ xs
 distinct_is_once [] all = refl
@@ -95,23 +143,17 @@ pub released_on : (before : List HistoryEntry) (moment : ℕ) (n : NodeId) (xs :
     → new ≡ gathered (map part_of (released_records before moment n x)) old
     → gathered (released_items before moment n (drop (i + 1) xs)) new ≡ gathered (released_items before moment n (drop i xs)) old
 released_on before moment n xs i x old new lt here one =
-    let next : i + 1 ≡ suc i = omega arith in
-    let rest : drop i xs ≡ x ∷ drop (suc i) xs = drop-cons xs i 0 lt ∙ ap (λ y. y ∷ drop (suc i) xs) (sym here) in
-    rw next (
-    ap (λ (g : Gathered). gathered (released_items before moment n (drop (suc i) xs)) g) one
-    ∙ gathered_on (map part_of (released_records before moment n x)) (released_items before moment n (drop (suc i) xs)) old
-    ∙ ap (λ (items : List Item). gathered items old) (sym (map-append part_of (released_records before moment n x) (released_by before moment n (drop (suc i) xs))))
-    ∙ ap (λ (ys : List ℕ). gathered (released_items before moment n ys) old) (sym rest))
+    ap (λ (g : Gathered). gathered (released_items before moment n (drop (i + 1) xs)) g) one
+    ∙ gathered_on (map part_of (released_records before moment n x)) (released_items before moment n (drop (i + 1) xs)) old
+    ∙ ap (λ (items : List Item). gathered items old) (sym (map-append part_of (released_records before moment n x) (released_by before moment n (drop (i + 1) xs))))
+    ∙ ap (λ (y : ℕ). gathered (released_items before moment n (y ∷ drop (i + 1) xs)) old) here
+    ∙ sym (at_drop_more (λ (ys : List ℕ). gathered (released_items before moment n ys) old) xs i 0 lt)
 
 -- where no number is left, nothing more is gathered
-pub released_end : (before : List HistoryEntry) (moment : ℕ) (n : NodeId) (xs : List ℕ) (i : ℕ) (g : Gathered) → length xs ≤ i → g ≡ gathered (released_items before moment n (drop i xs)) g
-released_end before moment n xs i g past = sym (ap (λ (ys : List ℕ). gathered (released_items before moment n ys) g) (dropped i xs past) ∙ none_more g)
-  where
-    dropped : (j : ℕ) (ys : List ℕ) → length ys ≤ j → drop j ys ≡ []
-    dropped zero [] p = refl
-    dropped (suc j) [] p = refl
-    dropped zero (x ∷ ys) p = absurd (omega (arith, p))
-    dropped (suc j) (x ∷ ys) p = dropped j ys (omega (arith, p))
+pub released_end : (before : List HistoryEntry) (moment : ℕ) (n : NodeId) (xs : List ℕ) (i : ℕ) (g : Gathered) → length xs ≤ i
+    → g ≡ gathered (released_items before moment n (drop i xs)) g
+released_end before moment n xs i g past =
+    sym (at_drop_all (λ (ys : List ℕ). gathered (released_items before moment n ys) g) xs i past ∙ none_more g)
 
 -- ---- the items of an entry by its act
 
@@ -131,16 +173,10 @@ some_at [] k lt = absurd (omega (arith, lt))
 some_at (e ∷ h) zero lt = (e, refl)
 some_at (x ∷ h) (suc k) lt = some_at h k (omega (arith, lt))
 
-pub fit_at : (size : ℕ) (before h : List HistoryEntry) (k : ℕ) (e : HistoryEntry) → FitBehind size before h → slice_get h k ≡ Some e → IsFit size (before ++ take k h) e
+pub fit_at : (size : ℕ) (before h : List HistoryEntry) (k : ℕ) (e : HistoryEntry) → FitBehind size before h → slice_get h k ≡ Some e
+    → IsFit size (before ++ take k h) e
 fit_at size before [] k e fit is = absurd (none-some e is)
-fit_at size before (x ∷ h) zero e fit is = subst (λ (b : List HistoryEntry). IsFit size b e) (sym (append-nil before)) (subst (λ (y : HistoryEntry). IsFit size before y) (some_same x e is) fit.0)
-  where
-    some_same : (a b : HistoryEntry) → Some a ≡ Some b → a ≡ b
-    some_same a b p = ap (λ (o : Option HistoryEntry). or_that o) p
-      where
-        or_that : Option HistoryEntry → HistoryEntry
-        or_that None = a
-        or_that (Some y) = y
+fit_at size before (x ∷ h) zero e fit is = let same : x ≡ e = cc in rw (append-nil, ← same) fit.0
 fit_at size before (x ∷ h) (suc k) e fit is =
     subst (λ (b : List HistoryEntry). IsFit size b e) (append_assoc before (x ∷ []) (take k h)) (fit_at size (before ++ x ∷ []) h k e fit.1 is)
 
@@ -158,18 +194,13 @@ fit_names_once size h k e fit is = names_once size (take k h) e e.act refl (fit_
 
 -- one entry more stands in front
 pub front_more : (h : List HistoryEntry) (k : ℕ) (e : HistoryEntry) → slice_get h k ≡ Some e → take (k + 1) h ≡ take k h ++ e ∷ []
-front_more h k e is =
-    let next : k + 1 ≡ suc k = omega arith in
-    rw next (take-suc h k e (slice_get_within h k e is) ∙ ap (λ x. take k h ++ x ∷ []) (get_or_from_slice_get h k e e is))
+front_more h k e is = take_more h k e (slice_get_within h k e is) ∙ ap (λ x. take k h ++ x ∷ []) (get_or_from_slice_get h k e e is)
 
 -- its items come first of those behind
 pub items_more : (h : List HistoryEntry) (k : ℕ) (e : HistoryEntry) → slice_get h k ≡ Some e → items_from k h ≡ items_by (take k h) e ++ items_from (k + 1) h
 items_more h k e is =
-    let next : k + 1 ≡ suc k = omega arith in
-    let rest : drop k h ≡ e ∷ drop (suc k) h = drop-cons h k e (slice_get_within h k e is) ∙ ap (λ x. x ∷ drop (suc k) h) (get_or_from_slice_get h k e e is) in
-    ap (along items_by (take k h)) rest
-    ∙ ap (λ b. items_by (take k h) e ++ along items_by b (drop (suc k) h)) (sym (front_more h k e is) ∙ ap (λ n. take n h) next)
-    ∙ ap (λ n. items_by (take k h) e ++ items_from n h) (sym next)
+    ap (along items_by (take k h)) (drop_more h k e (slice_get_within h k e is) ∙ ap (λ x. x ∷ drop (k + 1) h) (get_or_from_slice_get h k e e is))
+    ∙ ap (λ b. items_by (take k h) e ++ along items_by b (drop (k + 1) h)) (sym (front_more h k e is))
 
 -- and last of those in front
 pub items_of_more : (h : List HistoryEntry) (k : ℕ) (e : HistoryEntry) → slice_get h k ≡ Some e → items_of (take (k + 1) h) ≡ items_of (take k h) ++ items_by (take k h) e
@@ -181,34 +212,10 @@ items_of_more h k e is =
 pub came : (items : List Item) (old new : Gathered) → new ≡ gathered items old → (new.room ≡ 0 → ⊥)
     → (old.skip - new.skip) + (length new.items - length old.items) ≡ length items
 came items old new is some =
-    by_lengths (length (drop old.skip items)) refl
-  where
-    dropped : (n : ℕ) (xs : List Item) → length (drop n xs) ≡ length xs - n
-    dropped zero xs = omega arith
-    dropped (suc n) [] = omega arith
-    dropped (suc n) (x ∷ xs) = let rest = dropped n xs in omega (arith, rest)
-
-    taken : (n : ℕ) (xs : List Item) → length xs ≤ n → length (take n xs) ≡ length xs
-    taken zero [] le = refl
-    taken zero (x ∷ xs) le = absurd (omega (arith, le))
-    taken (suc n) [] le = refl
-    taken (suc n) (x ∷ xs) le = let rest = taken n xs (omega (arith, le)) in omega (arith, rest)
-
-    by_lengths : (n : ℕ) → length (drop old.skip items) ≡ n → (old.skip - new.skip) + (length new.items - length old.items) ≡ length items
-    by_lengths n e =
-        let skips : new.skip ≡ old.skip - length items = ap (λ (g : Gathered). g.skip) is in
-        let rooms : new.room ≡ old.room - length (drop old.skip items) = ap (λ (g : Gathered). g.room) is in
-        let left : length (drop old.skip items) ≡ length items - old.skip = dropped old.skip items in
-        let fits : length (drop old.skip items) ≤ old.room = leq_by old.room (length (drop old.skip items)) (λ full. some (rooms ∙ full)) in
-        let all : length new.items ≡ length old.items + length (drop old.skip items) =
-        ap (λ (g : Gathered). length g.items) is ∙ length-append old.items (take old.room (drop old.skip items)) ∙ ap (λ m. length old.items + m) (taken old.room (drop old.skip items) fits) in
-        omega (arith, skips, left, all)
-      where
-        leq_by : (r m : ℕ) → (r - m ≡ 0 → ⊥) → m ≤ r
-        leq_by r zero not_full = omega arith
-        leq_by zero (suc m) not_full = absurd (not_full (omega arith))
-        leq_by (suc r) (suc m) not_full = let rest = leq_by r m (λ full. not_full (omega (arith, full))) in omega (arith, rest)
-
--- a count that stands still at an end goes on with more
-pub counted_on : (a b c m : ℕ) → a ≡ min b m → min (a + c) m ≡ min (b + c) m
-counted_on a b c m is = omega (arith, is)
+    let left : List Item = drop old.skip items in
+    let skips : new.skip ≡ old.skip - length items = ap (λ (g : Gathered). g.skip) is in
+    let rooms : new.room ≡ old.room - length left = ap (λ (g : Gathered). g.room) is in
+    let fits : length left ≤ old.room = omega (arith, rooms, some) in
+    let all : length new.items ≡ length old.items + length left =
+    ap (λ (g : Gathered). length g.items) is ∙ length-append old.items (take old.room left) ∙ ap (λ (xs : List Item). length old.items + length xs) (take_all old.room left fits) in
+    omega (arith, skips, length-drop old.skip items, all)

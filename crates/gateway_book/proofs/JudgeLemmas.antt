@@ -1,6 +1,6 @@
 -- What a judge finds fit.
-use Rattle.std.proofs.Common.{◌≡◌, ℕ, ◌+◌, ◌*◌, ◌≤◌, ◌<◌, ◌^◌, ◌&&◌, Bool, true, false, if◌then◌else◌, nat_le, List, [], ◌∷◌, ◌++◌, length, sym, ap, ◌∙◌, arith}
-use Rattle.std.proofs.lemmas.Bool.{and_parts, leb-true, le-leb}
+use Rattle.std.proofs.Common.{◌≡◌, ℕ, ◌+◌, ◌*◌, ◌≤◌, ◌<◌, ◌^◌, ◌&&◌, true, false, if◌then◌else◌, nat_le, List, [], ◌∷◌, ◌++◌, length, sym, ap, ◌∙◌, arith}
+use Rattle.std.proofs.lemmas.Bool.{and_parts, leb-true, le-leb, and_from, true≢false}
 use Rattle.entry_codec.specs.Laws.{costs_of-append}
 use Rattle.entry_codec.specs.Room.{capacity_of, costs_of, has_room}
 use Rattle.entry_codec.specs.Spelling.{cost_of}
@@ -45,13 +45,8 @@ module _ (same_act : (index : Index) (h : List HistoryEntry) (act : HistoryAct) 
   -- an entry that isn't fit by its moment or its act
   pub refused : (judge : FitJudge) (h : List HistoryEntry) (size : ℕ) (e : HistoryEntry) → IsJudging judge h
       → (nat_le (side_of false judge.index).totals.moment e.moment && is_act_fit (observed_by false judge.index) e.act) ≡ false → IsFit size h e → ⊥
-  refused judge h size e judging refuses fit =
-      both_true _ _ (le-leb _ _ (omega (arith, fit.order, same_moment judge.index h judging.index))) (same_act judge.index h e.act judging.index ∙ fit.act) refuses
-    where
-      both_true : (a b : Bool) → a ≡ true → b ≡ true → (a && b) ≡ false → ⊥
-      both_true true true x y e = cc
-      both_true true false x y e = cc
-      both_true false b x y e = cc
+  refused judge h size e judging refuses fit = true≢false (sym (and_from _ _
+      (le-leb _ _ (omega (arith, fit.order, same_moment judge.index h judging.index))) (same_act judge.index h e.act judging.index ∙ fit.act)) ∙ refuses)
 
   -- what the judge counts after an entry is what room asks
   room_is : (new : FitJudge) (h : List HistoryEntry) (size : ℕ) (e : HistoryEntry) → IsJudging new (h ++ e ∷ []) → is_within new size ≡ has_room h e size
@@ -60,11 +55,6 @@ module _ (same_act : (index : Index) (h : List HistoryEntry) (act : HistoryAct) 
     where
       same : promised_of (side_of false new.index) ≡ promised_octets (h ++ e ∷ []) → new.costs + promised_of (side_of false new.index) ≡ costs_of h + cost_of e + promised_octets (h ++ e ∷ [])
       same promised = omega (arith, promised, judging.cost, costs_of-append h (e ∷ []))
-
-  -- one that costs more than any number holds has no room
-  pub too_dear : (judge : FitJudge) (h : List HistoryEntry) (size : ℕ) (e : HistoryEntry) → IsJudging judge h → size < 2 ^ 64 → 2 ^ 64 ≤ judge.costs + cost_of e → IsFit size h e → ⊥
-  too_dear judge h size e judging small past fit =
-      omega (arith, small, past, judging.cost, leb-true (costs_of h + cost_of e + promised_octets (h ++ e ∷ [])) (capacity_of size) fit.room)
 
   -- and one that was taken in
   pub is_fit : (judge new : FitJudge) (h : List HistoryEntry) (size : ℕ) (e : HistoryEntry) → IsJudging judge h → IsJudging new (h ++ e ∷ []) → e.moment ≤ latest_moment
@@ -79,7 +69,4 @@ module _ (same_act : (index : Index) (h : List HistoryEntry) (act : HistoryAct) 
       }
 
   pub no_room : (new : FitJudge) (h : List HistoryEntry) (size : ℕ) (e : HistoryEntry) → IsJudging new (h ++ e ∷ []) → is_within new size ≡ false → IsFit size h e → ⊥
-  no_room new h size e now past fit = differ (sym (room_is new h size e now ∙ fit.room) ∙ past)
-    where
-      differ : true ≡ false → ⊥
-      differ e = cc
+  no_room new h size e now past fit = true≢false (sym (room_is new h size e now ∙ fit.room) ∙ past)

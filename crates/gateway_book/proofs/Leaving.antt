@@ -1,29 +1,71 @@
 -- What the area of a book stands for that is handed back.
-use Rattle.std.proofs.Common.{◌≡◌, ◌⊎◌, ⊎_elim, inl, inr, ℕ, Bool, true, false, ◌&&◌, if◌then◌else◌, List, ◌++◌, length, refl, sym, ap, subst}
+use Rattle.std.proofs.Common.{◌≡◌, ⊎_elim, inl, inr, ℕ, ◌≤◌, false, if◌then◌else◌, List, ◌++◌, length, ap, subst, ◌∙◌, arith, [], ◌⊎◌, Bool, true}
 use Rattle.std.specs.Prelude.{IsTrue}
+use Rattle.std.proofs.lemmas.Bool.{cases_Bool}
 use Rattle.area_disk.specs.declared.area.Area.{Ghosts}
+use Rattle.gate_journal.specs.Moments.{Leaves, Told}
+use Rattle.cgf_journal.specs.Format.{StandsFor}
+use Rattle.cgf_journal.specs.Trail.{StandsForOr, entries, firm_entries, is_closed}
+use Rattle.gw_base.specs.declared.history.HistoryEntry.{HistoryEntry}
+use Rattle.gateway_book.specs.Book.{area_of, header_of, size_of, value_of}
+use Rattle.gateway_answer.specs.FitHistory.{AllFit, StandsFitForOr}
+use Rattle.gateway_book.specs.Followed.{all_entries}
+use Rattle.gateway_book.specs.declared.book.Book.{Book}
+use Rattle.gateway_answer.specs.FitHistoryLaws.{fit_front}
 use Rattle.area_disk.specs.declared.plan.Outcome3.{Outcome3}
 use Rattle.area_disk.specs.declared.plan.Outcome3.TheVariants.{New}
-use Rattle.gate_journal.specs.Moments.{Told}
-use Rattle.gw_base.specs.declared.history.HistoryEntry.{HistoryEntry}
-use Rattle.cgf_journal.specs.Format.{StandsFor}
 use Rattle.cgf_journal.specs.Trail as trail
-use Rattle.gateway_book.specs.Book.{area_of, header_of, size_of, value_of}
 use Rattle.gateway_book.specs.Comes.{LeavesFit, left_by_stop}
-use Rattle.gateway_answer.specs.FitHistory.{AllFit}
-use Rattle.gateway_book.specs.Followed.{all_entries}
 use Rattle.gateway_book.specs.Opened.{StandsFitFor}
-use Rattle.gateway_book.specs.declared.book.Book.{Book}
-use Rattle.gateway_book.proofs.BookLemmas.{fit_front}
+
+module _ {A : Type 0} {tells : Ghosts A} (here : (a : A) (c : List ℕ) → IsTrue tells.tells_crash → tells.may_leave a c → length c ≡ tells.size a)
+    (since : (a : A) (t : ℕ) (c : List ℕ) → IsTrue tells.tells_crash → (tells.moments a).told_from ≤ t → t ≤ (tells.moments a).now → (tells.moments a).left_since t c → length c ≡ tells.size a) where
+  both_fit : (header : List ℕ) (old new : A) (h g : List HistoryEntry) → IsTrue tells.tells_crash → tells.size new ≡ tells.size old
+      → AllFit (tells.size old) h → AllFit (tells.size old) g → Leaves tells old new (StandsForOr header h g) → Leaves tells old new (StandsFitForOr header h g)
+  both_fit header old new h g told same first second leaves = record {
+    moments = record {
+      later = leaves.moments.later;
+      told_later = leaves.moments.told_later;
+      each = λ c from left. fits c (since new ((tells.moments old).now) c told from leaves.moments.later left ∙ same) (leaves.moments.each c from left);
+      before = λ t c from le left.
+          ⊎_elim inl (λ has. inr (fits c (since new t c told from (omega (arith, le, leaves.moments.later)) left ∙ same) has)) (leaves.moments.before t c from le left);
+    };
+    now = λ c left. fits c (here new c told left ∙ same) (leaves.now c left);
+  }
+    where
+      fits : (c : List ℕ) → length c ≡ tells.size old → StandsForOr header h g c → StandsFitForOr header h g c
+      fits c size stands = ⊎_elim
+          (λ (is : StandsFor header c h). inl (record { stands = is; fit = rw size first }))
+          (λ (is : StandsFor header c g). inr (record { stands = is; fit = rw size second })) stands
+
+  -- the histories of a book are fit
+  pub crash_fit : (book : Book A tells) (new : A) → Told tells → tells.size new ≡ size_of book
+      → Leaves tells (area_of book) new (StandsForOr (header_of book) (value_of book).firm ((value_of book).firm ++ (value_of book).rest))
+      → Leaves tells (area_of book) new (StandsFitForOr (header_of book) (value_of book).firm ((value_of book).firm ++ (value_of book).rest))
+  crash_fit book new told same leaves =
+      let fit = book.followed.fit told in
+      both_fit (header_of book) (area_of book) new (value_of book).firm ((value_of book).firm ++ (value_of book).rest) told.1 same
+      (fit_front (size_of book) [] (value_of book).firm (value_of book).rest fit) fit leaves
+
+  -- the same where a book that goes on is asked for all its entries
+  pub crash_fit_open : (book : Book A tells) (new : A) → is_closed book.trail ≡ false → Told tells → tells.size new ≡ size_of book
+      → Leaves tells (area_of book) new (StandsForOr (header_of book) (firm_entries book.trail) (entries book.trail))
+      → Leaves tells (area_of book) new (StandsFitForOr (header_of book) (value_of book).firm ((value_of book).firm ++ (value_of book).rest))
+  crash_fit_open book new goes told same leaves = crash_fit book new told same
+      (subst (λ (h : List HistoryEntry). Leaves tells (area_of book) new (StandsForOr (header_of book) (firm_entries book.trail) h))
+      (ap (λ b. if b then firm_entries book.trail else all_entries book.trail) goes) leaves)
+
+-- ---- what the area of a book stands for that is handed back
 
 module _ {A : Type 0} {tells : Ghosts A} (book : Book A tells) (whole : Told tells → trail.is_closed book.trail ≡ false → trail.IsSettled book.trail) (rests : trail.IsAtRest book.trail)
     (stop : IsTrue tells.tells_fate → Told tells → (outcome : Outcome3) → StandsFor (header_of book) ((tells.fate (area_of book)).leaves outcome) (trail.left_by_stop outcome book.trail))
     (fit : Told tells → AllFit (size_of book) (all_entries book.trail)) where
   firm_fit : Told tells → AllFit (size_of book) (value_of book).firm
-  firm_fit told = fit_front (size_of book) (value_of book).firm (value_of book).rest (fit told)
+  firm_fit told = fit_front (size_of book) [] (value_of book).firm (value_of book).rest (fit told)
 
-  with_fit : (c : List ℕ) (h : List HistoryEntry) → length c ≡ size_of book → StandsFor (header_of book) c h → AllFit (size_of book) h → StandsFitFor (header_of book) c h
-  with_fit c h size stands all = record { stands = stands; fit = subst (λ (n : ℕ). AllFit n h) (sym size) all }
+  with_fit : (c : List ℕ) (h : List HistoryEntry) → length c ≡ size_of book → StandsFor (header_of book) c h → AllFit (size_of book) h
+      → StandsFitFor (header_of book) c h
+  with_fit c h size stands all = record { stands = stands; fit = rw size all }
 
   either_fit : Told tells → (c : List ℕ) → length c ≡ size_of book → (b : Bool)
       → StandsFor (header_of book) c (if b then (value_of book).firm ++ (value_of book).rest else (value_of book).firm)
@@ -42,16 +84,15 @@ module _ {A : Type 0} {tells : Ghosts A} (book : Book A tells) (whole : Told tel
         (λ (stands : StandsFor (header_of book) c ((value_of book).firm ++ (value_of book).rest)). inr (with_fit c ((value_of book).firm ++ (value_of book).rest) (same_size c told.1 may) stands (fit told)))
         ((rests.still told).now c may)
 
-    stop_fit : IsTrue tells.tells_fate → Told tells → (outcome : Outcome3) → StandsFitFor (header_of book) ((tells.fate (area_of book)).leaves outcome) (left_by_stop outcome book)
-    stop_fit fate told outcome = by_state (trail.is_closed book.trail) refl
-      where
-        by_state : (b : Bool) → trail.is_closed book.trail ≡ b → StandsFitFor (header_of book) ((tells.fate (area_of book)).leaves outcome) (left_by_stop outcome book)
-        by_state false goes = subst (λ (h : List HistoryEntry). StandsFitFor (header_of book) ((tells.fate (area_of book)).leaves outcome) h)
-            (sym (ap (λ b. if b && trail.stop_stands outcome book.trail then (value_of book).firm ++ (value_of book).rest else (value_of book).firm) goes))
-            (whole_fit told goes ((tells.fate (area_of book)).leaves outcome) (may_stop outcome fate))
-        by_state true closed = subst (λ (h : List HistoryEntry). StandsFitFor (header_of book) ((tells.fate (area_of book)).leaves outcome) h)
-            (sym (ap (λ b. if b && trail.stop_stands outcome book.trail then (value_of book).firm ++ (value_of book).rest else (value_of book).firm) closed))
-            (either_fit told ((tells.fate (area_of book)).leaves outcome) (same_size ((tells.fate (area_of book)).leaves outcome) told.1 (may_stop outcome fate)) (trail.stop_stands outcome book.trail) (stop fate told outcome))
+    stop_fit : IsTrue tells.tells_fate → Told tells → (outcome : Outcome3)
+        → StandsFitFor (header_of book) ((tells.fate (area_of book)).leaves outcome) (left_by_stop outcome book)
+    stop_fit fate told outcome =
+        let c = (tells.fate (area_of book)).leaves outcome in
+        let may = may_stop outcome fate in
+        elim (cases_Bool (trail.is_closed book.trail)) [
+          | inl closed ↦ rw closed (either_fit told c (same_size c told.1 may) (trail.stop_stands outcome book.trail) (rw closed at (stop fate told outcome)))
+          | inr goes ↦ rw goes (whole_fit told goes c may)
+        ]
 
     pub leaves_fit : LeavesFit book
     leaves_fit = record {

@@ -18,7 +18,7 @@ use Rattle.cgf_journal.specs.Format.{IsSpoiledBy, entries_in}
 use Rattle.gateway_answer.specs.Fit.{IsFit}
 use Rattle.gateway_answer.specs.FitHistory.{AllFit}
 use Rattle.gateway_book.specs.Opened.{IsNotOurs, StandsFitFor}
-use Rattle.gateway_book.proofs.BookLemmas.{fit_front}
+use Rattle.gateway_answer.specs.FitHistoryLaws.{fit_front}
 
 -- the first of fit batches are fit
 fit_first : (size : ℕ) (some more : List (List ℕ)) → AreFit IsFit size (some ++ more) → AreFit IsFit size some
@@ -27,7 +27,7 @@ fit_first size some more are = record {
     contents = subst (λ (l : List (List ℕ)). All IsContent l) (take_at some more (length some) refl) (All-take IsContent (length some) (some ++ more) are.are_batches.contents);
     costs = omega (arith, are.are_batches.costs, ap (λ (h : List HistoryEntry). costs_of h) (flat_map-append entries_of some more), costs_of-append (entries_in some) (entries_in more));
   };
-  fit = fit_front size (entries_in some) (entries_in more) (subst (λ (h : List HistoryEntry). AllFit size h) (flat_map-append entries_of some more) are.fit);
+  fit = fit_front size [] (entries_in some) (entries_in more) (subst (λ (h : List HistoryEntry). AllFit size h) (flat_map-append entries_of some more) are.fit);
 }
 
 module _ (header : List ℕ) (long : length header ≡ 32) (octets : List ℕ) (batches : List (List ℕ)) (stands : Stands header octets batches) (fit : AreFit IsFit (length octets) batches) where

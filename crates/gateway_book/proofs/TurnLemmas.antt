@@ -1,8 +1,8 @@
 -- What each call of a book owes and adds as a turn.
-use Rattle.std.proofs.Common.{◌≡◌, ⊎_elim, inl, inr, ℕ, zero, suc, ◌<◌, ◌≤◌, ◌==◌, ◌&&◌, Bool, true, false, if◌then◌else◌, List, [], ◌∷◌, ◌++◌, take, Option, Some, None, refl, sym, ap, subst, ◌∙◌, append_assoc, arith}
-use Rattle.std.proofs.lemmas.Bool.{and_parts, false≢true}
+use Rattle.std.proofs.Common.{◌≡◌, inl, inr, ℕ, zero, suc, ◌<◌, ◌≤◌, ◌==◌, ◌&&◌, Bool, true, false, if◌then◌else◌, List, [], ◌∷◌, ◌++◌, take, Option, Some, None, refl, sym, ap, subst, ◌∙◌, append_assoc, arith, drop}
+use Rattle.std.proofs.lemmas.Bool.{and_parts, false≢true, cases_Bool, cond_both, false_from_ne_true}
 use Rattle.std.specs.Prelude.{All}
-use Rattle.std.proofs.lemmas.List.{append-nil}
+use Rattle.std.proofs.lemmas.List.{append-nil, take-append-drop}
 use Rattle.std.proofs.lemmas.List.Elements.{All-cons}
 use Rattle.area_disk.specs.declared.area.Area.{Ghosts}
 use Rattle.gate_journal.specs.Moments.{Told}
@@ -15,17 +15,15 @@ use Rattle.gw_base.specs.declared.history.HistoryAct.{HistoryAct}
 use Rattle.gw_base.specs.declared.history.HistoryEntry.{HistoryEntry}
 use Rattle.gw_base.specs.declared.address.Addr.{Addr}
 use Rattle.gateway_answer.specs.Answer.{decided, failure_answer}
-use Rattle.gateway_answer.specs.Answered.{act_decided, answer_to, entry_by}
+use Rattle.gateway_answer.specs.Answered.{act_decided, entry_by}
 use Rattle.gateway_book.specs.Book.{HasCause, Stays, area_of, fortune_of, reopening_of, value_of}
-use Rattle.gateway_book.specs.Calls.{Left, given_at, length_at, marked_at, marked_if_ready, taken}
-use Rattle.gateway_answer.specs.Marks.{Mark, Makes, NoRoom, NotDue}
+use Rattle.gateway_book.specs.Calls.{given_at, length_at, marked_if_ready, taken}
+use Rattle.gateway_answer.specs.Marks.{Mark, NotDue}
 use Rattle.gateway_answer.specs.Preparing.{PreparedValue, Drop}
 use Rattle.gateway_book.specs.Read.{IsUnchanged}
-use Rattle.gateway_book.specs.Turning.{IsTurn, act_in, act_marked, added_to, drops_of, facts_of, is_gone, tells_lists}
+use Rattle.gateway_book.specs.Turning.{IsTurn, act_in, added_to, drops_of, facts_of, is_gone, tells_lists}
 use Rattle.gateway_answer.specs.Value.{BookValue, Fortune, Gone, Refused, Reopening, Whole, after_commit, faulted, history_of, is_batch_full, readied, recorded_if, reopened, torn_of, tried, tried_with}
 use Rattle.gateway_book.specs.declared.book.Book.{Book}
-use Rattle.gateway_book.specs.declared.outcome.Marked.{Marked}
-use Rattle.gateway_book.specs.declared.outcome.Marked.TheVariants as marked
 use Rattle.gateway_book.proofs.Causing.{not_zero}
 
 -- ---- lists
@@ -39,22 +37,16 @@ begins_more h g = (g, refl)
 aligned_front : (n : ℕ) (ys rest : List HistoryEntry) → AreAligned (take n (ys ++ rest)) ys
 aligned_front zero ys rest = inl (ys, refl)
 aligned_front (suc n) [] rest = inr (take (suc n) rest, refl)
-aligned_front (suc n) (y ∷ ys) rest = ⊎_elim
-    (λ (is : Begins (take n (ys ++ rest)) ys). inl (is.0, ap (λ (h : List HistoryEntry). y ∷ h) is.1))
-    (λ (is : Begins ys (take n (ys ++ rest))). inr (is.0, ap (λ (h : List HistoryEntry). y ∷ h) is.1))
-    (aligned_front n ys rest)
-
-take_begins : (n : ℕ) (h : List HistoryEntry) → Begins (take n h) h
-take_begins zero h = (h, refl)
-take_begins (suc n) [] = ([], refl)
-take_begins (suc n) (x ∷ h) = let rest = take_begins n h in (rest.0, ap (λ (g : List HistoryEntry). x ∷ g) rest.1)
+aligned_front (suc n) (y ∷ ys) rest = elim (aligned_front n ys rest) [
+    | inl is ↦ inl (is.0, ap (λ (h : List HistoryEntry). y ∷ h) is.1)
+    | inr is ↦ inr (is.0, ap (λ (h : List HistoryEntry). y ∷ h) is.1)
+  ]
 
 aligned_take : (n : ℕ) (xs ys : List HistoryEntry) → AreAligned xs ys → AreAligned (take n xs) ys
-aligned_take n xs ys aligned = ⊎_elim
-    (λ (is : Begins xs ys). let front = take_begins n xs in
-    inl (front.0 ++ is.0, is.1 ∙ ap (λ (h : List HistoryEntry). h ++ is.0) front.1 ∙ append_assoc (take n xs) front.0 is.0))
-    (λ (is : Begins ys xs). subst (λ (h : List HistoryEntry). AreAligned (take n h) ys) (sym is.1) (aligned_front n ys is.0))
-    aligned
+aligned_take n xs ys aligned = elim aligned [
+    | inl is ↦ inl (drop n xs ++ is.0, is.1 ∙ ap (λ (h : List HistoryEntry). h ++ is.0) (sym (take-append-drop n xs)) ∙ append_assoc (take n xs) (drop n xs) is.0)
+    | inr is ↦ rw is.1 (aligned_front n ys is.0)
+  ]
 
 -- ---- values
 
@@ -72,11 +64,8 @@ history_by v b is = ap (λ c. if c then v.firm else v.firm ++ v.rest) is
 
 -- the firm part is a front of it
 firm_aligned : (v : BookValue) → AreAligned v.firm (history_of v)
-firm_aligned v = by_state v.is_broken
-  where
-    by_state : (b : Bool) → AreAligned v.firm (if b then v.firm else v.firm ++ v.rest)
-    by_state true = inl (begins_same v.firm)
-    by_state false = inl (begins_more v.firm v.rest)
+firm_aligned v = cond_both v.is_broken v.firm (v.firm ++ v.rest) (λ h. AreAligned v.firm h)
+    (λ _. inl (begins_same v.firm)) (λ _. inl (begins_more v.firm v.rest))
 
 drops_by : (f : Fortune) (v : BookValue) (b gone : Bool) → v.is_broken ≡ b → is_gone f.reopening ≡ gone → drops_of f v ≡ b && gone
 drops_by f v b gone is found = λ i. is i && found i
@@ -85,37 +74,30 @@ module _ (f : Fortune) (v : BookValue) where
   -- the value stays, but that the book may be broken then
   stayed : (w : BookValue) → drops_of f v ≡ false → w.firm ≡ v.firm → w.rest ≡ v.rest → (w.is_broken ≡ false → v.is_broken ≡ false) → Moves f v w []
   stayed w kept firm rest goes = record {
-    firm = subst (λ (h : List HistoryEntry). Begins v.firm h) (sym firm) (begins_same v.firm);
-    list = λ runs. subst (λ (h : List HistoryEntry). Begins (history_of v) h)
-        (history_by v false (goes runs) ∙ (λ i. sym firm i ++ sym rest i) ∙ sym (history_by w false runs)) (begins_same (history_of v));
-    aligned = subst (λ (h : List HistoryEntry). AreAligned h (history_of v)) (sym firm) (firm_aligned v);
-    stands = (λ i. firm i ++ rest i) ∙ sym (append-nil (v.firm ++ v.rest)) ∙ ap (λ c. (if c then v.firm else v.firm ++ v.rest) ++ []) (sym kept);
+    firm = rw firm (begins_same v.firm);
+    list = λ runs. rw (goes runs, runs, firm, rest) (begins_same (v.firm ++ v.rest));
+    aligned = rw firm (firm_aligned v);
+    stands = rw (firm, rest, kept) (sym (append-nil (v.firm ++ v.rest)));
   }
 
   -- all is firm
   firm_all : drops_of f v ≡ false → Moves f v (record v { firm = v.firm ++ v.rest; rest = []; is_broken = false }) []
   firm_all kept = record {
     firm = begins_more v.firm v.rest;
-    list = λ runs. subst (λ (h : List HistoryEntry). Begins (history_of v) h) (sym (append-nil (v.firm ++ v.rest))) (by_state v.is_broken refl);
-    aligned = aligned_by v.is_broken refl;
-    stands = ap (λ c. (if c then v.firm else v.firm ++ v.rest) ++ []) (sym kept);
+    list = λ runs. subst (λ (h : List HistoryEntry). Begins (history_of v) h) (sym (append-nil (v.firm ++ v.rest)))
+        (cond_both v.is_broken v.firm (v.firm ++ v.rest) (λ h. Begins h (v.firm ++ v.rest)) (λ _. begins_more v.firm v.rest) (λ _. begins_same (v.firm ++ v.rest)));
+    aligned = cond_both v.is_broken v.firm (v.firm ++ v.rest) (λ h. AreAligned (v.firm ++ v.rest) h)
+        (λ _. inr (begins_more v.firm v.rest)) (λ _. inl (begins_same (v.firm ++ v.rest)));
+    stands = rw kept refl;
   }
-    where
-      by_state : (b : Bool) → v.is_broken ≡ b → Begins (history_of v) (v.firm ++ v.rest)
-      by_state true is = subst (λ (h : List HistoryEntry). Begins h (v.firm ++ v.rest)) (sym (history_by v true is)) (begins_more v.firm v.rest)
-      by_state false is = subst (λ (h : List HistoryEntry). Begins h (v.firm ++ v.rest)) (sym (history_by v false is)) (begins_same (v.firm ++ v.rest))
-
-      aligned_by : (b : Bool) → v.is_broken ≡ b → AreAligned (v.firm ++ v.rest) (history_of v)
-      aligned_by true is = subst (λ (h : List HistoryEntry). AreAligned (v.firm ++ v.rest) h) (sym (history_by v true is)) (inr (begins_more v.firm v.rest))
-      aligned_by false is = subst (λ (h : List HistoryEntry). AreAligned (v.firm ++ v.rest) h) (sym (history_by v false is)) (inl (begins_same (v.firm ++ v.rest)))
 
   -- the torn entries are dropped
   dropped_torn : v.is_broken ≡ true → drops_of f v ≡ true → Moves f v (record v { rest = []; is_broken = false }) []
   dropped_torn broken drops = record {
     firm = begins_same v.firm;
-    list = λ runs. subst (λ (h : List HistoryEntry). Begins h (v.firm ++ [])) (sym (history_by v true broken)) (begins_more v.firm []);
-    aligned = subst (λ (h : List HistoryEntry). AreAligned v.firm h) (sym (history_by v true broken)) (inl (begins_same v.firm));
-    stands = ap (λ c. (if c then v.firm else v.firm ++ v.rest) ++ []) (sym drops);
+    list = λ runs. rw broken (begins_more v.firm []);
+    aligned = rw broken (inl (begins_same v.firm));
+    stands = rw drops refl;
   }
 
   kept_open : v.is_broken ≡ false → drops_of f v ≡ false
@@ -129,9 +111,8 @@ module _ (f : Fortune) (v : BookValue) where
 
   -- a commit that the device is asked for
   asked_again : v.is_broken ≡ false → (b : Bool) → f.fails ≡ b → Moves f v (tried f v) []
-  asked_again goes true is = subst (λ (w : BookValue). Moves f v w []) (sym (ap (λ b. let w : BookValue = if b then faulted v else record v { firm = v.firm ++ v.rest; rest = [] } in w) is))
-      (stayed (faulted v) (kept_open goes) refl refl (λ runs. absurd (false≢true (sym runs))))
-  asked_again goes false is = subst (λ (w : BookValue). Moves f v w []) (sym (ap (λ b. let w : BookValue = if b then faulted v else record v { firm = v.firm ++ v.rest; rest = [] } in w) is))
+  asked_again goes true is = rw is (stayed (faulted v) (kept_open goes) refl refl (λ runs. absurd (false≢true (sym runs))))
+  asked_again goes false is = rw is
       (subst (λ (b : Bool). Moves f v (record v { firm = v.firm ++ v.rest; rest = []; is_broken = b }) []) (sym goes) (firm_all (kept_open goes)))
 
   left_so : v.is_broken ≡ false → Moves f v v []
@@ -156,18 +137,19 @@ module _ (f : Fortune) (v : BookValue) where
   moves_committed = moves_by v.is_broken refl (tried_with f v v.rest) (λ goes. asked_with goes v.rest)
 
   -- then an act is recorded, by a book that goes on
-  recorded_then : (m : BookValue) (now : ℕ) (who : Caller) (act : Option HistoryAct) → ((a : HistoryAct) → act ≡ Some a → m.is_broken ≡ false) → Moves f v m [] → Moves f v (recorded_if m now who act) (added_to m now who act)
+  recorded_then : (m : BookValue) (now : ℕ) (who : Caller) (act : Option HistoryAct) → ((a : HistoryAct) → act ≡ Some a → m.is_broken ≡ false)
+      → Moves f v m [] → Moves f v (recorded_if m now who act) (added_to m now who act)
   recorded_then m now who None goes moves = moves
   recorded_then m now who (Some a) goes moves =
       let e = entry_by (history_of m) now who a in
       let runs = goes a refl in
       let behind : m.firm ++ (m.rest ++ e ∷ []) ≡ (m.firm ++ m.rest) ++ e ∷ [] = sym (append_assoc m.firm m.rest (e ∷ [])) in
       let begun = moves.list runs in
-      let w : BookValue = recorded_if m now who (Some a) in
       record {
         firm = moves.firm;
-        list = λ is. subst (λ (h : List HistoryEntry). Begins (history_of v) h) (sym (history_by w false runs ∙ behind))
-            (begun.0 ++ e ∷ [], ap (λ (h : List HistoryEntry). h ++ e ∷ []) (sym (history_by m false runs) ∙ begun.1) ∙ append_assoc (history_of v) begun.0 (e ∷ []));
+        list = λ is. subst (λ (h : List HistoryEntry). Begins (history_of v) h) (sym (history_by (recorded_if m now who (Some a)) false runs ∙ behind))
+            (begun.0 ++ e ∷ [], ap (λ (h : List HistoryEntry). h ++ e ∷ []) (sym (history_by m false runs) ∙ begun.1)
+            ∙ append_assoc (history_of v) begun.0 (e ∷ []));
         aligned = moves.aligned;
         stands = behind ∙ ap (λ (h : List HistoryEntry). h ++ e ∷ []) (moves.stands ∙ append-nil (if drops_of f v then v.firm else v.firm ++ v.rest));
       }
@@ -175,23 +157,14 @@ module _ (f : Fortune) (v : BookValue) where
 -- ---- facts
 
 joined_is : (v : BookValue) → history_of v ++ torn_of v ≡ v.firm ++ v.rest
-joined_is v = by_state v.is_broken
-  where
-    by_state : (b : Bool) → (if b then v.firm else v.firm ++ v.rest) ++ (if b then v.rest else []) ≡ v.firm ++ v.rest
-    by_state true = refl
-    by_state false = append-nil (v.firm ++ v.rest)
+joined_is v = elim (cases_Bool v.is_broken) [ inl e ↦ rw e refl | inr e ↦ rw e (append-nil (v.firm ++ v.rest)) ]
 
 -- the length that never falls, as more entries are firm
 still_at : (cuts a b kept : ℕ) → 0 < cuts → length_at cuts a kept ≡ length_at cuts b kept
-still_at cuts a b kept some =
-    let is = not_zero cuts (omega (arith, some)) in ap (λ t. if t then a else kept) is ∙ sym (ap (λ t. if t then b else kept) is)
+still_at cuts a b kept some = rw (not_zero cuts some) refl
 
 grown_at : (cuts a b kept : ℕ) → a ≤ b → length_at cuts a kept ≤ length_at cuts b kept
-grown_at cuts a b kept le = by_test (cuts == 0)
-  where
-    by_test : (t : Bool) → (if t then a else kept) ≤ (if t then b else kept)
-    by_test true = le
-    by_test false = omega arith
+grown_at cuts a b kept le = elim (cases_Bool (cuts == 0)) [ inl e ↦ rw e le | inr e ↦ rw e (omega arith) ]
 
 is_told : {A : Type 0} (tells : Ghosts A) → tells_lists tells ≡ true → Told tells
 is_told tells told = and_parts tells.tells_octets tells.tells_crash told
@@ -200,27 +173,21 @@ module _ {A : Type 0} {tells : Ghosts A} where
   joined_at : (book : Book A tells) → joined (facts_of book) ≡ (value_of book).firm ++ (value_of book).rest
   joined_at book = joined_is (value_of book)
 
-  base_at : (book : Book A tells) (drops : Bool) → base drops (facts_of book) ≡ (if drops then (value_of book).firm else (value_of book).firm ++ (value_of book).rest)
+  base_at : (book : Book A tells) (drops : Bool)
+      → base drops (facts_of book) ≡ (if drops then (value_of book).firm else (value_of book).firm ++ (value_of book).rest)
   base_at book true = refl
   base_at book false = joined_at book
 
   module _ (old new : Book A tells) (cause : HasCause old new) where
     -- a count that stood tells that the book goes on
     goes_on : Stood old.cuts new.cuts → is_closed new.trail ≡ false
-    goes_on stood = by_state (is_closed new.trail) refl
-      where
-        by_state : (b : Bool) → is_closed new.trail ≡ b → is_closed new.trail ≡ false
-        by_state true closed = let cut = cause.cut closed in let same = stood.0 in let below = stood.1 in absurd (omega (arith, cut, same, below))
-        by_state false goes = goes
+    goes_on stood = false_from_ne_true _ (λ closed. omega (arith, cause.cut closed, stood.0, stood.1))
 
     uncut : Stood (tells.faults (area_of old)) (tells.faults (area_of new)) → new.cuts ≡ old.cuts
-    uncut stood = by_state (is_closed new.trail) refl
-      where
-        by_state : (b : Bool) → is_closed new.trail ≡ b → new.cuts ≡ old.cuts
-        by_state true closed = let rose = cause.broken closed in let same = stood.0 in let below = stood.1 in absurd (omega (arith, rose, same, below))
-        by_state false goes = cause.uncut goes
+    uncut stood = cause.uncut (false_from_ne_true _ (λ closed. omega (arith, cause.broken closed, stood.0, stood.1)))
 
-    pub turn_of : (session : Option ℕ) (added : List HistoryEntry) → Stays old new → (Told tells → Moves (fortune_of old new) (value_of old) (value_of new) added) → AreBy session added → IsTurn old new session added
+    pub turn_of : (session : Option ℕ) (added : List HistoryEntry) → Stays old new
+        → (Told tells → Moves (fortune_of old new) (value_of old) (value_of new) added) → AreBy session added → IsTurn old new session added
     turn_of session added stays moves by = record {
       owes = record {
         size = stays.size;
@@ -232,16 +199,19 @@ module _ {A : Type 0} {tells : Ghosts A} where
         list = λ told stood. (moves (is_told tells told)).list (goes_on stood);
         entries = λ stood. cause.entries (goes_on stood);
         still = λ some. cause.length ∙ still_at old.cuts (firm_length new.trail) (firm_length old.trail) old.kept some;
-        grows = let grown = grown_at old.cuts (firm_length old.trail) (firm_length new.trail) old.kept cause.firm in let is = cause.length in omega (arith, grown, is);
-        aligned = λ told none. aligned_take (facts_of new).length (value_of new).firm (history_of (value_of old)) (moves (is_told tells told)).aligned;
+        grows = omega (arith, grown_at old.cuts (firm_length old.trail) (firm_length new.trail) old.kept cause.firm, cause.length);
+        aligned = λ told none.
+            aligned_take (facts_of new).length (value_of new).firm (history_of (value_of old)) (moves (is_told tells told)).aligned;
       };
       adds = λ told. record {
-        stands = joined_at new ∙ (moves (is_told tells told)).stands ∙ ap (λ (h : List HistoryEntry). h ++ added) (sym (base_at old (drops_of (fortune_of old new) (value_of old))));
+        stands = joined_at new ∙ (moves (is_told tells told)).stands
+            ∙ ap (λ (h : List HistoryEntry). h ++ added) (sym (base_at old (drops_of (fortune_of old new) (value_of old))));
         owned = by;
       };
     }
 
-    moved_to : (w : BookValue) (added : List HistoryEntry) → value_of new ≡ w → Moves (fortune_of old new) (value_of old) w added → Moves (fortune_of old new) (value_of old) (value_of new) added
+    moved_to : (w : BookValue) (added : List HistoryEntry) → value_of new ≡ w → Moves (fortune_of old new) (value_of old) w added
+        → Moves (fortune_of old new) (value_of old) (value_of new) added
     moved_to w added is moves = subst (λ (x : BookValue). Moves (fortune_of old new) (value_of old) x added) (sym is) moves
 
 none_by : (session : ℕ) → All {X = HistoryEntry} (λ (e : HistoryEntry). e.caller.session ≡ session) []
@@ -253,40 +223,36 @@ by_none (Some session) = none_by session
 
 by_caller : (m : BookValue) (now : ℕ) (who : Caller) (act : Option HistoryAct) → AreBy (Some who.session) (added_to m now who act)
 by_caller m now who None = none_by who.session
-by_caller m now who (Some a) = All-cons (λ (e : HistoryEntry). e.caller.session ≡ who.session) (entry_by (history_of m) now who a) [] refl (none_by who.session)
+by_caller m now who (Some a) =
+    All-cons (λ (e : HistoryEntry). e.caller.session ≡ who.session) (entry_by (history_of m) now who a) [] refl (none_by who.session)
 
 failure_has_none : (datagram : PreparedValue) → act_decided (decided (failure_answer datagram)) ≡ None
 failure_has_none (Drop why) = refl
 failure_has_none _ = refl
 
 -- what a book records goes on
-records_open : (m : BookValue) (from : Addr) (datagram : PreparedValue) (size : ℕ) (a : HistoryAct) → act_decided (decided (given_at m from datagram size)) ≡ Some a → m.is_broken ≡ false
-records_open m from datagram size a is = by_state m.is_broken refl
-  where
-    by_state : (b : Bool) → m.is_broken ≡ b → m.is_broken ≡ false
-    by_state true broken = let both : ◌≡◌ {A = Option HistoryAct} None (Some a) = sym (failure_has_none datagram) ∙ ap (λ b. act_decided (decided (if b then failure_answer datagram else answer_to (history_of m) from datagram size))) (sym broken) ∙ is in absurd (cc both)
-    by_state false goes = goes
+records_open : (m : BookValue) (from : Addr) (datagram : PreparedValue) (size : ℕ) (a : HistoryAct)
+    → act_decided (decided (given_at m from datagram size)) ≡ Some a → m.is_broken ≡ false
+records_open m from datagram size a is = false_from_ne_true _ (λ broken.
+    let both : ◌≡◌ {A = Option HistoryAct} None (Some a) = sym (failure_has_none datagram) ∙ (rw broken at is) in cc both)
 
 marked_is : (m : BookValue) (now : ℕ) (who : Caller) (mark : Mark) (b : Bool) → m.is_broken ≡ b
     → (marked_if_ready m now who mark).value ≡ recorded_if m now who (act_in m mark)
-marked_is m now who mark true is = ap (λ b. (let left : Left Marked = if b then record { value = m; answer = marked.Device } else marked_at m now who mark in left).value) is ∙ ap (λ b. recorded_if m now who (if b then None else act_marked mark)) (sym is)
-marked_is m now who NotDue false is = ap (λ b. (let left : Left Marked = if b then record { value = m; answer = marked.Device } else marked_at m now who NotDue in left).value) is ∙ ap (λ b. recorded_if m now who (if b then None else act_marked NotDue)) (sym is)
-marked_is m now who NoRoom false is = ap (λ b. (let left : Left Marked = if b then record { value = m; answer = marked.Device } else marked_at m now who NoRoom in left).value) is ∙ ap (λ b. recorded_if m now who (if b then None else act_marked NoRoom)) (sym is)
-marked_is m now who (Makes act) false is = ap (λ b. (let left : Left Marked = if b then record { value = m; answer = marked.Device } else marked_at m now who (Makes act) in left).value) is ∙ ap (λ b. recorded_if m now who (if b then None else act_marked (Makes act))) (sym is)
+marked_is m now who mark true is = rw is refl
+marked_is m now who NotDue false is = rw is refl
+marked_is m now who _ false is = rw is refl
 
 marks_open : (m : BookValue) (mark : Mark) (a : HistoryAct) → act_in m mark ≡ Some a → m.is_broken ≡ false
-marks_open m mark a is = by_state m.is_broken refl
-  where
-    by_state : (b : Bool) → m.is_broken ≡ b → m.is_broken ≡ false
-    by_state true broken = let both : ◌≡◌ {A = Option HistoryAct} None (Some a) = ap (λ b. let act : Option HistoryAct = if b then None else act_marked mark in act) (sym broken) ∙ is in absurd (cc both)
-    by_state false goes = goes
+marks_open m mark a is = false_from_ne_true _ (λ broken. let both : ◌≡◌ {A = Option HistoryAct} None (Some a) = rw broken at is in cc both)
 
 module _ {A : Type 0} {tells : Ghosts A} (old new : Book A tells) (stays : Stays old new) (cause : HasCause old new) where
   pub readied_turn : (session : Option ℕ) → (Told tells → value_of new ≡ readied (fortune_of old new) (value_of old)) → IsTurn old new session []
-  readied_turn session moved = turn_of old new cause session [] stays (λ told. moved_to old new cause _ [] (moved told) (moves_readied (fortune_of old new) (value_of old))) (by_none session)
+  readied_turn session moved =
+      turn_of old new cause session [] stays (λ told. moved_to old new cause _ [] (moved told) (moves_readied (fortune_of old new) (value_of old))) (by_none session)
 
   pub committed_turn : (session : Option ℕ) → (Told tells → value_of new ≡ after_commit (fortune_of old new) (value_of old)) → IsTurn old new session []
-  committed_turn session moved = turn_of old new cause session [] stays (λ told. moved_to old new cause _ [] (moved told) (moves_committed (fortune_of old new) (value_of old))) (by_none session)
+  committed_turn session moved =
+      turn_of old new cause session [] stays (λ told. moved_to old new cause _ [] (moved told) (moves_committed (fortune_of old new) (value_of old))) (by_none session)
 
   pub recorded_turn : (now : ℕ) (who : Caller) (act : Option HistoryAct) → ((a : HistoryAct) → act ≡ Some a → (readied (fortune_of old new) (value_of old)).is_broken ≡ false)
       → (Told tells → value_of new ≡ recorded_if (readied (fortune_of old new) (value_of old)) now who act)
@@ -319,30 +285,32 @@ readied_behind old new runs =
     ∙ append-nil (if drops_of f v then v.firm else v.firm ++ v.rest) ∙ sym (base_at old (drops_of f v))
 
 -- one that is broken then records nothing
-pub failed_none : (m : BookValue) (from : Addr) (datagram : PreparedValue) (size : ℕ) → m.is_broken ≡ true → act_decided (decided (given_at m from datagram size)) ≡ None
-failed_none m from datagram size broken =
-    ap (λ b. act_decided (decided (if b then failure_answer datagram else answer_to (history_of m) from datagram size))) broken ∙ failure_has_none datagram
+pub failed_none : (m : BookValue) (from : Addr) (datagram : PreparedValue) (size : ℕ) → m.is_broken ≡ true
+    → act_decided (decided (given_at m from datagram size)) ≡ None
+failed_none m from datagram size broken = rw broken (failure_has_none datagram)
 
 -- a reading
-pub read_turn : {A : Type 0} {tells : Ghosts A} (old new : Book A tells) (session : Option ℕ) → IsUnchanged old new → tells.faults (area_of old) ≤ tells.faults (area_of new) → IsTurn old new session []
+pub read_turn : {A : Type 0} {tells : Ghosts A} (old new : Book A tells) (session : Option ℕ) → IsUnchanged old new
+    → tells.faults (area_of old) ≤ tells.faults (area_of new) → IsTurn old new session []
 read_turn {tells = tells} old new session same later = record {
   owes = record {
     size = same.stays.size;
     name = same.stays.header;
     faults = later;
-    cuts = let cuts = same.cuts in omega (arith, cuts);
+    cuts = omega (arith, same.cuts);
     cause = λ stood. same.cuts;
     firm = λ told. subst (λ (v : BookValue). Begins (value_of old).firm v.firm) (sym (same.value (is_told tells told))) (begins_same (value_of old).firm);
-    list = λ told stood. subst (λ (v : BookValue). Begins (history_of (value_of old)) (history_of v)) (sym (same.value (is_told tells told))) (begins_same (history_of (value_of old)));
-    entries = λ stood. let count = same.entries in omega (arith, count);
+    list = λ told stood. subst (λ (v : BookValue). Begins (history_of (value_of old)) (history_of v)) (sym (same.value (is_told tells told)))
+        (begins_same (history_of (value_of old)));
+    entries = λ stood. omega (arith, same.entries);
     still = λ some. same_length;
-    grows = let is = same_length in omega (arith, is);
+    grows = omega (arith, same_length);
     aligned = λ told none. aligned_take (facts_of new).length (value_of new).firm (history_of (value_of old))
         (subst (λ (v : BookValue). AreAligned v.firm (history_of (value_of old))) (sym (same.value (is_told tells told))) (firm_aligned (value_of old)));
   };
   adds = λ told. record {
-    stands = joined_at new ∙ ap (λ (v : BookValue). v.firm ++ v.rest) (same.value (is_told tells told)) ∙ sym (joined_at old) ∙ sym (append-nil (joined (facts_of old)))
-        ∙ ap (λ d. base d (facts_of old) ++ []) (sym (kept_by (is_closed old.trail) refl));
+    stands = joined_at new ∙ ap (λ (v : BookValue). v.firm ++ v.rest) (same.value (is_told tells told)) ∙ sym (joined_at old)
+        ∙ sym (append-nil (joined (facts_of old))) ∙ ap (λ d. base d (facts_of old) ++ []) (sym (kept_by (is_closed old.trail) refl));
     owned = by_none session;
   };
 }
@@ -352,4 +320,4 @@ read_turn {tells = tells} old new session same later = record {
 
     kept_by : (b : Bool) → is_closed old.trail ≡ b → drops_of (fortune_of old new) (value_of old) ≡ false
     kept_by true is = λ i. is i && is_gone (reopening_of ((same.broken ∙ is) i) (torn_stands old.trail))
-    kept_by false is = ap (λ b. b && is_gone (reopening_of (is_closed new.trail) (torn_stands old.trail))) is
+    kept_by false is = rw is refl

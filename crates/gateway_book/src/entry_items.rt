@@ -23,7 +23,7 @@ use gtpp_message::Packet;
 use gw_base::{Absolute, Act, Entry, Item, Moment, NoMemory, NodeId};
 
 // Gathers the items of a packet that is filed at a moment.
-#[tactic(auto, using(crate::proofs::ItemsLemmas::items_of_packet, crate::proofs::ItemsLemmas::no_items_of_packet, crate::proofs::GatheringLemmas::none_more))]
+#[tactic(auto, using(crate::proofs::ItemsLemmas::items_of_packet, crate::proofs::ItemsLemmas::no_items_of_packet, crate::proofs::ItemsLemmas::none_more))]
 fn add_packet(packet: &[u8], moment: Moment, into: &mut Gathering) -> Result<(), ItemsFault>
     ensures items { (key : PacketKey) → OnOk result (into.new ≡
         gathered (map part_of (filed_under key moment packet.now)) into.old) }

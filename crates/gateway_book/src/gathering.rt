@@ -103,7 +103,7 @@ impl Gathering {
     }
 
     /// Gathers the items of a packet that is filed at a moment.
-    #[tactic(auto, using(crate::proofs::GatheringLemmas::one_and_more, crate::proofs::GatheringLemmas::none_more))]
+    #[tactic(auto, using(crate::proofs::ItemsLemmas::one_and_more, crate::proofs::ItemsLemmas::none_more))]
     pub(crate) fn add_packet(&mut self, packet: Packet<'_>, moment: Moment) -> Result<(), NoMemory>
         requires { IsPacket (packet_value packet) }
         ensures { OnOk result (self.new ≡ gathered (packet_items moment (packet_value packet.entry)) self.old) }

@@ -1,25 +1,26 @@
 -- What the parts of an index make of its sides.
-use Rattle.std.proofs.Common.{◌≡◌, ℕ, ◌+◌, ◌-◌, ◌^◌, min, ◌<◌, ◌≤◌, ◌&&◌, ◌||◌, Bool, true, false, if◌then◌else◌, List, [], ◌∷◌, ◌++◌, length, Option, Some, None, is_some, refl, sym, ap, subst, ◌∙◌, true≢false}
+use Rattle.std.proofs.Common.{◌≡◌, ℕ, ◌+◌, ◌^◌, ◌<◌, ◌≤◌, ◌&&◌, Bool, true, false, if◌then◌else◌, List, [], ◌∷◌, ◌++◌, length, Option, Some, None, is_some, refl, sym, ap, ◌∙◌, true≢false, inl, inr, zero, suc, ◌-◌, drop, arith, slice_get}
 use Rattle.std.specs.Prelude.{IfSome, nat_le, nat_lt}
-use Rattle.std.proofs.lemmas.Bool.{and_parts, leb-true, ltb-true}
-use Rattle.dup_buffer.specs.Copies.{Copies, most_copies, no_copies, without_node}
-use Rattle.gw_base.specs.HeldKeys.{held_keys}
-use Rattle.gw_base.specs.Known.{is_known, known_nodes}
+use Rattle.std.proofs.lemmas.Bool.{and_parts, leb-true, ltb-true, or_cases}
+use Rattle.dup_buffer.specs.Copies.{Copies, most_copies, no_copies}
+use Rattle.gw_base.specs.Known.{is_known}
 use Rattle.gw_base.specs.Observed.{observed}
 use Rattle.gw_base.specs.declared.address.NodeId.{NodeId}
 use Rattle.gw_base.specs.declared.history.HistoryEntry.{HistoryEntry}
-use Rattle.gw_base.specs.declared.history.Opening.{Opening}
 use Rattle.seq_window.specs.Histories.{IsFreshAbove}
 use Rattle.gateway_index.specs.FitActs.{any_packet, fits_with, is_fresh, is_in_window, is_new}
 use Rattle.gateway_index.specs.HeldPairs.{IsHeldStep, held_in}
 use Rattle.gateway_index.specs.Index.{Follows, Stepped, observed_by, observed_in, side_of}
 use Rattle.gateway_index.specs.Limits.{has_place, half, is_in_range, least_number, may_hold, numbers_end}
 use Rattle.gateway_index.specs.NodeSides.{AreNew, IsNodesStep, MayBeKnown, nodes_in}
-use Rattle.gateway_index.specs.Sides.{NodeSide, Side, acted, no_totals, opened, opened_nodes, side_after, totals_after}
-use Rattle.gateway_index.specs.Tells.{AreCopiesOf, Tells, totals_of}
+use Rattle.gateway_index.specs.Sides.{NodeSide, Side, acted, no_totals, side_after, totals_after}
 use Rattle.gateway_index.specs.Windows.{narrowed}
 use Rattle.gateway_index.specs.declared.index.Index.{Index}
 use Rattle.gateway_index.proofs.Tellings.{CountLaw, HeldLaw, PresentLaw, WindowLaw, new_is_free, observed_is, tells_after}
+use Rattle.gateway_index.proofs.PairLemmas.{both_are}
+use Rattle.gateway_index.specs.declared.held_pair.HeldPair.{HeldPair}
+use Rattle.gateway_index.specs.declared.totals.Totals.{Totals}
+use Rattle.std.specs.List.{cons_option, filter_map}
 
 -- ---- what is fit
 
@@ -32,11 +33,12 @@ pub record NewFacts (index : Index) (node : NodeId) (number : ℕ) : Type 0 wher
 
 pub place_left : (index : Index) (node : NodeId) → has_place (observed_by false index node) ≡ true → MayBeKnown node (nodes_in false index.nodes)
 unfolding observed_by side_of
-place_left index node place unknown = by_test (is_known (nodes_in false index.nodes).known node) refl place
-  where
-    by_test : (b : Bool) → is_known (nodes_in false index.nodes).known node ≡ b → (b || nat_lt (length (nodes_in false index.nodes).known) 64) ≡ true → length (nodes_in false index.nodes).known < 64
-    by_test true e p = absurd (true≢false (sym e ∙ unknown))
-    by_test false e p = ltb-true (length (nodes_in false index.nodes).known) 64 p
+place_left index node place unknown =
+    let known = (nodes_in false index.nodes).known in
+    elim (or_cases (is_known known node) (nat_lt (length known) 64) place) [
+      | inl is ↦ absurd (true≢false (sym is ∙ unknown))
+      | inr few ↦ ltb-true (length known) 64 few
+    ]
 
 in_window : (top : Option ℕ) (number : ℕ) → is_in_window top number ≡ true → IfSome top (λ t. t ≤ number + half)
 in_window None number is = tt
@@ -48,12 +50,10 @@ new_facts index node number new =
     let o = observed_in (side_of false index) node in
     let a = and_parts (has_place o && is_fresh (o.state number) && is_in_range number) (is_in_window o.top number) new in
     let b = and_parts (has_place o && is_fresh (o.state number)) (is_in_range number) a.0 in
-    let c = and_parts (has_place o) (is_fresh (o.state number)) b.0 in
-    let d = and_parts (nat_le least_number number) (nat_lt number numbers_end) b.1 in
     record {
-      place = place_left index node c.0;
+      place = place_left index node ((and_parts (has_place o) (is_fresh (o.state number)) b.0).0);
       not_below = in_window o.top number a.1;
-      high = ltb-true number numbers_end d.1;
+      high = ltb-true number numbers_end ((and_parts (nat_le least_number number) (nat_lt number numbers_end) b.1).1);
       free = new_is_free (side_of false index) node number new;
     }
 
@@ -67,105 +67,104 @@ none_there (Some x) e = absurd (true≢false e)
 
 -- ---- no entry
 
-pub fresh_follows : ((node : ℕ) → IsFreshAbove node []) → (index : Index) → ((firm : Bool) → AreNew (nodes_in firm index.nodes)) → ((firm : Bool) → held_in firm index.held ≡ no_copies) → index.firm ≡ no_totals → index.live ≡ no_totals
-    → (side : Bool) → Follows side index []
+pub fresh_follows : (index : Index) → ((node : ℕ) → IsFreshAbove node []) → ((firm : Bool) → AreNew (nodes_in firm index.nodes))
+    → ((firm : Bool) → held_in firm index.held ≡ no_copies) → index.firm ≡ no_totals → index.live ≡ no_totals → (side : Bool) → Follows side index []
 unfolding Follows side_of
-fresh_follows above index nodes held f l side = record {
+fresh_follows index above nodes held f l side = record {
   windows = (nodes side).windows;
   openings = (nodes side).openings;
   known = (nodes side).known;
-  held = subst (λ (copies : Copies). AreCopiesOf copies []) (sym (held side)) (record { places = λ node number. refl; count = refl; counts = λ node. refl });
-  totals = totals side;
+  held = rw (held side) (record { places = λ node number. refl; count = refl; counts = λ node. refl });
+  totals = both_are f l side;
   above = above;
 }
-  where
-    totals : (side : Bool) → (if side then index.firm else index.live) ≡ no_totals
-    totals true = f
-    totals false = l
 
 -- ---- steps
 
--- the nodes took a step
-pub nodes_stepped : (step : NodeSide → NodeSide) (old new : Index) → IsNodesStep step old.nodes new.nodes → new.held ≡ old.held → new.firm ≡ old.firm → new.live ≡ old.live → Stepped (λ side. record side { nodes = step side.nodes }) old new
+-- the nodes, the held copies and the totals took a step
+pub stepped : {step : NodeSide → NodeSide} {hold : Copies → Copies} (count : Side → Totals) {old new : Index} → IsNodesStep step old.nodes new.nodes
+    → IsHeldStep hold old.held new.held → new.firm ≡ old.firm → new.live ≡ count (side_of false old)
+    → Stepped (λ side. record { nodes = step side.nodes; held = hold side.held; totals = count side }) old new
 unfolding side_of
-nodes_stepped step old new nodes held firm live = record {
-  live = λ i. record { nodes = nodes.live i; held = held_in false (held i); totals = live i };
-  firm = λ i. record { nodes = nodes.firm i; held = held_in true (held i); totals = firm i };
-}
-
--- the nodes and the held copies took a step
-pub both_stepped : (step : NodeSide → NodeSide) (hold : Copies → Copies) (old new : Index) → IsNodesStep step old.nodes new.nodes → IsHeldStep hold old.held new.held → new.firm ≡ old.firm → new.live ≡ old.live
-    → Stepped (λ side. record side { nodes = step side.nodes; held = hold side.held }) old new
-unfolding side_of
-both_stepped step hold old new nodes held firm live = record {
+stepped count nodes held firm live = record {
   live = λ i. record { nodes = nodes.live i; held = held.live i; totals = live i };
   firm = λ i. record { nodes = nodes.firm i; held = held.firm i; totals = firm i };
 }
 
--- an epoch began
-pub opened_stepped : (node : NodeId) (opening : Opening) (old new : Index) (stranded : ℕ) → IsNodesStep (opened_nodes node opening) old.nodes new.nodes → IsHeldStep (without_node node.0) old.held new.held
-    → new.firm ≡ old.firm → stranded ≡ (held_in false old.held).count_of node.0 → new.live ≡ record old.live { stranded = min (old.live.stranded + stranded) (2 ^ 64 - 1) }
-    → Stepped (opened node opening) old new
-unfolding side_of
-opened_stepped node opening old new stranded nodes held firm is live = record {
-  live = λ i. record {
-    nodes = nodes.live i;
-    held = held.live i;
-    totals = (live ∙ ap (λ (n : ℕ). record old.live { stranded = min (old.live.stranded + n) (2 ^ 64 - 1) }) is) i;
-  };
-  firm = λ i. record { nodes = nodes.firm i; held = held.firm i; totals = firm i };
-}
+-- the held copies stay
+pub held_stays : {held : HeldPair} → IsHeldStep (λ copies. copies) held held
+held_stays = record { live = refl; firm = refl }
 
 -- both sides are one side's
-pub kept_sides : (firm : Bool) (old new : Index) → ((side : Bool) → nodes_in side new.nodes ≡ nodes_in firm old.nodes) → ((side : Bool) → held_in side new.held ≡ held_in firm old.held)
-    → new.firm ≡ (if firm then old.firm else old.live) → new.live ≡ (if firm then old.firm else old.live) → (side : Bool) → side_of side new ≡ side_of firm old
+pub kept_sides : (firm : Bool) (old new : Index) → ((side : Bool) → nodes_in side new.nodes ≡ nodes_in firm old.nodes)
+    → ((side : Bool) → held_in side new.held ≡ held_in firm old.held) → new.firm ≡ (if firm then old.firm else old.live)
+    → new.live ≡ (if firm then old.firm else old.live) → (side : Bool) → side_of side new ≡ side_of firm old
 unfolding side_of
-kept_sides firm old new nodes held f l side = λ i. record { nodes = nodes side i; held = held side i; totals = totals side i }
-  where
-    totals : (side : Bool) → (if side then new.firm else new.live) ≡ (if firm then old.firm else old.live)
-    totals true = f
-    totals false = l
+kept_sides firm old new nodes held f l side = λ i. record { nodes = nodes side i; held = held side i; totals = both_are f l side i }
 
 -- what follows from equal sides
 pub follows_same : (side firm : Bool) (old new : Index) → side_of side new ≡ side_of firm old → (h : List HistoryEntry) → Follows firm old h → Follows side new h
 unfolding Follows
-follows_same side firm old new e h t = subst (λ (s : Side). Tells s h) (sym e) t
+follows_same side firm old new e h t = rw e t
 
 -- ---- one more entry
 
-pub after_step : (e : HistoryEntry) (old new after : Index) → Stepped (acted e.act) old new → after.nodes ≡ new.nodes → after.held ≡ new.held → after.firm ≡ new.firm → after.live ≡ totals_after e new.live → Stepped (side_after e) old after
+pub after_step : (e : HistoryEntry) {old new after : Index} → Stepped (acted e.act) old new → after.nodes ≡ new.nodes → after.held ≡ new.held
+    → after.firm ≡ new.firm → after.live ≡ totals_after e new.live → Stepped (side_after e) old after
 unfolding side_of
-after_step e old new after stepped nodes held firm live = record {
-  live = λ i. record {
-    nodes = (ap (nodes_in false) nodes ∙ ap (λ (s : Side). s.nodes) stepped.live) i;
-    held = (ap (held_in false) held ∙ ap (λ (s : Side). s.held) stepped.live) i;
-    totals = (live ∙ ap (λ (s : Side). totals_after e s.totals) stepped.live) i;
-  };
-  firm =
-      let same : side_of true after ≡ side_of true new = λ i. record { nodes = nodes_in true (nodes i); held = held_in true (held i); totals = firm i } in
-      same ∙ stepped.firm;
-}
+after_step e {old} {new} {after} stepped nodes held firm live =
+    record {
+      live = λ i. record {
+        nodes = (ap (nodes_in false) nodes ∙ ap (λ (s : Side). s.nodes) stepped.live) i;
+        held = (ap (held_in false) held ∙ ap (λ (s : Side). s.held) stepped.live) i;
+        totals = (live ∙ ap (λ (s : Side). totals_after e s.totals) stepped.live) i;
+      };
+      firm =
+          let same : side_of true after ≡ side_of true new = λ i. record { nodes = nodes_in true (nodes i); held = held_in true (held i); totals = firm i } in
+          same ∙ stepped.firm;
+    }
 
-pub follows_after : HeldLaw → PresentLaw → CountLaw → WindowLaw → (e : HistoryEntry) (old new : Index) → fits_with any_packet (observed_by false old) e.act ≡ true → Stepped (side_after e) old new
+pub follows_after : HeldLaw → PresentLaw → CountLaw → WindowLaw → (e : HistoryEntry) {old new : Index}
+    → fits_with any_packet (observed_by false old) e.act ≡ true → Stepped (side_after e) old new
     → (h : List HistoryEntry) → length h + 2 < 2 ^ 64 → Follows false old h → Follows false new (h ++ e ∷ [])
 unfolding Follows observed_by
-follows_after held_law present_law count_law window_law e old new fit stepped h fits t =
-    subst (λ (s : Side). Tells s (h ++ e ∷ [])) (sym stepped.live) (tells_after held_law present_law count_law window_law (side_of false old) h e fits fit t)
+follows_after held_law present_law count_law window_law e {old} fit stepped h fits t =
+    rw stepped.live (tells_after held_law present_law count_law window_law (side_of false old) h e fits fit t)
 
 -- ---- what an answer asks
 
-pub observed_as : HeldLaw → PresentLaw → (firm : Bool) (index : Index) (h : List HistoryEntry) (node : NodeId) → Follows firm index h → observed_by firm index node ≡ narrowed (observed h node)
+pub observed_as : HeldLaw → PresentLaw → (firm : Bool) (index : Index) (h : List HistoryEntry) (node : NodeId)
+    → Follows firm index h → observed_by firm index node ≡ narrowed (observed h node)
 unfolding observed_by Follows
 observed_as held_law present_law firm index h node t = observed_is held_law present_law (side_of firm index) h t node
 
-pub totals_are : (firm : Bool) (index : Index) (h : List HistoryEntry) → Follows firm index h → (side_of firm index).totals ≡ totals_of h
-unfolding Follows
-totals_are firm index h t = t.totals
+-- ---- paths, looked up one after the other
 
-pub held_are : (firm : Bool) (index : Index) (h : List HistoryEntry) → Follows firm index h → (side_of firm index).held.count ≡ length (held_keys h)
-unfolding Follows
-held_are firm index h t = t.held.count
+-- what is left of a list from a place on
+place_on : {X : Type 0} (xs : List X) (i : ℕ) (x : X) → slice_get xs i ≡ Some x → drop i xs ≡ x ∷ drop (i + 1) xs
+place_on [] i x at = cc
+place_on (y ∷ xs) zero x at = let same : y ≡ x = cc in ap (λ (z : _). z ∷ xs) same
+place_on (y ∷ xs) (suc i) x at = place_on xs i x at ∙ ap (λ (n : ℕ). x ∷ drop n (y ∷ xs)) (later i)
+  where
+    later : (n : ℕ) → suc (n + 1) ≡ suc n + 1
+    later n = omega arith
 
-pub known_are : (firm : Bool) (index : Index) (h : List HistoryEntry) → Follows firm index h → (side_of firm index).nodes.known ≡ known_nodes h
-unfolding Follows
-known_are firm index h t = t.known
+module _ {X Y : Type 0} (f : X → Option Y) (xs : List X) (i : ℕ) (x : X) (at : slice_get xs i ≡ Some x) where
+  step : filter_map f (drop i xs) ≡ cons_option (f x) (filter_map f (drop (i + 1) xs))
+  step = ap (λ (l : List X). filter_map f l) (place_on xs i x at)
+
+  -- one that gives nothing is passed over
+  pub passed : (left : ℕ) → f x ≡ None → slice_get (filter_map f (drop (i + 1) xs)) left ≡ slice_get (filter_map f (drop i xs)) left
+  passed left none = rw (step, none) refl
+
+  -- one that gives something is the first
+  pub first : (y : Y) → f x ≡ Some y → Some y ≡ slice_get (filter_map f (drop i xs)) 0
+  first y some = rw (step, some) refl
+
+  -- or counts as one
+  pub counted : (y : Y) (left : ℕ) → f x ≡ Some y → 0 < left
+      → slice_get (filter_map f (drop (i + 1) xs)) (left - 1) ≡ slice_get (filter_map f (drop i xs)) left
+  counted y zero some more = absurd (omega (arith, more))
+  counted y (suc left) some more =
+      let less : suc left - 1 ≡ left = omega arith in
+      rw (step, some) (ap (λ (n : ℕ). slice_get (filter_map f (drop (i + 1) xs)) n) less)

@@ -1,12 +1,8 @@
-pub mod HeldCounts
 pub mod HeldLemmas
 pub mod HeldPairLemmas
 pub mod HeldStates
 pub mod IndexLemmas
-pub mod LookupLemmas
 pub mod NodeLemmas
 pub mod PairLemmas
-pub mod PlaceLemmas
 pub mod SlotLemmas
 pub mod Tellings
-pub mod WithinLemmas

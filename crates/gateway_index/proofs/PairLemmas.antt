@@ -1,21 +1,53 @@
 -- What one step at a place changes of windows.
-use Rattle.std.proofs.Common.{◌≡◌, ℕ, zero, suc, ◌+◌, ◌<◌, ◌≤◌, ◌==◌, ◌&&◌, min, Bool, true, false, if◌then◌else◌, List, [], ◌∷◌, ◌++◌, length, length-append, refl, sym, subst, ap, ◌∙◌, true≢false, arith}
-use Rattle.std.specs.Prelude.{nat_le, nat_lt, slice_index_or, slice_set}
-use Rattle.std.proofs.lemmas.Bool.{eq-eqb, eqb-true, eqb-false, ne_eqb, leb-false, leb-true, le-leb, lt-ltb, ltb-false, ltb-true, le-ltb}
-use Rattle.seq_window.specs.Seen.{Seen, nothing_seen, with_state}
-use Rattle.seq_window.specs.Stored.{Stored, seen_of}
+use Rattle.std.proofs.Common.{◌≡◌, ℕ, zero, suc, ◌+◌, ◌<◌, ◌≤◌, ◌==◌, ◌&&◌, min, Bool, true, false, if◌then◌else◌, List, [], ◌∷◌, ◌++◌, length, length-append, refl, sym, ap, ◌∙◌, true≢false, arith, inl, inr, ◌^◌, max, ◌||◌, nat_le, Option, Some, None}
+use Rattle.std.specs.Prelude.{nat_lt, slice_index_or, slice_set, IfSome}
+use Rattle.std.proofs.lemmas.Bool.{eqb-true, ne_eqb, leb-false, leb-true, ltb-false, ltb-true, and_cases, and_parts, cases_lt, cond_both, false≢true}
+use Rattle.seq_window.specs.Seen.{Seen, nothing_seen, with_state, is_within, with_states}
 use Rattle.gateway_index.specs.GivenStates.{MaySet, MaySetEach, with_each}
 use Rattle.gateway_index.specs.Limits.{half}
 use Rattle.gateway_index.specs.WindowPairs.{AreBlank, AreKeptIn, AreKeptTo, IsPairStep, IsStepAt, seen_at, seen_in}
 use Rattle.gateway_index.specs.declared.window_pair.StateGiven.{StateGiven}
 use Rattle.gateway_index.specs.declared.window_pair.WindowPair.{WindowPair}
+use Rattle.std.proofs.lemmas.Bool.Decides.{eqb_tells, nat_tests}
+use Rattle.std.proofs.lemmas.List.{length-set}
+use Rattle.std.proofs.Math.Dec.{eqb-suc-suc, eqb-suc-zero, eqb-zero-suc}
+use Rattle.std.specs.List.{list_any}
+use Rattle.std.proofs.lemmas.List.Folds.{list_any-append}
+use Rattle.gw_base.specs.Lists.{raised}
+use Rattle.gw_base.specs.declared.key_state.KeyState.{KeyState}
+use Rattle.gw_base.specs.declared.key_state.KeyState.TheVariants.{Fresh}
+use Rattle.seq_window.specs.Stored.{Stored, cell_state, seen_of}
+
+-- one of two that are the same
+pub either : {A : Type 0} (a b : Bool) {x y : A} → (a ≡ false → x ≡ y) → (b ≡ false → x ≡ y) → (if a then x else y) ≡ (if b then x else y)
+either true true one other = refl
+either true false one other = other refl
+either false true one other = sym (one refl)
+either false false one other = refl
+
+-- what is the same of both sides
+pub same_sides : {A : Type 0} (of : Bool → A) → of true ≡ of false → (a b : Bool) → of a ≡ of b
+same_sides of same true false = same
+same_sides of same false true = sym same
+same_sides of same true true = refl
+same_sides of same false false = refl
+
+-- what both are
+pub both_are : {A : Type 0} {x y z : A} → x ≡ z → y ≡ z → (side : Bool) → (if side then x else y) ≡ z
+both_are one other true = one
+both_are one other false = other
 
 -- the window at a place is that of the pair there
-pub seen_there : (firm : Bool) (pairs : List WindowPair) (k : ℕ) (d : WindowPair) → k < length pairs → seen_at firm pairs k ≡ seen_in firm (slice_index_or pairs k d)
+place_there : (firm : Bool) (pairs : List WindowPair) (k : ℕ) (d : WindowPair) → k < length pairs → seen_at firm pairs k ≡ seen_in firm (slice_index_or pairs k d)
 unfolding seen_at
-seen_there firm [] k d inside = absurd (omega (arith, inside))
-seen_there firm (pair ∷ pairs) zero d inside = refl
-seen_there firm (pair ∷ pairs) (suc k) d inside = seen_there firm pairs k d (omega (arith, inside))
+place_there firm [] k d inside = absurd (omega (arith, inside))
+place_there firm (pair ∷ pairs) zero d inside = refl
+place_there firm (pair ∷ pairs) (suc k) d inside = place_there firm pairs k d (omega (arith, inside))
+
+-- the window at a place is that of the pair there
+pub seen_there : (firm : Bool) (pairs : List WindowPair) {k : ℕ} {pair : WindowPair} → k < length pairs → pair ≡ slice_index_or pairs k pair
+    → seen_at firm pairs k ≡ seen_in firm pair
+seen_there firm pairs {k} {pair} inside is = place_there firm pairs k pair inside ∙ ap (λ (p : WindowPair). seen_in firm p) (sym is)
 
 pub seen_behind : (firm : Bool) (pairs : List WindowPair) (k : ℕ) → length pairs ≤ k → seen_at firm pairs k ≡ nothing_seen
 unfolding seen_at
@@ -23,44 +55,31 @@ seen_behind firm [] k past = refl
 seen_behind firm (pair ∷ pairs) zero past = absurd (omega (arith, past))
 seen_behind firm (pair ∷ pairs) (suc k) past = seen_behind firm pairs k (omega (arith, past))
 
-same_successors : (a b : ℕ) → (a == b) ≡ (suc a == suc b)
-same_successors a b = by_test (a == b) refl
-  where
-    by_test : (t : Bool) → (a == b) ≡ t → t ≡ (suc a == suc b)
-    by_test true e = sym (eq-eqb (suc a) (suc b) (ap suc (eqb-true a b e)))
-    by_test false e = sym (ne_eqb (suc a) (suc b) (λ same. eqb-false a b e (omega (arith, same))))
-
 -- another pair at a place
 pub seen_set : (firm : Bool) (pairs : List WindowPair) (place k : ℕ) (pair : WindowPair) → place < length pairs
     → seen_at firm (slice_set pairs place pair) k ≡ (if place == k then seen_in firm pair else seen_at firm pairs k)
 unfolding seen_at
 seen_set firm [] place k pair inside = absurd (omega (arith, inside))
 seen_set firm (one ∷ pairs) zero zero pair inside = refl
-seen_set firm (one ∷ pairs) zero (suc k) pair inside = rw (ne_eqb 0 (suc k) (λ same. omega (arith, same))) refl
-seen_set firm (one ∷ pairs) (suc place) zero pair inside = rw (ne_eqb (suc place) 0 (λ same. omega (arith, same))) refl
-seen_set firm (one ∷ pairs) (suc place) (suc k) pair inside =
-    seen_set firm pairs place k pair (omega (arith, inside)) ∙ ap (λ (b : Bool). if b then seen_in firm pair else seen_at firm pairs k) (same_successors place k)
-
-pub length_set : (pairs : List WindowPair) (place : ℕ) (pair : WindowPair) → length (slice_set pairs place pair) ≡ length pairs
-length_set (one ∷ pairs) (suc place) pair = ap suc (length_set pairs place pair)
-length_set _ _ pair = refl
+seen_set firm (one ∷ pairs) zero (suc k) pair inside = rw (eqb-zero-suc k) refl
+seen_set firm (one ∷ pairs) (suc place) zero pair inside = rw (eqb-suc-zero place) refl
+seen_set firm (one ∷ pairs) (suc place) (suc k) pair inside = rw (eqb-suc-suc place k) (seen_set firm pairs place k pair (omega (arith, inside)))
 
 -- a step of the pair at a place
-pub stepped_at : (step : Seen → Seen) (pairs : List WindowPair) (place : ℕ) (d new : WindowPair) → place < length pairs → IsPairStep step (slice_index_or pairs place d) new
-    → IsStepAt place step pairs (slice_set pairs place new)
-stepped_at step pairs place d new inside s = record {
-  count = length_set pairs place new;
-  live = λ k. seen_set false pairs place k new inside ∙ live k (place == k) refl;
-  firm = λ k. seen_set true pairs place k new inside ∙ firm k (place == k) refl;
+pub stepped_at : {step : Seen → Seen} {pairs : List WindowPair} {place : ℕ} {pair new : WindowPair} → place < length pairs
+    → pair ≡ slice_index_or pairs place pair → IsPairStep step pair new → IsStepAt place step pairs (slice_set pairs place new)
+stepped_at {step} {pairs} {place} {pair} {new} inside is s = record {
+  count = length-set pairs place new;
+  live = λ k. seen_set false pairs place k new inside ∙ elim (eqb_tells place k) [
+      | inl at ↦ rw at.0 (s.live ∙ ap step (there false k at.1))
+      | inr apart ↦ rw apart.0 refl
+    ];
+  firm = λ k. seen_set true pairs place k new inside ∙ cond_both (place == k) (seen_in true new) (seen_at true pairs k) (λ seen. seen ≡ seen_at true pairs k)
+      (λ e. s.firm ∙ there true k (eqb-true place k e)) (λ _. refl);
 }
   where
-    live : (k : ℕ) (b : Bool) → (place == k) ≡ b → (if b then seen_in false new else seen_at false pairs k) ≡ (if b then step (seen_at false pairs k) else seen_at false pairs k)
-    live k true e = s.live ∙ ap step (sym (seen_there false pairs place d inside) ∙ ap (λ (j : ℕ). seen_at false pairs j) (eqb-true place k e))
-    live k false e = refl
-
-    firm : (k : ℕ) (b : Bool) → (place == k) ≡ b → (if b then seen_in true new else seen_at true pairs k) ≡ seen_at true pairs k
-    firm k true e = s.firm ∙ sym (seen_there true pairs place d inside) ∙ ap (λ (j : ℕ). seen_at true pairs j) (eqb-true place k e)
-    firm k false e = refl
+    there : (firm : Bool) (k : ℕ) → place ≡ k → seen_in firm pair ≡ seen_at firm pairs k
+    there firm k at = sym (seen_there firm pairs inside is) ∙ ap (λ (j : ℕ). seen_at firm pairs j) at
 
 -- ---- making
 
@@ -83,147 +102,170 @@ blank_more count pairs pair blank one = record {
 
 -- ---- both sides one side's
 
--- one of both, which are the same
-either : {A : Type 0} (b : Bool) (x : A) → (if b then x else x) ≡ x
-either true x = refl
-either false x = refl
-
 pub kept_none : (firm : Bool) (from : ℕ) (pairs : List WindowPair) → AreKeptIn from from firm pairs pairs
-kept_none firm from pairs = record { count = refl; kept = λ side k. at side k (nat_le from k) (nat_lt k from) refl refl }
-  where
-    at : (side : Bool) (k : ℕ) (low high : Bool) → nat_le from k ≡ low → nat_lt k from ≡ high → seen_at side pairs k ≡ (if low && high then seen_at firm pairs k else seen_at side pairs k)
-    at side k true true e f = absurd (omega (arith, leb-true from k e, ltb-true k from f))
-    at side k true false e f = refl
-    at side k false high e f = refl
+kept_none firm from pairs = record {
+  count = refl;
+  kept = λ side k. cond_both (nat_le from k && nat_lt k from) (seen_at firm pairs k) (seen_at side pairs k) (λ seen. seen_at side pairs k ≡ seen)
+      (λ e. let both = and_parts (nat_le from k) (nat_lt k from) e in absurd (omega (arith, leb-true from k both.0, ltb-true k from both.1))) (λ _. refl);
+}
 
-pub kept_more : (firm : Bool) (from count : ℕ) (old now : List WindowPair) (d new : WindowPair) → from ≤ count → count < length now → AreKeptIn from count firm old now
-    → ((side : Bool) → seen_in side new ≡ seen_in firm (slice_index_or now count d)) → AreKeptIn from (count + 1) firm old (slice_set now count new)
-kept_more firm from count old now d new order inside so_far one = record {
-  count = length_set now count new ∙ so_far.count;
-  kept = λ side k. seen_set side now count k new inside ∙ at side k (count == k) (nat_le from k) (nat_lt k count) refl refl refl;
+-- one more place is kept
+kept_step : {A : Type 0} (from count k : ℕ) (now new kept other : A) → from ≤ count → (count ≡ k → new ≡ kept)
+    → now ≡ (if nat_le from k && nat_lt k count then kept else other)
+    → (if count == k then new else now) ≡ (if nat_le from k && nat_lt k (count + 1) then kept else other)
+kept_step from count k now new kept other order here so_far = grind (arith, nat_tests)
+
+pub kept_more : {firm : Bool} {from count : ℕ} {old now : List WindowPair} {pair : WindowPair} (new : WindowPair) → from ≤ count → count < length now
+    → AreKeptIn from count firm old now → pair ≡ slice_index_or now count pair → ((side : Bool) → seen_in side new ≡ seen_in firm pair)
+    → AreKeptIn from (count + 1) firm old (slice_set now count new)
+kept_more {firm} {from} {count} {old} {now} {pair} new order inside so_far is one = record {
+  count = length-set now count new ∙ so_far.count;
+  kept = λ side k. seen_set side now count k new inside ∙ kept_step from count k (seen_at side now k) (seen_in side new) (seen_at firm old k) (seen_at side old k)
+      order (λ same. here side ∙ ap (λ (j : ℕ). seen_at firm old j) same) (so_far.kept side k);
 }
   where
     here : (side : Bool) → seen_in side new ≡ seen_at firm old count
-    here side = one side ∙ sym (seen_there firm now count d inside) ∙ so_far.kept firm count ∙ either (nat_le from count && nat_lt count count) (seen_at firm old count)
-
-    at : (side : Bool) (k : ℕ) (same low before : Bool) → (count == k) ≡ same → nat_le from k ≡ low → nat_lt k count ≡ before
-        → (if same then seen_in side new else seen_at side now k) ≡ (if nat_le from k && nat_lt k (count + 1) then seen_at firm old k else seen_at side old k)
-    at side k true low before e f g =
-        let is : count ≡ k = eqb-true count k e in
-        here side ∙ ap (λ (j : ℕ). seen_at firm old j) is ∙ sym (rw (le-leb from k (omega (arith, is, order)), lt-ltb k (count + 1) (omega (arith, is))) refl)
-    at side k false false before e f g = so_far.kept side k ∙ rw f refl
-    at side k false true true e f g = so_far.kept side k ∙ rw (f, g, lt-ltb k (count + 1) (omega (arith, ltb-true k count g))) refl
-    at side k false true false e f g = so_far.kept side k ∙ rw (f, g, le-ltb k (count + 1) (omega (arith, eqb-false count k e, ltb-false k count g))) refl
+    here side = one side ∙ sym (seen_there firm now inside is) ∙ so_far.kept firm count
+        ∙ either (nat_le from count && nat_lt count count) true (λ _. refl) (λ _. refl)
 
 -- where both sides are the same around the places that are kept, all are
-pub kept_around : (firm : Bool) (from end : ℕ) (old new : List WindowPair) → ((k : ℕ) → k < from → seen_at true old k ≡ seen_at false old k) → ((k : ℕ) → end ≤ k → seen_at true old k ≡ seen_at false old k)
-    → AreKeptIn from end firm old new → AreKeptTo (length old) firm old new
-kept_around firm from end old new before behind kept = record { count = kept.count; kept = λ side k. kept.kept side k ∙ at side k (nat_le from k) (nat_lt k end) (nat_lt k (length old)) refl refl refl }
+pub kept_around : {firm : Bool} {from end : ℕ} {old new : List WindowPair} → ((k : ℕ) → k < from → seen_at true old k ≡ seen_at false old k)
+    → ((k : ℕ) → end ≤ k → seen_at true old k ≡ seen_at false old k) → AreKeptIn from end firm old new → AreKeptTo (length old) firm old new
+kept_around {firm} {from} {end} {old} before behind kept = record {
+  count = kept.count;
+  kept = λ side k. kept.kept side k ∙ either (nat_le from k && nat_lt k end) (nat_lt k (length old))
+      (λ e. elim (and_cases (nat_le from k) (nat_lt k end) e) [ inl low ↦ same side k (before k (leb-false from k low)) | inr past ↦ same side k (behind k (ltb-false k end past)) ])
+      (λ e. none_behind side k (ltb-false k (length old) e));
+}
   where
-    same : (a b : Bool) (k : ℕ) → seen_at true old k ≡ seen_at false old k → seen_at a old k ≡ seen_at b old k
-    same true true k e = refl
-    same true false k e = e
-    same false true k e = sym e
-    same false false k e = refl
+    same : (side : Bool) (k : ℕ) → seen_at true old k ≡ seen_at false old k → seen_at firm old k ≡ seen_at side old k
+    same side k e = same_sides (λ a. seen_at a old k) e firm side
 
-    outside : (side : Bool) (k : ℕ) (made : Bool) → seen_at true old k ≡ seen_at false old k → seen_at side old k ≡ (if made then seen_at firm old k else seen_at side old k)
-    outside side k true e = same side firm k e
-    outside side k false e = refl
-
-    at : (side : Bool) (k : ℕ) (low high made : Bool) → nat_le from k ≡ low → nat_lt k end ≡ high → nat_lt k (length old) ≡ made
-        → (if low && high then seen_at firm old k else seen_at side old k) ≡ (if made then seen_at firm old k else seen_at side old k)
-    at side k true true true e f g = refl
-    at side k true true false e f g = let past = ltb-false k (length old) g in seen_behind firm old k past ∙ sym (seen_behind side old k past)
-    at side k true false made e f g = outside side k made (behind k (ltb-false k end f))
-    at side k false high made e f g = outside side k made (before k (leb-false from k e))
+    none_behind : (side : Bool) (k : ℕ) → length old ≤ k → seen_at firm old k ≡ seen_at side old k
+    none_behind side k past = seen_behind firm old k past ∙ sym (seen_behind side old k past)
 
 -- both sides are the same behind the places that may differ, and behind all
-pub same_behind : (end least : ℕ) (pairs : List WindowPair) → least ≡ min end (length pairs) → ((k : ℕ) → end ≤ k → seen_at true pairs k ≡ seen_at false pairs k) → (k : ℕ) → least ≤ k → seen_at true pairs k ≡ seen_at false pairs k
-same_behind end least pairs is behind k past = at (nat_lt k (length pairs)) refl
-  where
-    at : (b : Bool) → nat_lt k (length pairs) ≡ b → seen_at true pairs k ≡ seen_at false pairs k
-    at true e = behind k (omega (arith, is, past, ltb-true k (length pairs) e))
-    at false e = let over = ltb-false k (length pairs) e in seen_behind true pairs k over ∙ sym (seen_behind false pairs k over)
+pub same_behind : {end least : ℕ} (pairs : List WindowPair) → least ≡ min end (length pairs)
+    → ((k : ℕ) → end ≤ k → seen_at true pairs k ≡ seen_at false pairs k) → (k : ℕ) → least ≤ k → seen_at true pairs k ≡ seen_at false pairs k
+same_behind {end} {least} pairs is behind k past = elim (cases_lt k (length pairs)) [
+    | inl low ↦ behind k (omega (arith, is, past, low))
+    | inr over ↦ seen_behind true pairs k over ∙ sym (seen_behind false pairs k over)
+  ]
 
 -- a step at a place leaves both sides the same where they were, but there
-pub same_after : (step : Seen → Seen) (place k : ℕ) (old new : List WindowPair) → IsStepAt place step old new → (place ≡ k → ⊥) → seen_at true old k ≡ seen_at false old k → seen_at true new k ≡ seen_at false new k
-same_after step place k old new s apart same = s.firm k ∙ same ∙ sym (s.live k ∙ rw (ne_eqb place k apart) refl)
+pub same_after : {step : Seen → Seen} {place : ℕ} {old new : List WindowPair} (k : ℕ) → IsStepAt place step old new → (place ≡ k → ⊥)
+    → seen_at true old k ≡ seen_at false old k → seen_at true new k ≡ seen_at false new k
+same_after {step} {place} k s apart same = s.firm k ∙ same ∙ sym (s.live k ∙ rw (ne_eqb place k apart) refl)
 
 pub blank_same : (count : ℕ) (pairs : List WindowPair) → AreBlank count pairs → (k : ℕ) → seen_at true pairs k ≡ seen_at false pairs k
 blank_same count pairs blank k = blank.blank true k ∙ sym (blank.blank false k)
 
 -- all are kept
-pub kept_all : (firm : Bool) (old new : List WindowPair) → AreKeptTo (length old) firm old new → (side : Bool) (k : ℕ) → seen_at side new k ≡ seen_at firm old k
-kept_all firm old new kept side k = kept.kept side k ∙ at (nat_lt k (length old)) refl
-  where
-    at : (b : Bool) → nat_lt k (length old) ≡ b → (if b then seen_at firm old k else seen_at side old k) ≡ seen_at firm old k
-    at true e = refl
-    at false e = let past = ltb-false k (length old) e in seen_behind side old k past ∙ sym (seen_behind firm old k past)
+pub kept_all : {firm : Bool} {old new : List WindowPair} → AreKeptTo (length old) firm old new → (side : Bool) (k : ℕ) → seen_at side new k ≡ seen_at firm old k
+kept_all {firm} {old} kept side k = kept.kept side k ∙ either (nat_lt k (length old)) true
+    (λ e. let past = ltb-false k (length old) e in seen_behind firm old k past ∙ sym (seen_behind side old k past)) (λ e. absurd (true≢false e))
 
-pub kept_same : (firm : Bool) (old new : List WindowPair) → AreKeptTo (length old) firm old new → (k : ℕ) → seen_at true new k ≡ seen_at false new k
-kept_same firm old new kept k = kept_all firm old new kept true k ∙ sym (kept_all firm old new kept false k)
+pub kept_same : {firm : Bool} {old new : List WindowPair} → AreKeptTo (length old) firm old new → (k : ℕ) → seen_at true new k ≡ seen_at false new k
+kept_same kept k = kept_all kept true k ∙ sym (kept_all kept false k)
 
 -- ---- one pair
 
 -- a step more behind those that were noted
-pub each_more : (all : List StateGiven) (given : StateGiven) (seen : Seen) → with_each (all ++ given ∷ []) seen ≡ with_state half given.number given.state (with_each all seen)
-each_more [] given seen = refl
-each_more (g ∷ all) given seen = each_more all given (with_state half g.number g.state seen)
-
-pub may_more : (all : List StateGiven) (given : StateGiven) (seen : Seen) → MaySetEach all seen → MaySet given.number (with_each all seen) → MaySetEach (all ++ given ∷ []) seen
-may_more [] given seen may one = (one, tt)
-may_more (g ∷ all) given seen may one = (may.0, may_more all given (with_state half g.number g.state seen) may.1 one)
-
--- the first of the steps that are left is taken
-pub one_followed : (left later : List StateGiven) (given : StateGiven) (seen new last : Seen) → left ≡ given ∷ later → new ≡ with_state half given.number given.state seen
-    → MaySetEach left seen × (with_each left seen ≡ last) → MaySetEach later new × (with_each later new ≡ last)
-one_followed left later given seen new last is step may =
-    let all : MaySetEach (given ∷ later) seen × (with_each (given ∷ later) seen ≡ last) = subst (λ (l : List StateGiven). MaySetEach l seen × (with_each l seen ≡ last)) is may in
-    subst (λ (s : Seen). MaySetEach later s × (with_each later s ≡ last)) (sym step) (all.0.1, all.1)
-
--- no step is noted, and both sides are the same
-pub none_noted : (now : List StateGiven) (firm live : Seen) → now ≡ [] → firm ≡ live → MaySetEach now firm × (with_each now firm ≡ live)
-none_noted now firm live none same = subst (λ (l : List StateGiven). MaySetEach l firm × (with_each l firm ≡ live)) (sym none) (tt, same)
+more_given : (all : List StateGiven) (given : StateGiven) (seen : Seen) → MaySetEach all seen → MaySet given.number (with_each all seen)
+    → MaySetEach (all ++ given ∷ []) seen × (with_each (all ++ given ∷ []) seen ≡ with_state half given.number given.state (with_each all seen))
+more_given [] given seen may one = ((one, tt), refl)
+more_given (g ∷ all) given seen may one =
+    let rest = more_given all given (with_state half g.number g.state seen) may.1 one in ((may.0, rest.0), rest.1)
 
 -- the live side took the step, and it is noted
 pub noted : (all now : List StateGiven) (given : StateGiven) (firm live after : Seen) → now ≡ all ++ given ∷ [] → after ≡ with_state half given.number given.state live
     → MaySet given.number live → MaySetEach all firm × (with_each all firm ≡ live) → MaySetEach now firm × (with_each now firm ≡ after)
 noted all now given firm live after more step may agree =
-    let one : MaySet given.number (with_each all firm) = subst (MaySet given.number) (sym agree.1) may in (
-      subst (λ (l : List StateGiven). MaySetEach l firm) (sym more) (may_more all given firm agree.0 one),
-      ap (λ (l : List StateGiven). with_each l firm) more ∙ each_more all given firm ∙ ap (with_state half given.number given.state) agree.1 ∙ sym step,
-    )
+    rw (more, step, ← agree.1) (more_given all given firm agree.0 (rw agree.1 may))
 
-pub blank_in : (pair : WindowPair) → seen_of half pair.firm ≡ nothing_seen → seen_of half pair.live ≡ nothing_seen → (firm : Bool) → seen_in firm pair ≡ nothing_seen
-unfolding seen_in
-blank_in pair firm live true = firm
-blank_in pair firm live false = live
+-- ---- states of numbers that a window holds, given one behind the other
 
-pub pair_stepped : (step : Seen → Seen) (old new : WindowPair) → seen_of half new.live ≡ step (seen_of half old.live) → new.firm ≡ old.firm → IsPairStep step old new
-unfolding seen_in
-pair_stepped step old new live firm = record { live = live; firm = ap (λ (s : Stored). seen_of half s) firm }
+same_seen : (one other : Seen) → one.top ≡ other.top → ((n : ℕ) → one.state n ≡ other.state n) → one ≡ other
+same_seen one other t s = λ i. record { top = t i; state = λ n. s n i }
 
--- both sides of a pair are what one of them was
-pub pair_kept : (firm : Bool) (old new : WindowPair) → seen_of half new.firm ≡ (if firm then seen_of half old.firm else seen_of half old.live) → seen_of half new.live ≡ (if firm then seen_of half old.firm else seen_of half old.live)
-    → (side : Bool) → seen_in side new ≡ seen_in firm old
-unfolding seen_in
-pair_kept firm old new f l true = f
-pair_kept firm old new f l false = l
+-- ---- a number that the window holds
 
--- a pair that didn't change is so
-pub pair_same : (firm : Bool) (old : WindowPair) → seen_of half old.firm ≡ seen_of half old.live → (side : Bool) → seen_in side old ≡ seen_in firm old
-unfolding seen_in
-pair_same true old same true = refl
-pair_same true old same false = sym same
-pair_same false old same true = same
-pair_same false old same false = refl
+-- it isn't above the greatest one, and may be given a state
+held_below : (t number : ℕ) → is_within half (Some t) number ≡ true → (t ≤ number + half) × (number ≤ t)
+held_below t number held =
+    let b = and_parts (nat_le t (number + half)) (nat_le number t) held in (leb-true t (number + half) b.0, leb-true number t b.1)
 
-pub in_firm : (firm : Bool) (pair : WindowPair) → firm ≡ true → seen_of half pair.firm ≡ seen_in firm pair
-unfolding seen_in
-in_firm true pair e = refl
-in_firm false pair e = absurd (true≢false (sym e))
+pub may_set_held : (top : Option ℕ) (number : ℕ) → is_within half top number ≡ true → IfSome top (λ t. t < 2 ^ 63)
+    → IfSome top (λ t. t ≤ number + half) × (number < 2 ^ 63)
+may_set_held None number held low = absurd (false≢true held)
+may_set_held (Some t) number held low = let b = held_below t number held in (b.0, omega (arith, b.1, low))
 
-pub in_live : (firm : Bool) (pair : WindowPair) → firm ≡ false → seen_of half pair.live ≡ seen_in firm pair
+raised_held : (top : Option ℕ) (number : ℕ) → is_within half top number ≡ true → raised top number ≡ top
+raised_held None number held = absurd (false≢true held)
+raised_held (Some t) number held = let same : max t number ≡ t = omega (arith, (held_below t number held).1) in ap Some same
+
+-- what a window says, and once some of its numbers were given states
+in_list : {A : Type 0} (within listed : Bool) (given was none : A)
+    → (if within then (if listed then given else was) else none) ≡ (if within then (if listed || false then given else was) else none)
+in_list within listed given was none = grind arith
+
+in_none : {A : Type 0} (within : Bool) (was none : A) → (if within then was else none) ≡ (if within then (if within then was else none) else none)
+in_none within was none = grind arith
+
+in_more : {A : Type 0} (within first last : Bool) (given was none : A)
+    → (if within then (if last || false then given else (if within then (if first then given else was) else none)) else none)
+    ≡ (if within then (if first || (last || false) then given else was) else none)
+in_more within first last given was none = grind arith
+
+-- and that is the same as to a list of it alone
+state_of_one : (number : ℕ) (s : KeyState) (seen : Seen) → is_within half seen.top number ≡ true
+    → with_state half number s seen ≡ with_states half (number ∷ []) s seen
+state_of_one number s seen held = same_seen _ _ (raised_held seen.top number held) (λ n.
+    ap (λ (o : Option ℕ). if is_within half o n then (if number == n then s else seen.state n) else Fresh) (raised_held seen.top number held)
+    ∙ in_list (is_within half seen.top n) (number == n) s (seen.state n) Fresh)
+
+-- ---- none
+
+states_of_none : (s : KeyState) (stored : Stored) → seen_of half stored ≡ with_states half [] s (seen_of half stored)
+states_of_none s stored = same_seen _ _ refl (λ n. in_none (is_within half stored.top n) (cell_state half stored.top stored.at stored.cells n) Fresh)
+
+state_of_other : (number : ℕ) (s : KeyState) (stored : Stored) → is_within half stored.top number ≡ false → seen_of half stored ≡ with_states half (number ∷ []) s (seen_of half stored)
+state_of_other number s stored out = same_seen _ _ refl (λ n. at n (is_within half stored.top n) (number == n) refl refl)
+  where
+    at : (n : ℕ) (w b : Bool) → is_within half stored.top n ≡ w → (number == n) ≡ b
+        → (if w then cell_state half stored.top stored.at stored.cells n else Fresh)
+        ≡ (if w then (if b || false then s else (if w then cell_state half stored.top stored.at stored.cells n else Fresh)) else Fresh)
+    at n false b e f = refl
+    at n true false e f = refl
+    at n true true e f = absurd (false≢true (sym out ∙ ap (λ (k : ℕ). is_within half stored.top k) (eqb-true number n f) ∙ e))
+
+-- ---- one more
+
+states_of_more : (numbers : List ℕ) (number : ℕ) (s : KeyState) (seen : Seen)
+    → with_states half (number ∷ []) s (with_states half numbers s seen) ≡ with_states half (numbers ++ number ∷ []) s seen
+states_of_more numbers number s seen = same_seen _ _ refl (λ n.
+    in_more (is_within half seen.top n) (list_any (λ y. y == n) numbers) (number == n) s (seen.state n) Fresh
+    ∙ ap (λ (b : Bool). if is_within half seen.top n then (if b then s else seen.state n) else Fresh) (sym (list_any-append (λ y. y == n) numbers (number ∷ []))))
+
+-- ---- steps of a pair
+
+pub held_stepped : (number : ℕ) (s : KeyState) {old new : WindowPair} → is_within half (seen_of half old.live).top number ≡ true
+    → IsPairStep (with_state half number s) old new → IsPairStep (with_states half (number ∷ []) s) old new
 unfolding seen_in
-in_live false pair e = refl
-in_live true pair e = absurd (true≢false e)
+held_stepped number s {old} held step = record { live = step.live ∙ state_of_one number s (seen_of half old.live) held; firm = step.firm }
+
+pub other_stayed : (number : ℕ) (s : KeyState) (old : WindowPair) → is_within half (seen_of half old.live).top number ≡ false
+    → IsPairStep (with_states half (number ∷ []) s) old old
+unfolding seen_in
+other_stayed number s old out = record { live = state_of_other number s old.live out; firm = refl }
+
+pub none_stepped : (s : KeyState) (old : WindowPair) → IsPairStep (with_states half [] s) old old
+unfolding seen_in
+none_stepped s old = record { live = states_of_none s old.live; firm = refl }
+
+pub more_stepped : (numbers : List ℕ) (number : ℕ) (s : KeyState) {old now new : WindowPair} → IsPairStep (with_states half numbers s) old now
+    → IsPairStep (with_states half (number ∷ []) s) now new → IsPairStep (with_states half (numbers ++ number ∷ []) s) old new
+more_stepped numbers number s {old} so_far one = record {
+  live = one.live ∙ ap (with_states half (number ∷ []) s) so_far.live ∙ states_of_more numbers number s (seen_in false old);
+  firm = one.firm ∙ so_far.firm;
+}

@@ -1,8 +1,8 @@
 -- What a side says of a history it says, after one more entry, of the history with that entry.
-use Rattle.std.proofs.Common.{◌≡◌, ℕ, ◌+◌, ◌^◌, ◌<◌, ◌%◌, ◌==◌, ◌&&◌, ◌||◌, Bool, true, false, cond, if◌then◌else◌, List, [], ◌∷◌, ◌++◌, Option, Some, None, is_some, length, count_by, refl, sym, ap, subst, ◌∙◌, true≢false, arith}
-use Rattle.std.specs.Prelude.{IfSome, nat_le}
+use Rattle.std.proofs.Common.{◌≡◌, ℕ, ◌+◌, ◌^◌, ◌<◌, ◌%◌, ◌==◌, ◌&&◌, Bool, true, false, if◌then◌else◌, List, [], ◌∷◌, ◌++◌, Option, Some, None, is_some, length, count_by, refl, sym, ap, ◌∙◌, true≢false, arith, inl, inr}
+use Rattle.std.specs.Prelude.{nat_le}
 use Rattle.std.specs.List.{list_all, list_any}
-use Rattle.std.proofs.lemmas.Bool.{and_parts, eqb-true, leb-false}
+use Rattle.std.proofs.lemmas.Bool.{and_parts, eqb-true, leb-false, or_cases}
 use Rattle.std.proofs.lemmas.List.Sums.{count_by-le-length}
 use Rattle.gw_base.specs.EntryLaws.{is_close_due-append, known_nodes-append, last_moment-append, last_tick-append, opening_of-append, start_count-append}
 use Rattle.gw_base.specs.Faults.{next_count}
@@ -33,8 +33,8 @@ use Rattle.gateway_index.specs.Tells.{Tells}
 use Rattle.gateway_index.specs.WindowLaws.{narrowed_fit}
 use Rattle.gateway_index.specs.Windows.{if_held, narrowed}
 use Rattle.gateway_index.specs.declared.totals.Totals.{Totals}
-use Rattle.gateway_index.proofs.HeldCounts.{copies-le, count-cons}
-use Rattle.gateway_index.proofs.HeldLemmas.{NamesFree, held_after, same_numbers}
+use Rattle.gateway_index.proofs.HeldLemmas.{copies-le, count-cons, one_if, NamesFree, held_after, same_numbers}
+use Rattle.gateway_index.proofs.PairLemmas.{either}
 
 -- ---- the laws of the layers below
 
@@ -70,33 +70,29 @@ module _ (held_law : HeldLaw) (present_law : PresentLaw) (side : Side) (h : List
   held_there node number = t.held.places node.0 number ∙ held_law node number h ∙ ap is_held (present_law node number h)
 
   -- a number's state is what the history says, as far as the window reaches
-  state_is : (node : NodeId) (number : ℕ) → state_in side node.0 number ≡ (if is_in_window (top_of node.0 h) number then present_state node.0 number h else if_held (present_state node.0 number h))
+  state_is : (node : NodeId) (number : ℕ) → state_in side node.0 number
+      ≡ (if is_in_window (top_of node.0 h) number then present_state node.0 number h else if_held (present_state node.0 number h))
   state_is node number = ap (λ (b : Bool). if b then Held else (side.nodes.window node.0).state number) (held_there node number) ∙ by_held (is_held s) refl
     where
       s : KeyState
       s = present_state node.0 number h
 
-      narrow : KeyState
-      narrow = if is_in_window (top_of node.0 h) number then s else if_held s
+      above : (top : ℕ) → top_of node.0 h ≡ Some top → top < number → Fresh ≡ s
+      above top e past = sym (t.above node.0 number (rw e past))
 
-      any_window : (b : Bool) → s ≡ Held → Held ≡ (if b then s else if_held s)
-      any_window true e = sym e
-      any_window false e = sym (ap if_held e)
-
-      none_held : is_held s ≡ false → if_held s ≡ Fresh
-      none_held e = ap (λ (b : Bool). if b then Held else Fresh) (same_held s ∙ e)
-
-      by_top : is_held s ≡ false → (o : Option ℕ) → top_of node.0 h ≡ o → (if is_within half o number then s else Fresh) ≡ (if is_in_window o number then s else if_held s)
-      by_top none None e = sym (t.above node.0 number (subst (λ (o : Option ℕ). IfSome o (λ top. top < number)) (sym e) tt))
+      by_top : is_held s ≡ false → (o : Option ℕ) → top_of node.0 h ≡ o
+          → (if is_within half o number then s else Fresh) ≡ (if is_in_window o number then s else if_held s)
+      by_top none None e = sym (t.above node.0 number (rw e tt))
       by_top none (Some top) e = by_tests (nat_le top (number + half)) (nat_le number top) refl
         where
           by_tests : (a b : Bool) → nat_le number top ≡ b → (if a && b then s else Fresh) ≡ (if a then s else if_held s)
           by_tests true true f = refl
-          by_tests true false f = sym (t.above node.0 number (subst (λ (o : Option ℕ). IfSome o (λ top. top < number)) (sym e) (leb-false number top f)))
-          by_tests false b f = sym (none_held none)
+          by_tests true false f = above top e (leb-false number top f)
+          by_tests false b f = sym (ap (λ (b : Bool). if b then Held else Fresh) (same_held s ∙ none))
 
-      by_held : (b : Bool) → is_held s ≡ b → (if b then Held else (side.nodes.window node.0).state number) ≡ narrow
-      by_held true e = any_window (is_in_window (top_of node.0 h) number) (held_state s e)
+      by_held : (b : Bool) → is_held s ≡ b → (if b then Held else (side.nodes.window node.0).state number)
+          ≡ (if is_in_window (top_of node.0 h) number then s else if_held s)
+      by_held true e = rw (held_state s e) (sym (either (is_in_window (top_of node.0 h) number) true (λ _. refl) (λ _. refl)))
       by_held false e = ap (λ (seen : Seen). seen.state number) (t.windows node.0) ∙ by_top e (top_of node.0 h) refl
 
   -- all that an answer asks
@@ -118,16 +114,17 @@ module _ (held_law : HeldLaw) (present_law : PresentLaw) (side : Side) (h : List
 -- ---- what is fit
 
 -- a number that gets its first state isn't held
-pub new_is_free : (side : Side) (node : NodeId) (number : ℕ) → is_new (observed_in side node) number ≡ true → is_some (side.held.place_of node.0 number) ≡ false
+pub new_is_free : (side : Side) (node : NodeId) (number : ℕ) → is_new (observed_in side node) number ≡ true
+    → is_some (side.held.place_of node.0 number) ≡ false
 new_is_free side node number new =
-    let a = and_parts (has_place (observed_in side node) && is_fresh (state_in side node.0 number) && is_in_range number) (is_in_window (observed_in side node).top number) new in
-    let b = and_parts (has_place (observed_in side node) && is_fresh (state_in side node.0 number)) (is_in_range number) a.0 in
-    let c = and_parts (has_place (observed_in side node)) (is_fresh (state_in side node.0 number)) b.0 in
-    by_test (is_some (side.held.place_of node.0 number)) refl c.1
+    let o = observed_in side node in
+    let a = and_parts (has_place o && is_fresh (o.state number) && is_in_range number) (is_in_window o.top number) new in
+    let b = and_parts (has_place o && is_fresh (o.state number)) (is_in_range number) a.0 in
+    by_test (is_some (side.held.place_of node.0 number)) ((and_parts (has_place o) (is_fresh (o.state number)) b.0).1)
   where
-    by_test : (b : Bool) → is_some (side.held.place_of node.0 number) ≡ b → is_fresh (if b then Held else (side.nodes.window node.0).state number) ≡ true → b ≡ false
-    by_test true e fresh = absurd (true≢false (sym fresh))
-    by_test false e fresh = refl
+    by_test : (b : Bool) → is_fresh (if b then Held else (side.nodes.window node.0).state number) ≡ true → b ≡ false
+    by_test true fresh = sym fresh
+    by_test false fresh = refl
 
 names_free : (side : Side) (act : HistoryAct) → fits_with any_packet (observed_in side) act ≡ true → NamesFree act side.held
 names_free side (File n x packet) fit = new_is_free side n x ((and_parts (is_new (observed_in side n) x) (any_packet packet) fit).0)
@@ -140,24 +137,24 @@ names_free side _ fit = tt
 -- what holds of all numbers of a list holds of each
 each_of : (p : ℕ → Bool) (xs : List ℕ) (n : ℕ) → list_all p xs ≡ true → list_any (λ x. x == n) xs ≡ true → p n ≡ true
 each_of p [] n all any = absurd (true≢false (sym any))
-each_of p (x ∷ xs) n all any = by_test (x == n) refl any (each_of p xs n)
-  where
-    parts : (p x ≡ true) × (list_all p xs ≡ true)
-    parts = and_parts (p x) (list_all p xs) all
-
-    by_test : (b : Bool) → (x == n) ≡ b → (b || list_any (λ y. y == n) xs) ≡ true → (list_all p xs ≡ true → list_any (λ y. y == n) xs ≡ true → p n ≡ true) → p n ≡ true
-    by_test true e there rest = sym (ap p (eqb-true x n e)) ∙ parts.0
-    by_test false e there rest = rest parts.1 there
+each_of p (x ∷ xs) n all any =
+    let parts = and_parts (p x) (list_all p xs) all in
+    elim (or_cases (x == n) (list_any (λ y. y == n) xs) any) [
+      | inl same ↦ sym (ap p (eqb-true x n same)) ∙ parts.0
+      | inr later ↦ each_of p xs n parts.1 later
+    ]
 
 list_held : (o : Observed) (xs : List ℕ) (n : ℕ) → is_list_fit o xs ≡ true → list_any (λ x. x == n) xs ≡ true → o.state n ≡ Held
 list_held o [] n fit any = absurd (true≢false (sym fit))
 list_held o (x ∷ xs) n fit any =
-    held_state (o.state n) (sym (same_held (o.state n)) ∙ each_of (λ y. is_held_state (o.state y)) (x ∷ xs) n ((and_parts (list_all (λ y. is_held_state (o.state y)) (x ∷ xs)) (are_distinct (x ∷ xs)) fit).0) any)
+    let all = and_parts (list_all (λ y. is_held_state (o.state y)) (x ∷ xs)) (are_distinct (x ∷ xs)) fit in
+    held_state (o.state n) (sym (same_held (o.state n)) ∙ each_of (λ y. is_held_state (o.state y)) (x ∷ xs) n all.0 any)
 
-named_held : (h : List HistoryEntry) (m : NodeId) (xs : List ℕ) (node n : ℕ) → is_list_fit (observed h m) xs ≡ true → ((m.0 == node) && list_any (λ x. x == n) xs) ≡ true → present_state node n h ≡ Held
+named_held : (h : List HistoryEntry) (m : NodeId) (xs : List ℕ) (node n : ℕ) → is_list_fit (observed h m) xs ≡ true
+    → ((m.0 == node) && list_any (λ x. x == n) xs) ≡ true → present_state node n h ≡ Held
 named_held h m xs node n fit named =
     let parts = and_parts (m.0 == node) (list_any (λ x. x == n) xs) named in
-    ap (λ (k : ℕ). present_state k n h) (sym (eqb-true m.0 node parts.0)) ∙ list_held (observed h m) xs n fit parts.1
+    rw (← eqb-true m.0 node parts.0) (list_held (observed h m) xs n fit parts.1)
 
 names_held : (h : List HistoryEntry) (act : HistoryAct) (node : ℕ) → fits_with any_packet (observed h) act ≡ true → NamesHeld node h act
 names_held h (Release m xs) node fit = λ n named. named_held h m xs node n fit named
@@ -193,60 +190,51 @@ acted_rest _ side = record { starts = refl; is_close_due = refl; last_tick = ref
 
 none_counts : (p : HeldKey → Bool) → ((key : HeldKey) → p key ≡ false) → (keys : List HeldKey) → count_by p keys ≡ 0
 none_counts p none [] = refl
-none_counts p none (key ∷ keys) = let zero : cond {A = ℕ} (p key) 1 0 ≡ 0 = ap (λ (b : Bool). cond {A = ℕ} b 1 0) (none key) in omega (arith, zero, count-cons p key keys, none_counts p none keys)
+none_counts p none (key ∷ keys) = omega (arith, ap one_if (none key), count-cons p key keys, none_counts p none keys)
 
-unstranded : (h : List HistoryEntry) (e : HistoryEntry) → ((m : ℕ) → begins_epoch m e.act ≡ false) → (copies_of (h ++ e ∷ [])).stranded ≡ (copies_of h).stranded
-unstranded h e begins = let none : count_by (λ (key : HeldKey). strands e.act key) (held_keys h) ≡ 0 = none_counts (λ key. strands e.act key) (λ key. begins key.node.0) (held_keys h) in omega (arith, none, stranded-append h e)
+unstranded : (h : List HistoryEntry) (e : HistoryEntry) → ((m : ℕ) → begins_epoch m e.act ≡ false)
+    → (copies_of (h ++ e ∷ [])).stranded ≡ (copies_of h).stranded
+unstranded h e begins = omega (arith, none_counts (λ key. strands e.act key) (λ key. begins key.node.0) (held_keys h), stranded-append h e)
 
 module _ (count_law : CountLaw) (side : Side) (h : List HistoryEntry) (e : HistoryEntry) (fits : length h + 2 < 2 ^ 64) (t : Tells side h) where
-  stranded_is : side.totals.stranded ≡ (copies_of h).stranded
-  stranded_is = ap (λ (v : Totals). v.stranded) t.totals
-
-  still : ((m : ℕ) → begins_epoch m e.act ≡ false) → side.totals.stranded ≡ (copies_of (h ++ e ∷ [])).stranded
-  still begins = stranded_is ∙ sym (unstranded h e begins)
 
   stranded_after : (act : HistoryAct) → e.act ≡ act → (acted act side).totals.stranded ≡ (copies_of (h ++ e ∷ [])).stranded
   stranded_after (Path n port counter) is =
       let of : count_by (λ (key : HeldKey). strands e.act key) (held_keys h) ≡ count_by (λ (key : HeldKey). key.node.0 == n.0) (held_keys h) =
       ap (λ (p : HeldKey → Bool). count_by p (held_keys h)) (λ i key. (ap (λ a. begins_epoch key.node.0 a) is ∙ same_numbers n.0 key.node.0) i) in
-      omega (arith, fits, of, stranded_is, t.held.counts n.0, stranded-append h e, copies-le h, count_law h, count_by-le-length (λ (key : HeldKey). key.node.0 == n.0) (held_keys h))
-  stranded_after _ is = still (λ m. ap (λ a. begins_epoch m a) is)
+      omega (arith, fits, of, ap (λ (v : Totals). v.stranded) t.totals, t.held.counts n.0, stranded-append h e, copies-le h, count_law h,
+        count_by-le-length (λ (key : HeldKey). key.node.0 == n.0) (held_keys h))
+  stranded_after _ is = ap (λ (v : Totals). v.stranded) t.totals ∙ sym (unstranded h e (λ m. ap (λ a. begins_epoch m a) is))
 
 -- ---- the law
 
-starts_after : (h : List HistoryEntry) (e : HistoryEntry) → length h + 2 < 2 ^ 64 → (b : Bool) → is_start e.act ≡ b → (if b then next_count (start_count h) else start_count h) ≡ start_count (h ++ e ∷ [])
+starts_after : (h : List HistoryEntry) (e : HistoryEntry) → length h + 2 < 2 ^ 64 → (b : Bool) → is_start e.act ≡ b
+    → (if b then next_count (start_count h) else start_count h) ≡ start_count (h ++ e ∷ [])
 starts_after h e fits true is =
-    let one : cond {A = ℕ} (is_start e.act) 1 0 ≡ 1 = ap (λ (b : Bool). cond {A = ℕ} b 1 0) is in
-    omega (arith, fits, one, start_count-append h e, count_by-le-length (λ (d : HistoryEntry). is_start d.act) h)
-starts_after h e fits false is =
-    let none : cond {A = ℕ} (is_start e.act) 1 0 ≡ 0 = ap (λ (b : Bool). cond {A = ℕ} b 1 0) is in
-    omega (arith, none, start_count-append h e)
+    omega (arith, fits, ap one_if is, start_count-append h e, count_by-le-length (λ (d : HistoryEntry). is_start d.act) h)
+starts_after h e fits false is = omega (arith, ap one_if is, start_count-append h e)
 
 -- the side after one more entry says what the history with that entry says
-pub tells_after : HeldLaw → PresentLaw → CountLaw → WindowLaw → (side : Side) (h : List HistoryEntry) (e : HistoryEntry) → length h + 2 < 2 ^ 64 → fits_with any_packet (observed_in side) e.act ≡ true → Tells side h → Tells (side_after e side) (h ++ e ∷ [])
-tells_after held_law present_law count_law window_law side h e fits fit t = record {
-  windows = λ node. acted_window side e.act node ∙ ap (λ (seen : Seen). seen_after half node e.act seen) (t.windows node) ∙ sym (window_law.follows node h e (t.above node));
-  openings = λ node. acted_opening side e.act node ∙ ap (λ (o : Option Opening). opening_after node o e.act) (t.openings node) ∙ sym (opening_of-append node h e);
-  known = acted_known side e.act ∙ ap (λ (ns : List NodeId). with_node ns (named_node e.act)) t.known ∙ sym (known_nodes-append h e);
-  held = held_after side h e.moment e.caller e.act (names_free side e.act fit) t.held;
-  totals = λ i. record {
-    starts = ((λ j. if is_start e.act then next_count (starts j) else starts j) ∙ starts_after h e fits (is_start e.act) refl) i;
-    stranded = stranded_after count_law side h e fits t e.act refl i;
-    moment = sym (last_moment-append h e) i;
-    is_close_due = (ap (λ (b : Bool). due_after b e.act) due ∙ sym (is_close_due-append h e)) i;
-    last_tick = (ap (λ (o : Option ℕ). tick_after o e.act e.moment) tick ∙ sym (last_tick-append h e)) i;
-  };
-  above = λ node. window_law.fresh node h e (t.above node) (names_held h e.act node (sym (fit_is held_law present_law side h t e.act) ∙ fit));
-}
-  where
-    rest : SameRest (acted e.act side).totals side.totals
-    rest = acted_rest e.act side
-
-    starts : (acted e.act side).totals.starts ≡ start_count h
-    starts = rest.starts ∙ ap (λ (v : Totals). v.starts) t.totals
-
-    due : (acted e.act side).totals.is_close_due ≡ is_close_due h
-    due = rest.is_close_due ∙ ap (λ (v : Totals). v.is_close_due) t.totals
-
-    tick : (acted e.act side).totals.last_tick ≡ last_tick h
-    tick = rest.last_tick ∙ ap (λ (v : Totals). v.last_tick) t.totals
+pub tells_after : HeldLaw → PresentLaw → CountLaw → WindowLaw → (side : Side) (h : List HistoryEntry) (e : HistoryEntry) → length h + 2 < 2 ^ 64
+    → fits_with any_packet (observed_in side) e.act ≡ true → Tells side h → Tells (side_after e side) (h ++ e ∷ [])
+tells_after held_law present_law count_law window_law side h e fits fit t =
+    let rest = acted_rest e.act side in
+    record {
+      windows = λ node. acted_window side e.act node ∙ ap (λ (seen : Seen). seen_after half node e.act seen) (t.windows node)
+          ∙ sym (window_law.follows node h e (t.above node));
+      openings = λ node. acted_opening side e.act node ∙ ap (λ (o : Option Opening). opening_after node o e.act) (t.openings node)
+          ∙ sym (opening_of-append node h e);
+      known = acted_known side e.act ∙ ap (λ (ns : List NodeId). with_node ns (named_node e.act)) t.known ∙ sym (known_nodes-append h e);
+      held = held_after side h e.moment e.caller e.act (names_free side e.act fit) t.held;
+      totals = λ i. record {
+        starts = (ap (λ (n : ℕ). if is_start e.act then next_count n else n) (rest.starts ∙ ap (λ (v : Totals). v.starts) t.totals)
+            ∙ starts_after h e fits (is_start e.act) refl) i;
+        stranded = stranded_after count_law side h e fits t e.act refl i;
+        moment = sym (last_moment-append h e) i;
+        is_close_due = (ap (λ (b : Bool). due_after b e.act) (rest.is_close_due ∙ ap (λ (v : Totals). v.is_close_due) t.totals)
+            ∙ sym (is_close_due-append h e)) i;
+        last_tick = (ap (λ (o : Option ℕ). tick_after o e.act e.moment) (rest.last_tick ∙ ap (λ (v : Totals). v.last_tick) t.totals)
+            ∙ sym (last_tick-append h e)) i;
+      };
+      above = λ node. window_law.fresh node h e (t.above node) (names_held h e.act node (sym (fit_is held_law present_law side h t e.act) ∙ fit));
+    }

@@ -171,6 +171,7 @@ impl HeldPair {
     }
 
     /// Whether the copy of a node's number is held on the firm side, or else on the live side.
+    #[tactic(auto, unfolding(crate::specs::HeldPairs::held_in))]
     pub(crate) fn holds(&self, firm: bool, node: NodeId, number: Absolute) -> bool
         ensures { result ≡ is_some ((held_in firm self.now).place_of node.0 number) }
     {
@@ -182,6 +183,7 @@ impl HeldPair {
     }
 
     /// How many copies are held on the firm side, or else on the live side.
+    #[tactic(auto, unfolding(crate::specs::HeldPairs::held_in))]
     pub(crate) fn count(&self, firm: bool) -> u64
         ensures { result ≡ (held_in firm self.now).count }
     {
@@ -193,6 +195,7 @@ impl HeldPair {
     }
 
     /// Holds one more copy on the live side, which isn't held yet.
+    #[tactic(auto, unfolding(crate::specs::HeldPairs::held_in))]
     pub(crate) fn hold(&mut self, node: NodeId, number: Absolute)
         requires free { (held_in false self.old).place_of node.0 number ≡ None }
         requires few { (held_in false self.old).count < most_copies }
@@ -203,6 +206,7 @@ impl HeldPair {
     }
 
     // Takes out the copy of a node's number on the live side.
+    #[tactic(auto, unfolding(crate::specs::HeldPairs::held_in))]
     fn take_out(&mut self, node: NodeId, number: Absolute)
         ensures { IsHeldStep (without_copy node.0 number) self.old self.new }
     {
@@ -220,6 +224,7 @@ impl HeldPair {
     }
 
     /// Takes out all copies of a node on the live side, and says how many there were.
+    #[tactic(auto, unfolding(crate::specs::HeldPairs::held_in))]
     pub(crate) fn drop_node(&mut self, node: NodeId) -> u64
         ensures count { result ≡ (held_in false self.old).count_of node.0 }
         ensures others { IsHeldStep (without_node node.0) self.old self.new }

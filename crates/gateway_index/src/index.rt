@@ -57,6 +57,7 @@ impl Index {
     }
 
     /// What is kept of all entries together, on the firm side or else on the live side.
+    #[tactic(auto, unfolding(crate::specs::Index::side_of))]
     pub fn totals(&self, firm: bool) -> Totals
         ensures { result ≡ (side_of firm self.now).totals }
     {
@@ -64,6 +65,7 @@ impl Index {
     }
 
     /// How many copies are held.
+    #[tactic(auto, unfolding(crate::specs::Index::side_of))]
     pub fn held(&self, firm: bool) -> u64
         ensures { result ≡ (side_of firm self.now).held.count }
     {
@@ -71,6 +73,7 @@ impl Index {
     }
 
     /// The gateway's own restart counter.
+    #[tactic(auto, unfolding(crate::specs::Index::observed_by, crate::specs::Index::side_of))]
     pub fn own(&self, firm: bool) -> u8
         ensures { (node : NodeId) → result ≡ (observed_by firm self.now node).own }
     {
@@ -78,6 +81,7 @@ impl Index {
     }
 
     /// The Path that opened the node's present epoch, where one did.
+    #[tactic(auto, unfolding(crate::specs::Index::observed_by, crate::specs::Index::side_of))]
     pub fn opening(&self, firm: bool, node: NodeId) -> Option<Opening>
         ensures { result ≡ (observed_by firm self.now node).opening }
     {
@@ -85,6 +89,7 @@ impl Index {
     }
 
     /// The greatest number that the node's present epoch names, where it names one.
+    #[tactic(auto, unfolding(crate::specs::Index::observed_by, crate::specs::Index::side_of))]
     pub fn top(&self, firm: bool, node: NodeId) -> Option<Absolute>
         ensures value { result ≡ (observed_by firm self.now node).top }
         ensures low { IfSome result (λ t. t < 2 ^ 63) }
@@ -94,6 +99,7 @@ impl Index {
 
     /// The state of a number in the node's present epoch. Of one more than 32,768 below the greatest it tells only
     /// whether it is held.
+    #[tactic(auto, unfolding(crate::specs::Index::observed_by, crate::specs::Index::side_of))]
     pub fn state(&self, firm: bool, node: NodeId, number: Absolute) -> KeyState
         ensures { result ≡ (observed_by firm self.now node).state number }
     {
@@ -109,6 +115,7 @@ impl Index {
     }
 
     /// Whether the node is known or may become so.
+    #[tactic(auto, unfolding(crate::specs::Index::observed_by, crate::specs::Index::side_of))]
     pub fn has_place(&self, firm: bool, node: NodeId) -> bool
         ensures { result ≡ has_place (observed_by firm self.now node) }
     {
@@ -118,6 +125,7 @@ impl Index {
     }
 
     /// Whether one more copy may be held.
+    #[tactic(auto, unfolding(crate::specs::Index::observed_by, crate::specs::Index::side_of))]
     pub fn may_hold(&self, firm: bool) -> bool
         ensures { (node : NodeId) → result ≡ may_hold (observed_by firm self.now node) }
     {

@@ -105,6 +105,7 @@ impl WindowPair {
     }
 
     /// The greatest number of the firm side, or else of the live side, where it has one.
+    #[tactic(auto, unfolding(crate::specs::WindowPairs::seen_in))]
     pub(crate) fn top(&self, firm: bool) -> Option<Absolute>
         ensures value { result ≡ (seen_in firm self.now).top }
         ensures low { IfSome result (λ top. top < 2 ^ 63) }
@@ -117,6 +118,7 @@ impl WindowPair {
     }
 
     /// The state of a number on the firm side, or else on the live side.
+    #[tactic(auto, unfolding(crate::specs::WindowPairs::seen_in))]
     pub(crate) fn state(&self, firm: bool, number: Absolute) -> KeyState
         ensures { result ≡ (seen_in firm self.now).state number }
     {
@@ -128,6 +130,7 @@ impl WindowPair {
     }
 
     /// Gives a state to a number on the live side.
+    #[tactic(auto, unfolding(crate::specs::WindowPairs::seen_in))]
     pub(crate) fn set(&mut self, number: Absolute, state: KeyState)
         requires not_below { IfSome (seen_in false self.old).top (λ top. top ≤ number + half) }
         requires high { number < 2 ^ 63 }
@@ -150,6 +153,7 @@ impl WindowPair {
     }
 
     /// Gives a state to those of these numbers that the window of the live side holds.
+    #[tactic(auto, unfolding(crate::specs::WindowPairs::seen_in))]
     pub(crate) fn set_within(&mut self, numbers: &[Absolute], state: KeyState)
         ensures { IsPairStep (with_states half numbers.now state) self.old self.new }
     {
@@ -165,6 +169,7 @@ impl WindowPair {
     }
 
     /// Forgets all numbers on the live side.
+    #[tactic(auto, unfolding(crate::specs::WindowPairs::seen_in))]
     pub(crate) fn clear(&mut self)
         ensures { IsPairStep (λ seen. nothing_seen) self.old self.new }
     {

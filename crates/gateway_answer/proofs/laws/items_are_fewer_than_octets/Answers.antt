@@ -7,5 +7,4 @@ returns-clause-costs c = λ h. few_items c.held_keys_are_those_in_that_state.ens
 
 pub returns-clause-stands : goal.returns-clause-stands
 returns-clause-stands c = λ header octets h stands.
-    let few = few_items c.held_keys_are_those_in_that_state.ensures h in
-    omega (arith, few, stands.stands.costs)
+    omega (arith, few_items c.held_keys_are_those_in_that_state.ensures h, stands.stands.costs)

@@ -1,6 +1,6 @@
 use Rattle.cgf_journal.specs.Trail.{firm_entries, is_closed, waiting}
 use Rattle.gateway_book.specs.Book.{size_of}
-use Rattle.gateway_book.proofs.FrontLemmas.{front_few, history_knows_few}
+use Rattle.gateway_book.proofs.StandingLemmas.{front_few, history_knows_few}
 use Rattle.gateway_book.proofs.laws.a_book_is_within_the_limits.Goals as goal
 
 pub returns-clause-short : goal.returns-clause-short

@@ -3,8 +3,7 @@ use Rattle.gateway_index.proofs.held_pair.hold_one.Goals as goal
 
 pub unreachable-requires : goal.unreachable-requires
 unreachable-requires c =
-    let full = c.hold.ensures.full.0 (c.in-Err-Full.is ∙ ap Err c.in-Err-Full.field-0-is) in
-    omega (arith, full, c.requires.few)
+    omega (arith, c.hold.ensures.full.0 (c.in-Err-Full.is ∙ ap Err c.in-Err-Full.field-0-is), c.requires.few)
 
 pub unreachable-requires-in-Err-NoMemory : goal.unreachable-requires-in-Err-NoMemory
 unreachable-requires-in-Err-NoMemory c =

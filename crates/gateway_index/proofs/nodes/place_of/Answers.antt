@@ -1,5 +1,5 @@
 use Rattle.std.proofs.Common.{arith}
-use Rattle.gateway_index.proofs.PlaceLemmas.{found_here, found_later, found_nowhere}
+use Rattle.gateway_index.proofs.SlotLemmas.{found_here, found_later, found_nowhere}
 use Rattle.gateway_index.proofs.nodes.place_of.Goals as goal
 
 pub returns-then-slots-place : goal.returns-then-slots-place

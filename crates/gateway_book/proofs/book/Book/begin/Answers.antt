@@ -5,7 +5,7 @@ use Rattle.gateway_book.proofs.StandingLemmas.{stands_begun}
 use Rattle.gateway_book.proofs.book.Book.begin.Goals as goal
 
 pub invariant_of-book-clause-stands : goal.invariant_of-book-clause-stands
-invariant_of-book-clause-stands g c = stands_begun c.args.trail c.new.result c.new.ensures
+invariant_of-book-clause-stands g c = stands_begun c.new.ensures
 
 pub invariant_of-book-clause-counts : goal.invariant_of-book-clause-counts
 invariant_of-book-clause-counts g c = record { fewer = omega arith; within = omega arith }

@@ -9,8 +9,7 @@ use Rattle.gateway_answer.specs.Marks.{Mark, made_if}
 use Rattle.gateway_answer.specs.Value.{history_of}
 use Rattle.gateway_book.specs.declared.outcome.Marked.{Marked}
 use Rattle.gateway_book.specs.declared.outcome.Marked.TheVariants as marked
-use Rattle.gateway_book.proofs.MarkingLemmas.{close_made}
-use Rattle.gateway_book.proofs.TakingLemmas.{history_is}
+use Rattle.gateway_book.proofs.TakingLemmas.{close_made, history_is}
 use Rattle.gateway_book.proofs.book.Book.close_if_due.Goals as goal
 
 -- a Close that is due is made by a book whose trail has room for it

@@ -7,16 +7,14 @@ pub invariant_of-self-clause-stands : goal.invariant_of-self-clause-stands
 invariant_of-self-clause-stands g c =
     let book = c.args.self.now in
     let now = c.items_from.ensures in
-    stands_read book.trail c.items_from.new.trail c.items_from.new.cursor now.read.kept now.within
-    (λ told. now.at told (firm_entries book.trail) (stands_in book.trail book.cursor book.stands told (book.followed.fit told)))
+    stands_read now.read.kept now.within (λ told. now.at told (firm_entries book.trail) (stands_in book.stands told (book.followed.fit told)))
 
 pub returns-clause-items : goal.returns-clause-items
 returns-clause-items g c = λ told.
     let book = c.args.self.now in
-    c.items_from.ensures.items told (firm_entries book.trail) (stands_in book.trail book.cursor book.stands told (book.followed.fit told))
+    c.items_from.ensures.items told (firm_entries book.trail) (stands_in book.stands told (book.followed.fit told))
 
 pub invariant_of-self-clause-counts : goal.invariant_of-self-clause-counts
 invariant_of-self-clause-counts g c =
-    let book = c.args.self.now in
     let now = c.items_from.ensures in
-    counting_on book.trail c.items_from.new.trail book.cuts book.kept book.counts now.cause.later (omega (arith, now.read.kept.firm_length))
+    counting_on c.args.self.now.counts now.cause.later (omega (arith, now.read.kept.firm_length))

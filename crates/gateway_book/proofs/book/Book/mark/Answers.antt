@@ -1,15 +1,14 @@
-use Rattle.std.proofs.Common.{◌≡◌, ℕ, true, false, length, sym, ap, ◌∙◌}
+use Rattle.std.proofs.Common.{◌≡◌, ℕ, true, false, length, sym, ap, ◌∙◌, Bool}
 use Rattle.gw_base.specs.Entry.{act_view}
 use Rattle.gateway_book.specs.Adding.{entry_of}
 use Rattle.gateway_answer.specs.Answered.{room_for}
 use Rattle.gateway_book.specs.Book.{size_of, value_of}
 use Rattle.gateway_book.specs.Calls.{marked_at}
 use Rattle.gateway_book.specs.Followed.{all_entries}
-use Rattle.gateway_answer.specs.Marks.{Mark}
+use Rattle.gateway_answer.specs.Marks.{Mark, made_if}
 use Rattle.gateway_answer.specs.Value.{BookValue, history_of, recorded}
 use Rattle.gateway_book.specs.declared.outcome.Marked.TheVariants as marked
-use Rattle.gateway_book.proofs.MarkingLemmas.{made_with_room, mark_may_come, none_without_room, put_is_recorded, room_of_mark, room_of_open}
-use Rattle.gateway_book.proofs.TakingLemmas.{history_is}
+use Rattle.gateway_book.proofs.TakingLemmas.{mark_may_come, put_is_recorded, room_of_mark, room_of_open, history_is}
 use Rattle.gateway_book.proofs.book.Book.mark.Goals as goal
 
 pub returns-then-not-room-clause-left : goal.returns-then-not-room-clause-left
@@ -21,7 +20,7 @@ returns-then-not-room-clause-left g c = λ told.
     let room : room_for all (size_of book) act ≡ false =
     sym (room_of_open book.trail (entry_of moment c.args.who act) c.requires.ready ∙ room_of_mark (size_of book) all c.args.now moment c.args.who act (c.moment_after-moment.ensures.after told))
     ∙ sym (c.room.ensures.room told) ∙ c.if-not-room.true in
-    let made = none_without_room (room_for all (size_of book) act) act room in
+    let made = sym (ap (λ (b : Bool). made_if b act) room) in
     record {
       value = ap (λ (m : Mark). (marked_at (value_of book) c.args.now c.args.who m).value) made;
       answer = ap (λ (m : Mark). (marked_at (value_of book) c.args.now c.args.who m).answer) made;
@@ -38,7 +37,7 @@ returns-clause-left g c = λ told.
     let room : room_for all (size_of book) act ≡ true =
     sym (room_of_open book.trail (entry_of moment c.args.who act) c.requires.ready ∙ room_of_mark (size_of book) all c.args.now moment c.args.who act at)
     ∙ sym (c.room.ensures.room told) ∙ c.if-not-room.false in
-    let made = made_with_room (room_for all (size_of book) act) act room in
+    let made = sym (ap (λ (b : Bool). made_if b act) room) in
     let value : value_of new ≡ recorded (value_of book) c.args.now c.args.who act =
     c.put.ensures.added ∙ put_is_recorded (value_of book) all c.args.now moment c.args.who act (history_is book.trail book.cuts c.requires.ready) at in
     record {

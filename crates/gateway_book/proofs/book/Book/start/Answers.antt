@@ -17,13 +17,13 @@ invariant_of-self g c =
     let size = g.A.Area.size (area_of old.trail) in
     let e : HistoryEntry = record { moment = c.totals.result.moment; caller = record { session = 0; serial = 0 }; act = Start } in
     record {
-      followed = followed_added old.trail c.record.new.trail old.index c.record.new.index e old.followed c.record.ensures
-          (λ told.
-          start_is_fit size (all_entries old.trail) e (old.followed.fit told)
-          (ap (λ (t : Totals). t.moment) (c.totals.ensures ∙ c.an_index_tells_its_history.ensures.totals false old.index (all_entries old.trail) (old.followed.live told))) refl
-          (ap (λ b. has_room (if b then firm_entries old.trail else all_entries old.trail) e size) (sym c.requires.ready) ∙ sym (c.room.ensures.room told) ∙ c.if-not-room.false));
-      stands = stands_firm old.trail c.record.new.trail old.cursor old.stands c.record.ensures.stays;
-      counts = counting_firm old.trail c.record.new.trail old.cuts old.kept old.counts c.record.ensures.stays;
+      followed = followed_added old.followed c.record.ensures
+          (λ told. start_is_fit size (all_entries old.trail) e (old.followed.fit told)
+          (ap (λ (t : Totals). t.moment) (c.totals.ensures ∙ c.an_index_tells_its_history.ensures.totals false old.index (all_entries old.trail) (old.followed.live told)))
+          refl (ap (λ b. has_room (if b then firm_entries old.trail else all_entries old.trail) e size) (sym c.requires.ready)
+          ∙ sym (c.room.ensures.room told) ∙ c.if-not-room.false));
+      stands = stands_firm old.stands c.record.ensures.stays;
+      counts = counting_firm old.counts c.record.ensures.stays;
     }
 
 pub record-requires-clause-may_come : goal.record-requires-clause-may_come
@@ -42,8 +42,9 @@ returns g c =
       value = λ told.
           (λ i. record { firm = added.stays.listed i; rest = added.pushed.waits i; cuts = old.cuts; is_broken = added.stays.opened i })
           ∙ start_added (value_of old) size e c.requires.ready
-          (ap (λ (t : Totals). t.moment) (c.totals.ensures ∙ c.an_index_tells_its_history.ensures.totals false old.index (all_entries old.trail) (old.followed.live told))) refl refl
-          (ap (λ b. has_room (if b then firm_entries old.trail else all_entries old.trail) e size) (sym c.requires.ready) ∙ sym (c.room.ensures.room told) ∙ c.if-not-room.false);
+          (ap (λ (t : Totals). t.moment) (c.totals.ensures ∙ c.an_index_tells_its_history.ensures.totals false old.index (all_entries old.trail) (old.followed.live told)))
+          refl refl (ap (λ b. has_room (if b then firm_entries old.trail else all_entries old.trail) e size) (sym c.requires.ready)
+          ∙ sym (c.room.ensures.room told) ∙ c.if-not-room.false);
       whole = added.stays.opened ∙ c.requires.ready;
       uncut = refl;
       area = added.stays.area;
@@ -57,10 +58,10 @@ returns-then-not-room g c =
     let size = g.A.Area.size (area_of old.trail) in
     let e : HistoryEntry = record { moment = c.totals.result.moment; caller = record { session = 0; serial = 0 }; act = Start } in
     record {
-      value = λ told.
-          start_left_out (value_of old) size e c.requires.ready
-          (ap (λ (t : Totals). t.moment) (c.totals.ensures ∙ c.an_index_tells_its_history.ensures.totals false old.index (all_entries old.trail) (old.followed.live told))) refl refl
-          (ap (λ b. has_room (if b then firm_entries old.trail else all_entries old.trail) e size) (sym c.requires.ready) ∙ sym (c.room.ensures.room told) ∙ c.if-not-room.true);
+      value = λ told. start_left_out (value_of old) size e c.requires.ready
+          (ap (λ (t : Totals). t.moment) (c.totals.ensures ∙ c.an_index_tells_its_history.ensures.totals false old.index (all_entries old.trail) (old.followed.live told)))
+          refl refl (ap (λ b. has_room (if b then firm_entries old.trail else all_entries old.trail) e size) (sym c.requires.ready)
+          ∙ sym (c.room.ensures.room told) ∙ c.if-not-room.true);
       whole = c.requires.ready;
       uncut = refl;
       area = refl;

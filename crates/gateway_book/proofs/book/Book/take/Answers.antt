@@ -1,4 +1,4 @@
-use Rattle.std.proofs.Common.{◌≡◌, Bool, false, if◌then◌else◌, List, sym, ap, subst, ◌∙◌, ℕ}
+use Rattle.std.proofs.Common.{◌≡◌, Bool, false, if◌then◌else◌, List, sym, ap, subst, ◌∙◌}
 use Rattle.std.specs.Prelude.{is_err}
 use Rattle.std.proofs.lemmas.Bool.{false≢true}
 use Rattle.cgf_journal.specs.Trail.{is_closed, torn_stands}
@@ -67,25 +67,25 @@ pub returns-in-Ok-clause-storage : goal.returns-in-Ok-clause-storage
 returns-in-Ok-clause-storage g c = λ told runs.
     let old = c.args.self.now in
     let ready = c.ready.new.self in
-    let from = c.args.from in
     let v = value_of ready in
     let size = size_of ready in
     let opened = c.respond.ensures.adds.stays.opened in
-    let goes : is_closed ready.trail ≡ false = c.ready.ensures.closed ∙ ap is_err c.in-Ok.is in
-    let same : v ≡ readied (record { fails = is_closed ready.trail; reopening = reopening_of (is_closed ready.trail) (torn_stands old.trail) }) (value_of old) = c.ready.ensures.moved told in
-    let is_history : history_of v ≡ all_entries ready.trail = history_is ready.trail ready.cuts goes in
-    let within : IsWithin (history_of v) size = subst (λ (h : List HistoryEntry). IsWithin h size) (sym is_history) (fit_is_within size (all_entries ready.trail) (ready.followed.fit told)) in
-    let answered = subst (λ (d : PreparedValue). IsAnswered from d c.respond.result) c.case-case.ensures.value c.respond.ensures.everywhere.0 in
-    let stored : HasStorage (history_of v) from (case_value c.case-case.result.now) size c.respond.result = has_storage c.what_is_held_can_be_released.ensures.release c.what_is_held_can_be_released.ensures.cancel (history_of v) size from
-    (case_value c.case-case.result.now) (recorded_if v c.args.now c.args.who (act_decided (decided (answer_to (history_of v) from (case_value c.case-case.result.now) size)))) c.respond.result within
-    (c.respond.ensures.left told).answer (running_is_sound from c.args.request.now c.respond.result answered) in
-    subst (λ (h : List HistoryEntry). HasStorage h from (prepared_of c.args.request.now) (size_of old) c.respond.result)
-    (ap history_of same ∙ sym (ap (λ (b : Bool). history_of (readied (record { fails = b; reopening = reopening_of b (torn_stands old.trail) }) (value_of old))) opened))
-    (subst (λ (n : ℕ). HasStorage (history_of v) from (prepared_of c.args.request.now) n c.respond.result) c.ready.ensures.stays.size
-    (subst (λ (d : PreparedValue). HasStorage (history_of v) from d size c.respond.result) c.case-case.ensures.value stored))
+    let held : history_of v ≡ all_entries ready.trail = history_is ready.trail ready.cuts (c.ready.ensures.closed ∙ ap is_err c.in-Ok.is) in
+    let within : IsWithin (history_of v) size =
+    subst (λ (h : List HistoryEntry). IsWithin h size) (sym held) (fit_is_within size (all_entries ready.trail) (ready.followed.fit told)) in
+    let answered = subst (λ (d : PreparedValue). IsAnswered c.args.from d c.respond.result) c.case-case.ensures.value c.respond.ensures.everywhere.0 in
+    let laws = c.what_is_held_can_be_released.ensures in
+    let stored : HasStorage (history_of v) c.args.from (case_value c.case-case.result.now) size c.respond.result =
+    has_storage laws.release laws.cancel (history_of v) size c.args.from (case_value c.case-case.result.now)
+    (recorded_if v c.args.now c.args.who (act_decided (decided (answer_to (history_of v) c.args.from (case_value c.case-case.result.now) size))))
+    c.respond.result within (c.respond.ensures.left told).answer (running_is_sound c.args.from c.args.request.now c.respond.result answered) in
+    subst (λ (h : List HistoryEntry). HasStorage h c.args.from (prepared_of c.args.request.now) (size_of old) c.respond.result)
+    (ap history_of (c.ready.ensures.moved told)
+    ∙ sym (ap (λ (b : Bool). history_of (readied (record { fails = b; reopening = reopening_of b (torn_stands old.trail) }) (value_of old))) opened))
+    (rw (← c.ready.ensures.stays.size, ← c.case-case.ensures.value) stored)
 
 pub returns-in-Err-clause-storage : goal.returns-in-Err-clause-storage
 returns-in-Err-clause-storage g c = λ told runs. absurd (false≢true (sym runs ∙ (c.ready.ensures.closed ∙ ap is_err c.in-Err.is)))
 
 pub returns-in-Ok-clause-cause : goal.returns-in-Ok-clause-cause
-returns-in-Ok-clause-cause g c = cause_then c.args.self.now c.ready.new.self c.respond.new.self c.ready.ensures.cause c.respond.ensures.adds
+returns-in-Ok-clause-cause g c = cause_then c.ready.ensures.cause c.respond.ensures.adds

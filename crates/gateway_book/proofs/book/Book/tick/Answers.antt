@@ -6,11 +6,11 @@ use Rattle.gateway_book.specs.Calls.{Left}
 use Rattle.gateway_answer.specs.Value.{readied}
 use Rattle.gateway_book.specs.declared.outcome.Marked.{Marked}
 use Rattle.gateway_book.proofs.Causing.{cause_then}
-use Rattle.gateway_book.proofs.MarkingLemmas.{tick_of_ready}
+use Rattle.gateway_book.proofs.TakingLemmas.{tick_of_ready}
 use Rattle.gateway_book.proofs.book.Book.tick.Goals as goal
 
 pub returns-in-Ok-clause-cause : goal.returns-in-Ok-clause-cause
-returns-in-Ok-clause-cause g c = cause_then c.args.self.now c.ready.new.self c.tick_if_due.new.self c.ready.ensures.cause c.tick_if_due.ensures.adds
+returns-in-Ok-clause-cause g c = cause_then c.ready.ensures.cause c.tick_if_due.ensures.adds
 
 pub returns-in-Ok-clause-ticked : goal.returns-in-Ok-clause-ticked
 returns-in-Ok-clause-ticked g c = λ told.

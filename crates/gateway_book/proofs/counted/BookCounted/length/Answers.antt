@@ -21,15 +21,13 @@ returns-clause-sound g c =
     let book = c.args.self.now in
     let most : length_at book.cuts (firm_length book.trail) book.kept ≤ firm_length book.trail =
     at_most book.cuts (firm_length book.trail) book.kept book.counts.within in
-    let bound = c.firm.ensures.bound in
     let count = c.firm.ensures.counted in
     record {
       cut = book.counts.fewer;
-      within = omega (arith, most, bound, count);
+      within = omega (arith, most, c.firm.ensures.bound, count);
       counted = λ told. sym c.length-entries.ensures.counted
           ∙ c.length-entries.ensures.length (and_parts g.A.Area.tells_octets g.A.Area.tells_crash told);
       begins = λ told. begins_firm (value_of book);
       firm = λ told.
-          let long = c.firm.ensures.length (and_parts g.A.Area.tells_octets g.A.Area.tells_crash told) in
-          omega (arith, most, count, long);
+          omega (arith, most, count, c.firm.ensures.length (and_parts g.A.Area.tells_octets g.A.Area.tells_crash told));
     }

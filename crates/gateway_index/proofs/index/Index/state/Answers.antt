@@ -9,12 +9,5 @@ pub returns-then-is_held : goal.returns-then-is_held
 unfolding observed_by side_of
 returns-then-is_held c =
     let held = held_state c.state-state.result (sym c.is_held.ensures ∙ c.if-is_held.true) in
-    held ∙ sym (ap (λ (b : Bool). if b then Held else ((nodes_in c.args.firm c.args.self.now.nodes).window c.args.node.0).state c.args.number) (c.args.self.now.told c.args.firm c.args.node.0 c.args.number (sym c.state-state.ensures ∙ held)))
-
-pub returns-then-holds : goal.returns-then-holds
-unfolding observed_by side_of
-returns-then-holds c = sym (ap (λ (b : Bool). if b then Held else ((nodes_in c.args.firm c.args.self.now.nodes).window c.args.node.0).state c.args.number) (sym c.holds.ensures ∙ c.if-holds.true))
-
-pub returns-else-holds : goal.returns-else-holds
-unfolding observed_by side_of
-returns-else-holds c = c.state-state.ensures ∙ sym (ap (λ (b : Bool). if b then Held else ((nodes_in c.args.firm c.args.self.now.nodes).window c.args.node.0).state c.args.number) (sym c.holds.ensures ∙ c.if-holds.false))
+    let told = c.args.self.now.told c.args.firm c.args.node.0 c.args.number (sym c.state-state.ensures ∙ held) in
+    held ∙ sym (ap (λ (b : Bool). if b then Held else ((nodes_in c.args.firm c.args.self.now.nodes).window c.args.node.0).state c.args.number) told)

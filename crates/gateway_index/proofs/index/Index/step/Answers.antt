@@ -4,4 +4,4 @@ use Rattle.gateway_index.proofs.IndexLemmas.{after_step}
 use Rattle.gateway_index.proofs.index.Index.step.Goals as goal
 
 pub returns : goal.returns
-returns c = after_step (entry_view c.args.entry.now) c.args.self.now c.act.new.self _ c.act.ensures refl refl refl c.after-self.ensures
+returns c = after_step (entry_view c.args.entry.now) c.act.ensures refl refl refl c.after-self.ensures

@@ -1,5 +1,5 @@
 use Rattle.std.proofs.Common.{◌≡◌, List, sym, ap, subst, ◌∙◌, arith, length, map}
-use Rattle.gateway_index.specs.Nodes.{AreSame, AreSlots, kept_slots, settled_slot}
+use Rattle.gateway_index.specs.Nodes.{kept_slots, settled_slot}
 use Rattle.gateway_index.specs.WindowPairs.{AreBeside}
 use Rattle.gateway_index.specs.declared.nodes.Slot.{Slot}
 use Rattle.gateway_index.proofs.NodeLemmas.{settled_beside, settled_nodes}
@@ -9,40 +9,39 @@ use Rattle.gateway_index.proofs.nodes.NodeTable.keep.Goals as goal
 pub invariant_of-self-2 : goal.invariant_of-self-2
 invariant_of-self-2 c =
     let old = c.args.self.now in
-    let count : c.cut-self.result ≡ length (kept_slots c.args.firm old.firm old.slots.items) = c.cut-self.ensures.left ∙ ap (λ (slots : List Slot). length slots) c.cut-self.ensures.items in
-    let slots : c.settle_all.new.slots.items ≡ settled c.args.firm old.firm old.slots.items = c.settle_all.ensures.items ∙ ap (λ (xs : List Slot). map (λ (slot : Slot). settled_slot c.args.firm slot) xs) c.cut-self.ensures.items in
+    let kept = kept_slots c.args.firm old.firm old.slots.items in
+    let count : c.cut-self.result ≡ length kept = c.cut-self.ensures.left ∙ ap (λ (xs : List Slot). length xs) c.cut-self.ensures.items in
+    let slots : c.settle_all.new.slots.items ≡ settled c.args.firm old.firm old.slots.items =
+    c.settle_all.ensures.items ∙ ap (λ (xs : List Slot). map (λ (slot : Slot). settled_slot c.args.firm slot) xs) c.cut-self.ensures.items in
     record {
       room = omega (arith, c.settle_all.ensures.room, c.cut-self.ensures.room);
-      are_slots = subst (λ (xs : List Slot). AreSlots c.cut-self.result xs) (sym slots) (settled_slots c.args.firm old.firm c.cut-self.result old.slots.items old.are_slots count);
-      same = λ e. subst (λ (xs : List Slot). AreSame c.cut-self.result xs) (sym slots) (record {
-        known = count ∙ sym (settled_length c.args.firm old.firm old.slots.items);
-        openings = all_same c.args.firm (kept_slots c.args.firm old.firm old.slots.items);
-      });
-      beside = subst (λ (xs : List Slot). AreBeside c.cut-self.result (length xs) c.keep.new.self.pairs.items) (sym slots)
-          (settled_beside c.args.firm old.firm old.slots.items old.windows.pairs.items c.keep.new.self.pairs.items old.are_slots old.beside c.keep.ensures.kept c.cut-self.result count);
+      are_slots = rw slots (settled_slots c.args.firm old.firm c.cut-self.result old.slots.items old.are_slots count);
+      same = λ e. rw slots (record { known = count ∙ sym (settled_length c.args.firm old.firm old.slots.items); openings = all_same c.args.firm kept });
+      beside = rw slots (settled_beside old.are_slots old.beside c.keep.ensures.kept c.cut-self.result count);
     }
 
 pub invariant_of-self : goal.invariant_of-self
 invariant_of-self c =
     let old = c.args.self.now in
-    let same : AreSame old.firm old.slots.items = old.same c.if-self.true in
+    let same = old.same c.if-self.true in
     record {
       room = old.room;
       are_slots = old.are_slots;
       same = old.same;
-      beside = subst (λ (xs : List Slot). AreBeside old.firm (length xs) c.keep.new.self.pairs.items) (sym (settled_still c.args.firm old.firm old.slots.items same))
-          (settled_beside c.args.firm old.firm old.slots.items old.windows.pairs.items c.keep.new.self.pairs.items old.are_slots old.beside c.keep.ensures.kept old.firm (count_still c.args.firm old.firm old.slots.items same));
+      beside = subst (λ (xs : List Slot). AreBeside old.firm (length xs) c.keep.new.self.pairs.items)
+          (sym (settled_still c.args.firm old.firm old.slots.items same))
+          (settled_beside old.are_slots old.beside c.keep.ensures.kept old.firm (count_still c.args.firm old.firm old.slots.items same));
     }
 
 pub returns-then-self-clause-sides : goal.returns-then-self-clause-sides
 returns-then-self-clause-sides c =
     let old = c.args.self.now in
-    let same : AreSame old.firm old.slots.items = old.same c.if-self.true in
-    settled_nodes c.args.firm old _ (count_still c.args.firm old.firm old.slots.items same) (settled_still c.args.firm old.firm old.slots.items same) c.keep.ensures.kept
+    let same = old.same c.if-self.true in
+    settled_nodes c.args.firm old _ (count_still c.args.firm old.firm old.slots.items same)
+    (settled_still c.args.firm old.firm old.slots.items same) c.keep.ensures.kept
 
 pub returns-clause-sides : goal.returns-clause-sides
 returns-clause-sides c =
-    let old = c.args.self.now in
-    let count : c.cut-self.result ≡ length (kept_slots c.args.firm old.firm old.slots.items) = c.cut-self.ensures.left ∙ ap (λ (slots : List Slot). length slots) c.cut-self.ensures.items in
-    let slots : c.settle_all.new.slots.items ≡ settled c.args.firm old.firm old.slots.items = c.settle_all.ensures.items ∙ ap (λ (xs : List Slot). map (λ (slot : Slot). settled_slot c.args.firm slot) xs) c.cut-self.ensures.items in
-    settled_nodes c.args.firm old _ count slots c.keep.ensures.kept
+    settled_nodes c.args.firm c.args.self.now _ (c.cut-self.ensures.left ∙ ap (λ (xs : List Slot). length xs) c.cut-self.ensures.items)
+    (c.settle_all.ensures.items ∙ ap (λ (xs : List Slot). map (λ (slot : Slot). settled_slot c.args.firm slot) xs) c.cut-self.ensures.items)
+    c.keep.ensures.kept

@@ -1,6 +1,4 @@
-use Rattle.std.proofs.Common.{◌≡◌, List, ap, refl, ◌∙◌, arith}
-use Rattle.seq_window.specs.Seen.{with_states}
-use Rattle.gateway_index.specs.Limits.{half}
+use Rattle.std.proofs.Common.{List, ap, refl, ◌∙◌, arith}
 use Rattle.gateway_index.specs.Nodes.{place_in}
 use Rattle.gateway_index.specs.declared.nodes.Slot.{Slot}
 use Rattle.gateway_index.proofs.NodeLemmas.{beside_step, listed_none, listed_step}
@@ -11,15 +9,14 @@ set_within-requires c = omega (arith, c.if-place-len.false, c.len.ensures, c.arg
 
 pub invariant_of-self-clause-beside : goal.invariant_of-self-clause-beside
 invariant_of-self-clause-beside c =
-    let old = c.args.self.now in
-    beside_step old.firm _ _ c.place_of-place.result (with_states half c.args.numbers.now c.args.state) old.windows.pairs.items c.set_within.new.self.pairs.items old.beside c.set_within.ensures.step (omega (arith, c.if-place-len.false, c.len.ensures)) (omega arith)
+    beside_step c.args.self.now.beside c.set_within.ensures.step (omega (arith, c.if-place-len.false, c.len.ensures)) (omega arith)
 
 pub returns-then-place-len-clause-step : goal.returns-then-place-len-clause-step
 returns-then-place-len-clause-step c =
-    let here : c.place_of-place.result ≡ place_in c.args.self.now.slots.items c.args.node.0 = c.place_of-place.ensures ∙ ap (λ (slots : List Slot). place_in slots c.args.node.0) c.deref.ensures.value in
+    let here = c.place_of-place.ensures ∙ ap (λ (slots : List Slot). place_in slots c.args.node.0) c.deref.ensures.value in
     listed_none c.args.node c.args.numbers.now c.args.state c.args.self.now (omega (arith, here, c.if-place-len.true, c.len.ensures))
 
 pub returns-clause-step : goal.returns-clause-step
 returns-clause-step c =
-    let here : c.place_of-place.result ≡ place_in c.args.self.now.slots.items c.args.node.0 = c.place_of-place.ensures ∙ ap (λ (slots : List Slot). place_in slots c.args.node.0) c.deref.ensures.value in
-    listed_step c.args.node c.args.numbers.now c.args.state c.place_of-place.result c.args.self.now _ refl refl here (omega (arith, c.if-place-len.false, c.len.ensures)) c.set_within.ensures.step
+    let here = c.place_of-place.ensures ∙ ap (λ (slots : List Slot). place_in slots c.args.node.0) c.deref.ensures.value in
+    listed_step c.args.node c.args.numbers.now c.args.state c.args.self.now _ refl refl here (omega (arith, c.if-place-len.false, c.len.ensures)) c.set_within.ensures.step
