@@ -1,5 +1,5 @@
 -- Lemmas on addresses, offsets and modes: what a word says is printed as a word that says it, and that is as long.
-use Rattle.std.proofs.Common.{◌≡◌, ℕ, zero, suc, ◌+◌, ◌-◌, ◌*◌, ◌/◌, ◌%◌, ◌^◌, ◌<◌, ◌≤◌, Bool, true, false, ◌&&◌, ◌==◌, nat_le, if◌then◌else◌, List, [], ◌∷◌, ◌++◌, length, Option, Some, None, option_map, option_and_then, refl, ap, sym, ◌∙◌, subst, arith, append_assoc, length-append, le-leb, ℤ, pos, neg_ℤ, codes}
+use Rattle.std.proofs.Common.{◌≡◌, ℕ, zero, suc, ◌+◌, ◌-◌, ◌*◌, ◌/◌, ◌%◌, ◌^◌, ◌<◌, ◌≤◌, Bool, true, false, ◌&&◌, ◌==◌, nat_le, if◌then◌else◌, List, [], ◌∷◌, ◌++◌, length, Option, Some, None, option_map, option_and_then, refl, ap, sym, ◌∙◌, subst, arith, append_assoc, length-append, le-leb, ℤ, pos, neg_ℤ, codes, inl, inr}
 use Rattle.std.proofs.lemmas.Bool.{eqb-true, leb-true}
 use Rattle.std.proofs.lemmas.Option.{same_Some}
 use Rattle.std.proofs.lemmas.Slice.Eq.{bytes_eq-Decides}
@@ -12,7 +12,7 @@ use Rattle.world_script.specs.Printing.{address_text, hours_text, mode_text, off
 use Rattle.world_script.specs.Values.{address_of, ip_of, mode_of, offset_of, signed, two_digits}
 use Rattle.world_script.specs.declared.mode.Mode.{Mode}
 use Rattle.world_script.specs.declared.mode.Mode.TheVariants as mode
-use Rattle.world_script.proofs.ValueLemmas.{decimal_is_word, number_printed, then_some, where_some}
+use Rattle.world_script.proofs.ValueLemmas.{decimal_is_word, number_printed, then_some, where_some, if_cases}
 use Rattle.world_script.proofs.WordLemmas.{AllGlyphs, IsWord}
 
 -- Parts of a word.
@@ -29,13 +29,13 @@ cut_case : (separator x : ℕ) (xs a b : List ℕ) (found : Bool) (parts : Optio
 cut_case separator x xs a b true parts e later h =
     let same : ◌≡◌ {A = List ℕ × List ℕ} ([], xs) (a, b) = same_Some ([], xs) (a, b) h in
     ap (λ (y : ℕ). y ∷ xs) (eqb-true x separator e) ∙ ap (λ (p : List ℕ × List ℕ). p.0 ++ separator ∷ p.1) same
-cut_case separator x xs a b false None e later h = let no : ⊥ = cc in absurd no
+cut_case separator x xs a b false None e later h = cc
 cut_case separator x xs a b false (Some p) e later h =
     let same : ◌≡◌ {A = List ℕ × List ℕ} (x ∷ p.0, p.1) (a, b) = same_Some (x ∷ p.0, p.1) (a, b) h in
     ap (λ (l : List ℕ). x ∷ l) (later p.0 p.1 refl) ∙ ap (λ (q : List ℕ × List ℕ). q.0 ++ separator ∷ q.1) same
 
 pub cut_joined : (separator : ℕ) (xs a b : List ℕ) → cut_at separator xs ≡ Some (a, b) → xs ≡ a ++ separator ∷ b
-cut_joined separator [] a b h = let no : ⊥ = cc in absurd no
+cut_joined separator [] a b h = cc
 cut_joined separator (x ∷ xs) a b h =
     cut_case separator x xs a b (x == separator) (cut_at separator xs) refl (λ c d e. cut_joined separator xs c d e) h
 
@@ -43,8 +43,7 @@ cut_joined separator (x ∷ xs) a b h =
 
 four_numbers : (ip a b c d : ℕ) → 16777216 * a + 65536 * b + 256 * c + d ≡ ip → a ≤ 255 → b ≤ 255 → c ≤ 255 → d ≤ 255 →
     (ip / 16777216 ≡ a) × (ip / 65536 % 256 ≡ b) × (ip / 256 % 256 ≡ c) × (ip % 256 ≡ d)
-four_numbers ip a b c d e ha hb hc hd =
-    (omega (arith, e, ha, hb, hc, hd), omega (arith, e, ha, hb, hc, hd), omega (arith, e, ha, hb, hc, hd), omega (arith, e, ha, hb, hc, hd))
+four_numbers ip a b c d e ha hb hc hd = omega arith
 
 -- the four numbers with a dot between two
 abbrev ip_text : ℕ → List ℕ
@@ -56,7 +55,7 @@ ip_joined ip a b c d h =
     sym (append_assoc (decimal a) (46 ∷ decimal b) (46 ∷ pair_text c d))
     ∙ (λ i. pair_text (sym h.0 i) (sym h.1 i) ++ 46 ∷ pair_text (sym h.2 i) (sym h.3 i))
 
-ip_printed : (text : List ℕ) (ip : ℕ) → ip_of text ≡ Some ip → text ≡ ip_text ip
+ip_printed : (text : List ℕ) (ip : ℕ) → ip_of text ≡ Some ip → (text ≡ ip_text ip) × (ip < 2 ^ 32)
 ip_printed text ip h =
     let p = then_some (cut_at 46 text) _ ip h in
     let q = then_some (cut_at 46 p.0.1) _ ip p.2 in
@@ -70,25 +69,30 @@ ip_printed text ip h =
     let nc = number_printed 255 r.0.0 c.0 (omega arith) c.1 in
     let nd = number_printed 255 r.0.1 d.0 (omega arith) d.1 in
     let sum : 16777216 * a.0 + 65536 * b.0 + 256 * c.0 + d.0 ≡ ip = same_Some _ ip d.2 in
-    cut_joined 46 text p.0.0 p.0.1 p.1
-    ∙ ap (λ (l : List ℕ). p.0.0 ++ 46 ∷ l) (cut_joined 46 p.0.1 q.0.0 q.0.1 q.1)
-    ∙ ap (λ (l : List ℕ). p.0.0 ++ 46 ∷ (q.0.0 ++ 46 ∷ l)) (cut_joined 46 q.0.1 r.0.0 r.0.1 r.1)
-    ∙ (λ i. na.1 i ++ 46 ∷ (nb.1 i ++ 46 ∷ (nc.1 i ++ 46 ∷ nd.1 i)))
-    ∙ ip_joined ip a.0 b.0 c.0 d.0 (four_numbers ip a.0 b.0 c.0 d.0 sum na.0 nb.0 nc.0 nd.0)
+    (
+      cut_joined 46 text p.0.0 p.0.1 p.1 ∙ ap (λ (l : List ℕ). p.0.0 ++ 46 ∷ l) (cut_joined 46 p.0.1 q.0.0 q.0.1 q.1)
+          ∙ ap (λ (l : List ℕ). p.0.0 ++ 46 ∷ (q.0.0 ++ 46 ∷ l)) (cut_joined 46 q.0.1 r.0.0 r.0.1 r.1)
+          ∙ (λ i. na.1 i ++ 46 ∷ (nb.1 i ++ 46 ∷ (nc.1 i ++ 46 ∷ nd.1 i)))
+          ∙ ip_joined ip a.0 b.0 c.0 d.0 (four_numbers ip a.0 b.0 c.0 d.0 sum na.0 nb.0 nc.0 nd.0),
+      omega (arith, sum, na.0, nb.0, nc.0, nd.0),
+    )
 
 address_joined : (ip port : ℕ) → ip_text ip ++ 58 ∷ decimal port ≡ address_text (record { ip = ip; port = port })
 address_joined ip port = simp append_assoc refl
 
-pub address_printed : (word : List ℕ) (a : Addr) → address_of word ≡ Some a → word ≡ address_text a
-address_printed word a h =
+address_parts : (word : List ℕ) (a : Addr) → address_of word ≡ Some a
+    → (word ≡ ip_text a.ip ++ 58 ∷ decimal a.port) × (a.ip < 2 ^ 32) × (a.port ≤ 65535)
+address_parts word a h =
     let p = then_some (cut_at 58 word) _ a h in
     let ip = then_some (ip_of p.0.0) _ a p.2 in
     let port = then_some (number_up_to 65535 p.0.1) _ a ip.2 in
-    let said = (number_printed 65535 p.0.1 port.0 (omega arith) port.1).1 in
-    let is : record { ip = ip.0; port = port.0 } ≡ a = same_Some _ a port.2 in
-    cut_joined 58 word p.0.0 p.0.1 p.1
-    ∙ (λ i. ip_printed p.0.0 ip.0 ip.1 i ++ 58 ∷ said i)
-    ∙ address_joined ip.0 port.0 ∙ ap address_text is
+    let host = ip_printed p.0.0 ip.0 ip.1 in
+    let said = number_printed 65535 p.0.1 port.0 (omega arith) port.1 in
+    rw (sym (same_Some _ a port.2))
+    (cut_joined 58 word p.0.0 p.0.1 p.1 ∙ (λ i. host.0 i ++ 58 ∷ said.1 i), host.1, said.0)
+
+pub address_printed : (word : List ℕ) (a : Addr) → address_of word ≡ Some a → word ≡ address_text a
+address_printed word a h = (address_parts word a h).0 ∙ address_joined a.ip a.port
 
 -- They are words.
 
@@ -96,51 +100,34 @@ joined_glyphs : (a b : List ℕ) (x : ℕ) → AllGlyphs a → 32 < x → x ≤ 
 joined_glyphs [] b x ha low high hb = (low, high, hb)
 joined_glyphs (y ∷ ys) b x ha low high hb = (ha.0, ha.1, joined_glyphs ys b x ha.2 low high hb)
 
-number_glyphs : (most : ℕ) (word : List ℕ) (n : ℕ) → most < 2 ^ 64 → number_up_to most word ≡ Some n → AllGlyphs word
-number_glyphs most word n small h =
-    let is = number_printed most word n small h in
-    subst AllGlyphs (sym is.1) (decimal_is_word n (omega (arith, is.0, small))).1
-
-ip_glyphs : (text : List ℕ) (ip : ℕ) → ip_of text ≡ Some ip → AllGlyphs text
-ip_glyphs text ip h =
-    let p = then_some (cut_at 46 text) _ ip h in
-    let q = then_some (cut_at 46 p.0.1) _ ip p.2 in
-    let r = then_some (cut_at 46 q.0.1) _ ip q.2 in
-    let a = then_some (number_up_to 255 p.0.0) _ ip r.2 in
-    let b = then_some (number_up_to 255 q.0.0) _ ip a.2 in
-    let c = then_some (number_up_to 255 r.0.0) _ ip b.2 in
-    let d = then_some (number_up_to 255 r.0.1) _ ip c.2 in
-    let na = number_glyphs 255 p.0.0 a.0 (omega arith) a.1 in
-    let nb = number_glyphs 255 q.0.0 b.0 (omega arith) b.1 in
-    let nc = number_glyphs 255 r.0.0 c.0 (omega arith) c.1 in
-    let nd = number_glyphs 255 r.0.1 d.0 (omega arith) d.1 in
-    let third = subst AllGlyphs (sym (cut_joined 46 q.0.1 r.0.0 r.0.1 r.1)) (joined_glyphs r.0.0 r.0.1 46 nc (omega arith) (omega arith) nd) in
-    let second = subst AllGlyphs (sym (cut_joined 46 p.0.1 q.0.0 q.0.1 q.1)) (joined_glyphs q.0.0 q.0.1 46 nb (omega arith) (omega arith) third) in
-    subst AllGlyphs (sym (cut_joined 46 text p.0.0 p.0.1 p.1)) (joined_glyphs p.0.0 p.0.1 46 na (omega arith) (omega arith) second)
+pair_glyphs : (a b : ℕ) → a < 2 ^ 64 → b < 2 ^ 64 → AllGlyphs (pair_text a b)
+pair_glyphs a b h k =
+    joined_glyphs (decimal a) (decimal b) 46 (decimal_is_word a h).1 (omega arith) (omega arith) (decimal_is_word b k).1
 
 pub address_word : (word : List ℕ) (a : Addr) → address_of word ≡ Some a → IsWord word
 address_word word a h =
-    let p = then_some (cut_at 58 word) _ a h in
-    let ip = then_some (ip_of p.0.0) _ a p.2 in
-    let port = then_some (number_up_to 65535 p.0.1) _ a ip.2 in
-    let long : 0 < length (p.0.0 ++ 58 ∷ p.0.1) = omega (arith, length-append p.0.0 (58 ∷ p.0.1)) in
-    let glyphs = joined_glyphs p.0.0 p.0.1 58 (ip_glyphs p.0.0 ip.0 ip.1) (omega arith) (omega arith)
-    (number_glyphs 65535 p.0.1 port.0 (omega arith) port.1) in
-    subst IsWord (sym (cut_joined 58 word p.0.0 p.0.1 p.1)) (long, glyphs)
+    let is = address_parts word a h in
+    let first = pair_glyphs (a.ip / 16777216) (a.ip / 65536 % 256) (omega (arith, is.1)) (omega arith) in
+    let last = pair_glyphs (a.ip / 256 % 256) (a.ip % 256) (omega arith) (omega arith) in
+    let ip = joined_glyphs (pair_text (a.ip / 16777216) (a.ip / 65536 % 256)) (pair_text (a.ip / 256 % 256) (a.ip % 256)) 46
+    first (omega arith) (omega arith) last in
+    let port = (decimal_is_word a.port (omega (arith, is.2))).1 in
+    subst IsWord (sym is.0) (
+      omega (arith, length-append (ip_text a.ip) (58 ∷ decimal a.port)),
+      joined_glyphs (ip_text a.ip) (decimal a.port) 58 ip (omega arith) (omega arith) port,
+    )
 
 -- Offsets.
 
 is_digit : (n : ℕ) → n < 10 → is_ascii_digit (48 + n) ≡ true
 is_digit n h = grind (arith, h)
 
-within : (most n : ℕ) → n ≤ most → at_most most n ≡ Some n
-within most n h = rw (le-leb n most h) refl
-
 digits_read : (most n : ℕ) → n ≤ most → most < 100 → two_digits most (48 + n / 10) (48 + n % 10) ≡ Some n
 digits_read most n h small =
     let value : (48 + n / 10 - 48) * 10 + (48 + n % 10 - 48) ≡ n = omega arith in
+    let within : at_most most n ≡ Some n = rw (le-leb n most h) refl in
     (λ i. if is_digit (n / 10) (omega (arith, h, small)) i && is_digit (n % 10) (omega arith) i then at_most most (value i) else None)
-    ∙ within most n h
+    ∙ within
 
 hours_read : (sign minutes : ℕ) → minutes ≤ 959 → offset_of (sign ∷ hours_text minutes) ≡ signed sign minutes
 hours_read sign minutes h =
@@ -179,22 +166,21 @@ minus word (suc n) six h = record {
   again = hours_read 45 (suc n) h;
 }
 
-signed_case : (word : List ℕ) (n : ℕ) (z : ℤ) (is_plus is_minus : Bool) → length word ≡ 6 → n ≤ 959 →
-    (if is_plus then Some (pos n) else if is_minus then Some (neg_ℤ (pos n)) else None) ≡ Some z → IsOffset word z
-signed_case word n z true is_minus six small h =
-    subst (λ (v : ℤ). IsOffset word v) (same_Some (pos n) z h) (plus word n six small)
-signed_case word n z false true six small h =
-    subst (λ (v : ℤ). IsOffset word v) (same_Some (neg_ℤ (pos n)) z h) (minus word n six small)
-signed_case word n z false false six small h = let no : ⊥ = cc in absurd no
-
 pub offset_printed : (word : List ℕ) (z : ℤ) → offset_of word ≡ Some z → IsOffset word z
 offset_printed (s ∷ a ∷ b ∷ colon ∷ c ∷ d ∷ []) z h =
+    let word : List ℕ = s ∷ a ∷ b ∷ colon ∷ c ∷ d ∷ [] in
     let p = where_some (colon == 58) _ z h in
     let hours = then_some (two_digits 15 a b) _ z p.1 in
     let minutes = then_some (two_digits 59 c d) _ z hours.2 in
-    let small : hours.0 * 60 + minutes.0 ≤ 959 = omega (arith, digits_within 15 a b hours.0 hours.1, digits_within 59 c d minutes.0 minutes.1) in
-    signed_case (s ∷ a ∷ b ∷ colon ∷ c ∷ d ∷ []) (hours.0 * 60 + minutes.0) z (s == 43) (s == 45) refl small minutes.2
-offset_printed _ z h = let no : ⊥ = cc in absurd no
+    let n : ℕ = hours.0 * 60 + minutes.0 in
+    let small : n ≤ 959 = omega (arith, digits_within 15 a b hours.0 hours.1, digits_within 59 c d minutes.0 minutes.1) in
+    elim (if_cases (s == 43) (Some (pos n)) _ (Some z) minutes.2) [
+      | inl q ↦ rw (sym (same_Some (pos n) z q.1)) (plus word n refl small)
+      | inr q ↦
+          let r = where_some (s == 45) (Some (neg_ℤ (pos n))) z q.1 in
+          rw (sym (same_Some (neg_ℤ (pos n)) z r.1)) (minus word n refl small)
+    ]
+offset_printed _ z h = absurd (cc)
 
 -- Modes.
 
@@ -208,7 +194,7 @@ mode_case : (word : List ℕ) (m : Mode) (old new rot : Bool) → bytes_eq word 
 mode_case word m true new rot e f g h = same_bytes word (codes "old") e ∙ ap mode_text (same_Some mode.Old m h)
 mode_case word m false true rot e f g h = same_bytes word (codes "new") f ∙ ap mode_text (same_Some mode.New m h)
 mode_case word m false false true e f g h = same_bytes word (codes "rot") g ∙ ap mode_text (same_Some mode.Rot m h)
-mode_case word m false false false e f g h = let no : ⊥ = cc in absurd no
+mode_case word m false false false e f g h = absurd (cc)
 
 pub mode_printed : (word : List ℕ) (m : Mode) → mode_of word ≡ Some m → word ≡ mode_text m
 mode_printed word m h =

@@ -1,13 +1,61 @@
--- Lines with too few or too many words.
-use Rattle.std.proofs.Common.{◌≡◌, ◌≢◌, ◌==◌, false, ℕ, ◌<◌, ◌≤◌, List, [], ◌∷◌, length, drop, Result, Err, refl, sym, ap, ◌∙◌, get_or, subst, arith}
+-- Lemmas on the words of a line: records, one a word, and lines with too few or too many words.
+use Rattle.std.proofs.Common.{◌≡◌, ℕ, suc, ◌+◌, ◌<◌, List, [], ◌∷◌, ◌++◌, length, drop, get_or, map, Option, Some, None, option_map, option_and_then, refl, ap, sym, ◌∙◌, arith, append_assoc, ◌≢◌, ◌==◌, false, ◌≤◌, Result, Err, subst}
+use Rattle.std.proofs.Math.Seq.{drop-cons}
 use Rattle.std.specs.Borrow.{Bor}
+use Rattle.route_filter.specs.Words.{octets_in}
+use Rattle.world_script.specs.Values.{records_of}
 use Rattle.world_script.specs.Outcome.{Says}
 use Rattle.world_script.specs.Saying.{arm_on, arm_said, datagram_said, fail_on, fail_said, in_said, limit_on, limit_said, packet_said, redirect_on, redirect_said, redirect_to, rule_said, ruled, submit_said}
 use Rattle.world_script.specs.declared.fault.LineFault.{LineFault}
 use Rattle.world_script.specs.declared.line.Line.{Line}
 use Rattle.world_script.specs.declared.mode.Mode.{Mode}
 use Rattle.world_script.specs.declared.fault.InputKind.TheVariants.{Arity}
-use Rattle.world_script.proofs.RecordLemmas.{now_of}
+
+-- records in front of those of the words that are left
+abbrev pub after_records : List (List ℕ) → Option (List (List ℕ)) → Option (List (List ℕ))
+after_records front more = option_map (λ records. front ++ records) more
+
+abbrev pub now_of : List (Bor (List ℕ)) → List (List ℕ)
+now_of words = map (λ word. word.now) words
+
+words_from : (words : List (Bor (List ℕ))) (i : ℕ) (d : Bor (List ℕ)) → i < length words →
+    now_of (drop i words) ≡ (get_or words i d).now ∷ now_of (drop (i + 1) words)
+words_from words i d h =
+    let next : i + 1 ≡ suc i = omega arith in rw next (ap now_of (drop-cons words i d h))
+
+one_more : (front : List (List ℕ)) (octets : List ℕ) (more : Option (List (List ℕ))) →
+    after_records (front ++ octets ∷ []) more ≡ after_records front (option_and_then (λ records. Some (octets ∷ records)) more)
+one_more front octets None = refl
+one_more front octets (Some records) = ap Some (append_assoc front (octets ∷ []) records)
+
+first_record : (front : List (List ℕ)) (octets word : List ℕ) (words : List (List ℕ)) → Some octets ≡ octets_in word →
+    after_records (front ++ octets ∷ []) (records_of words) ≡ after_records front (records_of (word ∷ words))
+first_record front octets word words e =
+    one_more front octets (records_of words)
+    ∙ ap (λ found. after_records front (option_and_then (λ record_octets. option_and_then (λ records. Some (record_octets ∷ records)) (records_of words)) found)) e
+
+-- the next word is octets
+pub records_step : (words : List (Bor (List ℕ))) (i : ℕ) (word : Bor (List ℕ)) (octets : List ℕ) (front new : List (List ℕ)) → i < length words →
+    word ≡ get_or words i word → Some octets ≡ octets_in word.now → new ≡ front ++ octets ∷ [] →
+    after_records new (records_of (map (λ w. w.now) (drop (i + 1) words))) ≡ after_records front (records_of (map (λ w. w.now) (drop i words)))
+records_step words i word octets front new h here e grown =
+    let first : now_of (drop i words) ≡ word.now ∷ now_of (drop (i + 1) words) =
+    words_from words i word h ∙ ap (λ (w : Bor (List ℕ)). w.now ∷ now_of (drop (i + 1) words)) (sym here) in
+    ap (λ (n : List (List ℕ)). after_records n (records_of (now_of (drop (i + 1) words)))) grown
+    ∙ first_record front octets word.now (now_of (drop (i + 1) words)) e
+    ∙ ap (λ (ws : List (List ℕ)). after_records front (records_of ws)) (sym first)
+
+no_first : (word : List ℕ) (words : List (List ℕ)) → None ≡ octets_in word → records_of (word ∷ words) ≡ None
+no_first word words e =
+    sym (ap (λ found. option_and_then (λ record_octets. option_and_then (λ records. Some (record_octets ∷ records)) (records_of words)) found) e)
+
+-- it isn't
+pub records_none : (words : List (Bor (List ℕ))) (i : ℕ) (word : Bor (List ℕ)) (front : List (List ℕ)) → i < length words → word ≡ get_or words i word →
+    None ≡ octets_in word.now → after_records front (records_of (map (λ w. w.now) (drop i words))) ≡ None
+records_none words i word front h here e =
+    let first : now_of (drop i words) ≡ word.now ∷ now_of (drop (i + 1) words) =
+    words_from words i word h ∙ ap (λ (w : Bor (List ℕ)). w.now ∷ now_of (drop (i + 1) words)) (sym here) in
+    ap (λ (ws : List (List ℕ)). after_records front (records_of ws)) first ∙ ap (after_records front) (no_first word.now (now_of (drop (i + 1) words)) e)
 
 pub limit_other : (words : List (Bor (List ℕ))) → length words ≢ 2 → Err Arity ≡ limit_said (now_of words)
 limit_other (a ∷ b ∷ []) h = absurd (h refl)
@@ -15,8 +63,7 @@ limit_other _ h = refl
 
 pub limit_two : (words : List (Bor (List ℕ))) (what number : Bor (List ℕ)) → length words ≡ 2 → what ≡ get_or words 0 what → number ≡ get_or words 1 number →
     limit_on what.now number.now ≡ limit_said (now_of words)
-limit_two (a ∷ b ∷ []) what number h p q =
-    ap (λ (w : Bor (List ℕ)). limit_on w.now number.now) p ∙ ap (λ (n : Bor (List ℕ)). limit_on a.now n.now) q
+limit_two (a ∷ b ∷ []) what number h p q = λ i. limit_on (p i).now (q i).now
 limit_two _ what number h p q = absurd (omega arith)
 
 pub arm_other : (arms : ℕ → ℕ → Mode → Line) (words : List (Bor (List ℕ))) → length words ≢ 3 → Err Arity ≡ arm_said arms (now_of words)
@@ -26,9 +73,7 @@ arm_other arms _ h = refl
 pub arm_three : (arms : ℕ → ℕ → Mode → Line) (words : List (Bor (List ℕ))) (gateway call mode : Bor (List ℕ)) → length words ≡ 3 →
     gateway ≡ get_or words 0 gateway → call ≡ get_or words 1 call → mode ≡ get_or words 2 mode →
     arm_on arms gateway.now call.now mode.now ≡ arm_said arms (now_of words)
-arm_three arms (a ∷ b ∷ c ∷ []) gateway call mode h p q r =
-    ap (λ (x : Bor (List ℕ)). arm_on arms x.now call.now mode.now) p ∙ ap (λ (x : Bor (List ℕ)). arm_on arms a.now x.now mode.now) q
-    ∙ ap (λ (x : Bor (List ℕ)). arm_on arms a.now b.now x.now) r
+arm_three arms (a ∷ b ∷ c ∷ []) gateway call mode h p q r = λ i. arm_on arms (p i).now (q i).now (r i).now
 arm_three arms _ gateway call mode h p q r = absurd (omega arith)
 
 pub fail_other : (fails : ℕ → ℕ → Line) (words : List (Bor (List ℕ))) → length words ≢ 2 → Err Arity ≡ fail_said fails (now_of words)
@@ -37,22 +82,18 @@ fail_other fails _ h = refl
 
 pub fail_two : (fails : ℕ → ℕ → Line) (words : List (Bor (List ℕ))) (gateway call : Bor (List ℕ)) → length words ≡ 2 → gateway ≡ get_or words 0 gateway → call ≡ get_or words 1 call →
     fail_on fails gateway.now call.now ≡ fail_said fails (now_of words)
-fail_two fails (a ∷ b ∷ []) gateway call h p q =
-    ap (λ (w : Bor (List ℕ)). fail_on fails w.now call.now) p ∙ ap (λ (n : Bor (List ℕ)). fail_on fails a.now n.now) q
+fail_two fails (a ∷ b ∷ []) gateway call h p q = λ i. fail_on fails (p i).now (q i).now
 fail_two fails _ gateway call h p q = absurd (omega arith)
 
 pub redirect_two : (words : List (Bor (List ℕ))) (gateway cause : Bor (List ℕ)) → length words ≡ 2 → gateway ≡ get_or words 0 gateway → cause ≡ get_or words 1 cause →
     redirect_on gateway.now cause.now ≡ redirect_said (now_of words)
-redirect_two (a ∷ b ∷ []) gateway cause h p q =
-    ap (λ (w : Bor (List ℕ)). redirect_on w.now cause.now) p ∙ ap (λ (n : Bor (List ℕ)). redirect_on a.now n.now) q
+redirect_two (a ∷ b ∷ []) gateway cause h p q = λ i. redirect_on (p i).now (q i).now
 redirect_two _ gateway cause h p q = absurd (omega arith)
 
 pub redirect_three : (words : List (Bor (List ℕ))) (gateway cause to : Bor (List ℕ)) → length words ≡ 3 →
     gateway ≡ get_or words 0 gateway → cause ≡ get_or words 1 cause → to ≡ get_or words 2 to →
     redirect_to gateway.now cause.now to.now ≡ redirect_said (now_of words)
-redirect_three (a ∷ b ∷ c ∷ []) gateway cause to h p q r =
-    ap (λ (x : Bor (List ℕ)). redirect_to x.now cause.now to.now) p ∙ ap (λ (x : Bor (List ℕ)). redirect_to a.now x.now to.now) q
-    ∙ ap (λ (x : Bor (List ℕ)). redirect_to a.now b.now x.now) r
+redirect_three (a ∷ b ∷ c ∷ []) gateway cause to h p q r = λ i. redirect_to (p i).now (q i).now (r i).now
 redirect_three _ gateway cause to h p q r = absurd (omega arith)
 
 pub redirect_other : (words : List (Bor (List ℕ))) → length words ≢ 2 → length words ≢ 3 → Err Arity ≡ redirect_said (now_of words)

@@ -1,25 +1,34 @@
 -- A line of a feed that is a datagram with its octets in one word.
-use Rattle.std.proofs.Common.{◌≡◌, ℕ, ◌+◌, ◌<◌, ◌≤◌, nat_lt, true, false, if◌then◌else◌, List, [], ◌∷◌, ◌++◌, length, Some, None, Ok, Err, ap, sym, ◌∙◌, arith, append-nil, codes}
+use Rattle.std.proofs.Common.{◌≡◌, ℕ, ◌+◌, ◌<◌, ◌≤◌, nat_lt, true, false, if◌then◌else◌, List, [], ◌∷◌, ◌++◌, length, Some, None, Ok, Err, refl, ap, sym, ◌∙◌, arith, append-nil, codes}
 use Rattle.std.proofs.lemmas.Option.{same_Some}
 use Rattle.std.proofs.lemmas.Slice.Eq.{bytes_eq-Decides}
 use Rattle.std.specs.Str.{bytes_eq}
 use Rattle.gw_base.specs.declared.address.Addr.{Addr}
 use Rattle.route_filter.specs.Words.{cut_at, is_empty, octets_in, words_of}
 use Rattle.world_script.specs.Printing.{words_text}
-use Rattle.world_script.specs.Saying.{behind_in, in_said, one_datagram, read_or, read_then}
-use Rattle.world_script.specs.Script.{contented, most_text, reading_of, worded}
+use Rattle.world_script.specs.Saying.{behind_in, one_datagram, read_or, read_then}
+use Rattle.world_script.specs.Script.{contented, most_text, reading_of}
 use Rattle.world_script.specs.Text.{RawLine, is_blank, is_printable, line_content, line_size}
 use Rattle.world_script.specs.Values.{address_of}
 use Rattle.world_script.specs.declared.fault.InputKind.TheVariants as kind
+use Rattle.world_script.specs.Forms.{keyword_of}
+use Rattle.world_script.specs.declared.keyword.Keyword.TheVariants.{In}
+use Rattle.world_script.specs.declared.kind.ScriptKind.{ScriptKind}
 use Rattle.world_script.specs.declared.kind.ScriptKind.TheVariants.{Feed}
 use Rattle.world_script.specs.declared.line.Line.{Line}
 use Rattle.world_script.specs.declared.line.Line.TheVariants as line
 use Rattle.world_script.specs.declared.progress.Progress.{Progress}
 use Rattle.world_script.proofs.AddressLemmas.{address_word, cut_joined}
 use Rattle.world_script.proofs.HexadecimalLemmas.{octets_glyphs, one_word}
-use Rattle.world_script.proofs.KeywordLemmas.{in_line}
+use Rattle.world_script.proofs.LineLemmas.{again_by_words}
 use Rattle.world_script.proofs.ValueLemmas.{then_some, where_some}
 use Rattle.world_script.proofs.WordLemmas.{AreWords, IsWord, joined_printable, words_of_joined}
+
+-- the first word of most lines of a feed
+pub in_feed : (of : ScriptKind) (word : List ℕ) → of ≡ Feed → bytes_eq word (codes "in") ≡ true → Ok In ≡ keyword_of of word
+in_feed of word feed e =
+    let is : word ≡ codes "in" = (bytes_eq-Decides word (codes "in")).0 e in
+    sym (ap (λ (k : ScriptKind). keyword_of k word) feed ∙ ap (keyword_of Feed) is)
 
 -- its text
 text_of : (text first later : List ℕ) → behind_in text ≡ Some (first, later) → text ≡ codes "in" ++ words_text (first ∷ later ∷ [])
@@ -40,10 +49,9 @@ contented_datagram before text from word octets sender feed going is some addres
     let blank : is_blank text ≡ false = ap is_blank is in
     let printable : is_printable text ≡ true = ap is_printable is ∙ joined_printable (codes "in") (from ∷ word ∷ []) name words in
     let split : words_of text ≡ codes "in" ∷ from ∷ word ∷ [] = ap words_of is ∙ words_of_joined (codes "in") (from ∷ word ∷ []) name words in
-    (λ i. if blank i then Ok line.Blank else if printable i then worded before text (words_of text) else Err kind.Word)
-    ∙ in_line before text (from ∷ word ∷ []) feed split
-    ∙ (λ i. if going i then Err kind.After else in_said (from ∷ word ∷ []))
-    ∙ (λ i. read_then kind.Number (address i) (λ (found : Addr). read_or kind.Hex (line.Datagram found) ((sym (one_word word) ∙ spelt) i)))
+    again_by_words before In (line.Datagram sender octets) text (codes "in") (from ∷ word ∷ []) going refl blank printable
+    split (ap (λ (k : ScriptKind). keyword_of k (codes "in")) feed)
+    (λ i. read_then kind.Number (address i) (λ (found : Addr). read_or kind.Hex (line.Datagram found) ((sym (one_word word) ∙ spelt) i)))
 
 some_word : (word found : List ℕ) → (if is_empty word then None else Some word) ≡ Some found → (word ≡ found) × (0 < length word)
 some_word [] found h = absurd (cc)

@@ -1,13 +1,17 @@
--- Lemmas on octets that are read from pairs of digits.
-use Rattle.std.proofs.Common.{◌≡◌, ◌≢◌, ℕ, ◌+◌, ◌*◌, ◌%◌, ◌<◌, ◌≤◌, ◌==◌, Bool, true, false, if◌then◌else◌, List, [], ◌∷◌, ◌++◌, length, take, drop, slice_index, slice_set, Option, Some, None, unwrap_or, option_and_then, Result, Ok, Err, refl, ap, sym, ◌∙◌, arith, append-nil}
+-- Lemmas on octets in hexadecimal: how they are read from pairs of digits, and printed as words that say them again.
+use Rattle.std.proofs.Common.{◌≡◌, ◌≢◌, ℕ, ◌+◌, ◌*◌, ◌%◌, ◌<◌, ◌≤◌, ◌==◌, List, [], ◌∷◌, ◌++◌, length, take, drop, slice_index, slice_set, Option, Some, None, unwrap_or, option_and_then, Result, Ok, Err, refl, ap, sym, ◌∙◌, arith, append-nil, zero, suc, ◌/◌, map, length-append}
 use Rattle.std.specs.Result.{result_ok}
-use Rattle.hex.proofs.HexLemmas.{decode_of-even}
+use Rattle.hex.proofs.HexLemmas.{decode_of-even, IsDigits-upper_digits, decode_of-encode_upper, decode_of-ok, length-encode_with}
 use Rattle.hex.proofs.Pairs.{decode_done, decode_err, decode_step, prepend}
-use Rattle.hex.specs.Hex.{decode_of, decode_pairs, digit_or_error, hex_digit_value, pair_value, value_at, ◌>>=◌}
+use Rattle.hex.specs.Hex.{decode_of, decode_pairs, digit_or_error, hex_digit_value, pair_value, value_at, ◌>>=◌, IsBytes, encode_upper, encode_with, upper_digits}
 use Rattle.hex.specs.declared.error.FromHexError.{FromHexError}
 use Rattle.hex.specs.declared.error.FromHexError.TheVariants.{InvalidHexCharacter, OddLength}
 use Rattle.route_filter.specs.Words.{decoded, octets_in, octets_of}
-use Rattle.world_script.proofs.WordLemmas.{AllGlyphs}
+use Rattle.world_script.proofs.WordLemmas.{AllGlyphs, AreWords, IsWord, span}
+use Rattle.world_script.proofs.ValueLemmas.{passed, then_some}
+use Rattle.std.proofs.lemmas.Option.{same_Some}
+use Rattle.world_script.specs.Printing.{version_text}
+use Rattle.world_script.specs.Values.{records_of, two_octets, version_of}
 
 -- Digits.
 
@@ -20,9 +24,7 @@ pub both_digits : (high low a b place : ℕ) → a ≡ unwrap_or (hex_digit_valu
 both_digits high low a b place e f h k =
     let first : value_at high place ≡ Ok a = ap (digit_or_error high place) (is_digit (hex_digit_value high) a e h) in
     let second : value_at low (place + 1) ≡ Ok b = ap (digit_or_error low (place + 1)) (is_digit (hex_digit_value low) b f k) in
-    let pair : pair_value high low place ≡ Ok (a * 16 + b) = rw (first, second) refl in
-    let sum : 16 * a + b ≡ a * 16 + b = omega arith in
-    ap Some sum ∙ sym (ap result_ok pair)
+    rw (first, second) (ap Some (omega arith))
 
 no_digit : (c : ℕ) → 16 ≤ unwrap_or (hex_digit_value c) 16 → hex_digit_value c ≡ None
 no_digit c h = grind (arith, h)
@@ -30,9 +32,7 @@ no_digit c h = grind (arith, h)
 pub no_high : (high low a place : ℕ) → a ≡ unwrap_or (hex_digit_value high) 16 → 16 ≤ a → None ≡ result_ok (pair_value high low place)
 no_high high low a place e h =
     let first : value_at high place ≡ Err (InvalidHexCharacter high place) =
-    ap (digit_or_error high place) (no_digit high (omega (arith, e, h))) in
-    let pair : pair_value high low place ≡ Err (InvalidHexCharacter high place) = rw first refl in
-    sym (ap result_ok pair)
+    ap (digit_or_error high place) (no_digit high (omega (arith, e, h))) in rw first
 
 refused_second : (r : Result ℕ FromHexError) (e : FromHexError) → result_ok (r >>= (λ h. Err e >>= (λ l. Ok (h * 16 + l)))) ≡ None
 refused_second (Ok h) e = refl
@@ -42,8 +42,7 @@ pub no_low : (high low b place : ℕ) → b ≡ unwrap_or (hex_digit_value low) 
 no_low high low b place e h =
     let second : value_at low (place + 1) ≡ Err (InvalidHexCharacter low (place + 1)) =
     ap (digit_or_error low (place + 1)) (no_digit low (omega (arith, e, h))) in
-    sym (ap (λ (r : Result ℕ FromHexError). result_ok (value_at high place >>= (λ h. r >>= (λ l. Ok (h * 16 + l))))) second
-    ∙ refused_second (value_at high place) (InvalidHexCharacter low (place + 1)))
+    rw second (sym (refused_second (value_at high place) (InvalidHexCharacter low (place + 1))))
 
 -- Pairs.
 
@@ -129,8 +128,123 @@ from_decoded (Err e) octets h = absurd (cc)
 
 -- a word that spells octets has no space
 pub octets_glyphs : (word octets : List ℕ) → octets_in word ≡ Some octets → AllGlyphs word
-octets_glyphs word octets h = by (length word % 2 == 1) (from_decoded (decode_of word) octets h)
-  where
-    by : (odd : Bool) → (if odd then Err OddLength else decode_pairs 0 word) ≡ Ok octets → AllGlyphs word
-    by true e = absurd (cc)
-    by false e = pairs_glyphs 0 word octets e
+octets_glyphs word octets h =
+    pairs_glyphs 0 word octets (passed (length word % 2 == 1) OddLength (decode_pairs 0 word) octets
+    (from_decoded (decode_of word) octets h)).1
+
+-- octets that a word says
+pub octets_said : (word octets : List ℕ) → octets_in word ≡ Some octets →
+    (length word ≡ 2 * length octets) × IsBytes octets
+octets_said word octets h = let p = decode_of-ok word octets (from_decoded (decode_of word) octets h) in (p.2, p.3)
+
+-- they are printed as a word that says them
+pub printed_octets : (octets : List ℕ) → IsBytes octets → octets_in (encode_upper octets) ≡ Some octets
+printed_octets octets h = ap decoded (decode_of-encode_upper octets h)
+
+pub printed_length : (octets : List ℕ) → length (encode_upper octets) ≡ 2 * length octets
+printed_length octets = length-encode_with upper_digits octets
+
+hex_glyphs : (octets : List ℕ) → IsBytes octets → AllGlyphs (encode_upper octets)
+unfolding encode_with
+hex_glyphs [] h = tt
+hex_glyphs (b ∷ rest) h =
+    let fits : b < 256 = h 0 in
+    let high = digit_glyph _ (b / 16) (IsDigits-upper_digits (b / 16) (omega arith)) in
+    let low = digit_glyph _ (b % 16) (IsDigits-upper_digits (b % 16) (omega arith)) in
+    (high.0, high.1, (low.0, low.1, hex_glyphs rest (λ k. h (suc k))))
+
+pub hex_word : (octets : List ℕ) → 0 < length octets → IsBytes octets → IsWord (encode_upper octets)
+hex_word octets some h = (omega (arith, printed_length octets, some), hex_glyphs octets h)
+
+-- Records, one a word.
+
+pub record ArePrinted (words : List (List ℕ)) (records : List (List ℕ)) : Type 0 where
+  pub are : AreWords (map encode_upper records)
+  pub long : span (map encode_upper records) ≡ span words
+  pub again : records_of (map encode_upper records) ≡ Some records
+
+pub records_printed : (words records : List (List ℕ)) → AreWords words → records_of words ≡ Some records →
+    ArePrinted words records
+records_printed [] records are h =
+    rw (sym (same_Some [] records h)) (record { are = tt; long = refl; again = refl })
+records_printed (word ∷ words) records are h =
+    let here = then_some (octets_in word) _ records h in
+    let later = then_some (records_of words) _ records here.2 in
+    let rest = records_printed words later.0 are.1 later.1 in
+    let said = octets_said word here.0 here.1 in
+    rw (sym (same_Some (here.0 ∷ later.0) records later.2)) (record {
+      are = (hex_word here.0 (omega (arith, are.0.0, said.0)) said.1, rest.are);
+      long = omega (arith, said.0, printed_length here.0, rest.long);
+      again = rw (printed_octets here.0 said.1, rest.again) refl;
+    })
+
+-- Octets of all words, joined.
+
+joined_bytes : (a b : List ℕ) → IsBytes a → IsBytes b → IsBytes (a ++ b)
+joined_bytes [] b h k i = k i
+joined_bytes (x ∷ a) b h k zero = h 0
+joined_bytes (x ∷ a) b h k (suc i) = joined_bytes a b (λ j. h (suc j)) k i
+
+pub no_bytes : IsBytes []
+no_bytes i = omega arith
+
+octets_joined : (words : List (List ℕ)) (octets : List ℕ) → octets_of words ≡ Some octets →
+    (2 * length octets + length words ≡ span words) × IsBytes octets
+octets_joined [] octets h = rw (sym (same_Some [] octets h)) (refl, no_bytes)
+octets_joined (word ∷ words) octets h =
+    let here = then_some (octets_in word) _ octets h in
+    let later = then_some (octets_of words) _ octets here.2 in
+    let said = octets_said word here.0 here.1 in
+    let rest = octets_joined words later.0 later.1 in
+    rw (sym (same_Some (here.0 ++ later.0) octets later.2))
+    (omega (arith, said.0, rest.0, length-append here.0 later.0), joined_bytes here.0 later.0 said.1 rest.1)
+
+words_room : (words : List (List ℕ)) → AreWords words → 2 * length words ≤ span words
+words_room [] are = omega arith
+words_room (word ∷ words) are = omega (arith, are.0.0, words_room words are.1)
+
+pub record IsPrinted (words : List (List ℕ)) (octets : List ℕ) : Type 0 where
+  pub is : IsWord (encode_upper octets)
+  pub short : 1 + length (encode_upper octets) ≤ span words
+  pub again : octets_of (encode_upper octets ∷ []) ≡ Some octets
+
+pub datagram_printed : (word : List ℕ) (words : List (List ℕ)) (octets : List ℕ) → AreWords (word ∷ words) →
+    octets_of (word ∷ words) ≡ Some octets →
+    IsPrinted (word ∷ words) octets
+datagram_printed word words octets are h =
+    let said = octets_joined (word ∷ words) octets h in
+    let room = words_room (word ∷ words) are in
+    record {
+      is = hex_word octets (omega (arith, said.0, room)) said.1;
+      short = omega (arith, said.0, printed_length octets);
+      again = rw (printed_octets octets said.1) (ap Some (append-nil octets));
+    }
+
+-- Versions.
+
+pub record IsVersion (word : List ℕ) (version : ℕ) : Type 0 where
+  pub is : IsWord (version_text version)
+  pub long : length (version_text version) ≡ length word
+  pub again : version_of (version_text version) ≡ Some version
+
+both_octets : (octets : List ℕ) (version : ℕ) → two_octets octets ≡ Some version → IsBytes octets →
+    (version / 256 ∷ version % 256 ∷ [] ≡ octets) × (length octets ≡ 2)
+both_octets (high ∷ low ∷ []) version h bytes =
+    let small : low < 256 = bytes 1 in
+    let sum : 256 * high + low ≡ version = same_Some (256 * high + low) version h in
+    let first : version / 256 ≡ high = omega (arith, sum, small) in
+    let second : version % 256 ≡ low = omega (arith, sum, small) in
+    (λ i. first i ∷ second i ∷ [], refl)
+both_octets _ version h bytes = let no : ⊥ = cc in absurd no
+
+pub version_printed : (word : List ℕ) (version : ℕ) → version_of word ≡ Some version → IsVersion word version
+version_printed word version h =
+    let here = then_some (octets_in word) two_octets version h in
+    let said = octets_said word here.0 here.1 in
+    let both = both_octets here.0 version here.2 said.1 in
+    let text : version_text version ≡ encode_upper here.0 = ap encode_upper both.0 in
+    record {
+      is = rw text (hex_word here.0 (omega (arith, both.1)) said.1);
+      long = ap length text ∙ omega (arith, printed_length here.0, said.0);
+      again = rw (text, printed_octets here.0 said.1) here.2;
+    }

@@ -1,6 +1,8 @@
 -- Lemmas on samples: lists that grow by one number at their end.
-use Rattle.std.proofs.Common.{◌≡◌, ℕ, zero, suc, ◌+◌, ◌*◌, ◌%◌, ◌≤◌, nat_lt, Bool, true, false, if◌then◌else◌, Option, List, [], ◌∷◌, ◌++◌, map, filter, refl, ap, sym, ◌∙◌, arith, append_assoc, append-nil}
-use Rattle.std.proofs.lemmas.List.{map_push}
+use Rattle.std.proofs.Common.{◌≡◌, ℕ, zero, suc, ◌+◌, ◌*◌, ◌%◌, ◌≤◌, Bool, true, false, if◌then◌else◌, Option, List, [], ◌∷◌, ◌++◌, map, filter, refl, ap, sym, ◌∙◌, arith, append_assoc}
+use Rattle.std.proofs.lemmas.Bool.{le-ltb}
+use Rattle.std.proofs.lemmas.List.{map-append, map_push, flat_map_more}
+use Rattle.std.proofs.lemmas.List.Elements.{filter-append}
 use Rattle.std.specs.List.{flat_map, range_with_len}
 use Rattle.rand_core.specs.Pcg32Seed.{pcg32_seed}
 use Rattle.rand_pcg.specs.Lcg.{Lcg}
@@ -14,54 +16,35 @@ pub range-snoc : (a n : ℕ) → range_with_len a (suc n) ≡ range_with_len a n
 range-snoc a zero = ap (λ (m : ℕ). m ∷ []) (omega arith)
 range-snoc a (suc n) = ap (λ (ms : List ℕ). a ∷ ms) (range-snoc (a + 1) n ∙ ap (λ (m : ℕ). range_with_len (a + 1) n ++ m ∷ []) (omega arith))
 
-pub flat-snoc : {A B : Type 0} (f : A → List B) (xs : List A) (x : A) → flat_map f (xs ++ x ∷ []) ≡ flat_map f xs ++ f x
-flat-snoc f [] x = append-nil (f x)
-flat-snoc f (y ∷ ys) x = ap (λ r. f y ++ r) (flat-snoc f ys x) ∙ sym (append_assoc (f y) (flat_map f ys) (f x))
+-- one more of what is built of the numbers from a on
+range_grows : {B : Type 0} (build : List ℕ → List B) (one : ℕ → List B) → ((ns : List ℕ) (x : ℕ) → build (ns ++ x ∷ []) ≡ build ns ++ one x) →
+    (a n m : ℕ) (old now new : List B) → m ≡ a + n → now ≡ old ++ build (range_with_len a n) → new ≡ now ++ one m →
+    new ≡ old ++ build (range_with_len a (n + 1))
+range_grows build one snoc a n m old now new is so_far grown =
+    let next : n + 1 ≡ suc n = omega arith in
+    cc (is, so_far, grown, next, append_assoc old (build (range_with_len a n)) (one (a + n)),
+    snoc (range_with_len a n) (a + n), range-snoc a n)
 
--- one more round, of the numbers from a on
+-- one more round
 pub flat_range : {B : Type 0} (f : ℕ → List B) (a n m : ℕ) (old now new : List B) → m ≡ a + n →
     now ≡ old ++ flat_map f (range_with_len a n) → new ≡ now ++ f m → new ≡ old ++ flat_map f (range_with_len a (n + 1))
-flat_range f a n m old now new is so_far grown =
-    let next : n + 1 ≡ suc n = omega arith in
-    grown ∙ ap (λ (k : ℕ). now ++ f k) is ∙ ap (λ xs. xs ++ f (a + n)) so_far ∙ append_assoc old (flat_map f (range_with_len a n)) (f (a + n))
-    ∙ ap (λ xs. old ++ xs) (sym (flat-snoc f (range_with_len a n) (a + n)) ∙ ap (flat_map f) (sym (range-snoc a n)))
-    ∙ ap (λ (m : ℕ). old ++ flat_map f (range_with_len a m)) (sym next)
+flat_range f = range_grows (flat_map f) f (λ ns x. sym (flat_map_more f [] ns x))
 
--- one more line, of the numbers from a on
+-- one more line
 pub map_range : {B : Type 0} (f : ℕ → B) (a n m : ℕ) (old now new : List B) → m ≡ a + n →
     now ≡ old ++ map f (range_with_len a n) → new ≡ now ++ f m ∷ [] → new ≡ old ++ map f (range_with_len a (n + 1))
-map_range f a n m old now new is so_far grown =
-    let next : n + 1 ≡ suc n = omega arith in
-    grown ∙ ap (λ (k : ℕ). now ++ f k ∷ []) is ∙ ap (λ xs. xs ++ f (a + n) ∷ []) so_far ∙ append_assoc old (map f (range_with_len a n)) (f (a + n) ∷ [])
-    ∙ ap (λ xs. old ++ xs) (sym (map_push f (range_with_len a n) (a + n)) ∙ ap (map f) (sym (range-snoc a n)))
-    ∙ ap (λ (m : ℕ). old ++ map f (range_with_len a m)) (sym next)
+map_range f = range_grows (map f) (λ m. f m ∷ []) (map_push f)
 
 -- where the number passes or doesn't
-filter_one : {B : Type 0} (f : ℕ → B) (p : ℕ → Bool) (x : ℕ) (b : Bool) → p x ≡ b → map f (filter p (x ∷ [])) ≡ (if b then f x ∷ [] else [])
-filter_one f p x true e = rw e refl
-filter_one f p x false e = rw e refl
-
-filter-snoc : {B : Type 0} (f : ℕ → B) (p : ℕ → Bool) (xs : List ℕ) (x : ℕ) → map f (filter p (xs ++ x ∷ [])) ≡ map f (filter p xs) ++ map f (filter p (x ∷ []))
-filter-snoc f p [] x = refl
-filter-snoc f p (y ∷ ys) x = filter-first f p y (p y) refl ys x (filter-snoc f p ys x)
-  where
-    filter-first : {B : Type 0} (f : ℕ → B) (p : ℕ → Bool) (y : ℕ) (b : Bool) → p y ≡ b → (ys : List ℕ) (x : ℕ) →
-        map f (filter p (ys ++ x ∷ [])) ≡ map f (filter p ys) ++ map f (filter p (x ∷ [])) →
-        map f (filter p (y ∷ ys ++ x ∷ [])) ≡ map f (filter p (y ∷ ys)) ++ map f (filter p (x ∷ []))
-    filter-first f p y true e ys x h = rw e (ap (λ r. f y ∷ r) h)
-    filter-first f p y false e ys x h = rw e h
+filter_one : {B : Type 0} (f : ℕ → B) (p : ℕ → Bool) (x : ℕ) → map f (filter p (x ∷ [])) ≡ (if p x then f x ∷ [] else [])
+filter_one f p x =
+    elim (p x) as (λ (b : Bool). map f (if b then x ∷ [] else []) ≡ (if b then f x ∷ [] else [])) [ true ↦ refl | false ↦ refl ]
 
 pub filter_range : {B : Type 0} (f : ℕ → B) (p : ℕ → Bool) (a n m : ℕ) (old now new : List B) → m ≡ a + n →
     now ≡ old ++ map f (filter p (range_with_len a n)) → new ≡ now ++ (if p m then f m ∷ [] else []) →
     new ≡ old ++ map f (filter p (range_with_len a (n + 1)))
-filter_range f p a n m old now new is so_far grown =
-    let next : n + 1 ≡ suc n = omega arith in
-    grown ∙ ap (λ (k : ℕ). now ++ (if p k then f k ∷ [] else [])) is
-    ∙ ap (λ xs. xs ++ (if p (a + n) then f (a + n) ∷ [] else [])) so_far
-    ∙ append_assoc old (map f (filter p (range_with_len a n))) (if p (a + n) then f (a + n) ∷ [] else [])
-    ∙ ap (λ xs. old ++ xs) (ap (λ xs. map f (filter p (range_with_len a n)) ++ xs) (sym (filter_one f p (a + n) (p (a + n)) refl))
-    ∙ sym (filter-snoc f p (range_with_len a n) (a + n)) ∙ ap (λ (ns : List ℕ). map f (filter p ns)) (sym (range-snoc a n)))
-    ∙ ap (λ (m : ℕ). old ++ map f (filter p (range_with_len a m))) (sym next)
+filter_range f p = range_grows (λ ns. map f (filter p ns)) (λ m. if p m then f m ∷ [] else []) (λ ns x. ap (map f) (filter-append p ns (x ∷ []))
+    ∙ map-append f (filter p ns) (filter p (x ∷ [])) ∙ ap (λ xs. map f (filter p ns) ++ xs) (filter_one f p x))
 
 -- Words.
 
@@ -108,8 +91,7 @@ wild_step e stopped g before middle after n first second old now new so_far one 
     let b = word_drawn g middle after (2 * n + 1) second a.1 two in
     let same : 2 * n + 1 + 1 ≡ 2 * (n + 1) = omega arith in
     let round : new ≡ now ++ wild_round e stopped (word g (2 * n)) (word g (2 * n + 1)) =
-    grown ∙ ap (λ (w : ℕ). now ++ wild_round e stopped w second) a.0
-    ∙ ap (λ (w : ℕ). now ++ wild_round e stopped (word g (2 * n)) w) b.0 in (
+    grown ∙ (λ i. now ++ wild_round e stopped (a.0 i) (b.0 i)) in (
       flat_range (λ n. wild_round e stopped (word g (2 * n)) (word g (2 * n + 1))) 0 n n old now new (omega arith) lines round,
       b.1 ∙ ap (λ (m : ℕ). after_words m g) same,
     )
@@ -122,60 +104,39 @@ pub block_step : (e : Extent) (g before after : Lcg) (n : ℕ) (old now new : Li
     (new ≡ old ++ flat_map (λ n. block e n (after_words (words_of_block e * n) g)) (range_with_len 0 (n + 1)))
     × (after ≡ after_words (words_of_block e * (n + 1)) g)
 block_step e g before after n old now new so_far drawn lines grown =
-    let same : words_of_block e * n + words_of_block e ≡ words_of_block e * (n + 1) = step_product (words_of_block e) n in
+    let same : words_of_block e * n + words_of_block e ≡ words_of_block e * (n + 1) = omega arith in
     let round : new ≡ now ++ block e n (after_words (words_of_block e * n) g) =
     grown ∙ ap (λ (h : Lcg). now ++ block e n h) so_far in (
       flat_range (λ n. block e n (after_words (words_of_block e * n) g)) 0 n n old now new (omega arith) lines round,
       drawn ∙ ap (λ (h : Lcg). after_words (words_of_block e) h) so_far
           ∙ words_append (words_of_block e * n) (words_of_block e) g ∙ ap (λ (m : ℕ). after_words m g) same,
     )
-  where
-    step_product : (d n : ℕ) → d * n + d ≡ d * (n + 1)
-    step_product d n = grind arith
-
-not_less : (n : ℕ) → 2 ≤ n → nat_lt n 2 ≡ false
-not_less n h = grind (arith, h)
-
--- where a gateway is stopped
-storm : (e : Extent) (g : Lcg) → nat_lt e.gateways 2 ≡ false → stormy e g ≡ stopped_during e (1 + word g 0 % e.gateways) (after_words 1 g)
-unfolding stormy
-storm e g h = rw h refl
 
 pub stormy_stopped : (e : Extent) (g after : Lcg) (drawn : ℕ) (old new : List Line) → 2 ≤ e.gateways → (drawn, after) ≡ pcg32 g →
     new ≡ old ++ stopped_during e (1 + drawn % e.gateways) after → new ≡ old ++ stormy e g
+unfolding stormy
 stormy_stopped e g after drawn old new h drawing grown =
     let d = first_drawn g after drawn drawing in
-    grown ∙ ap (λ (w : ℕ). old ++ stopped_during e (1 + w % e.gateways) after) d.0
-    ∙ ap (λ (s : Lcg). old ++ stopped_during e (1 + word g 0 % e.gateways) s) d.1 ∙ ap (λ l. old ++ l) (sym (storm e g (not_less e.gateways h)))
-
-thirteen : (e : Extent) → nat_lt e.gateways 2 ≡ false → 1 + 12 ≡ words_of_block e
-thirteen e h = rw h refl
+    rw (le-ltb e.gateways 2 h) (grown ∙ (λ i. old ++ stopped_during e (1 + d.0 i % e.gateways) (d.1 i)))
 
 pub stormy_words : (e : Extent) (g middle after : Lcg) (drawn : ℕ) → 2 ≤ e.gateways → (drawn, middle) ≡ pcg32 g →
     after ≡ after_words 12 middle → after ≡ after_words (words_of_block e) g
 stormy_words e g middle after drawn h drawing later =
-    later ∙ ap (λ (s : Lcg). after_words 12 s) (first_drawn g middle drawn drawing).1
-    ∙ words_append 1 12 g ∙ ap (λ (n : ℕ). after_words n g) (thirteen e (not_less e.gateways h))
+    rw (le-ltb e.gateways 2 h) (later ∙ ap (λ (s : Lcg). after_words 12 s) (first_drawn g middle drawn drawing).1
+    ∙ words_append 1 12 g)
 
 -- Part after part.
 
-two_parts : {A : Type 0} (l0 l1 l2 a b : List A) → l1 ≡ l0 ++ a → l2 ≡ l1 ++ b → l2 ≡ l0 ++ (a ++ b)
-two_parts l0 l1 l2 a b p q = q ∙ ap (λ l. l ++ b) p ∙ append_assoc l0 a b
-
 pub five_parts : {A : Type 0} (l0 l1 l2 l3 l4 l5 a b c d e : List A) → l1 ≡ l0 ++ a → l2 ≡ l1 ++ b → l3 ≡ l2 ++ c → l4 ≡ l3 ++ d → l5 ≡ l4 ++ e →
     l5 ≡ l0 ++ (a ++ b ++ c ++ d ++ e)
-five_parts l0 l1 l2 l3 l4 l5 a b c d e p q r s t =
-    two_parts l0 l4 l5 (a ++ b ++ c ++ d) e (two_parts l0 l3 l4 (a ++ b ++ c) d (two_parts l0 l2 l3 (a ++ b) c (two_parts l0 l1 l2 a b p q) r) s) t
+five_parts l0 l1 l2 l3 l4 l5 a b c d e p q r s t = rw (t, s, r, q, p) (simp append_assoc)
 
 pub block_parts : (l0 l1 l2 l3 l4 l5 a b c e : List Line) (d : Line) → l1 ≡ l0 ++ a → l2 ≡ l1 ++ b → l3 ≡ l2 ++ c → l4 ≡ l3 ++ d ∷ [] → l5 ≡ l4 ++ e →
     l5 ≡ l0 ++ (a ++ b ++ c ++ d ∷ e)
-block_parts l0 l1 l2 l3 l4 l5 a b c e d p q r s t =
-    five_parts l0 l1 l2 l3 l4 l5 a b c (d ∷ []) e p q r s t ∙ ap (λ l. l0 ++ l) (append_assoc (a ++ b ++ c) (d ∷ []) e)
+block_parts l0 l1 l2 l3 l4 l5 a b c e d p q r s t = rw (t, s, r, q, p) (simp append_assoc)
 
 pub sample_parts : (seed : ℕ) (e : Extent) (g : Lcg) (l0 l1 l2 l3 : List Line) → g ≡ pcg32_of_seed (pcg32_seed 16 seed) → l0 ≡ [] →
     l1 ≡ l0 ++ opening e → l2 ≡ l1 ++ times (blocks e) (λ n. block e n (after_words (words_of_block e * n) g)) → l3 ≡ l2 ++ line.End ∷ [] →
     l3 ≡ sample_of seed e
 unfolding seeded
-sample_parts seed e g l0 l1 l2 l3 start none p q r =
-    r ∙ ap (λ l. l ++ line.End ∷ []) (q ∙ ap (λ l. l ++ times (blocks e) (λ n. block e n (after_words (words_of_block e * n) g))) (p ∙ ap (λ l. l ++ opening e) none)
-    ∙ ap (λ (h : Lcg). opening e ++ times (blocks e) (λ n. block e n (after_words (words_of_block e * n) h))) start)
+sample_parts seed e g l0 l1 l2 l3 start none p q r = rw (r, q, p, none, start) refl

@@ -1,17 +1,41 @@
--- Lemmas on the lines of a script, for the loop that reads one a turn.
-use Rattle.std.proofs.Common.{◌≡◌, ℕ, ◌+◌, ◌||◌, Bool, true, false, if◌then◌else◌, List, [], ◌∷◌, ◌++◌, length, count_by, Result, Ok, Err, ap, sym, ◌∙◌, arith, length-append}
+-- Lemmas on the lines of a script, for the loops that read and print one a turn.
+use Rattle.std.proofs.Common.{◌≡◌, ℕ, ◌+◌, ◌<◌, List, [], ◌∷◌, ◌++◌, length, take, get_or, map, ap, sym, ◌∙◌, append_assoc, ◌||◌, Bool, true, false, if◌then◌else◌, count_by, Ok, Err, arith, length-append}
+use Rattle.std.proofs.lemmas.List.Folds.{flat_map-map, list_any-append}
+use Rattle.std.specs.List.{flat_map, list_any}
+use Rattle.hex.specs.Hex.{encode_upper}
+use Rattle.world_script.specs.Printing.{line_text, lines_text, words_text}
+use Rattle.world_script.specs.declared.kind.ScriptKind.{ScriptKind}
+use Rattle.world_script.specs.declared.line.Line.{Line}
+use Rattle.std.proofs.lemmas.List.{flat_map_more, take_more}
 use Rattle.std.proofs.Math.Bool.{or-false}
-use Rattle.std.proofs.lemmas.List.Folds.{list_any-append}
 use Rattle.std.proofs.lemmas.List.Sums.{fold-append}
-use Rattle.std.specs.List.{list_any}
 use Rattle.world_script.specs.Outcome.{progress_after}
-use Rattle.world_script.specs.Script.{ended_by, is_action_line, is_end_line, is_rule_line, onward, progress_of, reading_of, script_after, script_in}
+use Rattle.world_script.specs.Script.{ended_by, is_action_line, is_end_line, is_rule_line, progress_of, reading_of, script_after, script_in}
 use Rattle.world_script.specs.Text.{RawLine, line_size}
 use Rattle.world_script.specs.declared.fault.InputKind.{InputKind}
 use Rattle.world_script.specs.declared.fault.InputKind.TheVariants.{NoEnd}
-use Rattle.world_script.specs.declared.kind.ScriptKind.{ScriptKind}
-use Rattle.world_script.specs.declared.line.Line.{Line}
 use Rattle.world_script.specs.declared.progress.Progress.{Progress}
+
+-- one more item of a list
+more : {A : Type 0} (f : A → List ℕ) (xs : List A) (i : ℕ) (d : A) (old now new : List ℕ) → i < length xs →
+    now ≡ old ++ flat_map f (take i xs) → new ≡ now ++ f (get_or xs i d) → new ≡ old ++ flat_map f (take (i + 1) xs)
+more f xs i d old now new h so_far grown =
+    rw (grown, so_far, take_more xs i d h) (flat_map_more f old (take i xs) (get_or xs i d))
+
+pub words_more : (records : List (List ℕ)) (i : ℕ) (r : List ℕ) (old now new : List ℕ) → i < length records → r ≡ get_or records i r →
+    now ≡ old ++ words_text (map encode_upper (take i records)) → new ≡ now ++ 32 ∷ encode_upper r →
+    new ≡ old ++ words_text (map encode_upper (take (i + 1) records))
+words_more records i r old now new h here so_far grown =
+    more (λ (x : List ℕ). 32 ∷ encode_upper x) records i r old now new h
+    (so_far ∙ ap (λ l. old ++ l) (flat_map-map (λ word. 32 ∷ word) encode_upper (take i records)))
+    (grown ∙ ap (λ (x : List ℕ). now ++ 32 ∷ encode_upper x) here)
+    ∙ ap (λ l. old ++ l) (sym (flat_map-map (λ word. 32 ∷ word) encode_upper (take (i + 1) records)))
+
+pub lines_more : (of : ScriptKind) (lines : List Line) (i : ℕ) (said : Line) (now new : List ℕ) → i < length lines → said ≡ get_or lines i said →
+    now ≡ lines_text of (take i lines) → new ≡ now ++ line_text of said ++ 10 ∷ [] → new ≡ lines_text of (take (i + 1) lines)
+lines_more of lines i said now new h here so_far grown =
+    more (λ (x : Line). line_text of x ++ 10 ∷ []) lines i said [] now new h so_far
+    (grown ∙ append_assoc now (line_text of said) (10 ∷ []) ∙ ap (λ (x : Line). now ++ (line_text of x ++ 10 ∷ [])) here)
 
 -- The progress after one more line.
 
@@ -40,21 +64,10 @@ pub step_follows : (of : ScriptKind) (progress next : Progress) (lines more : Li
     progress ≡ progress_of of progress.size lines → next ≡ progress_after progress said size → more ≡ lines ++ said ∷ [] →
     next ≡ progress_of of next.size more
 step_follows of progress next lines more said size follows after grown =
-    after ∙ ap (λ (p : Progress). progress_after p said size) follows
-    ∙ sym (progress_of-append of progress.size size lines said)
-    ∙ sym (ap (λ (p : Progress). progress_of of p.size (lines ++ said ∷ [])) after)
-    ∙ ap (λ (ls : List Line). progress_of of next.size ls) (sym grown)
+    rw (after, grown) (ap (λ (p : Progress). progress_after p said size) follows
+    ∙ sym (progress_of-append of progress.size size lines said))
 
 -- The first line of the rest.
-
-here_is : (of : ScriptKind) (progress : Progress) (lines : List Line) (rest raws : List RawLine) (raw : RawLine) (reading : Result Line InputKind) →
-    progress ≡ progress_of of progress.size lines → rest ≡ raw ∷ raws → reading_of progress raw ≡ reading →
-    script_after of progress.size lines rest
-    ≡ onward (length lines + 1) reading (λ said. script_after of (progress.size + line_size raw) (lines ++ said ∷ []) raws)
-here_is of progress lines rest raws raw reading follows here e =
-    ap (script_after of progress.size lines) here
-    ∙ ap (λ r. onward (length lines + 1) r (λ said. script_after of (progress.size + line_size raw) (lines ++ said ∷ []) raws))
-    (ap (λ (p : Progress). reading_of p raw) (sym follows) ∙ e)
 
 -- it is read
 pub line_read : (of : ScriptKind) (text : List ℕ) (progress next : Progress) (lines more : List Line) (rest raws : List RawLine) (raw : RawLine) (said : Line) (size : ℕ) →
@@ -62,17 +75,14 @@ pub line_read : (of : ScriptKind) (text : List ℕ) (progress next : Progress) (
     reading_of progress raw ≡ Ok said → size ≡ line_size raw → next ≡ progress_after progress said size → more ≡ lines ++ said ∷ [] →
     script_after of next.size more raws ≡ script_in of text
 line_read of text progress next lines more rest raws raw said size so_far follows here e sized after grown =
-    ap (λ (p : Progress). script_after of p.size more raws) after
-    ∙ ap (λ n. script_after of (progress.size + n) more raws) sized
-    ∙ ap (λ (ls : List Line). script_after of (progress.size + line_size raw) ls raws) grown
-    ∙ sym (here_is of progress lines rest raws raw (Ok said) follows here e) ∙ so_far
+    rw (after, sized, grown) (rw (here, ap (λ (p : Progress). reading_of p raw) (sym follows) ∙ e) at so_far)
 
 -- it is refused
 pub line_refused : (of : ScriptKind) (text : List ℕ) (progress : Progress) (lines : List Line) (rest raws : List RawLine) (raw : RawLine) (kind : InputKind) →
     script_after of progress.size lines rest ≡ script_in of text → progress ≡ progress_of of progress.size lines → rest ≡ raw ∷ raws →
     reading_of progress raw ≡ Err kind → script_in of text ≡ Err (record { place = progress.place; kind = kind })
 line_refused of text progress lines rest raws raw kind so_far follows here e =
-    sym so_far ∙ here_is of progress lines rest raws raw (Err kind) follows here e
+    sym (rw (here, ap (λ (p : Progress). reading_of p raw) (sym follows) ∙ e) at so_far)
     ∙ ap (λ n. Err (record { place = n; kind = kind })) (ap (λ (p : Progress). p.place) (sym follows))
 
 -- No line is left.

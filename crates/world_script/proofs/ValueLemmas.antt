@@ -1,18 +1,83 @@
--- Lemmas on the words of values: a value that a word says is printed as a word that says it, and that is as long.
-use Rattle.std.proofs.Common.{◌≡◌, ℕ, zero, suc, ◌^◌, ◌<◌, ◌≤◌, Bool, true, false, not, ◌==◌, nat_le, if◌then◌else◌, List, [], ◌∷◌, length, get_or, Option, Some, None, option_and_then, refl, ap, sym, ◌∙◌, subst, arith, le-leb}
+-- Lemmas on numbers and other values: how a number is read, a digit at a time, and printed as the word that says it.
+use Rattle.std.proofs.Common.{◌≡◌, ℕ, suc, ◌+◌, ◌*◌, ◌<◌, ◌≤◌, nat_le, Bool, true, false, ◌&&◌, if◌then◌else◌, List, [], ◌∷◌, length, drop, get_or, Option, Some, None, refl, ap, sym, ◌∙◌, arith, zero, ◌^◌, not, ◌==◌, option_and_then, subst, le-leb, Ok, Err, Result, ◌⊎◌, inl, inr}
+use Rattle.std.proofs.Math.Seq.{drop-cons}
+use Rattle.std.proofs.lemmas.Bool.Decides.{nat_tests}
+use Rattle.std.proofs.lemmas.List.{at_drop_all}
+use Rattle.std.specs.Char.{is_ascii_digit, digit_value}
+use Rattle.std.specs.List.{list_all}
+use Rattle.std.specs.Str.Parse.{digits_value_after, AllDigits, digits_value}
+use Rattle.route_filter.specs.Words.{at_most, has_decimal_form, number_up_to, ◌>>=◌, is_decimal}
+use Rattle.world_script.specs.Values.{with_digit, number_between, number_of}
 use Rattle.std.proofs.lemmas.Bool.{and_parts, leb-true}
 use Rattle.std.proofs.lemmas.Fmt.{decimal-digits_value, decimal_digit, decimal_is_IsNumeral, first_decimal}
 use Rattle.std.proofs.lemmas.Option.{same_Some}
 use Rattle.std.proofs.lemmas.Str.{digit_value_digit}
 use Rattle.std.proofs.lemmas.Str.Parse.{digit_from_value, numerals_by_value, tells_digits}
-use Rattle.std.specs.Char.{digit_value, is_ascii_digit}
 use Rattle.std.specs.Fmt.{decimal}
 use Rattle.std.specs.Int.{IsInRange}
-use Rattle.std.specs.List.{list_all}
-use Rattle.std.specs.Str.Parse.{AllDigits, digits_value}
-use Rattle.route_filter.specs.Words.{at_most, has_decimal_form, is_decimal, number_up_to}
-use Rattle.world_script.specs.Values.{number_between, number_of}
 use Rattle.world_script.proofs.WordLemmas.{AllGlyphs, IsWord}
+
+-- the number that the digits that are left say behind those of `n`, where it is at most `most`
+abbrev pub number_after : ℕ → ℕ → List ℕ → Option ℕ
+number_after most n rest = if list_all is_ascii_digit rest then at_most most (digits_value_after 10 n rest) else None
+
+grows : (n : ℕ) (ds : List ℕ) → n ≤ digits_value_after 10 n ds
+grows n [] = omega arith
+grows n (d ∷ ds) = let later = grows (n * 10 + digit_value d) ds in omega arith
+
+above : (most n : ℕ) → most < n → at_most most n ≡ None
+above most n h = grind (arith, nat_tests)
+
+too_large : (b : Bool) (most n : ℕ) → most < n → (if b then at_most most n else None) ≡ None
+too_large true most n h = above most n h
+too_large false most n h = refl
+
+-- a number so large isn't followed by any that is small enough
+beyond : (most n : ℕ) (rest : List ℕ) → most < n → number_after most n rest ≡ None
+beyond most n rest h =
+    too_large (list_all is_ascii_digit rest) most (digits_value_after 10 n rest) (let g = grows n rest in omega arith)
+
+one_more : (most n : ℕ) (rest : List ℕ) (small : Bool) → nat_le n 18446744073709551615 ≡ small → most ≤ 18446744073709551615 →
+    number_after most n rest ≡ ((if small then Some n else None) >>= (λ v. number_after most v rest))
+one_more most n rest true e h = refl
+one_more most n rest false e h = beyond most n rest (grind (arith, nat_tests))
+
+-- a digit more, or none that is small enough
+pub one_digit : (most n d : ℕ) (rest : List ℕ) → most ≤ 18446744073709551615 →
+    number_after most n (d ∷ rest) ≡ (with_digit n d >>= (λ v. number_after most v rest))
+one_digit most n d rest h = by (is_ascii_digit d) refl
+  where
+    by : (digit : Bool) → is_ascii_digit d ≡ digit → (if digit && list_all is_ascii_digit rest then at_most most (digits_value_after 10 (n * 10 + digit_value d) rest) else None)
+        ≡ ((if digit then at_most 18446744073709551615 (n * 10 + digit_value d) else None) >>= (λ v. number_after most v rest))
+    by true e = one_more most (n * 10 + digit_value d) rest (nat_le (n * 10 + digit_value d) 18446744073709551615) refl h
+    by false e = refl
+
+-- the digit at this place is taken
+pub taken : (most n next : ℕ) (word : List ℕ) (i : ℕ) → most ≤ 18446744073709551615 → i < length word → Some next ≡ with_digit n (get_or word i 0) →
+    number_after most n (drop i word) ≡ number_after most next (drop (i + 1) word)
+taken most n next word i h within e =
+    let here : i + 1 ≡ suc i = omega arith in
+    rw here (ap (number_after most n) (drop-cons word i 0 within)
+    ∙ one_digit most n (get_or word i 0) (drop (suc i) word) h
+    ∙ ap (λ o. o >>= (λ v. number_after most v (drop (suc i) word))) (sym e))
+
+-- it isn't
+pub refused : (most n : ℕ) (word : List ℕ) (i : ℕ) → most ≤ 18446744073709551615 → i < length word → None ≡ with_digit n (get_or word i 0) →
+    number_after most n (drop i word) ≡ None
+refused most n word i h within e =
+    ap (number_after most n) (drop-cons word i 0 within)
+    ∙ one_digit most n (get_or word i 0) (drop (suc i) word) h
+    ∙ ap (λ o. o >>= (λ v. number_after most v (drop (suc i) word))) (sym e)
+
+pub from_form : (most : ℕ) (word : List ℕ) → has_decimal_form word ≡ true → number_up_to most word ≡ number_after most 0 word
+from_form most word e = rw e
+
+pub no_form : (most : ℕ) (word : List ℕ) → has_decimal_form word ≡ false → number_up_to most word ≡ None
+no_form most word e = rw e
+
+-- no digit is left
+pub ended : (most n : ℕ) (word : List ℕ) (i : ℕ) → length word ≤ i → number_after most n (drop i word) ≡ at_most most n
+ended most n word i h = at_drop_all (number_after most n) word i h
 
 -- Parts of what is read.
 
@@ -25,6 +90,25 @@ pub where_some : {A : Type 0} (b : Bool) (o : Option A) (x : A) → (if b then o
     (b ≡ true) × (o ≡ Some x)
 where_some true o x h = (refl, h)
 where_some false o x h = let no : ⊥ = cc in absurd no
+
+pub ok_if : {A E : Type 0} (b : Bool) (x y : A) (e : E) → (if b then Ok x else Err e) ≡ Ok y → (b ≡ true) × (x ≡ y)
+ok_if true x y e h = (refl, cc)
+ok_if false x y e h = let no : ⊥ = cc in absurd no
+
+pub where_ok : {A E : Type 0} (b : Bool) (r : Result A E) (e : E) (x : A) → (if b then r else Err e) ≡ Ok x →
+    (b ≡ true) × (r ≡ Ok x)
+where_ok true r e x h = (refl, h)
+where_ok false r e x h = let no : ⊥ = cc in absurd no
+
+pub passed : {A E : Type 0} (b : Bool) (e : E) (r : Result A E) (x : A) → (if b then Err e else r) ≡ Ok x →
+    (b ≡ false) × (r ≡ Ok x)
+passed true e r x h = let no : ⊥ = cc in absurd no
+passed false e r x h = (refl, h)
+
+pub if_cases : {A : Type 0} (b : Bool) (x y r : A) → (if b then x else y) ≡ r →
+    ((b ≡ true) × (x ≡ r)) ⊎ ((b ≡ false) × (y ≡ r))
+if_cases true x y r h = inl (refl, h)
+if_cases false x y r h = inr (refl, h)
 
 -- Numbers.
 

@@ -17,7 +17,7 @@ pub fn settings_stand_first()
 
 /// Whatever its seed and its extent, a sample begins with its settings, and the world surely takes
 /// each of its lines.
-#[tactic(auto, using(crate::proofs::SettingLemmas::sample_settings, crate::proofs::SampleTaken::sample_taken))]
+#[tactic(auto, using(crate::proofs::SampleTaken::sample_settings, crate::proofs::SampleTaken::sample_taken))]
 pub fn a_sample_is_taken()
     ensures settings { (seed : ℕ) (e : Extent) → are_settings_first (sample_of seed e) ≡ true }
     ensures taken { (seed : ℕ) (e : Extent) → takes_all first_scene (sample_of seed e) ≡ true }

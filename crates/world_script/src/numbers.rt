@@ -5,7 +5,7 @@ ghost use Rattle.route_filter.specs.Words.{has_decimal_form, number_up_to};
 ghost use Rattle.world_script.specs.Values.{with_digit};
 
 /// The number that a word says in decimal, where it is at most `most`: digits alone, and no zero before another digit.
-#[tactic(auto, using(crate::proofs::NumberLemmas::from_form, crate::proofs::NumberLemmas::no_form))]
+#[tactic(auto, using(crate::proofs::ValueLemmas::from_form, crate::proofs::ValueLemmas::no_form))]
 pub fn number(word: &[u8], most: u64) -> Option<u64>
     ensures { result ≡ number_up_to most word.now }
 {

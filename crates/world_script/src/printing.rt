@@ -19,7 +19,7 @@ const MOST_TEXT: usize = 16_777_216;
 
 /// The text of a script, a line feed after each line, which reads as this script. Comments are left
 /// out, and so is the last line feed where the text would be too long by it.
-#[tactic(auto, using(crate::proofs::PrintLemmas::lines_more))]
+#[tactic(auto, using(crate::proofs::ScriptLemmas::lines_more))]
 pub fn print(alloc: Global, script: &Script) -> Result<Octets, NoMemory>
     ensures text { IfOk result (λ text. text ≡ printed script.now.kind script.now.lines) }
     ensures read_back { IfOk result (λ text. script_in script.now.kind text ≡ Ok script.now.lines) }
@@ -252,7 +252,7 @@ fn append_packet(
 }
 
 /// Records in hexadecimal, each as a word.
-#[tactic(auto, using(crate::proofs::PrintLemmas::words_more))]
+#[tactic(auto, using(crate::proofs::ScriptLemmas::words_more))]
 fn append_records(alloc: Global, text: &mut Vec<u8>, records: &[Octets]) -> Result<(), NoMemory>
     ensures { OnOk result (text.new.items ≡ text.old.items ++ words_text (map encode_upper records.now)) }
 {

@@ -41,7 +41,7 @@ impl<'a> TextLine<'a> {
 }
 
 /// The first line of a text, and what follows it.
-#[tactic(auto, using(crate::proofs::TextLemmas::lines_some, crate::proofs::TextLemmas::lines_none))]
+#[tactic(auto, using(crate::proofs::WordLemmas::lines_some, crate::proofs::WordLemmas::lines_none))]
 pub fn first_line(text: &[u8]) -> Option<(TextLine<'_>, &[u8])>
     ensures { MatchOption result (raw_lines text.now ≡ []) (λ parts.
         (raw_lines text.now ≡ lent_line parts.0 ∷ raw_lines parts.1.now)
@@ -102,7 +102,7 @@ pub fn is_blank(content: &[u8]) -> bool
 }
 
 /// Whether all octets are printable ones of ASCII.
-#[tactic(auto, using(crate::proofs::TextLemmas::printable_more, crate::proofs::TextLemmas::printable_all))]
+#[tactic(auto, using(crate::proofs::WordLemmas::printable_more, crate::proofs::WordLemmas::printable_all))]
 pub fn is_printable(content: &[u8]) -> bool
     ensures { result ≡ is_printable content.now }
 {

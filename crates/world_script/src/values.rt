@@ -102,7 +102,7 @@ pub fn version(alloc: Global, word: &[u8]) -> Result<Option<u16>, NoMemory>
 }
 
 /// The records that words say in hexadecimal, one in each; `None` where a word isn't whole octets.
-#[tactic(auto, using(crate::proofs::RecordLemmas::records_step, crate::proofs::RecordLemmas::records_none))]
+#[tactic(auto, using(crate::proofs::ArityLemmas::records_step, crate::proofs::ArityLemmas::records_none))]
 pub fn records(alloc: Global, words: &[&[u8]]) -> Result<Option<Records>, NoMemory>
     ensures { IfOk result (λ records. records ≡ records_of (map (λ word. word.now) words.now)) }
 {

@@ -1,6 +1,6 @@
 use Rattle.std.proofs.Common.{sym, ◌∙◌, arith}
 use Rattle.std.proofs.lemmas.Bool.Decides.{nat_tests}
-use Rattle.world_script.proofs.NumberLemmas.{ended, refused, taken}
+use Rattle.world_script.proofs.ValueLemmas.{ended, refused, taken}
 use Rattle.world_script.proofs.numbers.number.Goals as goal
 
 pub returns-in_default : goal.returns-in_default

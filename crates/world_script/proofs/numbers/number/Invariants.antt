@@ -1,6 +1,6 @@
 use Rattle.std.proofs.Common.{◌≡◌, drop}
 use Rattle.route_filter.specs.Words.{number_up_to}
-use Rattle.world_script.proofs.NumberLemmas.{number_after}
+use Rattle.world_script.proofs.ValueLemmas.{number_after}
 use Rattle.world_script.proofs.numbers.number.Given as goal
 
 -- the digits that are left say the number, behind those before

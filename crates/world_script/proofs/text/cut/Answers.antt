@@ -1,5 +1,5 @@
 use Rattle.std.proofs.Common.{sym}
-use Rattle.world_script.proofs.TextLemmas.{cut_found, cut_missing}
+use Rattle.world_script.proofs.WordLemmas.{cut_found, cut_missing}
 use Rattle.world_script.proofs.text.cut.Goals as goal
 
 pub returns-in_default-clause-parts : goal.returns-in_default-clause-parts

@@ -1,6 +1,6 @@
 use Rattle.std.proofs.Common.{◌≡◌, drop, map}
 use Rattle.world_script.specs.Values.{records_of}
-use Rattle.world_script.proofs.RecordLemmas.{after_records}
+use Rattle.world_script.proofs.ArityLemmas.{after_records}
 use Rattle.world_script.proofs.values.records.Given as goal
 
 -- the records so far, and those of the words that are left, are all of them
