@@ -26,9 +26,13 @@ cut_case : (separator x : ℕ) (xs a b : List ℕ) (found : Bool) (parts : Optio
     ((c d : List ℕ) → parts ≡ Some (c, d) → xs ≡ c ++ separator ∷ d) →
     (if found then at_once xs else option_map (λ (p : List ℕ × List ℕ). (x ∷ p.0, p.1)) parts) ≡ Some (a, b) →
     x ∷ xs ≡ a ++ separator ∷ b
-cut_case separator x xs a b true parts e later h = cc (eqb-true x separator e, h)
+cut_case separator x xs a b true parts e later h =
+    let same : ◌≡◌ {A = List ℕ × List ℕ} ([], xs) (a, b) = same_Some ([], xs) (a, b) h in
+    ap (λ (y : ℕ). y ∷ xs) (eqb-true x separator e) ∙ ap (λ (p : List ℕ × List ℕ). p.0 ++ separator ∷ p.1) same
 cut_case separator x xs a b false None e later h = cc
-cut_case separator x xs a b false (Some p) e later h = cc (later p.0 p.1 refl, h)
+cut_case separator x xs a b false (Some p) e later h =
+    let same : ◌≡◌ {A = List ℕ × List ℕ} (x ∷ p.0, p.1) (a, b) = same_Some (x ∷ p.0, p.1) (a, b) h in
+    ap (λ (l : List ℕ). x ∷ l) (later p.0 p.1 refl) ∙ ap (λ (q : List ℕ × List ℕ). q.0 ++ separator ∷ q.1) same
 
 pub cut_joined : (separator : ℕ) (xs a b : List ℕ) → cut_at separator xs ≡ Some (a, b) → xs ≡ a ++ separator ∷ b
 cut_joined separator [] a b h = cc
