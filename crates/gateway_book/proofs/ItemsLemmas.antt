@@ -59,7 +59,7 @@ one_and_more item more g = gathered_on (item ∷ []) more g
 pub none_more : (g : Gathered) → gathered [] g ≡ g
 none_more g = λ i. record { skip = skips i; room = rooms i; items = items i }
   where
-    none : drop g.skip [] ≡ []
+    none : drop {A = Item} g.skip [] ≡ []
     none = drop-nil {A = Item} g.skip
 
     skips : g.skip - 0 ≡ g.skip

@@ -1,5 +1,5 @@
 -- What the area of a book stands for that is handed back.
-use Rattle.std.proofs.Common.{◌≡◌, ⊎_elim, inl, inr, ℕ, ◌≤◌, false, if◌then◌else◌, List, ◌++◌, length, ap, subst, ◌∙◌, arith, [], ◌⊎◌, Bool, true}
+use Rattle.std.proofs.Common.{◌≡◌, ⊎_elim, inl, inr, ℕ, ◌≤◌, false, if◌then◌else◌, List, ◌++◌, length, refl, sym, ap, subst, ◌∙◌, arith, [], ◌⊎◌, Bool, true, ◌&&◌}
 use Rattle.std.specs.Prelude.{IsTrue}
 use Rattle.std.proofs.lemmas.Bool.{cases_Bool}
 use Rattle.area_disk.specs.declared.area.Area.{Ghosts}
@@ -84,15 +84,16 @@ module _ {A : Type 0} {tells : Ghosts A} (book : Book A tells) (whole : Told tel
         (λ (stands : StandsFor (header_of book) c ((value_of book).firm ++ (value_of book).rest)). inr (with_fit c ((value_of book).firm ++ (value_of book).rest) (same_size c told.1 may) stands (fit told)))
         ((rests.still told).now c may)
 
-    stop_fit : IsTrue tells.tells_fate → Told tells → (outcome : Outcome3)
-        → StandsFitFor (header_of book) ((tells.fate (area_of book)).leaves outcome) (left_by_stop outcome book)
-    stop_fit fate told outcome =
-        let c = (tells.fate (area_of book)).leaves outcome in
-        let may = may_stop outcome fate in
-        elim (cases_Bool (trail.is_closed book.trail)) [
-          | inl closed ↦ rw closed (either_fit told c (same_size c told.1 may) (trail.stop_stands outcome book.trail) (rw closed at (stop fate told outcome)))
-          | inr goes ↦ rw goes (whole_fit told goes c may)
-        ]
+    stop_fit : IsTrue tells.tells_fate → Told tells → (outcome : Outcome3) → StandsFitFor (header_of book) ((tells.fate (area_of book)).leaves outcome) (left_by_stop outcome book)
+    stop_fit fate told outcome = by_state (trail.is_closed book.trail) refl
+      where
+        by_state : (b : Bool) → trail.is_closed book.trail ≡ b → StandsFitFor (header_of book) ((tells.fate (area_of book)).leaves outcome) (left_by_stop outcome book)
+        by_state false goes = subst (λ (h : List HistoryEntry). StandsFitFor (header_of book) ((tells.fate (area_of book)).leaves outcome) h)
+            (sym (ap (λ b. if b && trail.stop_stands outcome book.trail then (value_of book).firm ++ (value_of book).rest else (value_of book).firm) goes))
+            (whole_fit told goes ((tells.fate (area_of book)).leaves outcome) (may_stop outcome fate))
+        by_state true closed = subst (λ (h : List HistoryEntry). StandsFitFor (header_of book) ((tells.fate (area_of book)).leaves outcome) h)
+            (sym (ap (λ b. if b && trail.stop_stands outcome book.trail then (value_of book).firm ++ (value_of book).rest else (value_of book).firm) closed))
+            (either_fit told ((tells.fate (area_of book)).leaves outcome) (same_size ((tells.fate (area_of book)).leaves outcome) told.1 (may_stop outcome fate)) (trail.stop_stands outcome book.trail) (stop fate told outcome))
 
     pub leaves_fit : LeavesFit book
     leaves_fit = record {

@@ -111,8 +111,9 @@ module _ (f : Fortune) (v : BookValue) where
 
   -- a commit that the device is asked for
   asked_again : v.is_broken ≡ false → (b : Bool) → f.fails ≡ b → Moves f v (tried f v) []
-  asked_again goes true is = rw is (stayed (faulted v) (kept_open goes) refl refl (λ runs. absurd (false≢true (sym runs))))
-  asked_again goes false is = rw is
+  asked_again goes true is = subst (λ (w : BookValue). Moves f v w []) (sym (ap (λ b. let w : BookValue = if b then faulted v else record v { firm = v.firm ++ v.rest; rest = [] } in w) is))
+      (stayed (faulted v) (kept_open goes) refl refl (λ runs. absurd (false≢true (sym runs))))
+  asked_again goes false is = subst (λ (w : BookValue). Moves f v w []) (sym (ap (λ b. let w : BookValue = if b then faulted v else record v { firm = v.firm ++ v.rest; rest = [] } in w) is))
       (subst (λ (b : Bool). Moves f v (record v { firm = v.firm ++ v.rest; rest = []; is_broken = b }) []) (sym goes) (firm_all (kept_open goes)))
 
   left_so : v.is_broken ≡ false → Moves f v v []
