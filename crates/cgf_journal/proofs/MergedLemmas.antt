@@ -64,10 +64,10 @@ merge_all r P none alone one other both (a ∷ ks) ls = from (merge_all r P none
         let later = from rest ls in
         elim (cases_order (rank a) (rank b)) [
           | inl e ↦ rw (le-ltb (rank a) (rank b) (omega (arith, e)), le-ltb (rank b) (rank a) (omega (arith, e)))
-            (both a b ks ls e (rest ls))
+              (both a b ks ls e (rest ls))
           | inr (inl lt) ↦ rw (lt-ltb (rank a) (rank b) lt) (one a b ks ls lt (rest (b ∷ ls)))
           | inr (inr gt) ↦ rw (le-ltb (rank a) (rank b) (omega (arith, gt)), lt-ltb (rank b) (rank a) gt)
-            (other a b ks ls gt later)
+              (other a b ks ls gt later)
         ]
 
 each-merged : (P : KeptKey → Type 0) (r : ℕ) → ((a b : KeptKey) → P a → P b → P (joined_key r a b))
@@ -161,7 +161,7 @@ weight-joined : (p : HeldKey → Bool) (s : Bool) (r : ℕ) (a b : KeptKey) → 
 weight-joined p s r a b same apart = elim (cases_Bool (counts s r a)) [
   | inl is ↦ rw (count-joined s r a b, is, false_from_ne_true (counts s r b) (apart is)) (omega arith)
   | inr isnt ↦ rw (count-joined s r a b, isnt)
-    (omega (arith, ap {B = ℕ} (λ (key : HeldKey). if counts s r b then one (p key) else 0) same))
+      (omega (arith, ap {B = ℕ} (λ (key : HeldKey). if counts s r b then one (p key) else 0) same))
 ]
 
 pub passing-merged : (p : HeldKey → Bool) (s : Bool) (r : ℕ) (ks ls : List KeptKey) → AreSmall ks → AreSmall ls → AreApart s r ks ls

@@ -198,18 +198,18 @@ module _ {A : Type 0} {tells : Ghosts A} (trail : Trail A tells) where
   pub length_is : Told tells → (k : ℕ) (place : Place) (e : HistoryEntry) → k < length_of trail → IsPlaceOf trail k place → slice_get (entries trail) k ≡ Some e → place.length ≡ entry_length e
   length_is told k place e inside is get = elim (cases_lt k trail.firm) [
     | inl low ↦
-      let firm : slice_get (firm_entries trail) k ≡ Some e = elim (cases_Bool (is_closed trail)) [
-        | inl closed ↦ rw closed at get
-        | inr opened ↦ sym (get_left (firm_entries trail) (waiting trail) k (omega (arith, low, firm_count told))) ∙ (rw opened at get)
-      ] in
-      (entry_is told k place e (low, is) firm).here.size
+        let firm : slice_get (firm_entries trail) k ≡ Some e = elim (cases_Bool (is_closed trail)) [
+          | inl closed ↦ rw closed at get
+          | inr opened ↦ sym (get_left (firm_entries trail) (waiting trail) k (omega (arith, low, firm_count told))) ∙ (rw opened at get)
+        ] in
+        (entry_is told k place e (low, is) firm).here.size
     | inr high ↦
-      let opened = false_from_ne_true (is_closed trail) (λ closed. omega (arith, high, rw closed at inside)) in
-      let later : length (firm_entries trail) + (k - trail.firm) ≡ k = omega (arith, high, firm_count told) in
-      let at : trail.firm + (k - trail.firm) ≡ k = omega (arith, high) in
-      later_length (k - trail.firm) place e (later_place (k - trail.firm) place (ap (λ n. slice_get trail.places.items n) at ∙ is))
-      (sym (get_right (firm_entries trail) (waiting trail) (k - trail.firm))
-      ∙ ap (λ n. slice_get (firm_entries trail ++ waiting trail) n) later ∙ (rw opened at get))
+        let opened = false_from_ne_true (is_closed trail) (λ closed. omega (arith, high, rw closed at inside)) in
+        let later : length (firm_entries trail) + (k - trail.firm) ≡ k = omega (arith, high, firm_count told) in
+        let at : trail.firm + (k - trail.firm) ≡ k = omega (arith, high) in
+        later_length (k - trail.firm) place e (later_place (k - trail.firm) place (ap (λ n. slice_get trail.places.items n) at ∙ is))
+        (sym (get_right (firm_entries trail) (waiting trail) (k - trail.firm))
+        ∙ ap (λ n. slice_get (firm_entries trail ++ waiting trail) n) later ∙ (rw opened at get))
   ]
 
   -- what octets stand for that its journal keeps: its batches, and one more

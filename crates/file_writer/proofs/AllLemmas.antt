@@ -80,8 +80,12 @@ module _ (law : DivisionGoesOn) {A : Type 0} (tells : Ghosts A) (settings : Sett
         behind = subst (λ (r : List (Filed (List ℕ))). IsBehind tells s r later new)
             (ap (λ (c : Cuts). run_after c run x) same ∙ sym left) taken.behind;
         has_closed = taken.closed ∙ (λ i. closed_by (same i).after (closed_by (same i).before (at.has_closed i)))
-            ∙ omega (arith, after.1, closed_of-append law settings s before (item ∷ []),
-            ap (λ (d : Division (List ℕ)). length d.closed) (later_is (x ∷ []) e));
+            ∙ omega (
+              arith,
+              after.1,
+              closed_of-append law settings s before (item ∷ []),
+              ap (λ (d : Division (List ℕ)). length d.closed) (later_is (x ∷ []) e),
+            );
         has_sealed = taken.sealed ∙ at.has_sealed;
         limits = taken.limits ∙ at.limits;
         profile = taken.profile ∙ at.profile;
@@ -96,8 +100,12 @@ module _ (law : DivisionGoesOn) {A : Type 0} (tells : Ghosts A) (settings : Sett
       ∙ ap (λ (d : Division (List ℕ)). d.left_open) (later_is [] e) in
       record {
         behind = subst (λ (r : List (Filed (List ℕ))). IsBehind tells s r stream shelf) (sym left) at.behind;
-        has_closed = omega (arith, at.has_closed, closed_of-append law settings s before (item ∷ []),
-            ap (λ (d : Division (List ℕ)). length d.closed) (later_is [] e));
+        has_closed = omega (
+          arith,
+          at.has_closed,
+          closed_of-append law settings s before (item ∷ []),
+          ap (λ (d : Division (List ℕ)). length d.closed) (later_is [] e),
+        );
         has_sealed = at.has_sealed;
         limits = at.limits;
         profile = at.profile;
@@ -159,9 +167,11 @@ mark_stream_item profile rules s false moment = refl
 none_more : (settings : Settings) (closed sealed : ℕ → ℕ) (before : List Item) (item : Item) (n m : ℕ) → n ≡ m
     → (rest : List Call)
     × (calls_below m settings closed sealed before item ≡ calls_below n settings closed sealed before item ++ rest)
-none_more settings closed sealed before item n m e =
-    ([], (λ i. calls_below (sym e i) settings closed sealed before item)
-    ∙ sym (append-nil (calls_below n settings closed sealed before item)))
+none_more settings closed sealed before item n m e = (
+  [],
+  (λ i. calls_below (sym e i) settings closed sealed before item)
+      ∙ sym (append-nil (calls_below n settings closed sealed before item)),
+)
 
 pub below_more : (settings : Settings) (closed sealed : ℕ → ℕ) (before : List Item) (item : Item) (n m : ℕ) → n ≤ m
     → (rest : List Call)
@@ -224,16 +234,21 @@ pub calls-append : (settings : Settings) (closed sealed : ℕ → ℕ) (before x
 calls-append settings closed sealed before [] ys = ap (λ (items : List Item). calls_of settings closed sealed items ys)
     (sym (append-nil before))
 calls-append settings closed sealed before (x ∷ xs) ys =
-    cc (calls-append settings closed sealed (before ++ x ∷ []) xs ys, append_assoc before (x ∷ []) xs,
-    append_assoc (calls_below stream_count settings closed sealed before x)
-    (calls_of settings closed sealed (before ++ x ∷ []) xs) (calls_of settings closed sealed (before ++ (x ∷ xs)) ys))
+    cc (
+      calls-append settings closed sealed (before ++ x ∷ []) xs ys,
+      append_assoc before (x ∷ []) xs,
+      append_assoc (calls_below stream_count settings closed sealed before x)
+          (calls_of settings closed sealed (before ++ x ∷ []) xs) (calls_of settings closed sealed (before ++ (x ∷ xs)) ys),
+    )
 
 pub calls-one : (settings : Settings) (closed sealed : ℕ → ℕ) (before xs : List Item) (x : Item)
     → calls_of settings closed sealed before xs ++ calls_below stream_count settings closed sealed (before ++ xs) x
     ≡ calls_of settings closed sealed before (xs ++ x ∷ [])
 calls-one settings closed sealed before xs x =
-    cc (calls-append settings closed sealed before xs (x ∷ []),
-    append-nil (calls_below stream_count settings closed sealed (before ++ xs) x))
+    cc (
+      calls-append settings closed sealed before xs (x ∷ []),
+      append-nil (calls_below stream_count settings closed sealed (before ++ xs) x),
+    )
 
 pub take_next : (items : List Item) (i : ℕ) (x : Item) → i < length items → x ≡ slice_index_or items i x
     → take (i + 1) items ≡ take i items ++ x ∷ []

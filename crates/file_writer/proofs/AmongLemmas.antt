@@ -52,9 +52,12 @@ some_stay limits run (item ∷ items) =
 pub begun_grow : DivisionGoesOn → (settings : Settings) (closed : ℕ → ℕ) (items more : List Item) (s : ℕ)
     → begun_after settings closed items s ≤ begun_after settings closed (items ++ more) s
 begun_grow law settings closed items more s =
-    omega (arith,
-    some_stay settings.limits (stream_division settings s items).left_open (stream_items settings.profile settings.rules s more),
-    closed_of-append law settings s items more, ap count_open (left_open-append law settings s items more))
+    omega (
+      arith,
+      some_stay settings.limits (stream_division settings s items).left_open (stream_items settings.profile settings.rules s more),
+      closed_of-append law settings s items more,
+      ap count_open (left_open-append law settings s items more),
+    )
 
 pub among_fewer : DivisionGoesOn → (settings : Settings) (closed : ℕ → ℕ) (items more : List Item) (most : ℕ → ℕ)
     → AreAmong settings closed (items ++ more) most → AreAmong settings closed items most
@@ -94,11 +97,14 @@ module _ (law : DivisionGoesOn) (settings : Settings) (closed : ℕ → ℕ) (be
       ≡ begun_after settings closed (before ++ item ∷ []) s
   number_is =
       let cuts : Cuts = cuts_at settings.limits left (Record filed) in
-      omega (arith, number_by cuts.before cuts.after left filed (closed s) (closed_of settings s before),
-      closed_of-append law settings s before (item ∷ []),
-      ap count_open (left_open-append law settings s before (item ∷ [])),
-      ap (λ (d : Division (List ℕ)). length d.closed) division,
-      ap (λ (d : Division (List ℕ)). count_open d.left_open) division)
+      omega (
+        arith,
+        number_by cuts.before cuts.after left filed (closed s) (closed_of settings s before),
+        closed_of-append law settings s before (item ∷ []),
+        ap count_open (left_open-append law settings s before (item ∷ [])),
+        ap (λ (d : Division (List ℕ)). length d.closed) division,
+        ap (λ (d : Division (List ℕ)). count_open d.left_open) division,
+      )
 
   pub number_within : (limits : Limits) (n : ℕ) → limits ≡ settings.limits → n ≡ closed s + closed_of settings s before
       → (most : ℕ) → begun_after settings closed (before ++ item ∷ []) s ≤ most

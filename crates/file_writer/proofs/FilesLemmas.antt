@@ -65,5 +65,8 @@ pub files-append : DivisionGoesOn → (settings : Settings) (s : ℕ) (items mor
     → stream_files settings s (items ++ more) ≡ stream_files settings s items ++ later_files settings s items more
 files-append law settings s items more =
     let number : 1 + closed_of settings s items ≡ closed_of settings s items + 1 = omega arith in
-    cc (division-append law settings s items more, files_from-append settings.file s 1
-    (stream_division settings s items).closed (later_division settings s items more).closed)
+    cc (
+      division-append law settings s items more,
+      files_from-append settings.file s 1
+          (stream_division settings s items).closed (later_division settings s items more).closed,
+    )

@@ -202,8 +202,12 @@ greatest_closing : (settings : FileSettings) (s : ℕ) (file : Progress) (u : Op
     ≤ max (closed_progress reason file).closed (closed_progress reason file).sealed
 greatest_closing settings s file u None files h = omega (arith, greatest_in-append s files [])
 greatest_closing settings s file u (Some reason) files h =
-    omega (arith, greatest_in-append s files (seals (closing_of settings s file u (Some reason))),
-    sealed_by_closing settings s s file u (Some reason), own_number s (file.closed + 1))
+    omega (
+      arith,
+      greatest_in-append s files (seals (closing_of settings s file u (Some reason))),
+      sealed_by_closing settings s s file u (Some reason),
+      own_number s (file.closed + 1),
+    )
 
 other_number : (s t n : ℕ) → t ≢ s → number_in t (record { stream = s; sequence = n }) ≡ 0
 other_number s t n h = ap (λ (b : Bool). if b then n else 0) (ne_eqb s t (λ e. h (sym e)))
@@ -212,8 +216,12 @@ greatest_elsewhere : (settings : FileSettings) (s t : ℕ) (file : Progress) (u 
     (reason : Option ClosureReason) (files : List SealedFile) → t ≢ s
     → greatest_in t (files ++ seals (closing_of settings s file u reason)) ≡ greatest_in t files
 greatest_elsewhere settings s t file u reason files h =
-    omega (arith, greatest_in-append t files (seals (closing_of settings s file u reason)),
-    sealed_by_closing settings s t file u reason, other_number s t (closed_by reason file.closed) h)
+    omega (
+      arith,
+      greatest_in-append t files (seals (closing_of settings s file u reason)),
+      sealed_by_closing settings s t file u reason,
+      other_number s t (closed_by reason file.closed) h,
+    )
 
 seals_if : (b : Bool) (growing : Option RunFacts)
     → seals (if b then [] else beginning_of growing ++ Writes ∷ Writes ∷ []) ≡ []

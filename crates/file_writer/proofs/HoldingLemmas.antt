@@ -23,16 +23,25 @@ use Rattle.file_writer.proofs.WritingLemmas.{own_number}
 take_on : {A : Type 0} (xs ys made left : List A) (k : ℕ) → made ++ left ≡ drop k xs → take k (xs ++ ys) ++ made
     ≡ take (k + length made) (xs ++ ys)
 take_on xs ys made left k e =
-    cc (e, take-add k (length made) (xs ++ ys), drop-append k xs ys, append_assoc made left (drop (k - length xs) ys),
-    take-append_seam made (left ++ drop (k - length xs) ys))
+    cc (
+      e,
+      take-add k (length made) (xs ++ ys),
+      drop-append k xs ys,
+      append_assoc made left (drop (k - length xs) ys),
+      take-append_seam made (left ++ drop (k - length xs) ys),
+    )
 
 take_more : {A : Type 0} (front xs ys made left : List A) (k : ℕ) → made ++ left ≡ drop k xs
     → take (length front + k) (front ++ (xs ++ ys)) ++ made
     ≡ take (length front + k + length made) (front ++ (xs ++ ys))
 take_more front xs ys made left k e =
     let same : length front + k + length made ≡ length front + (k + length made) = omega arith in
-    cc (take-append-add front (xs ++ ys) k, take-append-add front (xs ++ ys) (k + length made),
-    append_assoc front (take k (xs ++ ys)) made, take_on xs ys made left k e)
+    cc (
+      take-append-add front (xs ++ ys) k,
+      take-append-add front (xs ++ ys) (k + length made),
+      append_assoc front (take k (xs ++ ys)) made,
+      take_on xs ys made left k e,
+    )
 
 -- ---- files
 
@@ -125,10 +134,15 @@ module _ (law : DivisionGoesOn) (settings : Settings) (closed sealed : ℕ → �
       let made : List SealedFile = in_stream s (seals calls) in
       let count : stand s + length made
       ≡ max (later s) (closed s + closed_of settings s (items ++ more)) - closed s =
-      omega (arith, same s h, closed_of-append law settings s items more, length-drop (past s) (middle s),
-      ap length (sym (append-nil made) ∙ made_of calls [] s h (sym (append-nil calls))),
-      length-files_from settings.file s (closed s + closed_of settings s items + 1)
-      (later_division settings s items more).closed) in
+      omega (
+        arith,
+        same s h,
+        closed_of-append law settings s items more,
+        length-drop (past s) (middle s),
+        ap length (sym (append-nil made) ∙ made_of calls [] s h (sym (append-nil calls))),
+        length-files_from settings.file s (closed s + closed_of settings s items + 1)
+            (later_division settings s items more).closed,
+      ) in
       ap (λ (fs : List SealedFile). in_stream s fs) e ∙ some_stand calls [] s h (sym (append-nil calls))
       ∙ ap (λ (n : ℕ). before s ++ take n (files_after settings closed s all)) count
 
@@ -158,8 +172,13 @@ pub first_counted : (settings : Settings) (s m : ℕ) (items : List Item) (files
     → in_stream s files ≡ take m (stream_files settings s items) → m ≤ closed_of settings s items
     → greatest_in s files ≡ m
 first_counted settings s m items files first h =
-    omega (arith, h, greatest_own s files, ap (greatest_in s) first,
-    counted settings.file s 0 m (stream_division settings s items).closed)
+    omega (
+      arith,
+      h,
+      greatest_own s files,
+      ap (greatest_in s) first,
+      counted settings.file s 0 m (stream_division settings s items).closed,
+    )
 
 -- A shelf holds the first files, however many: then it holds those up to the greatest number that is found there.
 pub holds_found : (settings : Settings) (closed : ℕ → ℕ) (before : ℕ → List SealedFile) (all : List Item)
@@ -171,8 +190,14 @@ holds_found settings closed before all sealed s n low stands =
     let runs : List (ClosedRun (List ℕ)) = (stream_division settings s all).closed in
     let files : List SealedFile = files_after settings closed s all in
     let count : min n (length runs) ≡ max (greatest_in s sealed) (closed s + 0) - closed s =
-    omega (arith, low, greatest_own s sealed, ap (greatest_in s) stands, greatest_in-append s (before s) (take n files),
-    counted settings.file s (closed s) n runs) in
+    omega (
+      arith,
+      low,
+      greatest_own s sealed,
+      ap (greatest_in s) stands,
+      greatest_in-append s (before s) (take n files),
+      counted settings.file s (closed s) n runs,
+    ) in
     stands ∙ ap (λ (fs : List SealedFile). before s ++ fs) (sym (take_min n files)
     ∙ ap (λ (k : ℕ). take (min n k) files) (length-files_from settings.file s (closed s + 1) runs)
     ∙ ap (λ (k : ℕ). take k files) count)

@@ -113,8 +113,12 @@ is_item profile rules s (first ∷ items) n h =
           rw none (the_first profile rules s first items (omega (arith, less)))
       | inr past ↦
           one_later profile rules s first items (n - m) n (omega (arith, past))
-          (is_item profile rules s items (n - m) (omega (arith, h, past,
-          length-records (stream_item profile rules s first) (stream_items profile rules s items))))
+          (is_item profile rules s items (n - m) (omega (
+            arith,
+            h,
+            past,
+            length-records (stream_item profile rules s first) (stream_items profile rules s items),
+          )))
     ]
 
 -- ---- the item at a place

@@ -141,15 +141,24 @@ one_longer : (run : List (Filed (List ℕ))) (filed : Filed (List ℕ)) → run_
     ≤ run_length run + (59 + filed.octets)
 one_longer [] filed = omega (arith, few_octets filed.kind.extension, sum_by-cons cdr_length filed [])
 one_longer (x ∷ run) filed =
-    omega (arith, few_octets filed.kind.extension, sum_by-append cdr_length (x ∷ run) (filed ∷ []),
-    sum_by-cons cdr_length filed [])
+    omega (
+      arith,
+      few_octets filed.kind.extension,
+      sum_by-append cdr_length (x ∷ run) (filed ∷ []),
+      sum_by-cons cdr_length filed [],
+    )
 
 as_long : (offset : ℤ) (kind : FiledKind) (run : List (Filed (List ℕ))) → AreOf offset kind run
     → sum_by cdr.cdr_length (run_records run) ≡ sum_by cdr_length run
 as_long offset kind [] all = refl
 as_long offset kind (x ∷ run) all =
-    omega (arith, all.0.stated, as_long offset kind run all.2,
-    sum_by-cons cdr.cdr_length (record_of x) (run_records run), sum_by-cons cdr_length x run)
+    omega (
+      arith,
+      all.0.stated,
+      as_long offset kind run all.2,
+      sum_by-cons cdr.cdr_length (record_of x) (run_records run),
+      sum_by-cons cdr_length x run,
+    )
 
 no_more : (run : List (Filed (List ℕ))) → length run ≤ sum_by cdr_length run
 no_more [] = omega arith

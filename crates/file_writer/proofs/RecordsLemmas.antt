@@ -215,8 +215,12 @@ same_number s q (run ∷ later) n m p h k =
           elim (of_test (nat_lt m (length run)) _ p _ k) [
             | inl here ↦ absurd (omega (arith, ap (λ (at : FilePlace). at.sequence) here.1, (beyond n past.1).1))
             | inr there ↦
-                omega (arith, same_number s (q + 1) later (n - length run) (m - length run) p past.1 there.1,
-                ltb-false n (length run) past.0, ltb-false m (length run) there.0)
+                omega (
+                  arith,
+                  same_number s (q + 1) later (n - length run) (m - length run) p past.1 there.1,
+                  ltb-false n (length run) past.0,
+                  ltb-false m (length run) there.0,
+                )
           ]
     ]
   where
@@ -249,10 +253,13 @@ record_there profile rules s (x ∷ xs) (suc k) found filed h is =
     let here : List (Filed (List ℕ)) = records_of (stream_item profile rules s x) in
     let before : List (Filed (List ℕ)) = records_of (stream_items profile rules s (take k xs)) in
     let left : length here + length before - length here ≡ length before = omega arith in
-    cc (length-records (stream_item profile rules s x) (stream_items profile rules s (take k xs)),
-    records_of-append (stream_item profile rules s x) (stream_items profile rules s xs),
-    slice_get-after here (records_of (stream_items profile rules s xs)) (length here + length before) (omega arith), left,
-    record_there profile rules s xs k found filed h is)
+    cc (
+      length-records (stream_item profile rules s x) (stream_items profile rules s (take k xs)),
+      records_of-append (stream_item profile rules s x) (stream_items profile rules s xs),
+      slice_get-after here (records_of (stream_items profile rules s xs)) (length here + length before) (omega arith),
+      left,
+      record_there profile rules s xs k found filed h is,
+    )
 
 -- a record of a stream is one more for the items after it
 one_more_after : (profile : ℕ) (rules : List Rule) (s : ℕ) (items : List Item) (k l : ℕ) (found : Item) (filed : Filed (List ℕ))
@@ -268,9 +275,12 @@ one_more_after profile rules s (x ∷ xs) zero (suc l) found filed h is less =
     (ap (λ (i : Item). stream_item profile rules s i) (same_Some x found h) ∙ is) in
     omega (arith, one, length-records (stream_item profile rules s x) (stream_items profile rules s (take l xs)))
 one_more_after profile rules s (x ∷ xs) (suc k) (suc l) found filed h is less =
-    omega (arith, one_more_after profile rules s xs k l found filed h is (omega (arith, less)),
-    length-records (stream_item profile rules s x) (stream_items profile rules s (take k xs)),
-    length-records (stream_item profile rules s x) (stream_items profile rules s (take l xs)))
+    omega (
+      arith,
+      one_more_after profile rules s xs k l found filed h is (omega (arith, less)),
+      length-records (stream_item profile rules s x) (stream_items profile rules s (take k xs)),
+      length-records (stream_item profile rules s x) (stream_items profile rules s (take l xs)),
+    )
 
 -- ---- items that are records
 
@@ -303,8 +313,11 @@ place-has law settings items k kind tag octets moment h =
     all_of-runs division.closed division.left_open
     ∙ law settings.limits (stream_items settings.profile settings.rules s items) in
     let p = placed s 1 (runs_of division) n
-    (omega (arith, slice_get_within (records_of (stream_items settings.profile settings.rules s items)) n filed there,
-    ap length all)) in
+    (omega (
+      arith,
+      slice_get_within (records_of (stream_items settings.profile settings.rules s items)) n filed there,
+      ap length all,
+    )) in
     record {
       place = p.place;
       found = ap (λ (o : Option Item). place_of_item settings items k o) h ∙ p.found;

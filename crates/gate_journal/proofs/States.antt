@@ -114,20 +114,22 @@ module _ {A : Type 0} (g : Ghosts A) (laws : AreaLaws g) (j : Journal A g) where
   over new size buffer gate torn_length is_torn front some small leaves low high torn_size torn_held torn_fits whole
       durable =
       let is : Told g → batches_below gate (g.octets new) ≡ some = λ told. listed_below (header_of j) head_long gate
-      (g.octets new) some (leaves told (g.octets new) (laws.holds new)).listed (small told) in
-      (record {
-        long = omega (arith, size, j.sound.long);
-        short = omega (arith, size, j.sound.short);
-        low = low;
-        high = omega (arith, size, high);
-        torn_size = torn_size;
-        torn_held = torn_held;
-        torn_fits = λ e. omega (arith, size, torn_fits e);
-        founding_whole = whole;
-        small = λ told. rw (is told) (small told);
-        content = λ told c left. rw (is told, size) (leaves told c left);
-        durable = durable;
-      }, is)
+      (g.octets new) some (leaves told (g.octets new) (laws.holds new)).listed (small told) in (
+        record {
+          long = omega (arith, size, j.sound.long);
+          short = omega (arith, size, j.sound.short);
+          low = low;
+          high = omega (arith, size, high);
+          torn_size = torn_size;
+          torn_held = torn_held;
+          torn_fits = λ e. omega (arith, size, torn_fits e);
+          founding_whole = whole;
+          small = λ told. rw (is told) (small told);
+          content = λ told c left. rw (is told, size) (leaves told c left);
+          durable = durable;
+        },
+        is,
+      )
 
   -- a call after which a crash leaves no more than before
   pub kept : (new : A) → g.size new ≡ g.size j.area → Within (g.may_leave j.area) (g.may_leave new)

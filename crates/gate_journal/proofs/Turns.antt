@@ -235,9 +235,9 @@ after_gate header long front batches batch before place low octets false octet i
 after_gate header long front batches batch before place low octets true octet inside is content =
     elim (eqb_tells octet open_gate) [
       | inl yes ↦ rw yes.0
-        (taken_in header front batches place low long batch before octets (inside refl) content (sym is ∙ yes.1))
+          (taken_in header front batches place low long batch before octets (inside refl) content (sym is ∙ yes.1))
       | inr no ↦ rw no.0
-        (left_out header front batches place low true batch before octets content (λ opened. no.1 (is ∙ opened)))
+          (left_out header front batches place low true batch before octets content (λ opened. no.1 (is ∙ opened)))
     ]
 
 -- and octet 0 read

@@ -77,15 +77,25 @@ module _ (law : HeldKeysAreHeld) (h : List HistoryEntry) (e : HistoryEntry) wher
 
   step_act : (a : HistoryAct) → e.act ≡ a → Step a
   step_act (act.File n x packet) is =
-      omega (arith, part (act.File n x packet), length-map (filed_under (present_key h n x) e.moment packet) part_of,
-        filed_count (present_key h n x) e.moment packet, packet_few packet, body_long (big_bytes 4 n.0) (big_bytes 8 x) packet)
+      omega (
+        arith,
+        part (act.File n x packet),
+        length-map (filed_under (present_key h n x) e.moment packet) part_of,
+        filed_count (present_key h n x) e.moment packet,
+        packet_few packet,
+        body_long (big_bytes 4 n.0) (big_bytes 8 x) packet,
+      )
   step_act (act.Hold n x packet) is =
       omega (arith, part (act.Hold n x packet), held_now n x packet is, packet_few packet, body_long (big_bytes 4 n.0) (big_bytes 8 x) packet)
   step_act (act.Release n xs) is =
       let ns : List ℕ = once (λ x y. x == y) xs in
-      omega (arith, load_less h (λ (key : HeldKey). stays_held (act.Release n xs) key) (apart h n.0 ns) (apart_once h n xs) (held_keys h),
-        less_all h n.0 (held_keys h) (λ x. held_there law h n x) ns (distinct_once xs), length-map (released_by h e.moment n ns) part_of,
-        released_all h e.moment n ns)
+      omega (
+        arith,
+        load_less h (λ (key : HeldKey). stays_held (act.Release n xs) key) (apart h n.0 ns) (apart_once h n xs) (held_keys h),
+        less_all h n.0 (held_keys h) (λ x. held_there law h n x) ns (distinct_once xs),
+        length-map (released_by h e.moment n ns) part_of,
+        released_all h e.moment n ns,
+      )
   step_act other is = omega (arith, part other)
 
   step : length (items_by h e) + load_of (h ++ e ∷ []) ≤ load_of h + cost_of e
@@ -94,8 +104,13 @@ module _ (law : HeldKeysAreHeld) (h : List HistoryEntry) (e : HistoryEntry) wher
 items_cost : HeldKeysAreHeld → (before h : List HistoryEntry) → length (along items_by before h) + load_of (before ++ h) ≤ load_of before + costs_of h
 items_cost law before [] = omega (arith, ap load_of (append-nil before))
 items_cost law before (e ∷ h) =
-    omega (arith, step law before e, items_cost law (before ++ e ∷ []) h,
-      length-append (items_by before e) (along items_by (before ++ e ∷ []) h), ap load_of (append_assoc before (e ∷ []) h))
+    omega (
+      arith,
+      step law before e,
+      items_cost law (before ++ e ∷ []) h,
+      length-append (items_by before e) (along items_by (before ++ e ∷ []) h),
+      ap load_of (append_assoc before (e ∷ []) h),
+    )
 
 -- the items of a history are no more than what its entries cost
 pub few_items : HeldKeysAreHeld → (h : List HistoryEntry) → length (items_of h) ≤ costs_of h

@@ -35,9 +35,9 @@ module _ (x : ℕ) (xs : List ℕ) where
   pub one_within : (least greatest low high : ℕ) → AreWithin least greatest xs → low ≤ least → low ≤ x → greatest ≤ high → x ≤ high
       → AreWithin low high (x ∷ xs)
   one_within least greatest low high within below low_x above high_x y is = elim (or_cases (x == y) (list_any (λ z. z == y) xs) is) [
-      | inl e ↦ let same = eqb-true x y e in (omega (arith, low_x, same), omega (arith, high_x, same))
-      | inr found ↦ (omega (arith, below, (within y found).0), omega (arith, above, (within y found).1))
-    ]
+    | inl e ↦ let same = eqb-true x y e in (omega (arith, low_x, same), omega (arith, high_x, same))
+    | inr found ↦ (omega (arith, below, (within y found).0), omega (arith, above, (within y found).1))
+  ]
 
   -- a number beyond the bounds is none of them
   pub none_beyond : (least greatest : ℕ) → AreWithin least greatest xs → ((least ≤ x) × (x ≤ greatest) → ⊥) → list_any (λ y. y == x) xs ≡ false

@@ -43,9 +43,9 @@ held_ones-push o xs x =
     by_test : (b : Bool) → once (λ (y : ℕ) (z : ℕ). y == z) (held ++ cond b (x ∷ []) [])
         ≡ (if b && not (list_any (λ y. y == x) (held_ones o xs)) then held_ones o xs ++ x ∷ [] else held_ones o xs)
     by_test true = once-push (λ (y : ℕ) (z : ℕ). y == z) same_numbers held x ∙ elim (cases_Bool (list_any (λ y. y == x) (held_ones o xs))) [
-        | inl e ↦ rw e refl
-        | inr e ↦ rw e refl
-      ]
+      | inl e ↦ rw e refl
+      | inr e ↦ rw e refl
+    ]
     by_test false = ap (once (λ (y : ℕ) (z : ℕ). y == z)) (append-nil held)
 
 abbrev pub held_from : Observed → List ℕ → List ℕ → List ℕ

@@ -100,8 +100,13 @@ count_all h node xs = sum_by (λ (x : ℕ). held_count h node x) xs
 pub released_all : (h : List HistoryEntry) (moment : ℕ) (n : NodeId) (xs : List ℕ) → length (released_by h moment n xs) ≡ count_all h n.0 xs
 released_all h moment n [] = refl
 released_all h moment n (x ∷ xs) =
-    omega (arith, released_count h moment n x, released_all h moment n xs, length-append (released_records h moment n x) (released_by h moment n xs),
-      sum_by-cons (λ (y : ℕ). held_count h n.0 y) x xs)
+    omega (
+      arith,
+      released_count h moment n x,
+      released_all h moment n xs,
+      length-append (released_records h moment n x) (released_by h moment n xs),
+      sum_by-cons (λ (y : ℕ). held_count h n.0 y) x xs,
+    )
 
 -- ---- how many records are held
 
@@ -135,8 +140,12 @@ if_less false b n more = omega arith
 pub load_less : (h : List HistoryEntry) (p q : HeldKey → Bool) → ((key : HeldKey) → p key ≡ true → q key ≡ true) → (ks : List HeldKey)
     → load h (filter p ks) ≤ load h (filter q ks)
 load_less h p q more ks =
-    omega (arith, load_by h p ks, load_by h q ks,
-      sum_by-le-sum_by (load_if h p) (load_if h q) ks (λ key. if_less (p key) (q key) (key_count h key) (more key)))
+    omega (
+      arith,
+      load_by h p ks,
+      load_by h q ks,
+      sum_by-le-sum_by (load_if h p) (load_if h q) ks (λ key. if_less (p key) (q key) (key_count h key) (more key)),
+    )
 
 pub load_part : (h : List HistoryEntry) (p : HeldKey → Bool) (ks : List HeldKey) → load h (filter p ks) ≤ load h ks
 load_part h p ks = omega (arith, sum_by-filter_both p (λ key. not (p key)) (λ _. refl) (λ (key : HeldKey). key_count h key) ks)
@@ -203,9 +212,10 @@ module _ (h : List HistoryEntry) (n : ℕ) where
       let node : key.node.0 ≡ n = eqb-true key.node.0 n parts.0 in
       let number : key.number ≡ x = eqb-true key.number x parts.1 in
       let here : (n == key.node.0) ≡ true = eq-eqb n key.node.0 (sym node) in
-      let same : (x == key.number) ≡ true = eq-eqb x key.number (sym number) in
-      (rw (here, same) refl,
-        rw (here, not_among x key.number xs all same) (ap (λ (k : ℕ). held_count h k key.number) node ∙ ap (λ (k : ℕ). held_count h n k) number))
+      let same : (x == key.number) ≡ true = eq-eqb x key.number (sym number) in (
+        rw (here, same) refl,
+        rw (here, not_among x key.number xs all same) (ap (λ (k : ℕ). held_count h k key.number) node ∙ ap (λ (k : ℕ). held_count h n k) number),
+      )
 
   less_sums : (x : ℕ) (xs : List ℕ) → list_all (λ y. not (x == y)) xs ≡ true → (ks : List HeldKey) → holds n x ks ≡ true
       → held_count h n x + sum_by (load_if h (apart (x ∷ xs))) ks ≤ sum_by (load_if h (apart xs)) ks

@@ -64,8 +64,13 @@ module _ (h : List HistoryEntry) (e : HistoryEntry) (old new : Cursor) (here : s
           (hold_more (places_of old.copies) (take old.entry h) e (subst (λ (k : ℕ). AreBelow k (places_of old.copies)) (sym length_front) below) at.copies))
 
       more : min (old.items + count) (2 ^ 64 - 1) ≡ min (length (items_of (take old.entry h) ++ items_by (take old.entry h) e)) (2 ^ 64 - 1)
-      more = omega (arith, came (items_by (take old.entry h) e) before after is some, counted, at.items,
-          length-append (items_of (take old.entry h)) (items_by (take old.entry h) e))
+      more = omega (
+        arith,
+        came (items_by (take old.entry h) e) before after is some,
+        counted,
+        at.items,
+        length-append (items_of (take old.entry h)) (items_by (take old.entry h) e),
+      )
 
   -- behind the entry's items come those of the entries behind it
   one_gathered : (before : Gathered) {after : Gathered} → after ≡ gathered (items_by (take old.entry h) e) before
@@ -113,7 +118,6 @@ at_still {h} {old} {new} still at = record {
 -- ---- a released copy
 
 module _ (before : List HistoryEntry) (copies : CopyPlaces) (n : NodeId) (number moment : ℕ) (held : HoldCopies copies before) where
-
   -- what the entry that holds it has for a packet
   pub one_released : (k : ℕ) (e : HistoryEntry) → copy_at copies n.0 number ≡ Some k → slice_get before k ≡ Some e
       → released_records before moment n number ≡ option_map_or (filed_under (present_key before n number) moment) (packet_of_hold e.act) []

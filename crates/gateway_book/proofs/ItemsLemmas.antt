@@ -51,7 +51,7 @@ gathered_on some more g = λ i. record { skip = skips i; room = rooms i; items =
     items =
         append_assoc g.items (take g.room (drop g.skip some)) (take (g.room - length (drop g.skip some)) (drop (g.skip - length some) more))
         ∙ ap (λ (l : List Item). g.items ++ l) (sym (ap (λ (l : List Item). take g.room l) (drop_over g.skip some more)
-          ∙ take_over g.room (drop g.skip some) (drop (g.skip - length some) more)))
+        ∙ take_over g.room (drop g.skip some) (drop (g.skip - length some) more)))
 
 pub one_and_more : (item : Item) (more : List Item) (g : Gathered) → gathered more (gathered (item ∷ []) g) ≡ gathered (item ∷ more) g
 one_and_more item more g = gathered_on (item ∷ []) more g

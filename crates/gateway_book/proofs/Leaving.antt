@@ -1,7 +1,6 @@
 -- What the area of a book stands for that is handed back.
 use Rattle.std.proofs.Common.{◌≡◌, ⊎_elim, inl, inr, ℕ, ◌≤◌, false, if◌then◌else◌, List, ◌++◌, length, refl, sym, ap, subst, ◌∙◌, arith, [], ◌⊎◌, Bool, true, ◌&&◌}
 use Rattle.std.specs.Prelude.{IsTrue}
-use Rattle.std.proofs.lemmas.Bool.{cases_Bool}
 use Rattle.area_disk.specs.declared.area.Area.{Ghosts}
 use Rattle.gate_journal.specs.Moments.{Leaves, Told}
 use Rattle.cgf_journal.specs.Format.{StandsFor}

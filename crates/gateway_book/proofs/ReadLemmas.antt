@@ -15,7 +15,6 @@ use Rattle.cgf_journal.specs.declared.trail.Trail.{Trail}
 use Rattle.gateway_book.specs.Read.{IsRead}
 
 module _ {A : Type 0} {tells : Ghosts A} where
-
   kept_on : {a b c : Trail A tells} → IsKept a b → IsKept b c → IsKept a c
   kept_on one two = record {
     size = two.size ∙ one.size;

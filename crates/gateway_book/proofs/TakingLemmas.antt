@@ -47,7 +47,6 @@ IfSaid old new before after moment who decision finished =
     (reply : List ℕ) → finished ≡ done.Said reply → (a : Option HistoryAct) × (decision ≡ Says reply a) × AddsIf old new before after moment who a
 
 module _ {A : Type 0} {tells : Ghosts A} {old new : Trail A tells} {before after : Index} where
-
   pub followed_added : {e : HistoryEntry} → IsFollowed old before → IsAdded old new before after e
       → (Told tells → IsFit (tells.size (area_of old)) (all_entries old) e) → IsFollowed new after
   followed_added {e} followed added fits = record {
@@ -69,7 +68,7 @@ module _ {A : Type 0} {tells : Ghosts A} {old new : Trail A tells} {before after
   pub followed_answer : {moment : ℕ} {who : Caller} {decision : Decided} (finished : Done) → IsFollowed old before
       → IfSilent old new before after decision finished → IfSaid old new before after moment who decision finished
       → (Told tells → (reply : List ℕ) (a : HistoryAct) → finished ≡ done.Said reply → decision ≡ Says reply (Some a)
-        → IsFit (tells.size (area_of old)) (all_entries old) (entry_of moment who a)) → IsFollowed new after
+      → IsFit (tells.size (area_of old)) (all_entries old) (entry_of moment who a)) → IsFollowed new after
   followed_answer {moment} {who} {decision} (done.Silent why) followed silent said fits = followed_same followed (silent why refl).1
   followed_answer {moment} {who} {decision} (done.Said reply) followed silent said fits = by_act (said reply refl).0 (said reply refl).1 (said reply refl).2
     where
@@ -90,7 +89,7 @@ same_room {tells = tells} trail now moment who open_now at = λ i a. (by_parts a
 pub answered_is : {A : Type 0} {tells : Ghosts A} (trail : Trail A tells) (index : Index) (from : Addr) (datagram : PreparedValue) (now moment : ℕ)
     (who : Caller) → is_closed trail ≡ false → moment ≡ moment_after (all_entries trail) now
     → ((room : HistoryAct → Bool) → answer_within (observed_by false index (node_of from)) from datagram room
-      ≡ answer_within (observed (all_entries trail) (node_of from)) from datagram room)
+    ≡ answer_within (observed (all_entries trail) (node_of from)) from datagram room)
     → decided (answer_within (observed_by false index (node_of from)) from datagram (room_told trail moment who))
     ≡ decided (answer_to (all_entries trail) from datagram (tells.size (area_of trail)))
 answered_is trail index from datagram now moment who open_now at answers =

@@ -38,15 +38,15 @@ aligned_front : (n : ℕ) (ys rest : List HistoryEntry) → AreAligned (take n (
 aligned_front zero ys rest = inl (ys, refl)
 aligned_front (suc n) [] rest = inr (take (suc n) rest, refl)
 aligned_front (suc n) (y ∷ ys) rest = elim (aligned_front n ys rest) [
-    | inl is ↦ inl (is.0, ap (λ (h : List HistoryEntry). y ∷ h) is.1)
-    | inr is ↦ inr (is.0, ap (λ (h : List HistoryEntry). y ∷ h) is.1)
-  ]
+  | inl is ↦ inl (is.0, ap (λ (h : List HistoryEntry). y ∷ h) is.1)
+  | inr is ↦ inr (is.0, ap (λ (h : List HistoryEntry). y ∷ h) is.1)
+]
 
 aligned_take : (n : ℕ) (xs ys : List HistoryEntry) → AreAligned xs ys → AreAligned (take n xs) ys
 aligned_take n xs ys aligned = elim aligned [
-    | inl is ↦ inl (drop n xs ++ is.0, is.1 ∙ ap (λ (h : List HistoryEntry). h ++ is.0) (sym (take-append-drop n xs)) ∙ append_assoc (take n xs) (drop n xs) is.0)
-    | inr is ↦ rw is.1 (aligned_front n ys is.0)
-  ]
+  | inl is ↦ inl (drop n xs ++ is.0, is.1 ∙ ap (λ (h : List HistoryEntry). h ++ is.0) (sym (take-append-drop n xs)) ∙ append_assoc (take n xs) (drop n xs) is.0)
+  | inr is ↦ rw is.1 (aligned_front n ys is.0)
+]
 
 -- ---- values
 
@@ -148,9 +148,11 @@ module _ (f : Fortune) (v : BookValue) where
       let begun = moves.list runs in
       record {
         firm = moves.firm;
-        list = λ is. subst (λ (h : List HistoryEntry). Begins (history_of v) h) (sym (history_by (recorded_if m now who (Some a)) false runs ∙ behind))
-            (begun.0 ++ e ∷ [], ap (λ (h : List HistoryEntry). h ++ e ∷ []) (sym (history_by m false runs) ∙ begun.1)
-            ∙ append_assoc (history_of v) begun.0 (e ∷ []));
+        list = λ is. subst (λ (h : List HistoryEntry). Begins (history_of v) h) (sym (history_by (recorded_if m now who (Some a)) false runs ∙ behind)) (
+          begun.0 ++ e ∷ [],
+          ap (λ (h : List HistoryEntry). h ++ e ∷ []) (sym (history_by m false runs) ∙ begun.1)
+              ∙ append_assoc (history_of v) begun.0 (e ∷ []),
+        );
         aligned = moves.aligned;
         stands = behind ∙ ap (λ (h : List HistoryEntry). h ++ e ∷ []) (moves.stands ∙ append-nil (if drops_of f v then v.firm else v.firm ++ v.rest));
       }

@@ -50,7 +50,7 @@ among p q all (key ∷ keys) =
     let rest = among p q all keys in
     cond_both (p key) (key ∷ filter p keys) (filter p keys) (λ (ks : List HeldKey). count_by q ks ≡ count_by p (key ∷ keys))
     (λ e. let counted : one_if (q key) ≡ 1 = ap one_if (all key e) in let one : one_if (p key) ≡ 1 = ap one_if e in
-        omega (arith, rest, counted, one, count-cons q key (filter p keys), count-cons p key keys))
+    omega (arith, rest, counted, one, count-cons q key (filter p keys), count-cons p key keys))
     (λ e. let one : one_if (p key) ≡ 0 = ap one_if e in omega (arith, rest, one, count-cons p key keys))
 
 -- and one that passes none of them counts none
@@ -59,8 +59,14 @@ none_among : (p q : HeldKey → Bool) → ((key : HeldKey) → p key ≡ true �
 none_among p q none keys =
     let others = among p (λ key. not (q key)) (λ key e. ap not (none key e)) keys in
     let kept = filter p keys in
-    omega (arith, others, length-filter p keys, length-filter_both q (λ key. not (q key)) (λ _. refl) kept, length-filter q kept,
-      length-filter (λ key. not (q key)) kept)
+    omega (
+      arith,
+      others,
+      length-filter p keys,
+      length-filter_both q (λ key. not (q key)) (λ _. refl) kept,
+      length-filter q kept,
+      length-filter (λ key. not (q key)) kept,
+    )
 
 -- the keys that one test passes are let go: of those that count, so many
 pub count-without : (p q : HeldKey → Bool) → ((key : HeldKey) → p key ≡ true → q key ≡ true) → (keys : List HeldKey)
@@ -100,8 +106,12 @@ held_once n x h = by_last (λ (k : List HistoryEntry). count_by is (held_keys k)
 
     more : (k : List HistoryEntry) (e : HistoryEntry) → count_by is (held_keys k) ≤ 1 → count_by is (held_keys (k ++ e ∷ [])) ≤ 1
     more k e rest =
-        omega (arith, ap (λ (keys : List HeldKey). count_by is keys) (held_keys-append k e),
-          count-append is (filter (λ key. stays_held e.act key) (held_keys k)) (held_by e.act []), by_act e.act (held_keys k) rest)
+        omega (
+          arith,
+          ap (λ (keys : List HeldKey). count_by is keys) (held_keys-append k e),
+          count-append is (filter (λ key. stays_held e.act key) (held_keys k)) (held_by e.act []),
+          by_act e.act (held_keys k) rest,
+        )
 
 -- a test of keys passes as many as there are among keys that it passes once at most
 pub count_once : (p : HeldKey → Bool) (keys : List HeldKey) → count_by p keys ≤ 1 → count_by p keys ≡ (if list_any p keys then 1 else 0)
@@ -150,9 +160,9 @@ pass_all p all (key ∷ keys) = rw (all key) (ap (λ (l : List HeldKey). key ∷
 filter_both : (p q : HeldKey → Bool) (keys : List HeldKey) → filter p (filter q keys) ≡ filter (λ key. q key && p key) keys
 filter_both p q [] = refl
 filter_both p q (key ∷ keys) = elim (cases_Bool (q key)) [
-    | inl e ↦ rw e (ap (λ (ks : List HeldKey). cond (p key) (key ∷ ks) ks) (filter_both p q keys))
-    | inr e ↦ rw e (filter_both p q keys)
-  ]
+  | inl e ↦ rw e (ap (λ (ks : List HeldKey). cond (p key) (key ∷ ks) ks) (filter_both p q keys))
+  | inr e ↦ rw e (filter_both p q keys)
+]
 
 -- the keys of a node
 abbrev of_node : ℕ → HeldKey → Bool
@@ -205,9 +215,12 @@ without_all node copies keys are = record {
   count = omega (arith, are.count, are.counts node, length-filter its keys, length-filter_both its (λ key. not (its key)) (λ _. refl) keys);
   counts = λ n. cond_both (n == node) 0 (copies.count_of n) (λ k. k ≡ count_by (of_node n) (filter (λ key. not (its key)) keys))
       (λ e. let same : n ≡ node = eqb-true n node e in
-          omega (arith, ap (λ (m : ℕ). count_by (of_node m) keys) same, count-without its (of_node n) (λ key is. ap (λ (m : ℕ). key.node.0 == m) same ∙ is) keys))
-      (λ e. omega (arith, are.counts n,
-        count-but its (of_node n) (λ key is. ap (λ (m : ℕ). m == n) (eqb-true key.node.0 node is) ∙ same_numbers node n ∙ e) keys));
+      omega (arith, ap (λ (m : ℕ). count_by (of_node m) keys) same, count-without its (of_node n) (λ key is. ap (λ (m : ℕ). key.node.0 == m) same ∙ is) keys))
+      (λ e. omega (
+        arith,
+        are.counts n,
+        count-but its (of_node n) (λ key is. ap (λ (m : ℕ). m == n) (eqb-true key.node.0 node is) ∙ same_numbers node n ∙ e) keys,
+      ));
 }
   where
     its : HeldKey → Bool
@@ -222,9 +235,9 @@ with_one node number place copies keys are = record {
   count = omega (arith, are.count, length-append keys (key ∷ []));
   counts = λ n. cond_both (node.0 == n) (copies.count_of n + 1) (copies.count_of n) (λ k. k ≡ count_by (of_node n) (keys ++ key ∷ []))
       (λ e. let one : one_if (of_node n key) ≡ 1 = ap one_if e in
-          omega (arith, are.counts n, one, count-cons (of_node n) key [], count-append (of_node n) keys (key ∷ [])))
+      omega (arith, are.counts n, one, count-cons (of_node n) key [], count-append (of_node n) keys (key ∷ [])))
       (λ e. let none : one_if (of_node n key) ≡ 0 = ap one_if e in
-          omega (arith, are.counts n, none, count-cons (of_node n) key [], count-append (of_node n) keys (key ∷ [])));
+      omega (arith, are.counts n, none, count-cons (of_node n) key [], count-append (of_node n) keys (key ∷ [])));
 }
   where
     key : HeldKey
@@ -256,7 +269,7 @@ without_list node (number ∷ numbers) copies keys once are =
     (filter_both (is_other node numbers) (λ key. not (is_key node number key)) keys
     ∙ filter_agree (λ (key : HeldKey). not (is_key node number key) && is_other node numbers key) (is_other node (number ∷ numbers)) both keys)
     (without_list node numbers (without_copy node number copies) (others node number keys)
-      (once_filter (λ key. not (is_key node number key)) keys once) (without_one node number copies keys once are))
+    (once_filter (λ key. not (is_key node number key)) keys once) (without_one node number copies keys once are))
   where
     both : (key : HeldKey) → (not (is_key node number key) && is_other node numbers key) ≡ is_other node (number ∷ numbers) key
     both key = ap (λ (b : Bool). b && is_other node numbers key) (same_keys key.node.0 node key.number number)

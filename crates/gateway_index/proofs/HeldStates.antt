@@ -59,7 +59,7 @@ unfolding numbered_nodes
 numbered_held m x s other held nodes told node n =
     cond_both (m.0 == node) (with_state half x s (nodes.window node)) (nodes.window node) (λ seen. seen.state n ≡ Held → is_some (held.place_of node n) ≡ true)
     (λ _. after_given (λ state. state ≡ Held → is_some (held.place_of node n) ≡ true) (is_within half (raised (nodes.window node).top x) n) (x == n)
-      (not_held Fresh refl) (λ _. not_held s other) (λ _. told node n))
+    (not_held Fresh refl) (λ _. not_held s other) (λ _. told node n))
     (λ _. told node n)
 
 pub copied_held : (m : NodeId) (x : ℕ) (held : Copies) (nodes : NodeSide) → AreHeldIn held nodes
@@ -84,7 +84,7 @@ unfolding listed_nodes
 listed_held m xs s other held nodes told node n =
     cond_both (m.0 == node) (with_states half xs s (nodes.window node)) (nodes.window node) (λ seen. seen.state n ≡ Held → there)
     (λ _. after_given (λ state. state ≡ Held → there) (is_within half (nodes.window node).top n) (list_any (λ x. x == n) xs)
-      (not_held Fresh refl) (λ _. not_held s other) (λ any is. ap is_some (other_number m.0 xs held node n any) ∙ told node n is))
+    (not_held Fresh refl) (λ _. not_held s other) (λ any is. ap is_some (other_number m.0 xs held node n any) ∙ told node n is))
     (λ apart is. ap is_some (other_node m.0 xs held node n apart) ∙ told node n is)
   where
     there : Type 0

@@ -32,9 +32,9 @@ window_by firm slots pairs n = seen_at firm pairs (place_in slots n)
 window_cut : (side : Bool) (k n : ℕ) (slots : List Slot) (pairs : List WindowPair) → k ≤ length slots
     → ((j : ℕ) → k ≤ j → seen_at side pairs j ≡ nothing_seen) → window_by side (take k slots) pairs n ≡ window_by side slots pairs n
 window_cut side k n slots pairs within behind = elim (place_cut k n slots within) [
-    | inl same ↦ ap (λ (j : ℕ). seen_at side pairs j) same
-    | inr both ↦ behind (place_in (take k slots) n) both.0 ∙ sym (behind (place_in slots n) both.1)
-  ]
+  | inl same ↦ ap (λ (j : ℕ). seen_at side pairs j) same
+  | inr both ↦ behind (place_in (take k slots) n) both.0 ∙ sym (behind (place_in slots n) both.1)
+]
 
 -- ---- a node that becomes known
 
@@ -109,9 +109,9 @@ module _ (node : NodeId) (place : ℕ) (slots : List Slot) (here : place ≡ pla
   pub at_place : {step : Seen → Seen} {pairs after : List WindowPair} → IsStepAt place step pairs after
       → (n : ℕ) → window_by false slots after n ≡ (if node.0 == n then step (window_by false slots pairs n) else window_by false slots pairs n)
   at_place s n = s.live (place_in slots n) ∙ elim (eqb_tells node.0 n) [
-      | inl is ↦ rw (is.0, eq-eqb place (place_in slots n) (here ∙ ap (λ (m : ℕ). place_in slots m) is.1)) refl
-      | inr is ↦ rw (is.0, ne_eqb place (place_in slots n) (λ same. apart node.0 n slots is.1 (omega (arith, here, inside)) (sym here ∙ same))) refl
-    ]
+    | inl is ↦ rw (is.0, eq-eqb place (place_in slots n) (here ∙ ap (λ (m : ℕ). place_in slots m) is.1)) refl
+    | inr is ↦ rw (is.0, ne_eqb place (place_in slots n) (λ same. apart node.0 n slots is.1 (omega (arith, here, inside)) (sym here ∙ same))) refl
+  ]
 
 pub beside_step : {firm nodes more place : ℕ} {step : Seen → Seen} {pairs after : List WindowPair} → AreBeside firm nodes pairs
     → IsStepAt place step pairs after → place < more → nodes ≤ more → AreBeside firm more after
@@ -135,7 +135,7 @@ numbered_step node number state {place} old new same learnt s = record {
   live = same_nodes (nodes_in false new) (numbered_nodes node number state (nodes_in false old)) learnt.known (learnt_openings learnt false)
       (λ n. at_place node place new.slots.items learnt.here learnt.inside s n
       ∙ ap (λ (seen : Seen). if node.0 == n then with_state half number state seen else seen)
-        (learnt_windows learnt false old.windows.pairs.items old.beside.live_behind n));
+      (learnt_windows learnt false old.windows.pairs.items old.beside.live_behind n));
   firm = same_nodes (nodes_in true new) (nodes_in true old)
       (ap (λ (count : ℕ). nodes_of (take count new.slots.items)) same ∙ learnt_firm learnt old.firm old.are_slots.within) (learnt_openings learnt true)
       (λ n. s.firm (place_in new.slots.items n) ∙ learnt_windows learnt true old.windows.pairs.items (firm_behind old) n);

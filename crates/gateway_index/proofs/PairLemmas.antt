@@ -71,9 +71,9 @@ pub stepped_at : {step : Seen → Seen} {pairs : List WindowPair} {place : ℕ} 
 stepped_at {step} {pairs} {place} {pair} {new} inside is s = record {
   count = length-set pairs place new;
   live = λ k. seen_set false pairs place k new inside ∙ elim (eqb_tells place k) [
-      | inl at ↦ rw at.0 (s.live ∙ ap step (there false k at.1))
-      | inr apart ↦ rw apart.0 refl
-    ];
+    | inl at ↦ rw at.0 (s.live ∙ ap step (there false k at.1))
+    | inr apart ↦ rw apart.0 refl
+  ];
   firm = λ k. seen_set true pairs place k new inside ∙ cond_both (place == k) (seen_in true new) (seen_at true pairs k) (λ seen. seen ≡ seen_at true pairs k)
       (λ e. s.firm ∙ there true k (eqb-true place k e)) (λ _. refl);
 }
@@ -148,9 +148,9 @@ kept_around {firm} {from} {end} {old} before behind kept = record {
 pub same_behind : {end least : ℕ} (pairs : List WindowPair) → least ≡ min end (length pairs)
     → ((k : ℕ) → end ≤ k → seen_at true pairs k ≡ seen_at false pairs k) → (k : ℕ) → least ≤ k → seen_at true pairs k ≡ seen_at false pairs k
 same_behind {end} {least} pairs is behind k past = elim (cases_lt k (length pairs)) [
-    | inl low ↦ behind k (omega (arith, is, past, low))
-    | inr over ↦ seen_behind true pairs k over ∙ sym (seen_behind false pairs k over)
-  ]
+  | inl low ↦ behind k (omega (arith, is, past, low))
+  | inr over ↦ seen_behind true pairs k over ∙ sym (seen_behind false pairs k over)
+]
 
 -- a step at a place leaves both sides the same where they were, but there
 pub same_after : {step : Seen → Seen} {place : ℕ} {old new : List WindowPair} (k : ℕ) → IsStepAt place step old new → (place ≡ k → ⊥)

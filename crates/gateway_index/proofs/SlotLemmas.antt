@@ -211,9 +211,9 @@ found_nowhere n slots i past = rw (drop_all i slots past) refl
 pub known_inside : (node : NodeId) (slots : List Slot) → is_known (nodes_of slots) node ≡ true → place_in slots node.0 < length slots
 known_inside node [] known = absurd (true≢false (sym known))
 known_inside node (slot ∷ slots) known = elim (cases_Bool (slot.node.0 == node.0)) [
-    | inl e ↦ rw e (omega arith)
-    | inr e ↦ rw e (omega (arith, known_inside node slots (rw e at known)))
-  ]
+  | inl e ↦ rw e (omega arith)
+  | inr e ↦ rw e (omega (arith, known_inside node slots (rw e at known)))
+]
 
 pub unknown_behind : (node : NodeId) (slots : List Slot) → is_known (nodes_of slots) node ≡ false → place_in slots node.0 ≡ length slots
 unknown_behind node [] unknown = refl
@@ -251,9 +251,9 @@ pub place_cut : (k n : ℕ) (slots : List Slot) → k ≤ length slots
 place_cut zero n slots within = inr (omega arith, omega arith)
 place_cut (suc k) n [] within = absurd (omega (arith, within))
 place_cut (suc k) n (slot ∷ slots) within = elim (cases_Bool (slot.node.0 == n)) [
-    | inl e ↦ rw e (inl refl)
-    | inr e ↦ rw e (elim (place_cut k n slots (omega (arith, within))) [ inl same ↦ inl (ap suc same) | inr both ↦ inr (omega (arith, both.0), omega (arith, both.1)) ])
-  ]
+  | inl e ↦ rw e (inl refl)
+  | inr e ↦ rw e (elim (place_cut k n slots (omega (arith, within))) [ inl same ↦ inl (ap suc same) | inr both ↦ inr (omega (arith, both.0), omega (arith, both.1)) ])
+]
 
 pub place_settled : (firm : Bool) (k n : ℕ) (slots : List Slot) → place_in (settled firm k slots) n ≡ place_in (kept_slots firm k slots) n
 place_settled firm k n slots = place_map (λ slot. settled_slot firm slot) (λ slot. refl) n (kept_slots firm k slots)

@@ -197,13 +197,21 @@ unstranded : (h : List HistoryEntry) (e : HistoryEntry) → ((m : ℕ) → begin
 unstranded h e begins = omega (arith, none_counts (λ key. strands e.act key) (λ key. begins key.node.0) (held_keys h), stranded-append h e)
 
 module _ (count_law : CountLaw) (side : Side) (h : List HistoryEntry) (e : HistoryEntry) (fits : length h + 2 < 2 ^ 64) (t : Tells side h) where
-
   stranded_after : (act : HistoryAct) → e.act ≡ act → (acted act side).totals.stranded ≡ (copies_of (h ++ e ∷ [])).stranded
   stranded_after (Path n port counter) is =
       let of : count_by (λ (key : HeldKey). strands e.act key) (held_keys h) ≡ count_by (λ (key : HeldKey). key.node.0 == n.0) (held_keys h) =
       ap (λ (p : HeldKey → Bool). count_by p (held_keys h)) (λ i key. (ap (λ a. begins_epoch key.node.0 a) is ∙ same_numbers n.0 key.node.0) i) in
-      omega (arith, fits, of, ap (λ (v : Totals). v.stranded) t.totals, t.held.counts n.0, stranded-append h e, copies-le h, count_law h,
-        count_by-le-length (λ (key : HeldKey). key.node.0 == n.0) (held_keys h))
+      omega (
+        arith,
+        fits,
+        of,
+        ap (λ (v : Totals). v.stranded) t.totals,
+        t.held.counts n.0,
+        stranded-append h e,
+        copies-le h,
+        count_law h,
+        count_by-le-length (λ (key : HeldKey). key.node.0 == n.0) (held_keys h),
+      )
   stranded_after _ is = ap (λ (v : Totals). v.stranded) t.totals ∙ sym (unstranded h e (λ m. ap (λ a. begins_epoch m a) is))
 
 -- ---- the law

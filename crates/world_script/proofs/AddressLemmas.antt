@@ -68,8 +68,7 @@ ip_printed text ip h =
     let nb = number_printed 255 q.0.0 b.0 (omega arith) b.1 in
     let nc = number_printed 255 r.0.0 c.0 (omega arith) c.1 in
     let nd = number_printed 255 r.0.1 d.0 (omega arith) d.1 in
-    let sum : 16777216 * a.0 + 65536 * b.0 + 256 * c.0 + d.0 ≡ ip = same_Some _ ip d.2 in
-    (
+    let sum : 16777216 * a.0 + 65536 * b.0 + 256 * c.0 + d.0 ≡ ip = same_Some _ ip d.2 in (
       cut_joined 46 text p.0.0 p.0.1 p.1 ∙ ap (λ (l : List ℕ). p.0.0 ++ 46 ∷ l) (cut_joined 46 p.0.1 q.0.0 q.0.1 q.1)
           ∙ ap (λ (l : List ℕ). p.0.0 ++ 46 ∷ (q.0.0 ++ 46 ∷ l)) (cut_joined 46 q.0.1 r.0.0 r.0.1 r.1)
           ∙ (λ i. na.1 i ++ 46 ∷ (nb.1 i ++ 46 ∷ (nc.1 i ++ 46 ∷ nd.1 i)))

@@ -149,9 +149,17 @@ submit_part node packet h k =
       no_setting = refl;
       no_end = refl;
     })
-    (omega (arith, few, rs.long, ap length text, length-append (codes "submit") (words_text words), length_words words,
-    printed_length (6 ∷ 0 ∷ []), length-decimal-le 2 node (omega arith) (omega (arith, h)) small,
-    length-decimal-le 1 1 (omega arith) (omega arith) (omega arith)))
+    (omega (
+      arith,
+      few,
+      rs.long,
+      ap length text,
+      length-append (codes "submit") (words_text words),
+      length_words words,
+      printed_length (6 ∷ 0 ∷ []),
+      length-decimal-le 2 node (omega arith) (omega (arith, h)) small,
+      length-decimal-le 1 1 (omega arith) (omega arith) (omega arith),
+    ))
 
 packets_from_part : (e : Extent) (node from : ℕ) → node ≤ 16 → e.packets ≤ 20000 → Part 368 (packets_from e node from)
 unfolding packets_from
@@ -224,8 +232,12 @@ sample_is seed e = refl
 
 number_long : (first : List ℕ) (n : ℕ) → n ≤ 16 → length (first ++ words_text (decimal n ∷ [])) ≤ length first + 3
 number_long first n h =
-    omega (arith, length-append first (words_text (decimal n ∷ [])), length_words (decimal n ∷ []),
-    length-decimal-le 2 n (omega arith) (omega (arith, h)) (omega (arith, h)))
+    omega (
+      arith,
+      length-append first (words_text (decimal n ∷ [])),
+      length_words (decimal n ∷ []),
+      length-decimal-le 2 n (omega arith) (omega (arith, h)) (omega (arith, h)),
+    )
 
 whole_long : (e : Extent) (lines : List Line) → e.nodes ≤ 16 → e.gateways ≤ 8 →
     length (lines_text Replay lines) ≤ 12001000 →
@@ -236,9 +248,17 @@ whole_long e lines hn hg short =
     let rest = lines_text Replay (lines ++ line.End ∷ []) in
     let last : length rest ≡ length (lines_text Replay lines) + 4 =
     ap length (flat_map-append (λ (said : Line). line_text Replay said ++ 10 ∷ []) lines (line.End ∷ [])) ∙ length-append (lines_text Replay lines) (101 ∷ 110 ∷ 100 ∷ 10 ∷ []) in
-    omega (arith, short, last, number_long (codes "gateways") e.gateways (omega (arith, hg)),
-    number_long (codes "nodes") e.nodes hn, length-append (first ++ 10 ∷ []) ((second ++ 10 ∷ []) ++ rest),
-    length-append (second ++ 10 ∷ []) rest, length-append first (10 ∷ []), length-append second (10 ∷ []))
+    omega (
+      arith,
+      short,
+      last,
+      number_long (codes "gateways") e.gateways (omega (arith, hg)),
+      number_long (codes "nodes") e.nodes hn,
+      length-append (first ++ 10 ∷ []) ((second ++ 10 ∷ []) ++ rest),
+      length-append (second ++ 10 ∷ []) rest,
+      length-append first (10 ∷ []),
+      length-append second (10 ∷ []),
+    )
 
 -- a sample is in the grammar
 pub sample_reads : (seed : ℕ) (e : Extent) → 1 ≤ e.nodes → e.nodes ≤ 16 → 1 ≤ e.gateways → e.gateways ≤ 8 →

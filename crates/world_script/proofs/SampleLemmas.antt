@@ -22,8 +22,15 @@ range_grows : {B : Type 0} (build : List ℕ → List B) (one : ℕ → List B) 
     new ≡ old ++ build (range_with_len a (n + 1))
 range_grows build one snoc a n m old now new is so_far grown =
     let next : n + 1 ≡ suc n = omega arith in
-    cc (is, so_far, grown, next, append_assoc old (build (range_with_len a n)) (one (a + n)),
-    snoc (range_with_len a n) (a + n), range-snoc a n)
+    cc (
+      is,
+      so_far,
+      grown,
+      next,
+      append_assoc old (build (range_with_len a n)) (one (a + n)),
+      snoc (range_with_len a n) (a + n),
+      range-snoc a n,
+    )
 
 -- one more round
 pub flat_range : {B : Type 0} (f : ℕ → List B) (a n m : ℕ) (old now new : List B) → m ≡ a + n →

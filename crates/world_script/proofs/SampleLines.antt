@@ -70,8 +70,15 @@ pub no_end_more : (before : List Line) (said : Line) → list_any is_end_line be
 no_end_more before said h k = list_any-append is_end_line before (said ∷ []) ∙ (λ i. h i || (k i || false))
 
 the_end : IsPlain line.End
-the_end = record { form = keyword.End; words = []; text = refl; is = name_word keyword.End; are = tt; known = refl;
-    again = λ rules content. refl }
+the_end = record {
+  form = keyword.End;
+  words = [];
+  text = refl;
+  is = name_word keyword.End;
+  are = tt;
+  known = refl;
+  again = λ rules content. refl;
+}
 
 pub done_then_end : (before lines : List Line) → AreDone lines → list_any is_end_line before ≡ false →
     AreSayable Replay before (lines ++ line.End ∷ [])
@@ -144,8 +151,15 @@ abbrev pub plain_of : (form : Keyword) (make : ℕ → Line) (n : ℕ) → keywo
     line_text Replay (make n) ≡ name form ++ words_text (decimal n ∷ []) → n < 2 ^ 64 →
     ((rules : ℕ) (content : List ℕ) → said_by Replay form rules content (decimal n ∷ []) ≡ Ok (make n)) → IsPlain (make n)
 plain_of form make n known shape small again =
-    record { form = form; words = decimal n ∷ []; text = shape; is = name_word form; are = (decimal_is_word n small, tt);
-    known = known; again = again }
+    record {
+      form = form;
+      words = decimal n ∷ [];
+      text = shape;
+      is = name_word form;
+      are = (decimal_is_word n small, tt);
+      known = known;
+      again = again;
+    }
 
 numbered : (form : Keyword) (make : ℕ → Line) (digits n : ℕ) → keyword_of Replay (name form) ≡ Ok form →
     is_setting form ≡ false → ((m : ℕ) → (line_text Replay (make m) ≡ name form ++ words_text (decimal m ∷ [])) × (is_end_line (make m) ≡ false)) →
@@ -154,8 +168,13 @@ numbered : (form : Keyword) (make : ℕ → Line) (digits n : ℕ) → keyword_o
 numbered form make digits n known setting shape again fits =
     one (length (name form) + digits + 2) (make n)
     (record { plain = plain_of form make n known (shape n).0 fits.0 again; no_setting = setting; no_end = (shape n).1 })
-    (omega (arith, ap length (shape n).0, length-append (name form) (words_text (decimal n ∷ [])),
-    length_words (decimal n ∷ []), length-decimal-le digits n fits.1 fits.2 fits.0))
+    (omega (
+      arith,
+      ap length (shape n).0,
+      length-append (name form) (words_text (decimal n ∷ [])),
+      length_words (decimal n ∷ []),
+      length-decimal-le digits n fits.1 fits.2 fits.0,
+    ))
 
 -- a line of any number
 counted : (form : Keyword) (make : ℕ → Line) (digits n : ℕ) → keyword_of Replay (name form) ≡ Ok form →
@@ -197,6 +216,17 @@ at_part n h =
 pub flow_part : Part 5 (line.Flow ∷ [])
 flow_part =
     one 5 line.Flow
-    (record { plain = record { form = keyword.Flow; words = []; text = refl; is = name_word keyword.Flow; are = tt;
-    known = refl; again = λ rules content. refl }; no_setting = refl; no_end = refl })
+    (record {
+      plain = record {
+        form = keyword.Flow;
+        words = [];
+        text = refl;
+        is = name_word keyword.Flow;
+        are = tt;
+        known = refl;
+        again = λ rules content. refl;
+      };
+      no_setting = refl;
+      no_end = refl;
+    })
     (omega arith)

@@ -39,8 +39,16 @@ returns-in-Ok-pass-clause-at g c = λ told h stands.
     c.read_entry.ensures.read (c.in-Ok.ensures.entry told) (c.in_ok-add_items.ensures.items told) in
     at_more h (entry_view c.in-Ok.entry) c.args.cursor.now c.pass.new.self was.here c.args.into.now stands.at c.requires.within.copies was.items
     (λ z. true≢false (sym (eq-eqb c.add_items.new.into.room 0 z) ∙ sym c.is_full.ensures ∙ c.if-is_full.false))
-    (omega (arith, c.saturating_add.ensures, c.saturating_sub-skipped.ensures, c.saturating_sub-taken.ensures, c.skip.ensures, c.skip-skip.ensures,
-      c.count.ensures, c.count-count.ensures)) c.in-Ok-pass.ensures.ok
+    (omega (
+      arith,
+      c.saturating_add.ensures,
+      c.saturating_sub-skipped.ensures,
+      c.saturating_sub-taken.ensures,
+      c.skip.ensures,
+      c.skip-skip.ensures,
+      c.count.ensures,
+      c.count-count.ensures,
+    )) c.in-Ok-pass.ensures.ok
 
 pub returns-in-Ok-pass-clause-read : goal.returns-in-Ok-pass-clause-read
 returns-in-Ok-pass-clause-read g c = read_on c.read_entry.ensures.read c.add_items.ensures.read

@@ -15,10 +15,10 @@ pub returns-then-place-len-clause-learnt : goal.returns-then-place-len-clause-le
 returns-then-place-len-clause-learnt c =
     let here = c.place_of-place.ensures ∙ ap (λ (xs : List Slot). place_in xs c.args.node.0) c.deref.ensures.value in
     rw here (learnt_known c.args.node c.args.slots.now.items
-      (known_by_place c.args.node c.args.slots.now.items (omega (arith, here, c.if-place-len.true, c.len.ensures))))
+    (known_by_place c.args.node c.args.slots.now.items (omega (arith, here, c.if-place-len.true, c.len.ensures))))
 
 pub returns-clause-learnt : goal.returns-clause-learnt
 returns-clause-learnt c =
     let here = c.place_of-place.ensures ∙ ap (λ (xs : List Slot). place_in xs c.args.node.0) c.deref.ensures.value in
     rw (c.push.ensures.items, here) (learnt_new c.args.node c.args.slots.now.items
-      (unknown_by_place c.args.node c.args.slots.now.items (omega (arith, here, c.if-place-len.false, c.len.ensures))))
+    (unknown_by_place c.args.node c.args.slots.now.items (omega (arith, here, c.if-place-len.false, c.len.ensures))))

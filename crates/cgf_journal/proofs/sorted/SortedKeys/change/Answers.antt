@@ -37,8 +37,10 @@ invariant_of-self c =
     record {
       enough = omega (arith, old.enough);
       ascending = ascending-set old.keys.items c.args.at c.changed.result c.requires (λ d. ap (λ (k : KeptKey). rank k) now ∙ ap (λ (k : KeptKey). rank k) (kept d)) old.ascending;
-      up_to = All-set (UpTo old.round) old.keys.items c.args.at c.changed.result (omega (arith, ap (λ (k : KeptKey). k.round) now),
-          omega (arith, ap (λ (k : KeptKey). k.number) now, ap (λ (k : KeptKey). k.number) (kept c.kept_at-kept.result), (old.up_to c.args.at c.kept_at-kept.result c.requires).1)) old.up_to;
+      up_to = All-set (UpTo old.round) old.keys.items c.args.at c.changed.result (
+        omega (arith, ap (λ (k : KeptKey). k.round) now),
+        omega (arith, ap (λ (k : KeptKey). k.number) now, ap (λ (k : KeptKey). k.number) (kept c.kept_at-kept.result), (old.up_to c.args.at c.kept_at-kept.result c.requires).1),
+      ) old.up_to;
       firm_counted = old.firm_counted ∙ ap (λ (l : List HeldKey). length l) (sym (firm-changed old.round old.keys.items c.args.at c.changed.result c.requires
           (λ d. ap (λ (k : KeptKey). key_of k) now ∙ ap (λ (k : KeptKey). key_of k) (kept d))
           (λ d. ap (λ (k : KeptKey). counts true old.round k) now ∙ count-changed c.args.held old.round c.kept_at-kept.result ∙ ap (λ (k : KeptKey). counts true old.round k) (kept d))));

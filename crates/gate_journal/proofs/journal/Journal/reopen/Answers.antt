@@ -42,8 +42,10 @@ returns-in-Ok-clause-ok g c =
           rw (← (c.in-Ok.ensures.seen told.0).1, length-last g.A.Area c.area_laws.ensures j)
           (c.next_gate-self.ensures ∙ gate_moves j.is_torn j.gate j.torn_length c.in-Ok.ends.gate);
       end =
-          rw (c.next_gate-self.ensures ∙ gate_moves j.is_torn j.gate j.torn_length c.in-Ok.ends.gate,
-          length-last g.A.Area c.area_laws.ensures j)
+          rw (
+            c.next_gate-self.ensures ∙ gate_moves j.is_torn j.gate j.torn_length c.in-Ok.ends.gate,
+            length-last g.A.Area c.area_laws.ensures j,
+          )
           (moves_or_stays (j.is_torn && (c.in-Ok.ends.gate == open_gate)) j.gate j.torn_length);
     }
 

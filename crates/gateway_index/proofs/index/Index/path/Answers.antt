@@ -34,5 +34,5 @@ unfolding side_of
 returns c =
     let s = side_of c.args.firm c.args.self.now in
     sym (ap (λ (l : List NodeId). slice_get (filter_map (path_in s) l) c.loop-place.left)
-      (drop_all c.loop-place.place s.nodes.known (omega (arith, c.loop-place-test.false, c.count-place-end.ensures.value))))
+    (drop_all c.loop-place.place s.nodes.known (omega (arith, c.loop-place-test.false, c.count-place-end.ensures.value))))
     ∙ c.loop-place.invariant
