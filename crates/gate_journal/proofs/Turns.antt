@@ -234,10 +234,10 @@ after_gate header long front batches batch before place low octets false octet i
     left_out header front batches place low false batch before octets content (content.shut refl)
 after_gate header long front batches batch before place low octets true octet inside is content =
     elim (eqb_tells octet open_gate) [
-      | inl yes ↦ rw yes.0
-          (taken_in header front batches place low long batch before octets (inside refl) content (sym is ∙ yes.1))
-      | inr no ↦ rw no.0
-          (left_out header front batches place low true batch before octets content (λ opened. no.1 (is ∙ opened)))
+      | inl equal ↦ rw equal.0
+          (taken_in header front batches place low long batch before octets (inside refl) content (sym is ∙ equal.1))
+      | inr other ↦ rw other.0
+          (left_out header front batches place low true batch before octets content (λ opened. other.1 (is ∙ opened)))
     ]
 
 -- and octet 0 read
@@ -245,17 +245,17 @@ pub after_first : (header : List ℕ) (begins : get_or header 0 0 ≡ 67) (front
     → Content header front false batches batch place octets → Content header (front_after front first) false batches batch place octets
 after_first header begins Founding batches batch place octets first is content =
     elim (eqb_tells first 67) [
-      | inl yes ↦ rw yes.0 (record {
+      | inl equal ↦ rw equal.0 (record {
         listed = content.listed;
-        founded = λ e. sym is ∙ yes.1 ∙ sym begins;
+        founded = λ e. sym is ∙ equal.1 ∙ sym begins;
         drafted = λ e. cc;
         shut = content.shut;
         framed = content.framed;
       })
-      | inr no ↦ rw no.0 (record {
+      | inr other ↦ rw other.0 (record {
         listed = content.listed;
         founded = λ e. cc;
-        drafted = λ e same. no.1 (is ∙ same ∙ begins);
+        drafted = λ e same. other.1 (is ∙ same ∙ begins);
         shut = content.shut;
         framed = content.framed;
       })
