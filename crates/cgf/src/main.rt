@@ -13,9 +13,9 @@ ghost use Rattle.cgf_jobs.specs.Command.{command_of};
 ghost use Rattle.cgf_jobs.specs.Ending.{HasCause, WordsDecide};
 ghost use Rattle.cgf_jobs.specs.Job.{job_of};
 ghost use Rattle.cgf_jobs.specs.Run.{HasRead, is_reported, report_of, status_number};
-ghost use Rattle.cgf_jobs.specs.Serving.{serving_of};
+ghost use Rattle.cgf_service.specs.Serving.{serving_of};
 ghost use Rattle.cgf_top.specs.OverFiles.{is_over_files};
-ghost use Rattle.cgf_jobs.specs.Streaming.{streaming_of};
+ghost use Rattle.cgf_service.specs.Streaming.{streaming_of};
 
 use area_disk::{Area, QuietArea};
 use cdr_shelf::{QuietShelf, Shelf};

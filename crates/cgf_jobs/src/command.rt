@@ -41,7 +41,7 @@ pub struct Seeded {
 }
 
 /// One octet more than the text of a script may have.
-pub(crate) const MOST_SCRIPT_READ: usize = 16_777_217;
+pub const MOST_SCRIPT_READ: usize = 16_777_217;
 
 /// One octet more than the length field of a CDR file can say.
 const MOST_FILE_READ: usize = 4_294_967_296;

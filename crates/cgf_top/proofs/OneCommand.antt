@@ -5,14 +5,14 @@ use Rattle.std.specs.Str.{bytes_eq}
 use Rattle.cgf_jobs.specs.Command.{command_of, seeded_named, seeded_of}
 use Rattle.cgf_top.specs.Looping.{looping_by, looping_of}
 use Rattle.cgf_jobs.specs.NetworkReport.{HandsNetwork}
-use Rattle.cgf_jobs.specs.Serving.{serving_of, serving_by}
-use Rattle.cgf_jobs.specs.StreamEnds.{may_have_used}
-use Rattle.cgf_jobs.specs.Streaming.{streaming_of, streaming_by}
+use Rattle.cgf_service.specs.Serving.{serving_of, serving_by}
+use Rattle.cgf_service.specs.StreamEnds.{may_have_used}
+use Rattle.cgf_service.specs.Streaming.{streaming_of, streaming_by}
 use Rattle.cgf_jobs.specs.Words.{is_option}
 use Rattle.cgf_jobs.specs.declared.command.Seeded.{Seeded}
-use Rattle.cgf_jobs.specs.declared.serving.Serving.{Serving}
+use Rattle.cgf_service.specs.declared.serving.Serving.{Serving}
 use Rattle.cgf_jobs.specs.declared.status.Status.{Status}
-use Rattle.cgf_jobs.specs.declared.streaming.Streaming.{Streaming}
+use Rattle.cgf_service.specs.declared.streaming.Streaming.{Streaming}
 use Rattle.loop_run.specs.declared.setup.LoopSetup.{LoopSetup}
 use Rattle.replay_world.specs.declared.replay.Played.{Played}
 

@@ -1,7 +1,7 @@
 -- Which words ask for a job over files.
 use Rattle.std.specs.Prelude.{ℕ, ◌&&◌, Bool, List, is_none}
-use Rattle.cgf_jobs.specs.Serving.{serving_of}
-use Rattle.cgf_jobs.specs.Streaming.{streaming_of}
+use Rattle.cgf_service.specs.Serving.{serving_of}
+use Rattle.cgf_service.specs.Streaming.{streaming_of}
 use Rattle.cgf_top.specs.Looping.{looping_of}
 
 -- whether words ask for a job over files, and for none of `serve`, `stream` and `loopback`

@@ -14,12 +14,12 @@ ghost use Rattle.cgf_jobs.specs.Ending.{DoesJob, WordsDecide};
 ghost use Rattle.cgf_jobs.specs.Job.{job_of};
 ghost use Rattle.cgf_jobs.specs.NetworkReport.{HandsNetwork};
 ghost use Rattle.cgf_jobs.specs.Run.{may_have_written};
-ghost use Rattle.cgf_jobs.specs.ServeEnds.{IsUntouched, Serves};
-ghost use Rattle.cgf_jobs.specs.Serving.{serving_of};
-ghost use Rattle.cgf_jobs.specs.StreamEnds.{Streams, may_have_used};
-ghost use Rattle.cgf_jobs.specs.Streaming.{streaming_of};
-ghost use Rattle.cgf_jobs.specs.declared.serving.Serving.{Serving};
-ghost use Rattle.cgf_jobs.specs.declared.streaming.Streaming.{Streaming};
+ghost use Rattle.cgf_service.specs.ServeEnds.{IsUntouched, Serves};
+ghost use Rattle.cgf_service.specs.Serving.{serving_of};
+ghost use Rattle.cgf_service.specs.StreamEnds.{Streams, may_have_used};
+ghost use Rattle.cgf_service.specs.Streaming.{streaming_of};
+ghost use Rattle.cgf_service.specs.declared.serving.Serving.{Serving};
+ghost use Rattle.cgf_service.specs.declared.streaming.Streaming.{Streaming};
 ghost use Rattle.cgf_top.specs.LoopEnds.{IsNoLoop, LoopsBy};
 ghost use Rattle.cgf_top.specs.Looping.{looping_of};
 ghost use Rattle.cgf_top.specs.OverFiles.{is_over_files};
@@ -31,11 +31,10 @@ use crate::looping::{loop_back, looping_of};
 use crate::watch::Nobody;
 use area_disk::Area;
 use cdr_shelf::Shelf;
-use cgf_jobs::{GatewayEnd, JobEnd, Serving, Streaming, do_job, serve_gateway, stream_gateway};
-pub use cgf_jobs::{
-    InputKind, NodeTurn, Played, ServePlaces, Status, StoreFault, StreamPlaces, Watch,
-    serve_places, stream_places, tcp_address,
-};
+use cgf_jobs::{JobEnd, do_job};
+pub use cgf_jobs::{InputKind, NodeTurn, Played, Status, StoreFault, Watch};
+use cgf_service::{GatewayEnd, Serving, Streaming, serve_gateway, stream_gateway};
+pub use cgf_service::{ServePlaces, StreamPlaces, serve_places, stream_places, tcp_address};
 use gw_base::{Sink, Source};
 pub use loop_run::Looped;
 use net_link::Links;

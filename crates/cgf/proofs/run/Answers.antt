@@ -1,9 +1,9 @@
 use Rattle.std.proofs.Common.{◌∙◌, ap, map, option_map, string_bytes, Option}
 use Rattle.cgf_top.specs.Looping.{looping_of}
-use Rattle.cgf_jobs.specs.Serving.{serve_places_in, serving_of}
-use Rattle.cgf_jobs.specs.Streaming.{stream_places_in, streaming_of}
-use Rattle.cgf_jobs.specs.declared.serving.Serving.{Serving}
-use Rattle.cgf_jobs.specs.declared.streaming.Streaming.{Streaming}
+use Rattle.cgf_service.specs.Serving.{serve_places_in, serving_of}
+use Rattle.cgf_service.specs.Streaming.{stream_places_in, streaming_of}
+use Rattle.cgf_service.specs.declared.serving.Serving.{Serving}
+use Rattle.cgf_service.specs.declared.streaming.Streaming.{Streaming}
 use Rattle.cgf.proofs.Asked.{no_serve, no_stream, not_both}
 use Rattle.cgf.proofs.run.Goals as goal
 

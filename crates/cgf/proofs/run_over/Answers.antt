@@ -1,9 +1,9 @@
 use Rattle.std.proofs.Common.{map, string_bytes, subst}
 use Rattle.cgf_top.specs.LoopEnds.{IsLoopEnd}
 use Rattle.cgf_top.specs.Looping.{looping_of}
-use Rattle.cgf_jobs.specs.ServeEnds.{IsGatewayEnd}
-use Rattle.cgf_jobs.specs.Serving.{serving_of}
-use Rattle.cgf_jobs.specs.Streaming.{streaming_of}
+use Rattle.cgf_service.specs.ServeEnds.{IsGatewayEnd}
+use Rattle.cgf_service.specs.Serving.{serving_of}
+use Rattle.cgf_service.specs.Streaming.{streaming_of}
 use Rattle.cgf.proofs.Asked.{either, over_files}
 use Rattle.cgf.proofs.run_over.Goals as goal
 

@@ -1,8 +1,8 @@
 use Rattle.std.proofs.Common.{subst, sym, ◌∙◌, map, string_bytes, None}
 use Rattle.std.proofs.lemmas.Option.{same_Some}
 use Rattle.cgf_jobs.specs.Job.{job_of}
-use Rattle.cgf_jobs.specs.StreamEnds.{Streams}
-use Rattle.cgf_jobs.specs.declared.streaming.Streaming.{Streaming}
+use Rattle.cgf_service.specs.StreamEnds.{Streams}
+use Rattle.cgf_service.specs.declared.streaming.Streaming.{Streaming}
 use Rattle.cgf_top.proofs.OneCommand.{no_network, stream_is_no_job}
 use Rattle.cgf_top.proofs.run_on_one.Goals as goal
 

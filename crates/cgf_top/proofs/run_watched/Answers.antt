@@ -2,11 +2,11 @@ use Rattle.std.proofs.Common.{◌≡◌, subst, sym, ◌∙◌, false, map, stri
 use Rattle.std.proofs.lemmas.Option.{same_Some}
 use Rattle.cgf_jobs.specs.Job.{job_of}
 use Rattle.cgf_top.specs.Looping.{looping_of}
-use Rattle.cgf_jobs.specs.ServeEnds.{Serves}
-use Rattle.cgf_jobs.specs.Serving.{serving_of}
-use Rattle.cgf_jobs.specs.StreamEnds.{may_have_used}
-use Rattle.cgf_jobs.specs.Streaming.{streaming_of}
-use Rattle.cgf_jobs.specs.declared.serving.Serving.{Serving}
+use Rattle.cgf_service.specs.ServeEnds.{Serves}
+use Rattle.cgf_service.specs.Serving.{serving_of}
+use Rattle.cgf_service.specs.StreamEnds.{may_have_used}
+use Rattle.cgf_service.specs.Streaming.{streaming_of}
+use Rattle.cgf_service.specs.declared.serving.Serving.{Serving}
 use Rattle.cgf_top.proofs.OneCommand.{no_network, not_both, not_looping, over_files, serve_is_no_job, some_is_none, used_by_none}
 use Rattle.cgf_top.proofs.run_watched.Goals as goal
 
