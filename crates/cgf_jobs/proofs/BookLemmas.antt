@@ -55,7 +55,7 @@ committed_firm old new is uncut whole =
 
 -- ---- an entry that waits, or none
 
-recorded_whole : (h : List HistoryEntry) (now : ℕ) (act : Option HistoryAct) → (recorded_if (standing_for h) now no_caller act).is_broken ≡ false
+pub recorded_whole : (h : List HistoryEntry) (now : ℕ) (act : Option HistoryAct) → (recorded_if (standing_for h) now no_caller act).is_broken ≡ false
 recorded_whole h now None = refl
 recorded_whole h now (Some act) = refl
 
