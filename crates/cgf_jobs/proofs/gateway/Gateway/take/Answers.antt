@@ -16,7 +16,7 @@ commit-requires c =
     let asked = act_decided (decided (answer_to (value_of old).firm c.args.from (prepared_of c.prepare.result) (size_of old))) in
     ap (λ (v : BookValue). v.is_broken)
     (taken_records old middle (fortune_of old middle) c.args.from (prepared_of c.prepare.result) c.args.now
-      c.self.invariant (c.take-outcome.ensures.taken (refl, refl)).value)
+    c.self.invariant (c.take-outcome.ensures.taken (refl, refl)).value)
     ∙ recorded_whole (value_of old).firm c.args.now asked
 
 pub invariant_of-self : goal.invariant_of-self
