@@ -1,9 +1,9 @@
 -- One stream of all takes an item, and the others stay.
-use Rattle.std.proofs.Common.{◌≡◌, ◌≢◌, inl, inr, ℕ, zero, suc, ◌+◌, ◌<◌, ◌≤◌, Bool, true, false, IsTrue, List, [], ◌∷◌, ◌++◌, length, take, Option, None, Some, slice_index_or, slice_set, refl, sym, ap, ◌∙◌, subst, arith, append_assoc}
+use Rattle.std.proofs.Common.{◌≡◌, ◌≢◌, inl, inr, ℕ, zero, suc, ◌+◌, ◌<◌, ◌≤◌, Bool, IsTrue, List, [], ◌∷◌, ◌++◌, length, take, Option, slice_index_or, slice_set, refl, sym, ap, ◌∙◌, subst, arith, append_assoc}
 use Rattle.std.proofs.lemmas.Bool.{cases_eq, eq-eqb, le-ltb, lt-ltb, ne_eqb, cases_lt}
 use Rattle.std.proofs.lemmas.Bool.Decides.{nat_tests}
 use Rattle.std.proofs.lemmas.List.{append-nil, get_or-set_other, get_or-set_same, take_more}
-use Rattle.cdr_file.specs.CdrFile.{FileSettings, run_octets}
+use Rattle.cdr_file.specs.CdrFile.{FileSettings}
 use Rattle.cdr_file.specs.declared.closure.ClosureReason.{ClosureReason}
 use Rattle.cdr_shelf.specs.declared.shelf.Shelf.{Ghosts}
 use Rattle.file_rotate.specs.Division.{Cuts, Division, cuts_at, divided_from, run_after, with_cuts}
@@ -16,12 +16,11 @@ use Rattle.gw_base.specs.declared.tag.Tag.{Tag}
 use Rattle.route_filter.specs.Rules.{stream_of}
 use Rattle.file_writer.specs.AllStreams.{GoesTo, StreamAt, mark_told, part_of, up_to, with_item, EachSafe}
 use Rattle.file_writer.specs.Calls.{Call, calls_at, calls_below, calls_from, calls_of, closed_by, stream_calls}
-use Rattle.file_writer.specs.Files.{later_division, run_records}
-use Rattle.file_writer.specs.Following.{BodyWhere, HasTaken, IsBehind, IsSafe, Stays, mark_item}
+use Rattle.file_writer.specs.Files.{later_division}
+use Rattle.file_writer.specs.Following.{HasTaken, IsBehind, IsSafe, Stays, mark_item}
 use Rattle.route_filter.specs.declared.rule.Rule.{Rule}
 use Rattle.file_writer.specs.Laws.{DivisionGoesOn}
-use Rattle.file_writer.specs.Streams.{Settings, closed_of, record_if, stream_count, stream_division, stream_item, stream_items, stream_record}
-use Rattle.file_writer.specs.Writing.{is_sealed}
+use Rattle.file_writer.specs.Streams.{Settings, closed_of, stream_count, stream_division, stream_item, stream_items, stream_record}
 use Rattle.file_writer.specs.declared.stream.Stream.{Stream}
 use Rattle.file_writer.proofs.FilesLemmas.{closed_of-append, left_open-append}
 use Rattle.file_writer.proofs.CallsLemmas.{of_one}
@@ -34,10 +33,7 @@ after_cuts : (before after : Option ClosureReason) (run : List (Filed (List ℕ)
     ≡ rest)
     × (closed_by after (closed_by before n) ≡ n + length
     (with_cuts (record { before = before; after = after }) run item (record { closed = []; left_open = rest })).closed)
-after_cuts None None run item rest n = (refl, omega arith)
-after_cuts None (Some a) run item rest n = (refl, refl)
-after_cuts (Some b) None run item rest n = (refl, refl)
-after_cuts (Some b) (Some a) run item rest n = (refl, omega arith)
+after_cuts before after run item rest n = grind arith
 
 module _ (law : DivisionGoesOn) {A : Type 0} (tells : Ghosts A) (settings : Settings) (closed sealed : ℕ → ℕ)
     (before : List Item) (item : Item) (s : ℕ) where
@@ -54,11 +50,7 @@ module _ (law : DivisionGoesOn) {A : Type 0} (tells : Ghosts A) (settings : Sett
       → calls_at file s stream.file.sealed (cuts_at stream.cutter.limits run x) stream.file.closed run x
       ≡ stream_calls settings closed sealed before (item ∷ []) s
   calls_are file x stream shelf same e at =
-      (λ i. calls_at (sym same i) s (at.has_sealed i) (cuts_at (at.limits i) run x) (at.has_closed i) run x)
-      ∙ sym (append-nil (calls_at settings.file s (sealed s) (cuts_at settings.limits run x)
-      (closed s + closed_of settings s before) run x))
-      ∙ ap (λ (xs : List (rotate.Item (List ℕ))). calls_from settings s (sealed s)
-      (closed s + closed_of settings s before) run xs) (sym (one_item (x ∷ []) e))
+      search (arith, at.has_sealed, at.limits, at.has_closed, append-nil, one_item)
 
   later_is : (xs : List (rotate.Item (List ℕ))) → stream_item settings.profile settings.rules s item ≡ xs
       → later_division settings s before (item ∷ []) ≡ divided_from settings.limits run xs
@@ -77,8 +69,7 @@ module _ (law : DivisionGoesOn) {A : Type 0} (tells : Ghosts A) (settings : Sett
       left_open-append law settings s before (item ∷ [])
       ∙ ap (λ (d : Division (List ℕ)). d.left_open) (later_is (x ∷ []) e) ∙ after.0 in
       record {
-        behind = subst (λ (r : List (Filed (List ℕ))). IsBehind tells s r later new)
-            (ap (λ (c : Cuts). run_after c run x) same ∙ sym left) taken.behind;
+        behind = search arith;
         has_closed = taken.closed ∙ (λ i. closed_by (same i).after (closed_by (same i).before (at.has_closed i)))
             ∙ omega (
               arith,
@@ -96,8 +87,7 @@ module _ (law : DivisionGoesOn) {A : Type 0} (tells : Ghosts A) (settings : Sett
       → StreamAt tells settings closed sealed (before ++ item ∷ []) s stream shelf
   not_taken stream shelf e at =
       let left : (stream_division settings s (before ++ item ∷ [])).left_open ≡ run =
-      left_open-append law settings s before (item ∷ [])
-      ∙ ap (λ (d : Division (List ℕ)). d.left_open) (later_is [] e) in
+          cc (left_open-append law settings s before (item ∷ []), later_is [] e) in
       record {
         behind = subst (λ (r : List (Filed (List ℕ))). IsBehind tells s r stream shelf) (sym left) at.behind;
         has_closed = omega (
@@ -117,11 +107,7 @@ pub at_stays : {A : Type 0} (tells : Ghosts A) (settings : Settings) (closed sea
     (s : ℕ) (stream : Stream) (old new : A)
     → (IsTrue tells.tells_files → Stays tells s old new) → StreamAt tells settings closed sealed items s stream old
     → StreamAt tells settings closed sealed items s stream new
-at_stays tells settings closed sealed items s stream old new stays at =
-    let body : IsTrue tells.tells_files → BodyWhere (is_sealed stream.file) stream.file.growing
-    (run_octets (run_records (stream_division settings s items).left_open)) (tells.unsealed new s) =
-    λ told. rw (stays told).unsealed (at.behind.follows.body told) in
-    assumption body
+at_stays tells settings closed sealed items s stream old new stays at = search (arith, at.behind.follows.body)
 
 -- ---- one of all
 
@@ -129,11 +115,7 @@ at_stays tells settings closed sealed items s stream old new stays at =
 pub each_set : (P : ℕ → Stream → Type 0) (streams : List Stream) (k : ℕ) (later : Stream) → k < length streams
     → P k later → ((s : ℕ) (d : Stream) → s ≢ k → s < stream_count → P s (slice_index_or streams s d))
     → (s : ℕ) (d : Stream) → s < stream_count → P s (slice_index_or (slice_set streams k later) s d)
-each_set P streams k later within here there s d h =
-    elim (cases_eq s k) [
-      | inl same ↦ rw (same, get_or-set_same streams k later d within) here
-      | inr other ↦ rw (get_or-set_other streams k s later d other) (there s d other h)
-    ]
+each_set P streams k later within here there s d h = search (arith, cases_eq, get_or-set_same, get_or-set_other)
 
 -- one stream is changed, and can take an item
 pub safe_set : {A : Type 0} (tells : Ghosts A) (streams : List Stream) (s : ℕ) (later : Stream) (old new : A)
@@ -161,24 +143,18 @@ not_yet n before item s h = ap (λ (b : Bool). with_item b before item) (le-ltb 
 -- a mark goes to each stream
 pub mark_stream_item : (profile : ℕ) (rules : List Rule) (s : ℕ) (closes : Bool) (moment : ℕ)
     → stream_item profile rules s (mark_told closes moment) ≡ mark_item closes moment ∷ []
-mark_stream_item profile rules s true moment = refl
-mark_stream_item profile rules s false moment = refl
+mark_stream_item profile rules s closes moment = grind arith
 
 none_more : (settings : Settings) (closed sealed : ℕ → ℕ) (before : List Item) (item : Item) (n m : ℕ) → n ≡ m
     → (rest : List Call)
     × (calls_below m settings closed sealed before item ≡ calls_below n settings closed sealed before item ++ rest)
-none_more settings closed sealed before item n m e = (
-  [],
-  (λ i. calls_below (sym e i) settings closed sealed before item)
-      ∙ sym (append-nil (calls_below n settings closed sealed before item)),
-)
+none_more settings closed sealed before item n m e = search (arith, append-nil)
 
 pub below_more : (settings : Settings) (closed sealed : ℕ → ℕ) (before : List Item) (item : Item) (n m : ℕ) → n ≤ m
     → (rest : List Call)
     × (calls_below m settings closed sealed before item ≡ calls_below n settings closed sealed before item ++ rest)
 unfolding calls_below
-below_more settings closed sealed before item n zero h =
-    none_more settings closed sealed before item n zero (omega (arith, h))
+below_more settings closed sealed before item n zero h = search (arith, none_more)
 below_more settings closed sealed before item n (suc m) h =
     elim (cases_lt n (suc m)) [
       | inl less ↦
@@ -202,8 +178,7 @@ pub below_next : (settings : Settings) (closed sealed : ℕ → ℕ) (before : L
     → calls_below n settings closed sealed before item ++ stream_calls settings closed sealed before (item ∷ []) n
     ≡ calls_below (n + 1) settings closed sealed before item
 unfolding calls_below
-below_next settings closed sealed before item n =
-    ap (λ (k : ℕ). calls_below k settings closed sealed before item) {x = suc n} {y = n + 1} (omega arith)
+below_next settings closed sealed before item n = search arith
 
 -- a stream that the item doesn't go to makes no calls
 pub only_calls : (settings : Settings) (closed sealed : ℕ → ℕ) (before : List Item) (item : Item) (s : ℕ)
@@ -212,8 +187,8 @@ pub only_calls : (settings : Settings) (closed sealed : ℕ → ℕ) (before : L
     ≡ stream_calls settings closed sealed before (item ∷ []) s
 only_calls settings closed sealed before item s others h =
     (of_one (λ (calls : List Call). calls) refl (λ xs ys. refl) settings closed sealed before item stream_count s
-    (λ t other. ap (λ (xs : List (rotate.Item (List ℕ))). calls_from settings t (sealed t)
-    (closed t + closed_of settings t before) (stream_division settings t before).left_open xs)
+    (λ t other. ap (calls_from settings t (sealed t) (closed t + closed_of settings t before)
+    (stream_division settings t before).left_open)
     (append-nil (stream_item settings.profile settings.rules t item) ∙ others t other))).1 h
 
 -- ---- records, and items one after the other
@@ -221,18 +196,12 @@ only_calls settings closed sealed before item s others h =
 pub goes_to : (profile : ℕ) (rules : List Rule) (kind : CdrKind) (tag : Option Tag) (octets : List ℕ) (moment s : ℕ)
     → s ≡ stream_of rules tag kind.format
     → GoesTo profile rules (part_of kind tag octets moment) s (stream_record profile kind octets moment)
-goes_to profile rules kind tag octets moment s e = record {
-  here = ap (λ (b : Bool). record_if b (stream_record profile kind octets moment))
-      (eq-eqb (stream_of rules tag kind.format) s (sym e));
-  others = λ t other. ap (λ (b : Bool). record_if b (stream_record profile kind octets moment))
-      (ne_eqb (stream_of rules tag kind.format) t (λ same. other (sym (e ∙ same))));
-}
+goes_to profile rules kind tag octets moment s e = search (arith, nat_tests, eq-eqb, ne_eqb)
 
 pub calls-append : (settings : Settings) (closed sealed : ℕ → ℕ) (before xs ys : List Item)
     → calls_of settings closed sealed before (xs ++ ys) ≡ calls_of settings closed sealed before xs
     ++ calls_of settings closed sealed (before ++ xs) ys
-calls-append settings closed sealed before [] ys = ap (λ (items : List Item). calls_of settings closed sealed items ys)
-    (sym (append-nil before))
+calls-append settings closed sealed before [] ys = cc (append-nil before)
 calls-append settings closed sealed before (x ∷ xs) ys =
     cc (
       calls-append settings closed sealed (before ++ x ∷ []) xs ys,
@@ -244,11 +213,7 @@ calls-append settings closed sealed before (x ∷ xs) ys =
 pub calls-one : (settings : Settings) (closed sealed : ℕ → ℕ) (before xs : List Item) (x : Item)
     → calls_of settings closed sealed before xs ++ calls_below stream_count settings closed sealed (before ++ xs) x
     ≡ calls_of settings closed sealed before (xs ++ x ∷ [])
-calls-one settings closed sealed before xs x =
-    cc (
-      calls-append settings closed sealed before xs (x ∷ []),
-      append-nil (calls_below stream_count settings closed sealed (before ++ xs) x),
-    )
+calls-one settings closed sealed before xs x = search (arith, calls-append, append-nil)
 
 pub take_next : (items : List Item) (i : ℕ) (x : Item) → i < length items → x ≡ slice_index_or items i x
     → take (i + 1) items ≡ take i items ++ x ∷ []

@@ -1,6 +1,6 @@
 -- How many files items begin: more items begin no fewer, and a record goes to the last one that is begun. What is open
 -- then, and what isn't.
-use Rattle.std.proofs.Common.{◌≡◌, ◌↔◌, inl, inr, ℕ, ◌+◌, ◌<◌, ◌≤◌, max, nat_lt, if◌then◌else◌, Bool, IsTrue, List, [], ◌∷◌, ◌++◌, length, take, drop, Option, None, Some, refl, sym, ap, ◌∙◌, subst, arith, append_assoc}
+use Rattle.std.proofs.Common.{◌≡◌, ◌↔◌, inl, inr, ℕ, ◌+◌, ◌<◌, ◌≤◌, max, nat_lt, if◌then◌else◌, Bool, IsTrue, List, [], ◌∷◌, ◌++◌, length, take, drop, Option, None, Some, refl, ap, ◌∙◌, arith, append_assoc}
 use Rattle.std.proofs.lemmas.Bool.{cases_lt, le-ltb, lt-ltb}
 use Rattle.std.proofs.lemmas.List.{append-nil, take-append-drop}
 use Rattle.cdr_file.specs.declared.closure.ClosureReason.{ClosureReason}
@@ -8,7 +8,7 @@ use Rattle.cdr_shelf.specs.Files.{SealedFile, UnsealedFile, greatest_in}
 use Rattle.cdr_shelf.specs.declared.file_name.FileName.{FileName}
 use Rattle.cdr_shelf.specs.declared.shelf.Shelf.{Ghosts}
 use Rattle.file_rotate.specs.Division.{Cuts, Division, cuts_at, divided_from, run_after, with_cuts}
-use Rattle.file_rotate.specs.Items.{Filed, Record, record_in}
+use Rattle.file_rotate.specs.Items.{Filed, Record}
 use Rattle.file_rotate.specs.Items as rotate
 use Rattle.file_rotate.specs.declared.limits.Limits.{Limits}
 use Rattle.gw_base.specs.declared.item.Item.{Item}
@@ -23,12 +23,10 @@ use Rattle.file_writer.proofs.FilesLemmas.{closed_of-append, left_open-append}
 -- ---- more items
 
 few_counted : (run : List (Filed (List ℕ))) → count_open run ≤ 1
-few_counted [] = omega arith
-few_counted (first ∷ later) = omega arith
+few_counted run = grind arith
 
 counted_more : (run more : List (Filed (List ℕ))) → count_open run ≤ count_open (run ++ more)
-counted_more [] more = omega arith
-counted_more (first ∷ later) more = omega arith
+counted_more run more = grind arith
 
 cut_counts : (before after : Option ClosureReason) (run : List (Filed (List ℕ))) (item : rotate.Item (List ℕ))
     (d : Division (List ℕ))
@@ -36,8 +34,7 @@ cut_counts : (before after : Option ClosureReason) (run : List (Filed (List ℕ)
     ≤ length d.closed + count_open d.left_open
     → count_open run ≤ length (with_cuts (record { before = before; after = after }) run item d).closed
     + count_open (with_cuts (record { before = before; after = after }) run item d).left_open
-cut_counts None None run item d h = omega (arith, h, counted_more run (record_in item))
-cut_counts _ _ run item d h = omega (arith, few_counted run)
+cut_counts before after run item d h = grind (arith, counted_more, few_counted)
 
 some_stay : (limits : Limits) (run : List (Filed (List ℕ))) (items : List (rotate.Item (List ℕ)))
     → count_open run
@@ -88,8 +85,7 @@ module _ (law : DivisionGoesOn) (settings : Settings) (closed : ℕ → ℕ) (be
   left = (stream_division settings s before).left_open
 
   division : later_division settings s before (item ∷ []) ≡ divided_from settings.limits left (Record filed ∷ [])
-  division = ap (λ (xs : List (rotate.Item (List ℕ))). divided_from settings.limits left xs)
-      (append-nil (stream_item settings.profile settings.rules s item) ∙ here)
+  division = search (arith, append-nil)
 
   -- the file that a record goes to is the last one that is begun then
   number_is : closed_by (cuts_at settings.limits left (Record filed)).before
@@ -120,9 +116,7 @@ pub among_next : DivisionGoesOn → (settings : Settings) (closed : ℕ → ℕ)
     (most : ℕ → ℕ) → take (i + 1) items ≡ take i items ++ x ∷ []
     → AreAmong settings closed (before ++ take (i + 1) items) most
     → AreAmong settings closed ((before ++ take i items) ++ x ∷ []) most
-among_next law settings closed before items i x most more among =
-    subst (λ (xs : List Item). AreAmong settings closed xs most)
-    (ap (λ (xs : List Item). before ++ xs) more ∙ sym (append_assoc before (take i items) (x ∷ []))) among
+among_next law settings closed before items i x most more among = search (arith, append_assoc)
 
 -- ---- all streams
 
@@ -146,10 +140,7 @@ moves_shut tells settings closed items old new goes files plan most among shut =
       | inl within ↦ shut.each s within (omega (arith, h, inside most s within))
       | inr far ↦ shut.beyond s far
     ]) in
-    record {
-      each = λ s h few. kept s (omega (arith, few, inside most s h));
-      beyond = λ s h. kept s (omega (arith, outside most s h));
-    }
+    search (arith, inside, outside)
 
 pub shut_grow : DivisionGoesOn → (settings : Settings) (closed : ℕ → ℕ) (items more : List Item)
     (files : List SealedFile) (unsealed : ℕ → Option UnsealedFile)
@@ -164,23 +155,17 @@ shut_grow law settings closed items more files unsealed shut = record {
 
 none_open : (name : FileName) (run : List (Filed (List ℕ))) (u : Option UnsealedFile) → count_open run ≡ 0
     → IsOpenFile name run u ↔ (u ≡ None)
-none_open name [] u e = (λ h. h, λ h. h)
-none_open name (first ∷ later) u e = absurd (omega (arith, e))
+none_open name run u e = grind arith
 
 pub open_none : (settings : Settings) (closed : ℕ → ℕ) (items : List Item) (s : ℕ) (u : Option UnsealedFile)
     → begun_of settings s items ≤ closed_of settings s items → IsOpenFileOf settings closed items s u ↔ (u ≡ None)
-open_none settings closed items s u few =
-    none_open (record { stream = s; sequence = closed s + closed_of settings s items + 1 })
-    (stream_division settings s items).left_open u (omega (arith, few))
+open_none settings closed items s u few = search (arith, none_open)
 
 pub open_shut : (settings : Settings) (closed : ℕ → ℕ) (items : List Item) (files : List SealedFile)
     (unsealed : ℕ → Option UnsealedFile)
     → ((s : ℕ) → s < stream_count → greatest_in s files ≤ closed s + closed_of settings s items)
     → AreOpenFiles settings closed items unsealed → AreShut (begun_after settings closed items) files unsealed
-open_shut settings closed items files unsealed most are = record {
-  each = λ s h few. (open_none settings closed items s (unsealed s) (omega (arith, few, most s h))).0 (are.each s h);
-  beyond = are.beyond;
-}
+open_shut settings closed items files unsealed most are = search (arith, open_none, are.each)
 
 pub shut_open : (settings : Settings) (closed sealed : ℕ → ℕ) (items : List Item) (files : List SealedFile)
     (old new : ℕ → Option UnsealedFile)
@@ -188,18 +173,8 @@ pub shut_open : (settings : Settings) (closed sealed : ℕ → ℕ) (items : Lis
     → (closed s ≤ sealed s) × (sealed s ≤ closed s + closed_of settings s items) × (sealed s ≡ greatest_in s files))
     → AreShut (begun_after settings closed items) files old → LeavesUnsealed settings closed sealed [] items old new
     → AreOpenFiles settings closed items new
-shut_open settings closed sealed items files old new firsts shut leaves = record {
-  each = λ s h.
-      let f = firsts s h in
-      let no_file : closed_of settings s [] ≡ 0 = refl in
-      elim (cases_lt (max (closed s + closed_of settings s []) (sealed s)) (closed s + begun_of settings s items)) [
-        | inl wrote ↦ leaves.wrote s h wrote
-        | inr none ↦
-            (open_none settings closed items s (new s) (omega (arith, none, f.0, f.1, no_file))).1
-            (leaves.stays s h none ∙ shut.each s h (omega (arith, none, f.0, f.2, no_file)))
-      ];
-  beyond = λ s h. leaves.beyond s h ∙ shut.beyond s h;
-}
+shut_open settings closed sealed items files old new firsts shut leaves =
+    search (arith, cases_lt, open_none, leaves.stays, shut.each, shut.beyond)
 
 pub open_go_on : DivisionGoesOn → (settings : Settings) (closed sealed : ℕ → ℕ) (before front rest : List Item)
     (old new : ℕ → Option UnsealedFile)

@@ -1,6 +1,6 @@
 -- What calls for items seal: of each stream the files that the items close, but for those that are sealed already,
 -- which get no call.
-use Rattle.std.proofs.Common.{◌≡◌, ◌≢◌, inl, inr, ℕ, zero, suc, ◌+◌, ◌-◌, ◌≤◌, ◌<◌, Bool, true, false, nat_le, if◌then◌else◌, List, [], ◌∷◌, ◌++◌, length, take, drop, Option, Some, None, refl, sym, ap, ◌∙◌, subst, arith, append_assoc, max}
+use Rattle.std.proofs.Common.{◌≡◌, ◌≢◌, ℕ, zero, suc, ◌+◌, ◌-◌, ◌≤◌, ◌<◌, Bool, true, false, nat_le, if◌then◌else◌, List, [], ◌∷◌, ◌++◌, length, take, drop, Option, refl, sym, ap, ◌∙◌, subst, arith, append_assoc, max}
 use Rattle.std.proofs.lemmas.Bool.{cases_eq, leb-false, leb-true}
 use Rattle.std.proofs.lemmas.Grind.{flat_map-append}
 use Rattle.std.proofs.lemmas.List.{append-nil}
@@ -10,14 +10,14 @@ use Rattle.cdr_file.specs.CdrFile.{FileSettings}
 use Rattle.cdr_file.specs.declared.closure.ClosureReason.{ClosureReason}
 use Rattle.cdr_shelf.specs.FileLaws.{in_stream-append}
 use Rattle.cdr_shelf.specs.Files.{SealedFile, in_stream}
-use Rattle.file_rotate.specs.Division.{ClosedRun, Cuts, Division, closed_first, cuts_at, divided_from, joined, run_after, still, with_cuts}
-use Rattle.file_rotate.specs.Items.{Filed, Record}
+use Rattle.file_rotate.specs.Division.{ClosedRun, Cuts, Division, closed_first, cuts_at, divided_from, run_after, with_cuts}
+use Rattle.file_rotate.specs.Items.{Filed}
 use Rattle.file_rotate.specs.Items as stream
 use Rattle.gw_base.specs.declared.item.Item.{Item}
-use Rattle.file_writer.specs.Calls.{Call, Writes, Seals, appending, calls_at, calls_below, calls_from, calls_of, closed_by, closing, seals, stream_calls, beginning, unless_sealed}
-use Rattle.file_writer.specs.Files.{AreOfStreams, files_from, later_division, sealed_file}
+use Rattle.file_writer.specs.Calls.{Call, Writes, Seals, appending, calls_at, calls_below, calls_from, calls_of, closed_by, closing, seals, stream_calls, unless_sealed}
+use Rattle.file_writer.specs.Files.{AreOfStreams, files_from, later_division}
 use Rattle.file_writer.specs.Laws.{DivisionGoesOn}
-use Rattle.file_writer.specs.Streams.{Settings, closed_of, stream_count, stream_division, stream_item, stream_items}
+use Rattle.file_writer.specs.Streams.{Settings, closed_of, stream_count, stream_division, stream_items}
 use Rattle.file_writer.proofs.FilesLemmas.{closed_of-append, files_from-append, in_stream-other, in_stream-own, left_open-append, length-files_from}
 use Rattle.std.proofs.lemmas.Bool.Decides.{nat_tests}
 
@@ -29,16 +29,11 @@ seals-append (Seals file ∷ xs) ys = ap (λ (files : List SealedFile). file ∷
 -- ---- one item of a stream
 
 none_if : (b : Bool) (calls : List Call) → seals calls ≡ [] → seals (if b then [] else calls) ≡ []
-none_if true calls e = refl
-none_if false calls e = e
+none_if b calls e = grind arith
 
 seals-appending : (sealed sequence : ℕ) (run : List (Filed (List ℕ))) (item : stream.Item (List ℕ))
     → seals (appending sealed sequence run item) ≡ []
-seals-appending sealed sequence [] (Record filed) =
-    none_if (nat_le sequence sealed) (Writes ∷ Writes ∷ Writes ∷ Writes ∷ []) refl
-seals-appending sealed sequence (first ∷ later) (Record filed) =
-    none_if (nat_le sequence sealed) (Writes ∷ Writes ∷ []) refl
-seals-appending sealed sequence _ _ = refl
+seals-appending sealed sequence run item = grind (arith, nat_tests, none_if)
 
 -- where the file is sealed already, and where it is sealed now
 closing-where : (sealed closed : ℕ) (file : SealedFile) (files : List SealedFile) (b : Bool)
@@ -56,16 +51,12 @@ closing-first : (settings : FileSettings) (s sealed closed : ℕ) (reason : Opti
     → seals (closing settings s sealed (closed + 1) reason run) ++ drop (sealed - closed_by reason closed)
     (files_from settings s (closed_by reason closed + 1) division.closed)
     ≡ drop (sealed - closed) (files_from settings s (closed + 1) (closed_first reason run division).closed)
-closing-first settings s sealed closed None run division = refl
-closing-first settings s sealed closed (Some reason) run division =
-    closing-where sealed closed (sealed_file settings s (closed + 1) (record { run = run; reason = reason }))
-    (files_from settings s (closed + 1 + 1) division.closed) (nat_le (closed + 1) sealed) refl
+closing-first settings s sealed closed reason run division = grind (arith, nat_tests, closing-where)
 
 -- three lists of calls, of which the second seals nothing
 seals-three : (xs ys zs : List Call) (files : List SealedFile) → seals ys ≡ [] → seals (xs ++ (ys ++ zs)) ++ files
     ≡ seals xs ++ (seals zs ++ files)
-seals-three xs ys zs files e =
-    cc (seals-append xs (ys ++ zs), seals-append ys zs, append_assoc (seals xs) (seals zs) files)
+seals-three xs ys zs files e = search (arith, seals-append, append_assoc)
 
 at-first : (settings : FileSettings) (s sealed closed : ℕ) (cuts : Cuts) (run : List (Filed (List ℕ)))
     (item : stream.Item (List ℕ)) (division : Division (List ℕ))
@@ -73,16 +64,7 @@ at-first : (settings : FileSettings) (s sealed closed : ℕ) (cuts : Cuts) (run 
     ++ drop (sealed - closed_by cuts.after (closed_by cuts.before closed))
     (files_from settings s (closed_by cuts.after (closed_by cuts.before closed) + 1) division.closed)
     ≡ drop (sealed - closed) (files_from settings s (closed + 1) (with_cuts cuts run item division).closed)
-at-first settings s sealed closed cuts run item division =
-    let next : ℕ = closed_by cuts.before closed in
-    seals-three (closing settings s sealed (closed + 1) cuts.before run)
-    (appending sealed (next + 1) (still cuts.before run []) item)
-    (closing settings s sealed (next + 1) cuts.after (joined cuts.before run item)) _
-    (seals-appending sealed (next + 1) (still cuts.before run []) item)
-    ∙ ap (λ (files : List SealedFile). seals (closing settings s sealed (closed + 1) cuts.before run) ++ files)
-    (closing-first settings s sealed next cuts.after (joined cuts.before run item) division)
-    ∙ closing-first settings s sealed closed cuts.before run (closed_first cuts.after (joined cuts.before run item)
-    division)
+at-first settings s sealed closed cuts run item division = search (arith, seals-three, seals-appending, closing-first)
 
 -- ---- items of a stream
 
@@ -107,34 +89,18 @@ pub drop-append : {A : Type 0} (n : ℕ) (xs ys : List A) → drop n (xs ++ ys) 
 drop-append zero [] ys = refl
 drop-append (suc n) [] ys = let all : suc n ≡ suc n - 0 = omega arith in λ i. drop (all i) ys
 drop-append zero (x ∷ xs) ys = let none : 0 - suc (length xs) ≡ 0 = omega arith in rw none
-drop-append (suc n) (x ∷ xs) ys =
-    let less : n - length xs ≡ suc n - suc (length xs) = omega arith in
-    drop-append n xs ys ∙ (λ i. drop n xs ++ drop (less i) ys)
+drop-append (suc n) (x ∷ xs) ys = search (arith, (drop-append n xs ys))
 
 in_turn : (file : FileSettings) (s sealed c : ℕ) (xs ys : List (ClosedRun (List ℕ)))
     → drop (sealed - c) (files_from file s (c + 1) xs)
     ++ drop (sealed - (c + length xs)) (files_from file s (c + length xs + 1) ys)
     ≡ drop (sealed - c) (files_from file s (c + 1) (xs ++ ys))
-in_turn file s sealed c xs ys =
-    let front : List SealedFile = files_from file s (c + 1) xs in
-    let level : sealed - c - length front ≡ sealed - (c + length xs) =
-    omega (arith, length-files_from file s (c + 1) xs) in
-    let number : c + 1 + length xs ≡ c + length xs + 1 = omega arith in
-    sym (ap (λ (files : List SealedFile). drop (sealed - c) files) (files_from-append file s (c + 1) xs ys)
-    ∙ drop-append (sealed - c) front (files_from file s (c + 1 + length xs) ys)
-    ∙ (λ i. drop (sealed - c) front ++ drop (level i) (files_from file s (number i) ys)))
+in_turn file s sealed c xs ys = search (arith, length-files_from, files_from-append, drop-append)
 
 later-closed : DivisionGoesOn → (settings : Settings) (s : ℕ) (before xs ys : List Item)
     → (later_division settings s before (xs ++ ys)).closed ≡ (later_division settings s before xs).closed
     ++ (later_division settings s (before ++ xs) ys).closed
-later-closed law settings s before xs ys =
-    let from : List (Filed (List ℕ)) = (stream_division settings s before).left_open in
-    let items : List Item → List (stream.Item (List ℕ)) = stream_items settings.profile settings.rules s in
-    ap (λ (zs : List (stream.Item (List ℕ))). (divided_from settings.limits from zs).closed)
-    (flat_map-append (stream_item settings.profile settings.rules s) xs ys)
-    ∙ ap (λ (d : Division (List ℕ)). d.closed) (law settings.limits from (items xs) (items ys))
-    ∙ ap (λ (run : List (Filed (List ℕ))). (later_division settings s before xs).closed
-    ++ (divided_from settings.limits run (items ys)).closed) (sym (left_open-append law settings s before xs))
+later-closed law settings s before xs ys = search (arith, flat_map-append, left_open-append)
 
 -- ---- all streams
 
@@ -152,15 +118,7 @@ pub of_one : {X : Type 0} (of : List Call → List X) → of [] ≡ [] → ((xs 
 unfolding calls_below
 of_one of none both settings closed sealed before item zero s h = (λ g. none, λ g. absurd (omega arith))
 of_one of none both settings closed sealed before item (suc n) s h =
-    let r = of_one of none both settings closed sealed before item n s h in
-    let own : ℕ → List Call = λ t. stream_calls settings closed sealed before (item ∷ []) t in
-    let split = both (calls_below n settings closed sealed before item) (own n) in (
-      λ g. split ∙ (λ i. r.0 (omega arith) i ++ h n (λ e. absurd (omega arith)) i),
-      λ g. elim (cases_eq n s) [
-        | inl same ↦ split ∙ (λ i. r.0 (omega arith) i ++ of (own (same i)))
-        | inr other ↦ split ∙ (λ i. r.1 (omega arith) i ++ h n other i) ∙ append-nil (of (own s))
-      ],
-    )
+    search (arith, (of_one of none both settings closed sealed before item n s h), cases_eq, append-nil)
 
 pub seals-calls_of : DivisionGoesOn → (settings : Settings) (closed sealed : ℕ → ℕ) (before items : List Item) (s : ℕ)
     → s < stream_count
@@ -201,8 +159,7 @@ files_of_stream : (settings : FileSettings) (s sequence : ℕ) (runs : List (Clo
     → AreOfStreams (files_from settings s sequence runs)
 files_of_stream settings s sequence [] h = All-nil IsOfStream
 files_of_stream settings s sequence (closed ∷ later) h =
-    All-cons IsOfStream (sealed_file settings s sequence closed) (files_from settings s (sequence + 1) later) h
-    (files_of_stream settings s (sequence + 1) later h)
+    search (arith, All-cons, (files_of_stream settings s (sequence + 1) later h))
 
 both_of_streams : (xs ys : List Call) → AreOfStreams (seals xs) → AreOfStreams (seals ys) → AreOfStreams (seals (xs ++ ys))
 both_of_streams xs ys one other =
@@ -213,8 +170,7 @@ front_of_streams zero xs all = All-nil IsOfStream
 front_of_streams (suc k) [] all = all
 front_of_streams (suc k) (Writes ∷ xs) all = front_of_streams k xs all
 front_of_streams (suc k) (Seals file ∷ xs) all =
-    All-cons IsOfStream file (seals (take k xs)) (All-head IsOfStream file (seals xs) all)
-    (front_of_streams k xs (All-tail IsOfStream file (seals xs) all))
+    search (arith, All-cons, All-head, (front_of_streams k xs (All-tail IsOfStream file (seals xs) all)), All-tail)
 
 module _ (settings : Settings) (closed sealed : ℕ → ℕ) where
   below_of_streams : (before : List Item) (item : Item) (n : ℕ) → n < suc stream_count
@@ -222,25 +178,17 @@ module _ (settings : Settings) (closed sealed : ℕ → ℕ) where
   unfolding calls_below
   below_of_streams before item zero h = All-nil IsOfStream
   below_of_streams before item (suc n) h =
-      let up : ℕ = closed n + closed_of settings n before in
-      both_of_streams (calls_below n settings closed sealed before item)
-      (stream_calls settings closed sealed before (item ∷ []) n) (below_of_streams before item n (omega arith))
-      (subst AreOfStreams (sym (seals-calls_from settings n (sealed n) up (stream_division settings n before).left_open
-      (stream_items settings.profile settings.rules n (item ∷ []))))
-      (All-drop IsOfStream _ _ (files_of_stream settings.file n (up + 1)
-      (later_division settings n before (item ∷ [])).closed (omega arith))))
+      search (arith, both_of_streams, (below_of_streams before item n (omega arith)), seals-calls_from, All-drop,
+      files_of_stream)
 
   calls_of_streams : (before items : List Item) → AreOfStreams (seals (calls_of settings closed sealed before items))
   calls_of_streams before [] = All-nil IsOfStream
   calls_of_streams before (item ∷ items) =
-      both_of_streams (calls_below stream_count settings closed sealed before item)
-      (calls_of settings closed sealed (before ++ item ∷ []) items)
-      (below_of_streams before item stream_count (omega arith)) (calls_of_streams (before ++ item ∷ []) items)
+      search (arith, both_of_streams, below_of_streams, (calls_of_streams (before ++ item ∷ []) items))
 
   pub seals_of_streams : (before items : List Item) (k : ℕ)
       → AreOfStreams (seals (take k (calls_of settings closed sealed before items)))
-  seals_of_streams before items k =
-      front_of_streams k (calls_of settings closed sealed before items) (calls_of_streams before items)
+  seals_of_streams before items k = search (arith, front_of_streams, calls_of_streams)
 
 -- ---- a file that is sealed already gets no call
 
@@ -252,30 +200,21 @@ same_calls a b m sequence calls e h = ap (λ (t : Bool). if t then [] else calls
 same_closing : (settings : FileSettings) (s a b m sequence : ℕ) (reason : Option ClosureReason)
     (run : List (Filed (List ℕ))) → max a m ≡ max b m → m < sequence →
     closing settings s a sequence reason run ≡ closing settings s b sequence reason run
-same_closing settings s a b m sequence None run e h = refl
-same_closing settings s a b m sequence (Some reason) run e h = same_calls a b m sequence _ e h
+same_closing settings s a b m sequence reason run e h = grind (arith, same_calls)
 
 same_appending : (a b m sequence : ℕ) (run : List (Filed (List ℕ))) (item : stream.Item (List ℕ)) →
     max a m ≡ max b m → m < sequence → appending a sequence run item ≡ appending b sequence run item
-same_appending a b m sequence run (Record filed) e h =
-    same_calls a b m sequence (beginning run ++ Writes ∷ Writes ∷ []) e h
-same_appending a b m sequence run _ e h = refl
+same_appending a b m sequence run item e h = grind (arith, same_calls)
 
 no_fewer : (reason : Option ClosureReason) (closed : ℕ) → closed ≤ closed_by reason closed
-no_fewer None closed = omega arith
-no_fewer (Some reason) closed = omega arith
+no_fewer reason closed = grind arith
 
 -- one stream
 
 same_at : (settings : FileSettings) (s a b : ℕ) (cuts : Cuts) (closed : ℕ) (run : List (Filed (List ℕ)))
     (item : stream.Item (List ℕ)) → max a closed ≡ max b closed →
     calls_at settings s a cuts closed run item ≡ calls_at settings s b cuts closed run item
-same_at settings s a b cuts closed run item e =
-    let mid : ℕ = closed_by cuts.before closed in
-    let later : max a mid ≡ max b mid = omega (arith, e, no_fewer cuts.before closed) in
-    λ i. same_closing settings s a b closed (closed + 1) cuts.before run e (omega arith) i
-    ++ (same_appending a b mid (mid + 1) (still cuts.before run []) item later (omega arith) i
-    ++ same_closing settings s a b mid (mid + 1) cuts.after (joined cuts.before run item) later (omega arith) i)
+same_at settings s a b cuts closed run item e = search (arith, no_fewer, same_appending, same_closing)
 
 same_from : (settings : Settings) (s a b closed : ℕ) (run : List (Filed (List ℕ)))
     (items : List (stream.Item (List ℕ))) → max a closed ≡ max b closed →

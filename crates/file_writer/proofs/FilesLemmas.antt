@@ -1,21 +1,19 @@
 -- Files of closed runs, and what more items add to them.
-use Rattle.std.proofs.Common.{◌≡◌, ◌≢◌, ℕ, zero, suc, ◌+◌, List, [], ◌∷◌, ◌++◌, length, drop, refl, ap, ◌∙◌, arith, length-append}
+use Rattle.std.proofs.Common.{◌≡◌, ◌≢◌, ℕ, zero, suc, ◌+◌, List, [], ◌∷◌, ◌++◌, length, drop, refl, ap, arith, length-append}
 use Rattle.std.proofs.lemmas.Grind.{flat_map-append}
 use Rattle.std.proofs.lemmas.Bool.{eq-eqb, ne_eqb}
 use Rattle.cdr_file.specs.CdrFile.{FileSettings}
 use Rattle.cdr_shelf.specs.Files.{in_stream}
-use Rattle.file_rotate.specs.Division.{ClosedRun, Division, division_of, goes_on}
-use Rattle.file_rotate.specs.Items as stream
+use Rattle.file_rotate.specs.Division.{ClosedRun, goes_on}
 use Rattle.gw_base.specs.declared.item.Item.{Item}
 use Rattle.file_writer.specs.Files.{files_from, later_division, later_files, stream_files}
 use Rattle.file_writer.specs.Laws.{DivisionGoesOn}
-use Rattle.file_writer.specs.Streams.{Settings, closed_of, stream_division, stream_item, stream_items}
+use Rattle.file_writer.specs.Streams.{Settings, closed_of, stream_division, stream_items}
 
 pub files_from-append : (settings : FileSettings) (s n : ℕ) (xs ys : List (ClosedRun (List ℕ)))
     → files_from settings s n (xs ++ ys) ≡ files_from settings s n xs ++ files_from settings s (n + length xs) ys
 files_from-append settings s n [] ys = ap (λ (m : ℕ). files_from settings s m ys) (omega arith)
-files_from-append settings s n (x ∷ xs) ys =
-    let next : n + 1 + length xs ≡ n + suc (length xs) = omega arith in cc (files_from-append settings s (n + 1) xs ys)
+files_from-append settings s n (x ∷ xs) ys = search (arith, (files_from-append settings s (n + 1) xs ys))
 
 pub length-files_from : (settings : FileSettings) (s n : ℕ) (xs : List (ClosedRun (List ℕ)))
     → length (files_from settings s n xs) ≡ length xs
@@ -43,23 +41,16 @@ in_stream-other settings s t n (suc k) [] h = refl
 pub division-append : DivisionGoesOn → (settings : Settings) (s : ℕ) (items more : List Item)
     → stream_division settings s (items ++ more) ≡ goes_on settings.limits (stream_division settings s items)
     (stream_items settings.profile settings.rules s more)
-division-append law settings s items more =
-    ap (λ (xs : List (stream.Item (List ℕ))). division_of settings.limits xs)
-    (flat_map-append (stream_item settings.profile settings.rules s) items more)
-    ∙ law settings.limits [] (stream_items settings.profile settings.rules s items)
-    (stream_items settings.profile settings.rules s more)
+division-append law settings s items more = search (arith, flat_map-append)
 
 pub left_open-append : DivisionGoesOn → (settings : Settings) (s : ℕ) (items more : List Item)
     → (stream_division settings s (items ++ more)).left_open ≡ (later_division settings s items more).left_open
-left_open-append law settings s items more =
-    ap (λ (d : Division (List ℕ)). d.left_open) (division-append law settings s items more)
+left_open-append law settings s items more = search (arith, division-append)
 
 pub closed_of-append : DivisionGoesOn → (settings : Settings) (s : ℕ) (items more : List Item)
     → closed_of settings s (items ++ more)
     ≡ closed_of settings s items + length (later_division settings s items more).closed
-closed_of-append law settings s items more =
-    ap (λ (d : Division (List ℕ)). length d.closed) (division-append law settings s items more)
-    ∙ length-append (stream_division settings s items).closed (later_division settings s items more).closed
+closed_of-append law settings s items more = search (arith, division-append, length-append)
 
 pub files-append : DivisionGoesOn → (settings : Settings) (s : ℕ) (items more : List Item)
     → stream_files settings s (items ++ more) ≡ stream_files settings s items ++ later_files settings s items more

@@ -1,12 +1,11 @@
 -- How a stream's file and what is kept of it go on through closings and records.
-use Rattle.std.proofs.Common.{◌≡◌, ◌≢◌, ℕ, max, take, ◌+◌, ◌≤◌, Bool, true, false, nat_le, if◌then◌else◌, IsTrue, IfOk, OnOk, List, [], ◌∷◌, ◌++◌, length, Option, None, Some, Result, Ok, Err, refl, sym, ap, ◌∙◌, subst, arith}
+use Rattle.std.proofs.Common.{◌≡◌, ◌≢◌, ℕ, max, ◌+◌, ◌≤◌, Bool, if◌then◌else◌, IsTrue, IfOk, OnOk, List, [], ◌∷◌, ◌++◌, length, Option, None, Some, Result, sym, ap, arith}
+use Rattle.std.proofs.lemmas.Bool.Decides.{nat_tests}
 use Rattle.std.specs.Result.{IsErr, IsErrAnd}
 use Rattle.std.proofs.lemmas.Bool.{ne_eqb}
 use Rattle.std.proofs.lemmas.List.{append-nil, map-append}
 use Rattle.std.proofs.lemmas.Option.{same_Some}
-use Rattle.area_disk.specs.Armed.{calls_under}
-use Rattle.cdr_file.specs.CdrFile.{FileSettings, FiledRecord, cdr_octets, facts_of, facts_of_one, facts_with, file_octets, header_of, run_octets}
-use Rattle.cdr_file.specs.FileHeader.{header_octets}
+use Rattle.cdr_file.specs.CdrFile.{FileSettings, FiledRecord, cdr_octets, facts_of, facts_of_one, facts_with, file_octets, run_octets}
 use Rattle.cdr_file.specs.Profile.{IsFiledKind}
 use Rattle.cdr_file.specs.declared.closure.ClosureReason.{ClosureReason}
 use Rattle.cdr_file.specs.declared.filed_kind.FiledKind.{FiledKind}
@@ -20,11 +19,11 @@ use Rattle.file_rotate.specs.Division.{Cuts, run_after, still}
 use Rattle.file_rotate.specs.Items.{Filed, Record}
 use Rattle.file_rotate.specs.declared.limits.Limits.{Limits}
 use Rattle.file_rotate.specs.declared.open_file.OpenFile.{OpenFile}
-use Rattle.file_writer.specs.Calls.{Call, Writes, Seals, appending, beginning, calls_at, closed_by, closing, seals, unless_sealed}
+use Rattle.file_writer.specs.Calls.{Call, Writes, Seals, appending, beginning, calls_at, closed_by, closing, seals}
 use Rattle.file_writer.specs.Files.{record_of, run_records}
 use Rattle.file_writer.specs.Following.{BodyWhere, Follows, IsUp, Pairs, Stays, mark_item}
-use Rattle.file_writer.specs.Making.{Comes, Ending, Makes, Went}
-use Rattle.file_writer.specs.Writing.{ClosesOpen, GrownWhere, IsGrown, IsReady, ReadyWhere, StillOpen, appending_of, beginning_of, body_behind, closed_file, closed_progress, closing_of, grown, grown_facts, growing_of, is_sealed, name_in}
+use Rattle.file_writer.specs.Making.{Ending, Makes, Went}
+use Rattle.file_writer.specs.Writing.{ClosesOpen, GrownWhere, IsGrown, ReadyWhere, StillOpen, appending_of, beginning_of, body_behind, closed_file, closed_progress, closing_of, grown, grown_facts, growing_of, is_sealed, name_in}
 use Rattle.file_writer.specs.declared.fault.ShelfFault.{ShelfFault}
 use Rattle.file_writer.specs.declared.progress.Progress.{Progress}
 use Rattle.file_writer.proofs.MakingLemmas.{all_sealed, makes_as}
@@ -35,56 +34,26 @@ use Rattle.file_writer.proofs.WritingLemmas.{own_number}
 makes_same : {A : Type 0} (tells : Ghosts A) (xs ys : List Call) (ended : Ending) (old new : A)
     → length xs ≡ length ys → (IsTrue tells.tells_files → xs ≡ ys)
     → Makes tells xs ended old new → Makes tells ys ended old new
-makes_same tells xs ys ended old new long same made =
-    makes_as tells xs ys ended old new made (omega (arith, made.within, long)) (λ e. long)
-    (λ told k h. ap (λ (cs : List Call). seals (take k cs)) (same told))
-    (λ a c. subst (λ (n : ℕ). Comes tells ys ended made.tried old new (calls_under a n)) long c)
+makes_same tells xs ys ended old new long same made = search (arith, makes_as)
 
 -- ---- closing
 
 long_if : (b : Bool) (f g : SealedFile) → length (if b then [] else Writes ∷ Writes ∷ Seals f ∷ [])
     ≡ length (if b then [] else Writes ∷ Writes ∷ Seals g ∷ [])
-long_if true f g = refl
-long_if false f g = refl
+long_if b f g = grind arith
 
 closing_long : (settings : FileSettings) (s : ℕ) (file : Progress) (u : Option UnsealedFile)
     (reason : Option ClosureReason) (run : List (Filed (List ℕ)))
     → length (closing_of settings s file u reason)
     ≡ length (closing settings s file.sealed (file.closed + 1) reason run)
-closing_long settings s file u None run = refl
-closing_long settings s file u (Some reason) run = long_if (nat_le (file.closed + 1) file.sealed) _ _
-
-abbrev file_by : FileSettings → FileName → ClosureReason → RunFacts → List ℕ → SealedFile
-file_by settings name reason facts octets =
-    record { name = name; octets = header_octets (header_of facts name.sequence reason settings) ++ octets }
+closing_long settings s file u reason run = grind (arith, nat_tests, long_if)
 
 file_is : (settings : FileSettings) (name : FileName) (reason : ClosureReason) (growing : Option RunFacts)
     (run : List FiledRecord) (u : Option UnsealedFile)
     → growing ≡ growing_of run → ClosesOpen (Some reason) growing → body_behind growing u ≡ run_octets run
     → closed_file settings name reason growing u
     ≡ record { name = name; octets = file_octets run name.sequence reason settings }
-file_is settings name reason None run u e opens body = absurd opens
-file_is settings name reason (Some facts) [] u e opens body = absurd (cc)
-file_is settings name reason (Some facts) (first ∷ later) u e opens body =
-    ap (λ (octets : List ℕ). file_by settings name reason facts octets) body
-    ∙ ap (λ (run : RunFacts). file_by settings name reason run (run_octets (first ∷ later))) (same_Some _ _ e)
-
-same_if : (b : Bool) (growing : Option RunFacts) (octets : List ℕ) (u : Option UnsealedFile) (f g : SealedFile)
-    → BodyWhere b growing octets u
-    → (body_behind growing u ≡ octets → f ≡ g) → (if b then [] else Writes ∷ Writes ∷ Seals f ∷ [])
-    ≡ (if b then [] else Writes ∷ Writes ∷ Seals g ∷ [])
-same_if true growing octets u f g body same = refl
-same_if false growing octets u f g body same = ap (λ (file : SealedFile). Writes ∷ Writes ∷ Seals file ∷ []) (same body)
-
-closing_is : (settings : FileSettings) (s : ℕ) (file : Progress) (u : Option UnsealedFile)
-    (reason : Option ClosureReason) (run : List (Filed (List ℕ)))
-    → file.growing ≡ growing_of (run_records run) → ClosesOpen reason file.growing
-    → BodyWhere (is_sealed file) file.growing (run_octets (run_records run)) u
-    → closing_of settings s file u reason ≡ closing settings s file.sealed (file.closed + 1) reason run
-closing_is settings s file u None run kept opens body = refl
-closing_is settings s file u (Some reason) run kept opens body =
-    same_if (is_sealed file) file.growing (run_octets (run_records run)) u _ _ body
-    (λ stands. file_is settings (name_in s file) reason file.growing (run_records run) u kept opens stands)
+file_is settings name reason growing run u e opens body = grind (arith, same_Some)
 
 -- the calls of a closing are those for the run
 pub makes_closing : {A : Type 0} (tells : Ghosts A) (settings : FileSettings) (s : ℕ) (run : List (Filed (List ℕ)))
@@ -93,35 +62,25 @@ pub makes_closing : {A : Type 0} (tells : Ghosts A) (settings : FileSettings) (s
     → Makes tells (closing_of settings s file (tells.unsealed old s) reason) ended old new
     → Makes tells (closing settings s file.sealed (file.closed + 1) reason run) ended old new
 makes_closing tells settings s run file reason ended old new follows opens made =
-    makes_same tells _ _ ended old new (closing_long settings s file (tells.unsealed old s) reason run)
-    (λ told. closing_is settings s file (tells.unsealed old s) reason run follows.kept opens (follows.body told)) made
+    search (arith, makes_same, closing_long, follows.body)
 
 pub none_body : (b : Bool) (u : Option UnsealedFile) → BodyWhere b None [] u
-none_body true u = tt
-none_body false u = refl
+none_body b u = grind arith
 
 pub close_follows : {A : Type 0} (tells : Ghosts A) (s : ℕ) (run : List (Filed (List ℕ))) (file later : Progress)
     (reason : Option ClosureReason) (old new : A)
     → Follows tells s run file old → later ≡ closed_progress reason file
     → (IsTrue tells.tells_files → StillOpen reason file (tells.unsealed old s) (tells.unsealed new s))
     → Follows tells s (still reason run []) later new
-close_follows tells s run file later None old new follows e opens =
-    rw e (record { kept = follows.kept; body = λ told. rw (opens told) (follows.body told) })
-close_follows tells s run file later (Some reason) old new follows e opens =
-    rw e (record {
-      kept = refl;
-      body = λ told. none_body (nat_le (file.closed + 1 + 1) file.sealed) (tells.unsealed new s);
-    })
+close_follows tells s run file later reason old new follows e opens = grind (arith, nat_tests)
 
 pub closed_count : (reason : Option ClosureReason) (file later : Progress) → later ≡ closed_progress reason file
     → later.closed ≡ closed_by reason file.closed
-closed_count None file later e = ap (λ (f : Progress). f.closed) e
-closed_count (Some reason) file later e = ap (λ (f : Progress). f.closed) e
+closed_count reason file later e = grind arith
 
 pub closed_sealed : (reason : Option ClosureReason) (file later : Progress) → later ≡ closed_progress reason file
     → later.sealed ≡ file.sealed
-closed_sealed None file later e = ap (λ (f : Progress). f.sealed) e
-closed_sealed (Some reason) file later e = ap (λ (f : Progress). f.sealed) e
+closed_sealed reason file later e = grind arith
 
 -- ---- a record more
 
@@ -135,16 +94,13 @@ pub record FactsLaws : Type 0 where
 
 growing_grown : FactsLaws → (rs : List FiledRecord) (r : FiledRecord) → Some (grown_facts (growing_of rs) r)
     ≡ growing_of (rs ++ r ∷ [])
-growing_grown laws [] r = ap (λ (facts : RunFacts). Some facts) (sym (laws.first r))
-growing_grown laws (x ∷ xs) r = ap (λ (facts : RunFacts). Some facts) (sym (laws.more (x ∷ xs) r (λ e. absurd (cc))))
+growing_grown laws rs r = grind arith
 
 grown_body : FactsLaws → (b : Bool) (name : FileName) (growing : Option RunFacts) (rs : List FiledRecord)
     (r : FiledRecord) (old new : Option UnsealedFile)
     → BodyWhere b growing (run_octets rs) old → GrownWhere b name growing r old new
     → BodyWhere b (Some (grown_facts growing r)) (run_octets (rs ++ r ∷ [])) new
-grown_body laws true name growing rs r old new body has_grown = tt
-grown_body laws false name growing rs r old new body has_grown =
-    has_grown.1 ∙ ap (λ (octets : List ℕ). octets ++ cdr_octets r) body ∙ sym (laws.growth rs r)
+grown_body laws b name growing rs r old new body has_grown = grind arith
 
 pub append_follows : {A : Type 0} (tells : Ghosts A) (s : ℕ) (run : List (Filed (List ℕ))) (filed : Filed (List ℕ))
     (file later : Progress) (old new : A) → FactsLaws
@@ -152,62 +108,40 @@ pub append_follows : {A : Type 0} (tells : Ghosts A) (s : ℕ) (run : List (File
     → (IsTrue tells.tells_files → IsGrown s file (record_of filed) (tells.unsealed old s) (tells.unsealed new s))
     → Follows tells s (run ++ filed ∷ []) later new
 append_follows tells s run filed file later old new laws follows e has_grown =
-    let records : run_records (run ++ filed ∷ []) ≡ run_records run ++ record_of filed ∷ [] =
-    map-append record_of run (filed ∷ []) in
-    rw e (record {
-      kept = rw records (ap (λ (g : Option RunFacts). Some (grown_facts g (record_of filed))) follows.kept
-          ∙ growing_grown laws (run_records run) (record_of filed));
-      body = λ told. rw records (grown_body laws (is_sealed file) (name_in s file) file.growing (run_records run)
-          (record_of filed) (tells.unsealed old s) (tells.unsealed new s) (follows.body told) (has_grown told));
-    })
+    search (arith, map-append, growing_grown, grown_body, follows.body)
 
 beginning_is : (growing : Option RunFacts) (run : List (Filed (List ℕ))) → growing ≡ growing_of (run_records run)
     → beginning_of growing ≡ beginning run
-beginning_is growing [] e = ap beginning_of e
-beginning_is growing (first ∷ later) e = ap beginning_of e
+beginning_is growing run e = grind arith
 
 -- the calls for a record are those for the run
 pub appending_is : {A : Type 0} (tells : Ghosts A) (s : ℕ) (run : List (Filed (List ℕ))) (filed : Filed (List ℕ))
     (file : Progress) (shelf : A) → Follows tells s run file shelf
     → appending_of file ≡ appending file.sealed (file.closed + 1) run (Record filed)
-appending_is tells s run filed file shelf follows =
-    ap (λ (calls : List Call). unless_sealed file.sealed (file.closed + 1) (calls ++ Writes ∷ Writes ∷ []))
-    (beginning_is file.growing run follows.kept)
+appending_is tells s run filed file shelf follows = cc (beginning_is file.growing run follows.kept)
 
 -- ---- what is sealed
 
 name_of_closed : (settings : FileSettings) (name : FileName) (reason : ClosureReason) (growing : Option RunFacts)
     (u : Option UnsealedFile) → (closed_file settings name reason growing u).name ≡ name
-name_of_closed settings name reason None u = refl
-name_of_closed settings name reason (Some run) u = refl
+name_of_closed settings name reason growing u = grind arith
 
 greatest_if : (b : Bool) (s n : ℕ) (f : SealedFile) → number_in s f.name ≡ n
     → greatest_in s (seals (if b then [] else Writes ∷ Writes ∷ Seals f ∷ [])) ≤ n
-greatest_if true s n f e = omega arith
-greatest_if false s n f e = omega arith
+greatest_if b s n f e = grind arith
 
 sealed_by_closing : (settings : FileSettings) (s t : ℕ) (file : Progress) (u : Option UnsealedFile)
     (reason : Option ClosureReason)
     → greatest_in t (seals (closing_of settings s file u reason))
     ≤ number_in t (record { stream = s; sequence = closed_by reason file.closed })
-sealed_by_closing settings s t file u None = omega arith
-sealed_by_closing settings s t file u (Some reason) =
-    greatest_if (is_sealed file) t _ (closed_file settings (name_in s file) reason file.growing u)
-    (ap (λ (name : FileName). number_in t name) (name_of_closed settings (name_in s file) reason file.growing u))
+sealed_by_closing settings s t file u reason = grind (arith, greatest_if, name_of_closed)
 
 greatest_closing : (settings : FileSettings) (s : ℕ) (file : Progress) (u : Option UnsealedFile)
     (reason : Option ClosureReason) (files : List SealedFile)
     → greatest_in s files ≤ max file.closed file.sealed
     → greatest_in s (files ++ seals (closing_of settings s file u reason))
     ≤ max (closed_progress reason file).closed (closed_progress reason file).sealed
-greatest_closing settings s file u None files h = omega (arith, greatest_in-append s files [])
-greatest_closing settings s file u (Some reason) files h =
-    omega (
-      arith,
-      greatest_in-append s files (seals (closing_of settings s file u (Some reason))),
-      sealed_by_closing settings s s file u (Some reason),
-      own_number s (file.closed + 1),
-    )
+greatest_closing settings s file u reason files h = grind (arith, greatest_in-append, sealed_by_closing, own_number)
 
 other_number : (s t n : ℕ) → t ≢ s → number_in t (record { stream = s; sequence = n }) ≡ 0
 other_number s t n h = ap (λ (b : Bool). if b then n else 0) (ne_eqb s t (λ e. h (sym e)))
@@ -216,29 +150,13 @@ greatest_elsewhere : (settings : FileSettings) (s t : ℕ) (file : Progress) (u 
     (reason : Option ClosureReason) (files : List SealedFile) → t ≢ s
     → greatest_in t (files ++ seals (closing_of settings s file u reason)) ≡ greatest_in t files
 greatest_elsewhere settings s t file u reason files h =
-    omega (
-      arith,
-      greatest_in-append t files (seals (closing_of settings s file u reason)),
-      sealed_by_closing settings s t file u reason,
-      other_number s t (closed_by reason file.closed) h,
-    )
+    search (arith, greatest_in-append, sealed_by_closing, other_number)
 
 seals_if : (b : Bool) (growing : Option RunFacts)
     → seals (if b then [] else beginning_of growing ++ Writes ∷ Writes ∷ []) ≡ []
-seals_if false None = refl
-seals_if _ _ = refl
+seals_if b growing = grind arith
 
 -- ---- a stream stays up
-
-ready_if : (b : Bool) (name : FileName) (u : Option UnsealedFile) → ReadyWhere b name None u
-ready_if true name u = tt
-ready_if false name u = tt
-
-close_ready : (reason : Option ClosureReason) (s : ℕ) (file : Progress) (old new : Option UnsealedFile)
-    → IsReady s file old → StillOpen reason file old new → IsReady s (closed_progress reason file) new
-close_ready None s file old new ready opens = rw opens ready
-close_ready (Some reason) s file old new ready opens =
-    ready_if (nat_le (file.closed + 1 + 1) file.sealed) (record { stream = s; sequence = file.closed + 1 + 1 }) new
 
 pub close_up : {A : Type 0} (tells : Ghosts A) (settings : FileSettings) (s : ℕ) (file later : Progress)
     (reason : Option ClosureReason) (old new : A)
@@ -246,24 +164,16 @@ pub close_up : {A : Type 0} (tells : Ghosts A) (settings : FileSettings) (s : �
     → (IsTrue tells.tells_files → StillOpen reason file (tells.unsealed old s) (tells.unsealed new s))
     → Makes tells (closing_of settings s file (tells.unsealed old s) reason) Went old new → IsUp tells s later new
 close_up tells settings s file later reason old new up e opens made =
-    rw e (record {
-      fresh = λ told. rw (all_sealed tells (closing_of settings s file (tells.unsealed old s) reason) [] old new made told)
-          (greatest_closing settings s file (tells.unsealed old s) reason (tells.files old) (up.fresh told));
-      ready = λ told. close_ready reason s file _ _ (up.ready told) (opens told);
-    })
+    search (arith, all_sealed, greatest_closing, up.fresh, up.ready)
 
 grown_ready : (b : Bool) (name : FileName) (growing : Option RunFacts) (r : FiledRecord)
     (old new : Option UnsealedFile) → GrownWhere b name growing r old new
     → ReadyWhere b name (Some (grown_facts growing r)) new
-grown_ready true name growing r old new h = tt
-grown_ready false name growing r old new h = h.0
+grown_ready b name growing r old new h = grind arith
 
 same_files : {A : Type 0} (tells : Ghosts A) (file : Progress) (old new : A)
     → Makes tells (appending_of file) Went old new → IsTrue tells.tells_files → tells.files new ≡ tells.files old
-same_files tells file old new made told =
-    all_sealed tells (appending_of file) [] old new made told
-    ∙ ap (λ (files : List SealedFile). tells.files old ++ files) (seals_if (is_sealed file) file.growing)
-    ∙ append-nil (tells.files old)
+same_files tells file old new made told = search (arith, all_sealed, seals_if, append-nil)
 
 pub append_up : {A : Type 0} (tells : Ghosts A) (s : ℕ) (file later : Progress) (r : FiledRecord) (old new : A)
     → IsUp tells s file old → later ≡ grown file r
@@ -281,13 +191,7 @@ pub close_stays : {A : Type 0} (tells : Ghosts A) (settings : FileSettings) (s t
     (reason : Option ClosureReason) (old new : A) → t ≢ s
     → IsTrue tells.tells_files → tells.unsealed new t ≡ tells.unsealed old t
     → Makes tells (closing_of settings s file (tells.unsealed old s) reason) Went old new → Stays tells t old new
-close_stays tells settings s t file reason old new h told same made = record {
-  unsealed = same;
-  greatest =
-      ap (λ (files : List SealedFile). greatest_in t files)
-      (all_sealed tells (closing_of settings s file (tells.unsealed old s) reason) [] old new made told)
-      ∙ greatest_elsewhere settings s t file (tells.unsealed old s) reason (tells.files old) h;
-}
+close_stays tells settings s t file reason old new h told same made = search (arith, all_sealed, greatest_elsewhere)
 
 pub append_stays : {A : Type 0} (tells : Ghosts A) (t : ℕ) (file : Progress) (old new : A) → IsTrue tells.tells_files
     → tells.unsealed new t ≡ tells.unsealed old t
@@ -299,22 +203,18 @@ append_stays tells t file old new told same made = record {
 
 pub stays_then : {A : Type 0} (tells : Ghosts A) (t : ℕ) (old mid new : A) → Stays tells t old mid
     → Stays tells t mid new → Stays tells t old new
-stays_then tells t old mid new first next =
-    record { unsealed = next.unsealed ∙ first.unsealed; greatest = next.greatest ∙ first.greatest }
+stays_then tells t old mid new first next = search arith
 
 -- ---- what a cutter keeps
 
 pub pairs_closed : (reason : Option ClosureReason) (kept : Option OpenFile) (file later : Progress)
     → Pairs kept file.growing → later ≡ closed_progress reason file → Pairs (still reason kept None) later.growing
-pairs_closed None kept file later pairs e = rw e pairs
-pairs_closed (Some reason) kept file later pairs e = rw e tt
+pairs_closed reason kept file later pairs e = grind arith
 
 pairs_with : (kept : Option OpenFile) (growing : Option RunFacts) (r : FiledRecord) → Pairs kept growing
     → IsFiledKind r.kind
     → Pairs (Some (with_record kept r.kind (length r.octets) r.moment)) (Some (grown_facts growing r))
-pairs_with None None r pairs kind = (refl, refl, kind)
-pairs_with (Some file) (Some run) r pairs kind = (omega (arith, pairs.0), ap (λ (n : ℕ). n + 1) pairs.1, pairs.2)
-pairs_with _ _ r pairs kind = absurd pairs
+pairs_with kept growing r pairs kind = grind arith
 
 pub pairs_grown : (kept : Option OpenFile) (file later : Progress) (r : FiledRecord) → Pairs kept file.growing
     → IsFiledKind r.kind → later ≡ grown file r
@@ -324,21 +224,18 @@ pairs_grown kept file later r pairs kind e = rw e (pairs_with kept file.growing 
 -- where a function ended, it has no answer
 pub no_answer : {T : Type 0} (q : Result T ShelfFault) (e : ShelfFault) (P : T → Type 0) → IsErr q
     × IsErrAnd q (λ x. x ≡ e) → IfOk q P
-no_answer (Ok x) e P h = absurd h.1
-no_answer (Err x) e P h = tt
+no_answer q e P h = grind arith
 
 -- ---- an item
 
 -- at a Tick or a Close, nothing is closed behind it
 pub mark_cuts_is : (limits : Limits) (file : Option OpenFile) (closes : Bool) (moment : ℕ)
     → item_cuts {P = List ℕ} limits file (mark_item closes moment) ≡ mark_cuts limits file closes moment
-mark_cuts_is limits file true moment = refl
-mark_cuts_is limits file false moment = refl
+mark_cuts_is limits file closes moment = grind arith
 
 pub mark_file_is : (limits : Limits) (file : Option OpenFile) (closes : Bool) (moment : ℕ)
     → item_file {P = List ℕ} limits file (mark_item closes moment) ≡ mark_file limits file closes moment
-mark_file_is limits file true moment = refl
-mark_file_is limits file false moment = refl
+mark_file_is limits file closes moment = grind arith
 
 abbrev pub only_before : Option ClosureReason → Cuts
 only_before reason = record { before = reason; after = None }
@@ -347,34 +244,25 @@ pub mark_calls : (settings : FileSettings) (s sealed closed : ℕ) (reason : Opt
     (run : List (Filed (List ℕ))) (closes : Bool) (moment : ℕ)
     → closing settings s sealed (closed + 1) reason run ≡ calls_at settings s sealed (only_before reason) closed run
     (mark_item closes moment)
-mark_calls settings s sealed closed reason run true moment =
-    sym (append-nil (closing settings s sealed (closed + 1) reason run))
-mark_calls settings s sealed closed reason run false moment =
-    sym (append-nil (closing settings s sealed (closed + 1) reason run))
+mark_calls settings s sealed closed reason run closes moment = grind (arith, append-nil)
 
 pub mark_run : (reason : Option ClosureReason) (run : List (Filed (List ℕ))) (closes : Bool) (moment : ℕ)
     → still reason run [] ≡ run_after (only_before reason) run (mark_item closes moment)
-mark_run reason run true moment = sym (append-nil (still reason run []))
-mark_run reason run false moment = sym (append-nil (still reason run []))
+mark_run reason run closes moment = grind (arith, append-nil)
 
 closes_some : (reason : Option ClosureReason) (run : RunFacts) → ClosesOpen reason (Some run)
-closes_some None run = tt
-closes_some (Some reason) run = tt
+closes_some reason run = grind arith
 
 -- what isn't open isn't closed
 pub mark_closes : (limits : Limits) (kept : Option OpenFile) (closes : Bool) (moment : ℕ) (growing : Option RunFacts)
     (reason : Option ClosureReason)
     → Pairs kept growing → reason ≡ mark_reason limits kept closes moment → ClosesOpen reason growing
-mark_closes limits None closes moment None reason pairs e = rw e tt
-mark_closes limits (Some file) closes moment (Some run) reason pairs e = closes_some reason run
-mark_closes limits _ closes moment _ reason pairs e = absurd pairs
+mark_closes limits kept closes moment growing reason pairs e = grind (arith, closes_some)
 
 pub record_closes : (kept : Option OpenFile) (kind : FiledKind) (growing : Option RunFacts)
     (reason : Option ClosureReason)
     → Pairs kept growing → reason ≡ kind_change kept kind → ClosesOpen reason growing
-record_closes None kind None reason pairs e = rw e tt
-record_closes (Some file) kind (Some run) reason pairs e = closes_some reason run
-record_closes _ kind _ reason pairs e = absurd pairs
+record_closes kept kind growing reason pairs e = grind (arith, closes_some)
 
 pub grown_closes : (file later : Progress) (r : FiledRecord) (reason : Option ClosureReason) → later ≡ grown file r
     → ClosesOpen reason later.growing
@@ -382,5 +270,4 @@ grown_closes file later r reason e = rw e (closes_some reason (grown_facts file.
 
 pub no_result : {T : Type 0} (q : Result T ShelfFault) (e : ShelfFault) (P : Type 0) → IsErr q
     × IsErrAnd q (λ x. x ≡ e) → OnOk q P
-no_result (Ok x) e P h = absurd h.1
-no_result (Err x) e P h = tt
+no_result q e P h = grind arith

@@ -1,6 +1,6 @@
 -- What stands of the files of items after some of the calls for more of them, and when a writer recovers on a shelf that
 -- holds the first ones.
-use Rattle.std.proofs.Common.{◌≡◌, ℕ, suc, max, min, ◌+◌, ◌-◌, ◌<◌, ◌≤◌, Bool, true, false, ◌==◌, if◌then◌else◌, List, [], ◌∷◌, ◌++◌, length, take, drop, refl, sym, ap, ◌∙◌, arith, append_assoc, length-drop}
+use Rattle.std.proofs.Common.{◌≡◌, ℕ, suc, max, min, ◌+◌, ◌-◌, ◌<◌, ◌≤◌, Bool, ◌==◌, if◌then◌else◌, List, [], ◌∷◌, ◌++◌, length, take, drop, refl, sym, ap, ◌∙◌, arith, append_assoc, length-drop}
 use Rattle.std.proofs.lemmas.List.{append-nil, take-append-drop, take_min}
 use Rattle.std.proofs.Math.Seq.{take-add, take-append_seam, take-append-add}
 use Rattle.cdr_file.specs.CdrFile.{FileSettings}
@@ -22,26 +22,14 @@ use Rattle.file_writer.proofs.WritingLemmas.{own_number}
 -- a list goes on from where another one is dropped
 take_on : {A : Type 0} (xs ys made left : List A) (k : ℕ) → made ++ left ≡ drop k xs → take k (xs ++ ys) ++ made
     ≡ take (k + length made) (xs ++ ys)
-take_on xs ys made left k e =
-    cc (
-      e,
-      take-add k (length made) (xs ++ ys),
-      drop-append k xs ys,
-      append_assoc made left (drop (k - length xs) ys),
-      take-append_seam made (left ++ drop (k - length xs) ys),
-    )
+take_on xs ys made left k e = search (arith, take-add, drop-append, append_assoc, take-append_seam)
 
 take_more : {A : Type 0} (front xs ys made left : List A) (k : ℕ) → made ++ left ≡ drop k xs
     → take (length front + k) (front ++ (xs ++ ys)) ++ made
     ≡ take (length front + k + length made) (front ++ (xs ++ ys))
 take_more front xs ys made left k e =
     let same : length front + k + length made ≡ length front + (k + length made) = omega arith in
-    cc (
-      take-append-add front (xs ++ ys) k,
-      take-append-add front (xs ++ ys) (k + length made),
-      append_assoc front (take k (xs ++ ys)) made,
-      take_on xs ys made left k e,
-    )
+    search (arith, take-append-add, append_assoc, take_on)
 
 -- ---- files
 
@@ -99,9 +87,7 @@ module _ (law : DivisionGoesOn) (settings : Settings) (closed sealed : ℕ → �
 
   made_of : (made left : List Call) (s : ℕ) → s < stream_count → calls ≡ made ++ left
       → in_stream s (seals made) ++ in_stream s (seals left) ≡ drop (past s) (middle s)
-  made_of made left s h e =
-      sym (in_stream-seals s made left) ∙ ap (λ (cs : List Call). in_stream s (seals cs)) (sym e)
-      ∙ seals-calls_of law settings closed sealed items more s h
+  made_of made left s h e = cc (in_stream-seals s made left, seals-calls_of law settings closed sealed items more s h)
 
   -- after some of the calls
   some_stand : (made left : List Call) (s : ℕ) → s < stream_count → calls ≡ made ++ left
@@ -110,8 +96,7 @@ module _ (law : DivisionGoesOn) (settings : Settings) (closed sealed : ℕ → �
       let parts = three_parts law settings closed items more rest s in
       let front : List SealedFile = files_after settings closed s items in
       let new : List SealedFile = in_stream s (seals made) in
-      let long : length front ≡ closed_of settings s items =
-      length-files_from settings.file s (closed s + 1) (stream_division settings s items).closed in
+      let long : length front ≡ closed_of settings s items = search (arith, length-files_from) in
       let count : stand s ≡ length front + past s = omega (arith, long) in
       in_stream-append s files (seals made) ∙ ap (λ (fs : List SealedFile). fs ++ new) (holds s h)
       ∙ append_assoc (before s) (take (stand s) (files_after settings closed s all)) new
@@ -151,14 +136,11 @@ module _ (law : DivisionGoesOn) (settings : Settings) (closed sealed : ℕ → �
 own_first : (t : Bool) (s : ℕ) (f : SealedFile) (files : List SealedFile)
     → number_in s f.name ≡ (if t then f.name.sequence else 0)
     → greatest_in s (if t then f ∷ files else files) ≡ max (number_in s f.name) (greatest_in s files)
-own_first true s f files e = refl
-own_first false s f files e = omega (arith, e)
+own_first t s f files e = grind arith
 
 greatest_own : (s : ℕ) (files : List SealedFile) → greatest_in s (in_stream s files) ≡ greatest_in s files
 greatest_own s [] = refl
-greatest_own s (f ∷ files) =
-    own_first (f.name.stream == s) s f (in_stream s files) refl
-    ∙ ap (λ (n : ℕ). max (number_in s f.name) n) (greatest_own s files)
+greatest_own s (f ∷ files) = cc (own_first (f.name.stream == s) s f (in_stream s files) refl, greatest_own s files)
 
 -- files that are numbered one after the other
 counted : (settings : FileSettings) (s before n : ℕ) (runs : List (ClosedRun (List ℕ)))

@@ -1,25 +1,23 @@
 -- What a writer keeps when it recovers, and what calls for items leave unsealed.
-use Rattle.std.proofs.Common.{◌≡◌, ℕ, suc, ◌+◌, ◌<◌, List, [], length, map, replicate, Option, None, slice_index, slice_index_or, slice_set, inl, inr, refl, sym, ap, ◌∙◌, subst, arith, ◌≢◌, max, ◌≤◌, Bool, false, IsTrue, ◌∷◌, drop, Some}
+use Rattle.std.proofs.Common.{◌≡◌, ℕ, suc, ◌+◌, ◌<◌, List, [], length, map, replicate, Option, None, slice_index, slice_index_or, slice_set, refl, ◌∙◌, arith, ◌≢◌, max, ◌≤◌, false, IsTrue, Some}
+use Rattle.std.proofs.lemmas.Bool.Decides.{nat_tests}
 use Rattle.std.proofs.lemmas.Bool.{cases_eq}
 use Rattle.std.proofs.lemmas.List.{get_or-map, get_or-set_other, get_or-set_same, get_or_default}
 use Rattle.cdr_file.specs.declared.run.RunFacts.{RunFacts}
 use Rattle.cdr_shelf.specs.declared.shelf.Shelf.{Ghosts}
-use Rattle.file_rotate.specs.Cutting.{Cutting}
 use Rattle.gw_base.specs.declared.item.Item.{Item}
 use Rattle.file_writer.specs.AllStreams.{AllAt, EachBelow, AreLeft, EachSafe}
 use Rattle.file_writer.specs.Asking.{HasAsked}
 use Rattle.file_writer.specs.Following.{BodyWhere, IsLeft}
 use Rattle.file_writer.specs.Streams.{Settings, stream_count, closed_of, stream_division}
-use Rattle.file_writer.specs.Writing.{is_sealed, ClosesOpen, GoneWhere, GrownWhere, IsGrown, IsOpenAt, ReadyWhere, StillOpen, closed_progress, grown, growing_of, name_in, open_count, weight_of}
+use Rattle.file_writer.specs.Writing.{ClosesOpen, IsGrown, ReadyWhere, StillOpen, closed_progress, grown, growing_of, open_count, weight_of}
 use Rattle.file_writer.specs.declared.stream.Stream.{Stream}
 use Rattle.file_writer.proofs.FollowingLemmas.{none_body}
 use Rattle.std.proofs.lemmas.Bool.Decides.{leb_tells}
 use Rattle.std.proofs.lemmas.Option.{same_Some}
-use Rattle.cdr_file.specs.CdrFile.{FiledRecord, header_length, run_octets}
+use Rattle.cdr_file.specs.CdrFile.{FiledRecord, run_octets}
 use Rattle.cdr_file.specs.declared.closure.ClosureReason.{ClosureReason}
-use Rattle.cdr_file.specs.declared.filed_kind.FiledKind.{FiledKind}
 use Rattle.cdr_shelf.specs.Files.{UnsealedFile}
-use Rattle.cdr_shelf.specs.Steps.{left_unsealed, synced, written}
 use Rattle.cdr_shelf.specs.declared.file_name.FileName.{FileName}
 use Rattle.file_rotate.specs.Items.{Filed}
 use Rattle.file_writer.specs.Files.{run_records}
@@ -45,22 +43,7 @@ pub recovered_at : {A : Type 0} (tells : Ghosts A) (settings : Settings) (sequen
     (old new : A)
     → HasAsked tells settings.limits settings.profile sequences stream_count streams old new
     → AllAt tells settings (λ s. slice_index sequences s) (sealed_at streams) [] streams new
-recovered_at tells settings sequences streams old new asked s d h =
-    let fresh = asked.fresh s d h in
-    let stream : Stream = slice_index_or streams s d in
-    record {
-      behind = record {
-        cut = ap (λ (kept : Cutting). kept.file) fresh.cutter;
-        follows = record {
-          kept = fresh.growing;
-          body = λ told. rw fresh.growing (none_body (is_sealed stream.file) (tells.unsealed new s));
-        };
-      };
-      has_closed = fresh.has_closed ∙ omega arith;
-      has_sealed = sym (sealed_is streams s d (omega (arith, h, asked.sixteen)));
-      limits = ap (λ (kept : Cutting). kept.limits) fresh.cutter;
-      profile = ap (λ (kept : Cutting). kept.profile) fresh.cutter;
-    }
+recovered_at tells settings sequences streams old new asked s d h = search (arith, asked.fresh, none_body, sealed_is)
 
 pub zeros_at : (n s : ℕ) → slice_index (replicate n 0) s ≡ 0
 zeros_at (suc n) (suc s) = zeros_at n s
@@ -71,13 +54,7 @@ pub at_self : {A : Type 0} (tells : Ghosts A) (settings : Settings) (closed seal
     (streams : List Stream) (shelf : A) → length streams ≡ stream_count
     → AllAt tells settings closed sealed items streams shelf
     → AllAt tells settings closed (sealed_at streams) items streams shelf
-at_self tells settings closed sealed items streams shelf sixteen at s d h = record {
-  behind = (at s d h).behind;
-  has_closed = (at s d h).has_closed;
-  has_sealed = sym (sealed_is streams s d (omega (arith, h, sixteen)));
-  limits = (at s d h).limits;
-  profile = (at s d h).profile;
-}
+at_self tells settings closed sealed items streams shelf sixteen at s d h = search (arith, sealed_is)
 
 pub sealed_same : {A : Type 0} (tells : Ghosts A) (settings : Settings) (closed sealed : ℕ → ℕ) (items : List Item)
     (streams : List Stream) (shelf : A) → length streams ≡ stream_count
@@ -95,83 +72,39 @@ pub one_closed : (closed : List ℕ) (streams : List Stream) (s : ℕ) (x : Stre
     → (t : ℕ) (d : Stream) → t < s + 1 → slice_index (slice_set closed s (slice_index_or streams s x).file.closed) t
     ≡ (slice_index_or streams t d).file.closed
 one_closed closed streams s x within inside before t d h =
-    elim (cases_eq t s) [
-      | inl same ↦
-          rw same (get_or-set_same closed s (slice_index_or streams s x).file.closed 0 within
-          ∙ ap (λ (stream : Stream). stream.file.closed) (get_or_default streams s x d inside))
-      | inr other ↦
-          get_or-set_other closed s t (slice_index_or streams s x).file.closed 0 other ∙ before t d (omega arith)
-    ]
+    search (arith, cases_eq, get_or-set_same, get_or_default, get_or-set_other)
 
 -- ---- one file
-
--- a file that is written again, synced and sealed is gone
-pub gone_by : (name : FileName) (kind : FiledKind) (n : ℕ) (header : List ℕ) (u v w x : Option UnsealedFile)
-    → IsOpenAt name kind n u
-    → v ≡ written 0 header u → w ≡ synced v → x ≡ left_unsealed w → x ≡ None
-gone_by name kind n header None v w x h e f g = absurd h
-gone_by name kind n header (Some file) v w x h e f g = g ∙ ap left_unsealed (f ∙ ap synced e)
 
 -- ---- one stream
 
 few_open : (growing : Option RunFacts) → open_count growing ≤ 1
-few_open None = omega arith
-few_open (Some run) = omega arith
+few_open growing = grind arith
 
 some_opens : (reason : ClosureReason) (growing : Option RunFacts) → ClosesOpen (Some reason) growing
     → open_count growing ≡ 1
-some_opens reason None opens = absurd opens
-some_opens reason (Some run) opens = refl
+some_opens reason growing opens = grind arith
 
 pub close_left : (start : ℕ) (stale : Option UnsealedFile) (file later : Progress) (reason : Option ClosureReason)
     (old new : Option UnsealedFile) → ClosesOpen reason file.growing → later ≡ closed_progress reason file
     → StillOpen reason file old new → IsLeft start stale file old → IsLeft start stale later new
-close_left start stale file later None old new opens e stays left = rw (e, stays) left
-close_left start stale file later (Some reason) old new opens e gone left =
-    rw e (record {
-      from = omega (arith, left.from);
-      same = λ h. elim (leb_tells (file.closed + 1) file.sealed) [
-        | inl sealed ↦
-            let stays : new ≡ old = subst (λ (b : Bool). GoneWhere b old new) sealed.0 gone in
-            stays ∙ left.same (omega (arith, h, some_opens reason file.growing opens))
-        | inr above ↦ absurd (omega (arith, h, above.1, left.from))
-      ];
-      none = λ h none. elim (leb_tells (file.closed + 1) file.sealed) [
-        | inl sealed ↦ absurd (omega (arith, h, sealed.1))
-        | inr above ↦ subst (λ (b : Bool). GoneWhere b old new) above.0 gone
-      ];
-    })
+close_left start stale file later reason old new opens e stays left = grind (arith, nat_tests, leb_tells, some_opens)
 
 pub append_left : (start : ℕ) (stale : Option UnsealedFile) (s : ℕ) (file later : Progress) (r : FiledRecord)
     (old new : Option UnsealedFile) → later ≡ grown file r → IsGrown s file r old new → IsLeft start stale file old
     → IsLeft start stale later new
 append_left start stale s file later r old new e has_grown left =
-    rw e (record {
-      from = left.from;
-      same = λ h. elim (leb_tells (file.closed + 1) file.sealed) [
-        | inl sealed ↦
-            let stays : new ≡ old =
-            subst (λ (b : Bool). GrownWhere b (name_in s file) file.growing r old new) sealed.0 has_grown in
-            stays ∙ left.same (omega (arith, h, few_open file.growing))
-        | inr above ↦ absurd (omega (arith, h, above.1, left.from))
-      ];
-      none = λ h none. absurd (cc none);
-    })
+    search (arith, nat_tests, leb_tells, left.same, few_open)
 
 -- before any call
 pub left_now : (file : Progress) (u : Option UnsealedFile) → IsLeft file.closed u file u
-left_now file u =
-    record { from = omega arith; same = λ h. refl; none = λ h e. absurd (omega (arith, h, ap open_count e)) }
+left_now file u = search arith
 
 -- ---- all streams
 
 pub all_left_now : {A : Type 0} (tells : Ghosts A) (streams : List Stream) (shelf : A) → length streams ≡ stream_count
     → AreLeft tells (λ s. (slice_index_or streams s no_stream).file.closed) (tells.unsealed shelf) streams shelf
-all_left_now tells streams shelf sixteen = record {
-  each = λ s d h. rw (get_or_default streams s no_stream d (omega (arith, h, sixteen)))
-      (left_now (slice_index_or streams s d).file (tells.unsealed shelf s));
-  beyond = λ s h. refl;
-}
+all_left_now tells streams shelf sixteen = search (arith, get_or_default, left_now)
 
 -- one stream is changed, and the others stay
 pub left_set : {A : Type 0} (tells : Ghosts A) (start : ℕ → ℕ) (stale : ℕ → Option UnsealedFile)
@@ -189,21 +122,13 @@ left_set tells start stale streams s later old new within sixteen here others le
 
 none_grows : (run : List (Filed (List ℕ))) (growing : Option RunFacts) → growing ≡ growing_of (run_records run)
     → open_count growing ≡ count_open run
-none_grows [] growing e = ap open_count e
-none_grows (first ∷ later) growing e = ap open_count e
+none_grows run growing e = grind arith
 
 -- the file of a run that is open on the shelf
 file_open : (name : FileName) (run : List (Filed (List ℕ))) (growing : Option RunFacts) (u : Option UnsealedFile)
     → growing ≡ growing_of (run_records run) → ReadyWhere false name growing u
     → BodyWhere false growing (run_octets (run_records run)) u → (growing ≡ None → u ≡ None) → IsOpenFile name run u
-file_open name [] growing u e ready body none = none e
-file_open name (first ∷ later) None u e ready body none = absurd (cc e)
-file_open name (first ∷ later) (Some run) None e ready body none = absurd ready
-file_open name (first ∷ later) (Some run) (Some f) e ready body none = (
-  ready.0,
-  subst (λ (kind : FiledKind). drop (header_length kind) f.octets ≡ run_octets (run_records (first ∷ later)))
-      (ap (λ (facts : RunFacts). facts.kind) (same_Some _ _ e)) body,
-)
+file_open name run growing u e ready body none = grind (arith, same_Some)
 
 module _ {A : Type 0} (tells : Ghosts A) (settings : Settings) (closed sealed : ℕ → ℕ) (before after : List Item)
     (first last : List Stream) (old new : A) (told : IsTrue tells.tells_files)
@@ -217,11 +142,7 @@ module _ {A : Type 0} (tells : Ghosts A) (settings : Settings) (closed sealed : 
   last_at s = slice_index_or last s no_stream
 
   weight_is : (s : ℕ) → s < stream_count → weight_of (last_at s).file ≡ closed s + begun_of settings s after
-  weight_is s h =
-      let at = at_last s no_stream h in
-      let open_is = none_grows (stream_division settings s after).left_open (last_at s).file.growing
-      at.behind.follows.kept in
-      omega (arith, at.has_closed, open_is)
+  weight_is s h = search (arith, none_grows)
 
   start_is : (s : ℕ) → s < stream_count → max (first_at s).file.closed (last_at s).file.sealed
       ≡ max (closed s + closed_of settings s before) (sealed s)
@@ -235,16 +156,8 @@ module _ {A : Type 0} (tells : Ghosts A) (settings : Settings) (closed sealed : 
       let file : Progress = (last_at s).file in
       let run : List (Filed (List ℕ)) = (stream_division settings s after).left_open in
       let growing : file.growing ≡ growing_of (run_records run) = at.behind.follows.kept in
-      let none : file.growing ≡ None → tells.unsealed new s ≡ None = (left.each s no_stream h).none
-      (omega (arith, wrote, weight_is s h, start_is s h)) in
-      elim (leb_tells (file.closed + 1) file.sealed) [
-        | inl early ↦ absurd (omega (arith, early.1, wrote, at.has_sealed, weight_is s h, few_open file.growing))
-        | inr later ↦
-            subst (λ (n : ℕ). IsOpenFile (record { stream = s; sequence = n + 1 }) run (tells.unsealed new s))
-            at.has_closed
-            (file_open (name_in s file) run file.growing (tells.unsealed new s) growing
-            (rw later.0 at ((safe s no_stream h).up.ready told)) (rw later.0 at (at.behind.follows.body told)) none)
-      ]
+      let none : file.growing ≡ None → tells.unsealed new s ≡ None = search (arith, left.each, weight_is, start_is) in
+      search (arith, nat_tests, leb_tells, weight_is, few_open, file_open)
 
   pub leaves_unsealed : LeavesUnsealed settings closed sealed before after (tells.unsealed old) (tells.unsealed new)
   leaves_unsealed = record {

@@ -1,5 +1,5 @@
 -- One call, and calls one after the other.
-use Rattle.std.proofs.Common.{◌≡◌, ◌≢◌, ◌⊎◌, inl, inr, ℕ, zero, suc, ◌+◌, ◌-◌, ◌≤◌, Bool, true, false, ◌||◌, if◌then◌else◌, IsTrue, List, [], ◌∷◌, ◌++◌, length, take, Result, Ok, Err, refl, sym, ap, ◌∙◌, subst, arith, append_assoc, length-append}
+use Rattle.std.proofs.Common.{◌≡◌, ◌≢◌, ◌⊎◌, ℕ, zero, suc, ◌+◌, ◌-◌, ◌≤◌, Bool, true, false, ◌||◌, if◌then◌else◌, IsTrue, List, [], ◌∷◌, ◌++◌, length, take, Result, Ok, Err, refl, sym, ap, ◌∙◌, arith, append_assoc, length-append, subst}
 use Rattle.std.proofs.lemmas.List.{append-nil, take-append-le}
 use Rattle.std.proofs.Math.Seq.{take-append-add, take-length}
 use Rattle.area_disk.specs.Armed.{Armed, Came, IsArmed, after_one, calls_under, later_by, one_later, then_calls}
@@ -7,11 +7,11 @@ use Rattle.area_disk.specs.Armed.Armed.{Fail, Stop}
 use Rattle.area_disk.specs.Armed.Came.{Ran, FailedAt, StoppedAt}
 use Rattle.area_disk.specs.ArmedLaws.{armed_failed, armed_next, armed_ran, calls_go_on}
 use Rattle.area_disk.specs.Disk.{Rose, counted}
-use Rattle.area_disk.specs.Plan.{Schedule, after_call, is_failure, next_fate}
+use Rattle.area_disk.specs.Plan.{after_call, is_failure, next_fate, Schedule}
 use Rattle.area_disk.specs.declared.plan.Fate.{Fate}
 use Rattle.area_disk.specs.declared.plan.Fate.TheVariants.{Runs, Fails, Stops}
 use Rattle.area_disk.specs.declared.plan.Outcome3.{Outcome3}
-use Rattle.area_disk.specs.declared.plan.Outcome3.TheVariants.{Old, New}
+use Rattle.area_disk.specs.declared.plan.Outcome3.TheVariants.{New}
 use Rattle.cdr_shelf.specs.Files.{SealedFile}
 use Rattle.cdr_shelf.specs.Steps.{is_done, CallAsPlanned}
 use Rattle.cdr_shelf.specs.declared.shelf.Shelf.{Ghosts}
@@ -19,7 +19,6 @@ use Rattle.file_writer.specs.Calls.{Call, seals}
 use Rattle.file_writer.specs.Making.{Comes, Ending, Failed, HasSealed, Makes, Went, calls_after, done_at, ending_at, ending_of, AllRan}
 use Rattle.std.specs.Result.{IsErr, IsErrAnd}
 use Rattle.file_writer.specs.declared.fault.ShelfFault.{ShelfFault}
-use Rattle.file_writer.specs.declared.fault.ShelfFault.TheVariants.{Device, NoMemory}
 use Rattle.file_writer.proofs.CallsLemmas.{seals-append}
 
 -- ---- one call
@@ -30,14 +29,12 @@ unsealed_by {old} e = e ∙ sym (append-nil old)
 
 pub left_by_write : (fate : Fate) (old new : List SealedFile) → new ≡ old
     → new ≡ (if is_done fate then old ++ [] else old)
-left_by_write fate old new e = elim (is_done fate) as (λ b. new ≡ (if b then old ++ [] else old))
-    [ true ↦ unsealed_by e | false ↦ e ]
+left_by_write fate old new e = search (arith, unsealed_by)
 
 -- what so many calls sealed that have all done what they are to do
 all_done : (calls : List Call) (ended : Ending) (n : ℕ) (old new : List SealedFile)
     → new ≡ old ++ seals (take n calls) → HasSealed calls ended n old new
-all_done calls ended n old new e =
-    record { count = n; at_most = omega arith; at_least = omega arith; each = λ f. refl; files = e }
+all_done calls ended n old new e = search arith
 
 module _ {A : Type 0} (tells : Ghosts A) (call : Call) (old new : A) where
   ran : {T E : Type 0} (x : T) (a : Armed) → CallAsPlanned {T = T} {E = E} (tells.plan old) (Ok x) (tells.plan new)
@@ -84,8 +81,7 @@ module _ {A : Type 0} (tells : Ghosts A) (call : Call) (old new : A) where
   stopped_left _ left = unsealed_by left
 
   or_true : (b : Bool) → (b || true) ≡ true
-  or_true true = refl
-  or_true false = refl
+  or_true b = grind arith
 
   failed_comes : {T E : Type 0} (x : E) → CallAsPlanned {T = T} {E = E} (tells.plan old) (Err x) (tells.plan new)
       → (IsTrue tells.tells_files → Left (next_fate (tells.plan old)))
@@ -113,14 +109,7 @@ module _ {A : Type 0} (tells : Ghosts A) (call : Call) (old new : A) where
 
   maybe_sealed : (tells.files new ≡ tells.files old) ⊎ (tells.files new ≡ tells.files old ++ seals (call ∷ []))
       → HasSealed (call ∷ []) Failed 1 (tells.files old) (tells.files new)
-  maybe_sealed (inl e) = record {
-    count = 0;
-    at_most = omega arith;
-    at_least = omega arith;
-    each = λ f. absurd (cc);
-    files = unsealed_by e;
-  }
-  maybe_sealed (inr e) = all_done (call ∷ []) Failed 1 (tells.files old) (tells.files new) e
+  maybe_sealed h = grind (arith, unsealed_by, all_done)
 
   -- a call that failed
   pub one_failed : {T E : Type 0} {x : E} → (IsTrue tells.tells_calls → tells.calls new ≡ counted 1 (tells.calls old))
@@ -164,39 +153,22 @@ later_stopped (suc n) k o = ap one_later (later_stopped n k o) ∙ ap (λ (j : �
 seals_behind : (files before after : List SealedFile) (xs ys : List Call) (n : ℕ) → before ≡ files ++ seals xs
     → after ≡ before ++ seals (take n ys)
     → after ≡ files ++ seals (take (length xs + n) (xs ++ ys))
-seals_behind files before after xs ys n e f =
-    cc (e, f, append_assoc files (seals xs) (seals (take n ys)), seals-append xs (take n ys), take-append-add xs ys n)
+seals_behind files before after xs ys n e f = search (arith, append_assoc, seals-append, take-append-add)
 
 less_one : (m k : ℕ) → 1 ≤ k → m + (k - 1) ≡ m + k - 1
 less_one m k h = omega arith
 
 done_later : (m k : ℕ) (o : Outcome3) → 1 ≤ k → m + done_at k o ≡ done_at (m + k) o
-done_later m k New h = refl
-done_later m k _ h = less_one m k h
+done_later m k o h = grind (arith, less_one)
 
 done_within : (k : ℕ) (o : Outcome3) → done_at k o ≤ k
-done_within k Old = omega arith
-done_within k _ = omega arith
+done_within k o = grind arith
 
 -- calls that seal the same, as far as they were made
 comes_as : {A : Type 0} (tells : Ghosts A) (xs ys : List Call) (ended : Ending) (tried : ℕ) (old new : A)
     → (IsTrue tells.tells_files → (k : ℕ) → k ≤ tried → seals (take k xs) ≡ seals (take k ys))
     → (came : Came) → Comes tells xs ended tried old new came → Comes tells ys ended tried old new came
-comes_as tells xs ys ended tried old new same (Ran a) c = record { runs = c.runs; is_armed = c.is_armed }
-comes_as tells xs ys ended tried old new same (FailedAt k) c = record {
-  fails = c.fails;
-  number = c.number;
-  is_armed = c.is_armed;
-  sealed = λ told. c.sealed told
-      ∙ ap (λ (files : List SealedFile). tells.files old ++ files) (same told (k - 1) (omega (arith, c.number)));
-}
-comes_as tells xs ys ended tried old new same (StoppedAt k o) c = record {
-  fails = c.fails;
-  number = c.number;
-  stopped = c.stopped;
-  sealed = λ told. c.sealed told ∙ ap (λ (files : List SealedFile). tells.files old ++ files)
-      (same told (done_at k o) (omega (arith, c.number, done_within k o)));
-}
+comes_as tells xs ys ended tried old new same came c = grind (arith, done_within)
 
 -- calls that seal the same, as far as they were made
 pub makes_as : {A : Type 0} (tells : Ghosts A) (xs ys : List Call) (ended : Ending) (old new : A)
@@ -205,39 +177,20 @@ pub makes_as : {A : Type 0} (tells : Ghosts A) (xs ys : List Call) (ended : Endi
     → ((a : Armed) → Comes tells ys ended made.tried old new (calls_under a (length xs))
     → Comes tells ys ended made.tried old new (calls_under a (length ys)))
     → Makes tells ys ended old new
-makes_as tells xs ys ended old new made within long same under = record {
-  tried = made.tried;
-  within = within;
-  all = λ e. made.all e ∙ long e;
-  some = made.some;
-  called = made.called;
-  sealed = λ told. let s = made.sealed told in record {
-    count = s.count;
-    at_most = s.at_most;
-    at_least = s.at_least;
-    each = s.each;
-    files = s.files ∙ ap (λ (files : List SealedFile). tells.files old ++ files) (same told s.count s.at_most);
-  };
-  faults = made.faults;
-  planned = λ told memory a armed. under a (comes_as tells xs ys ended made.tried old new same
-      (calls_under a (length xs)) (made.planned told memory a armed));
-}
+makes_as tells xs ys ended old new made within long same under = search (arith, made.sealed, comes_as, made.planned)
 
 module _ {A : Type 0} (tells : Ghosts A) (xs ys : List Call) where
   -- the files after calls that all ran
   pub all_sealed : (old new : A) → Makes tells xs Went old new → IsTrue tells.tells_files
       → tells.files new ≡ tells.files old ++ seals xs
   all_sealed old new made told =
-      (made.sealed told).files
-      ∙ ap (λ (n : ℕ). tells.files old ++ seals (take n xs)) ((made.sealed told).each refl ∙ made.all refl)
-      ∙ ap (λ (cs : List Call). tells.files old ++ seals cs) (take-length xs)
+      cc ((made.sealed told).files, (made.sealed told).each refl, made.all refl, take-length xs)
 
   comes_behind : (ended : Ending) (tried : ℕ) (old mid new : A) → Makes tells xs Went old mid
       → (ended ≡ Failed → 1 ≤ tried) → (came : Came)
       → Comes tells ys ended tried mid new came
       → Comes tells (xs ++ ys) ended (length xs + tried) old new (later_by (length xs) came)
-  comes_behind ended tried old mid new first some (Ran a) c =
-      rw (later_ran (length xs) a) (record { runs = c.runs; is_armed = c.is_armed })
+  comes_behind ended tried old mid new first some (Ran a) c = search (arith, later_ran)
   comes_behind ended tried old mid new first some (FailedAt k) c =
       rw (later_failed (length xs) k) (record {
         fails = c.fails;
@@ -262,8 +215,7 @@ module _ {A : Type 0} (tells : Ghosts A) (xs ys : List Call) where
       → Comes tells xs Went (length xs) old mid came
       → ((b : Armed) → IsArmed b (tells.plan mid) → Comes tells ys ended tried mid new (calls_under b (length ys)))
       → Comes tells (xs ++ ys) ended (length xs + tried) old new (then_calls (length xs) (length ys) came)
-  comes_then ended tried old mid new first some (Ran b) c next =
-      comes_behind ended tried old mid new first some (calls_under b (length ys)) (next b c.is_armed)
+  comes_then ended tried old mid new first some (Ran b) c next = search (arith, comes_behind)
   comes_then ended tried old mid new first some _ c next = absurd (let e : Went ≡ Failed = c.fails in cc)
 
   -- calls that all ran, and then others
@@ -276,10 +228,7 @@ module _ {A : Type 0} (tells : Ghosts A) (xs ys : List Call) where
         within = omega (arith, next.within);
         all = λ e. ap (λ (n : ℕ). length xs + n) (next.all e) ∙ sym long;
         some = λ e. omega (arith, next.some e);
-        called = λ told. next.called told
-            ∙ ap (calls_after next.tried) (first.called told
-            ∙ ap (λ (n : ℕ). calls_after n (tells.calls old)) (first.all refl))
-            ∙ sym (after_both (length xs) next.tried (tells.calls old));
+        called = search (arith, first.called, first.all, after_both);
         sealed = λ told. let s = next.sealed told in record {
           count = length xs + s.count;
           at_most = omega (arith, s.at_most);
@@ -302,54 +251,36 @@ module _ {A : Type 0} (tells : Ghosts A) (xs ys : List Call) where
   comes_first : (ended : Ending) (tried n : ℕ) (old new : A) → ended ≢ Went → (came : Came)
       → Comes tells (xs ++ ys) ended tried old new came
       → Comes tells (xs ++ ys) ended tried old new (then_calls (length xs) n came)
-  comes_first ended tried n old new stops (Ran b) c = absurd (stops c.runs)
-  comes_first ended tried n old new stops _ c = c
+  comes_first ended tried n old new stops came c = grind arith
 
   pub makes_stop : (ended : Ending) (old new : A) → ended ≢ Went → Makes tells xs ended old new
       → Makes tells (xs ++ ys) ended old new
   makes_stop ended old new stops first =
-      makes_as tells xs (xs ++ ys) ended old new first (omega (arith, first.within, length-append xs ys))
-      (λ e. absurd (stops e))
-      (λ told k h. ap seals (sym (take-append-le k xs ys (omega (arith, h, first.within)))))
-      (λ a c. rw (length-append xs ys, calls_go_on a (length xs) (length ys))
-      (comes_first ended first.tried (length ys) old new stops (calls_under a (length xs)) c))
+      search (arith, makes_as, length-append, take-append-le, calls_go_on, comes_first)
 
 -- no calls
 pub makes_none : {A : Type 0} (tells : Ghosts A) (here : A) → Makes tells [] Went here here
-makes_none tells here = record {
-  tried = 0;
-  within = omega arith;
-  all = λ e. refl;
-  some = λ e. absurd (cc);
-  called = λ told. refl;
-  sealed = λ told. all_done [] Went 0 (tells.files here) (tells.files here) (unsealed_by refl);
-  faults = record { later = omega arith; failed = λ e. absurd (cc); still = λ e. refl };
-  planned = λ told memory a armed. record { runs = refl; is_armed = armed };
-}
+makes_none tells here = search (arith, unsealed_by)
 
 -- calls that are the same
 pub by_calls : {A : Type 0} {tells : Ghosts A} {xs ys : List Call} {ended : Ending} {old new : A} → xs ≡ ys
     → Makes tells xs ended old new → Makes tells ys ended old new
-by_calls {tells = tells} {ended = ended} {old = old} {new = new} e made =
-    subst (λ (cs : List Call). Makes tells cs ended old new) e made
+by_calls {tells = tells} {ended = ended} {old = old} {new = new} e made = search arith
 
 -- ---- by the results of functions
 
 pub ending_err : (e : ShelfFault) → ending_at e ≢ Went
-ending_err Device same = absurd (cc)
-ending_err NoMemory same = absurd (cc)
+ending_err e same = grind arith
 
 -- the last calls didn't all run, and so the function ended
 pub ended_at : {A U : Type 0} (tells : Ghosts A) (xs : List Call) (old new : A) (q : Result U ShelfFault)
     (e : ShelfFault)
     → IsErr q × IsErrAnd q (λ x. x ≡ e) → Makes tells xs (ending_at e) old new → Makes tells xs (ending_of q) old new
-ended_at tells xs old new (Ok x) e h made = absurd h.1
-ended_at tells xs old new (Err x) e h made = rw h.1 made
+ended_at tells xs old new q e h made = grind arith
 
 -- the first calls didn't all run, and so the function ended
 pub stopped_at : {A U : Type 0} (tells : Ghosts A) (xs ys : List Call) (old new : A) (q : Result U ShelfFault)
     (e : ShelfFault)
     → IsErr q × IsErrAnd q (λ x. x ≡ e) → Makes tells xs (ending_at e) old new
     → Makes tells (xs ++ ys) (ending_of q) old new
-stopped_at tells xs ys old new q e h first =
-    ended_at tells (xs ++ ys) old new q e h (makes_stop tells xs ys (ending_at e) old new (ending_err e) first)
+stopped_at tells xs ys old new q e h first = search (arith, ended_at, makes_stop, ending_err)

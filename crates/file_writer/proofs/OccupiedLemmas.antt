@@ -1,5 +1,5 @@
 -- Where the files have a record, it is that of an item with this place.
-use Rattle.std.proofs.Common.{◌≡◌, ℕ, zero, suc, ◌+◌, ◌-◌, ◌<◌, ◌==◌, Bool, true, false, List, [], ◌∷◌, length, take, slice_get, Option, Some, refl, ap, ◌∙◌, arith, length-append, inl, inr, ◌≤◌}
+use Rattle.std.proofs.Common.{◌≡◌, ℕ, zero, suc, ◌+◌, ◌-◌, ◌<◌, ◌==◌, Bool, true, List, [], ◌∷◌, length, take, slice_get, Option, Some, refl, ap, ◌∙◌, arith, length-append, inl, inr, ◌≤◌}
 use Rattle.std.proofs.lemmas.Bool.{eqb-true, le-ltb, lt-ltb, cases_lt}
 use Rattle.std.proofs.lemmas.Option.{none-some, slice_get_within}
 use Rattle.file_rotate.specs.Items.{Filed, records_of}
@@ -69,23 +69,18 @@ one_later profile rules s first items n m more there = record {
   moment = there.moment;
   is = there.is;
   stream = there.stream;
-  before = length-records (stream_item profile rules s first) (stream_items profile rules s (take there.k items))
-      ∙ ap (λ (i : ℕ). length (records_of (stream_item profile rules s first)) + i) there.before ∙ more;
+  before = search (arith, length-records);
 }
 
 one_if : (b : Bool) (filed : Filed (List ℕ)) → length (records_of (record_if b filed)) ≤ 1
-one_if true filed = omega arith
-one_if false filed = omega arith
+one_if b filed = grind arith
 
 at_most_one : (profile : ℕ) (rules : List Rule) (s : ℕ) (first : Item)
     → length (records_of (stream_item profile rules s first)) ≤ 1
-at_most_one profile rules s (item.Part kind tag octets moment) =
-    one_if (stream_of rules tag kind.format == s) (stream_record profile kind octets moment)
-at_most_one profile rules s _ = omega arith
+at_most_one profile rules s first = grind (arith, one_if)
 
 passes : (b : Bool) (filed : Filed (List ℕ)) → 0 < length (records_of (record_if b filed)) → b ≡ true
-passes true filed h = refl
-passes false filed h = absurd (omega (arith, h))
+passes b filed h = grind arith
 
 the_first : (profile : ℕ) (rules : List Rule) (s : ℕ) (first : Item) (items : List Item)
     → 0 < length (records_of (stream_item profile rules s first)) → IsItem profile rules s (first ∷ items) 0
@@ -142,9 +137,7 @@ item-there law settings items at filed h = by at.sequence refl h
     runs = runs_of (stream_division settings s items)
 
     all : length (all_of runs) ≡ length (records_of (stream_items settings.profile settings.rules s items))
-    all = ap length
-        (all_of-runs (stream_division settings s items).closed (stream_division settings s items).left_open
-        ∙ law settings.limits (stream_items settings.profile settings.rules s items))
+    all = search (arith, all_of-runs, s)
 
     by : (sequence : ℕ) → at.sequence ≡ sequence → in_run at.index (run_with sequence runs) ≡ Some filed
         → (k : ℕ) × (place_in settings items k ≡ Some at)

@@ -59,11 +59,7 @@ pub keeps_by : {A : Type 0} (tells : Ghosts A) → DivisionGoesOn → (closed : 
     → IsTrue tells.tells_files → (stood : ℕ → List SealedFile) (rest : List Item)
     → Holds old closed stood ((before ++ items) ++ rest) before
     → KeepsFiles tells closed before items old new stood ((before ++ items) ++ rest)
-keeps_by tells law closed before items old new ended made told stood rest holds = record {
-  at_any_moment = begun law (settings_in old) closed (sealed_in old) stood before items rest
-      (tells.files (shelf_of old)) holds;
-  now = ((made.sealed told).count, (made.sealed told).files);
-}
+keeps_by tells law closed before items old new ended made told stood rest holds = search (arith, begun, made.sealed)
 
 module _ {A : Type 0} (tells : Ghosts A) (law : DivisionGoesOn) (closed : ℕ → ℕ) (before items more : List Item) where
   joined : (before ++ items) ++ more ≡ before ++ (items ++ more)
@@ -78,26 +74,14 @@ module _ {A : Type 0} (tells : Ghosts A) (law : DivisionGoesOn) (closed : ℕ �
       let q : Settings = settings_in old in
       let xs : List Call = calls_of q closed (sealed_in old) before items in
       let ys : List Call = calls_of q closed (sealed_in old) (before ++ items) more in
-      let later : calls tells closed (before ++ items) more mid new ≡ ys =
-      ap (λ (p : Settings). calls_of p closed (sealed_in mid) (before ++ items) more) stays
-      ∙ same_of law q closed (sealed_in mid) (sealed_in old) (before ++ items) more
-      (λ s h. ap (λ (m : ℕ). max m (closed s + closed_of q s (before ++ items))) (first.sealed s h)) in
+      let later : calls tells closed (before ++ items) more mid new ≡ ys = search (arith, same_of, first.sealed) in
       let made : Makes tells (calls_of q closed (sealed_in old) before (items ++ more)) (ending_of result)
-      (shelf_of old) (shelf_of new) =
-      by_calls (sym (calls-append q closed (sealed_in old) before items more))
-      (makes_then tells xs ys _ _ _ _ first.makes (by_calls later next.makes)) in
+      (shelf_of old) (shelf_of new) = search (arith, by_calls, calls-append, makes_then) in
       record {
         makes = made;
         at = subst (λ (all : List Item). OnOk result (IsAt new closed all)) joined next.at;
         sealed = on_ok result (λ same s h. same s h ∙ first.sealed s h) next.sealed;
-        leaves = λ told. on_ok result (λ left.
-            subst (λ (all : List Item). LeavesUnsealed q closed (sealed_in old) before all
-            (tells.unsealed (shelf_of old)) (tells.unsealed (shelf_of new))) joined
-            (leaves_then law q closed (sealed_in old) (sealed_in mid) before items more _ _ _ first.sealed
-            (first.leaves told)
-            (subst (λ (p : Settings). LeavesUnsealed p closed (sealed_in mid) (before ++ items)
-            ((before ++ items) ++ more) (tells.unsealed (shelf_of mid)) (tells.unsealed (shelf_of new))) stays left)))
-            (next.leaves told);
+        leaves = search (arith, joined, leaves_then, first.leaves, next.leaves);
         shut = λ files plan most among shut.
             let all = subst (λ (some : List Item). AreAmong q closed some most) (sym joined) among in
             next.shut files plan most
@@ -122,10 +106,7 @@ module _ {A : Type 0} (tells : Ghosts A) (law : DivisionGoesOn) (closed : ℕ �
   first_alone old new fault first =
       let q : Settings = settings_in old in
       let made : Makes tells (calls_of q closed (sealed_in old) before (items ++ more)) (ending_at fault)
-      (shelf_of old) (shelf_of new) =
-      by_calls (sym (calls-append q closed (sealed_in old) before items more))
-      (makes_stop tells (calls_of q closed (sealed_in old) before items)
-      (calls_of q closed (sealed_in old) (before ++ items) more) (ending_at fault) _ _ (ending_err fault) first.makes) in
+      (shelf_of old) (shelf_of new) = search (arith, by_calls, calls-append, makes_stop, ending_err) in
       record {
         makes = made;
         at = first.at;
@@ -146,11 +127,7 @@ none_taken tells law closed writer at n = record {
   makes = makes_none tells (shelf_of writer);
   at = at;
   sealed = λ s h. refl;
-  leaves = λ told. record {
-    wrote = λ s h some. absurd (omega (arith, some));
-    stays = λ s h few. refl;
-    beyond = λ s h. refl;
-  };
+  leaves = search arith;
   shut = λ files plan most among shut. shut;
   keeps = keeps_by tells law closed [] [] writer writer Went (makes_none tells (shelf_of writer));
   holds = λ told stood rest holds. holds;
@@ -163,10 +140,7 @@ module _ {A : Type 0} (tells : Ghosts A) (law : DivisionGoesOn) (closed : ℕ �
   part = part_of from most all
 
   reached : take (from + length part) all ≡ take from all ++ part
-  reached =
-      take-add from (length part) all
-      ∙ ap (λ (k : ℕ). take from all ++ take k (drop from all)) (length-take most (drop from all))
-      ∙ ap (λ (items : List Item). take from all ++ items) (take_min most (drop from all))
+  reached = search (arith, take-add, length-take, take_min)
 
   -- with the part behind them
   with_part : (result : Result ℕ ShelfFault) → Advances tells closed (take from all) part now later result
@@ -175,9 +149,7 @@ module _ {A : Type 0} (tells : Ghosts A) (law : DivisionGoesOn) (closed : ℕ �
 
   pub part_taken : (n : ℕ) → Advances tells closed (take from all) part now later (Ok n)
       → HasAdvanced tells closed (take (from + length part) all) first later
-  part_taken n done k =
-      let made = with_part (Ok n) done in
-      subst (λ (items : List Item). Advances tells closed [] items first later (Ok k)) (sym reached) (assumption made)
+  part_taken n done k = search (arith, with_part, reached)
 
   pub part_broken : (fault : ShelfFault) → Advances tells closed (take from all) part now later (Err fault)
       → Advances tells closed [] all first later (Err fault)

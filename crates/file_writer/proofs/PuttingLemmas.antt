@@ -1,5 +1,5 @@
 -- What comes of a record that a stream takes: a closing before it, its appending, and a closing behind it.
-use Rattle.std.proofs.Common.{◌≡◌, ℕ, ◌+◌, List, [], ◌∷◌, ◌++◌, IsTrue, Option, Result, Ok, sym, ap, ◌∙◌, subst}
+use Rattle.std.proofs.Common.{◌≡◌, ℕ, ◌+◌, List, [], ◌∷◌, ◌++◌, IsTrue, Option, Result, Ok, ap, ◌∙◌, subst, arith}
 use Rattle.std.specs.Result.{IsErr, IsErrAnd}
 use Rattle.cdr_file.specs.CdrFile.{FileSettings}
 use Rattle.cdr_file.specs.declared.closure.ClosureReason.{ClosureReason}
@@ -58,11 +58,7 @@ module _ {A : Type 0} (tells : Ghosts A) (settings : FileSettings) (s : ℕ) (fi
   -- the first closing failed
   pub first_ended : (new : A) (q : Result Stream ShelfFault) (e : ShelfFault) → Ends q e → Makes tells (closing_of settings s stream.file (tells.unsealed old s) b) (ending_at e) old new
       → Takes tells settings s run (Record filed) stream old new q
-  first_ended new q e ends made = record {
-    makes = as_item cuts.after (ending_of q) new (λ i. record { before = cut_b i; after = cuts.after })
-        (stopped_at tells first (second ++ third cuts.after) old new q e ends (makes_closing tells settings s run stream.file b (ending_at e) old new behind.follows closes made));
-    after = no_answer q e _ ends;
-  }
+  first_ended new q e ends made = search (arith, as_item, cut_b, stopped_at, makes_closing, closes, no_answer)
 
   -- it went
   module _ (file : Progress) (mid : A) (closed : file ≡ closed_progress b stream.file) (opens : IsTrue tells.tells_files → StillOpen b stream.file (tells.unsealed old s) (tells.unsealed mid s))
@@ -72,8 +68,7 @@ module _ {A : Type 0} (tells : Ghosts A) (settings : FileSettings) (s : ℕ) (fi
 
     -- the number of the file that the record goes to
     pub number_1 : closed_by cuts.before stream.file.closed + 1 ≡ file.closed + 1
-    number_1 = ap (λ (r : Option ClosureReason). closed_by r stream.file.closed + 1) (sym cut_b)
-        ∙ ap (λ (k : ℕ). k + 1) (sym closed_1)
+    number_1 = cc (cut_b, closed_1)
 
     sealed_1 : file.sealed ≡ stream.file.sealed
     sealed_1 = closed_sealed b stream.file file closed
@@ -100,11 +95,7 @@ module _ {A : Type 0} (tells : Ghosts A) (settings : FileSettings) (s : ℕ) (fi
     module _ (laws : FactsLaws) (later : Progress) (far : A) (grows : later ≡ grown file (record_of filed)) (stands : IsTrue tells.tells_files → IsGrown s file (record_of filed) (tells.unsealed mid s) (tells.unsealed far s))
         (made_2 : Makes tells (appending_of file) Went mid far) (a : Option ClosureReason) (is_a : a ≡ limit_reached stream.cutter.limits (file_with stream.cutter.file filed.kind filed.octets filed.moment)) where
       both : ◌≡◌ {A = Cuts} (record { before = b; after = a }) cuts
-      both = λ i. record { before = cut_b i; after = cut_a i }
-        where
-          cut_a : a ≡ cuts.after
-          cut_a = is_a ∙ ap (λ (k : Option OpenFile). limit_reached stream.cutter.limits (file_with k filed.kind filed.octets filed.moment)) behind.cut
-              ∙ ap (λ (at : Cuts). at.after) (alike stream.cutter.limits run (Record filed))
+      both = search (arith, cut_b)
 
       closed_2 : later.closed ≡ n
       closed_2 = ap (λ (f : Progress). f.closed) grows ∙ closed_1
@@ -127,26 +118,11 @@ module _ {A : Type 0} (tells : Ghosts A) (settings : FileSettings) (s : ℕ) (fi
       -- the last closing failed
       pub third_ended : (new : A) (q : Result Stream ShelfFault) (e : ShelfFault) → Ends q e → Makes tells (closing_of settings s later (tells.unsealed far s) a) (ending_at e) far new
           → Takes tells settings s run (Record filed) stream old new q
-      third_ended new q e ends made = record {
-        makes = ended_at tells (calls_at settings s stream.file.sealed cuts stream.file.closed run (Record filed)) old new q e ends (all_calls (ending_at e) new made);
-        after = no_answer q e _ ends;
-      }
+      third_ended new q e ends made = search (arith, ended_at, all_calls, no_answer)
 
       -- all went
       pub all_went : (last : Stream) (new : A) → last.file ≡ closed_progress a later → (IsTrue tells.tells_files → StillOpen a later (tells.unsealed far s) (tells.unsealed new s))
           → Makes tells (closing_of settings s later (tells.unsealed far s) a) Went far new → last.cutter.file ≡ file_of (run_after cuts run (Record filed)) → last.cutter.limits ≡ stream.cutter.limits → last.cutter.profile ≡ stream.cutter.profile
           → Takes tells settings s run (Record filed) stream old new (Ok last)
-      all_went last new closed_3 opens_3 made cut limits profile = record {
-        makes = all_calls Went new made;
-        after = record {
-          behind = record {
-            cut = cut;
-            follows = subst (λ (at : Cuts). Follows tells s (run_after at run (Record filed)) last.file new) both
-                (close_follows tells s (still b run [] ++ filed ∷ []) later last.file a far new follows_2 closed_3 opens_3);
-          };
-          closed = closed_count a later last.file closed_3 ∙ ap (λ (k : ℕ). closed_by a k) closed_2 ∙ ap (λ (at : Cuts). closed_by at.after (closed_by at.before stream.file.closed)) both;
-          sealed = closed_sealed a later last.file closed_3 ∙ sealed_2;
-          limits = limits;
-          profile = profile;
-        };
-      }
+      all_went last new closed_3 opens_3 made cut limits profile =
+          search (arith, all_calls, both, close_follows, follows_2, closed_count, closed_2, closed_sealed, sealed_2)

@@ -1,5 +1,6 @@
 -- The files of items are read back: each number that a header says of their records fits its field.
-use Rattle.std.proofs.Common.{◌≡◌, ℕ, zero, suc, ◌+◌, ◌^◌, ◌<◌, ◌≤◌, ◌==◌, ◌&&◌, ◌||◌, Bool, true, false, All, Contains, List, [], ◌∷◌, ◌++◌, length, map, slice_get, sum_by, Option, None, Some, Ok, refl, sym, ap, ◌∙◌, subst, arith, ℤ, append-nil, inl, inr}
+use Rattle.std.proofs.Common.{◌≡◌, ℕ, zero, suc, ◌+◌, ◌^◌, ◌<◌, ◌≤◌, ◌||◌, true, All, Contains, List, [], ◌∷◌, ◌++◌, length, map, slice_get, sum_by, Option, None, Some, Ok, refl, sym, ap, ◌∙◌, arith, ℤ, append-nil}
+use Rattle.std.proofs.lemmas.Bool.Decides.{nat_tests}
 use Rattle.std.specs.Prelude.{is_some}
 use Rattle.std.proofs.lemmas.Bool.{and_parts, eqb-true, cases_Bool, cases_lt, le-leb}
 use Rattle.std.proofs.lemmas.List.Elements.{All-head, All-tail}
@@ -11,7 +12,7 @@ use Rattle.cdr_file.specs.CdrHeader.{AreCdrs}
 use Rattle.cdr_file.specs.ClosureReason.{code_of}
 use Rattle.cdr_file.specs.FileHeader.{IsFileHeader, extends}
 use Rattle.cdr_file.specs.Laws.{extends_one, in_profile-fits}
-use Rattle.cdr_file.specs.Profile.{IsExtension, IsFiledKind, extension_octets}
+use Rattle.cdr_file.specs.Profile.{IsFiledKind, extension_octets}
 use Rattle.cdr_file.specs.Reading as reading
 use Rattle.cdr_file.specs.Timestamp.{stamp_of}
 use Rattle.cdr_file.specs.declared.closure.ClosureReason.{ClosureReason}
@@ -22,14 +23,12 @@ use Rattle.file_rotate.specs.Items.{AreLimits, Filed, Record, same_extension, sa
 use Rattle.file_rotate.specs.Items as stream
 use Rattle.file_rotate.specs.declared.limits.Limits.{Limits}
 use Rattle.gw_base.specs.declared.item.Item.{Item}
-use Rattle.gw_base.specs.declared.item.Item.TheVariants as item
-use Rattle.route_filter.specs.Rules.{stream_of}
 use Rattle.route_filter.specs.declared.rule.Rule.{Rule}
 use Rattle.file_writer.specs.AllStreams.{IsFit}
 use Rattle.file_writer.specs.Files.{files_from, record_of, run_records, sealed_file, stream_files}
 use Rattle.file_writer.specs.Places.{FilePlace, in_run, record_at, run_with, runs_of}
 use Rattle.file_writer.specs.Reading.{IsStamped, ReadsAt}
-use Rattle.file_writer.specs.Streams.{Settings, closed_of, record_if, stream_division, stream_items, stream_record, stream_item}
+use Rattle.file_writer.specs.Streams.{Settings, closed_of, stream_division, stream_items, stream_item}
 
 -- ---- what a header says of a record
 
@@ -54,23 +53,16 @@ both_sayable offset (x ∷ xs) ys h k = (h.0, both_sayable offset xs ys h.1 k)
 
 item_sayable : (profile : ℕ) (rules : List Rule) (file : FileSettings) (s : ℕ) (first : Item) → IsFit first
     → IsStamped file first → AreItemsSayable file.offset (stream_item profile rules s first)
-item_sayable profile rules file s (item.Part kind tag octets moment) fit stamped =
-    by (stream_of rules tag kind.format == s)
-  where
-    by : (b : Bool) → AreItemsSayable file.offset (record_if b (stream_record profile kind octets moment))
-    by true = (record { kind = in_profile-fits profile kind fit.0; octets = fit.1; stated = refl; stamp = stamped }, tt)
-    by false = tt
-item_sayable profile rules file s _ fit stamped = (tt, tt)
+item_sayable profile rules file s first fit stamped = grind (arith, in_profile-fits)
 
 items_sayable : (profile : ℕ) (rules : List Rule) (file : FileSettings) (s : ℕ) (items : List Item) → All IsFit items
     → All (IsStamped file) items → AreItemsSayable file.offset (stream_items profile rules s items)
 items_sayable profile rules file s [] fit stamped = tt
 items_sayable profile rules file s (first ∷ items) fit stamped =
-    both_sayable file.offset (stream_item profile rules s first) (stream_items profile rules s items)
-    (item_sayable profile rules file s first (All-head IsFit first items fit)
-    (All-head (IsStamped file) first items stamped))
+    search (arith, both_sayable, item_sayable, All-head,
     (items_sayable profile rules file s items (All-tail IsFit first items fit)
-    (All-tail (IsStamped file) first items stamped))
+        (All-tail (IsStamped file) first items stamped)),
+    All-tail)
 
 -- ---- of which kind the records of runs are
 
@@ -97,45 +89,24 @@ of_more offset kind (x ∷ run) filed are sayable is =
 
 sayable_more : (offset : ℤ) (run : List (Filed (List ℕ))) (filed : Filed (List ℕ)) → AreSayable offset run
     → IsSayable offset filed → Joins run (Record filed) → AreSayable offset (run ++ filed ∷ [])
-sayable_more offset [] filed are sayable is = (sayable, refl, tt)
-sayable_more offset (first ∷ later) filed are sayable is =
-    of_more offset first.kind (first ∷ later) filed are sayable is
+sayable_more offset run filed are sayable is = grind (arith, of_more)
 
 extension_is : (extension other : Option ℕ) → same_extension extension other ≡ true → extension ≡ other
-extension_is None None e = refl
-extension_is (Some extension) (Some other) e = ap (λ (x : ℕ). Some x) (eqb-true extension other e)
-extension_is _ _ e = absurd (cc)
+extension_is extension other e = grind (arith, nat_tests, eqb-true)
 
 kind_is : (kind other : FiledKind) → same_kind kind other ≡ true → kind ≡ other
-kind_is kind other e =
-    let first = and_parts (kind.release == other.release) _ e in
-    let second = and_parts (kind.version == other.version) _ first.1 in
-    let third = and_parts (kind.format == other.format) _ second.1 in
-    λ i. record {
-      release = eqb-true kind.release other.release first.0 i;
-      version = eqb-true kind.version other.version second.0 i;
-      format = eqb-true kind.format other.format third.0 i;
-      extension = extension_is kind.extension other.extension third.1 i;
-    }
+kind_is kind other e = search (arith, nat_tests, and_parts, eqb-true, extension_is)
 
 -- a file that isn't closed before a record is one of records of its kind
 joins : (limits : Limits) (run : List (Filed (List ℕ))) (i : stream.Item (List ℕ)) (before : Option ClosureReason)
     → ends_before limits run i ≡ before → Joins (still before run []) i
 unfolding ends_before
-joins limits run i (Some reason) e = tt
-joins limits [] i None e = tt
-joins limits (first ∷ later) (Record filed) None e =
-    elim (cases_Bool (same_kind first.kind filed.kind)) [
-      | inl same ↦ sym (kind_is first.kind filed.kind same)
-      | inr other ↦ absurd (cc (other, e))
-    ]
-joins limits (first ∷ later) _ None e = tt
+joins limits run i before e = grind (arith, cases_Bool, kind_is)
 
 -- ---- how long runs are
 
 few_octets : (extension : Option ℕ) → length (extension_octets extension) ≤ 1
-few_octets None = omega arith
-few_octets (Some extension) = omega arith
+few_octets extension = grind arith
 
 one_longer : (run : List (Filed (List ℕ))) (filed : Filed (List ℕ)) → run_length (run ++ filed ∷ [])
     ≤ run_length run + (59 + filed.octets)
@@ -151,14 +122,7 @@ one_longer (x ∷ run) filed =
 as_long : (offset : ℤ) (kind : FiledKind) (run : List (Filed (List ℕ))) → AreOf offset kind run
     → sum_by cdr.cdr_length (run_records run) ≡ sum_by cdr_length run
 as_long offset kind [] all = refl
-as_long offset kind (x ∷ run) all =
-    omega (
-      arith,
-      all.0.stated,
-      as_long offset kind run all.2,
-      sum_by-cons cdr.cdr_length (record_of x) (run_records run),
-      sum_by-cons cdr_length x run,
-    )
+as_long offset kind (x ∷ run) all = search (arith, (as_long offset kind run all.2), sum_by-cons)
 
 no_more : (run : List (Filed (List ℕ))) → length run ≤ sum_by cdr_length run
 no_more [] = omega arith
@@ -181,8 +145,7 @@ AllReadable offset (c ∷ closed) = IsReadable offset c.run × AllReadable offse
 with_first : (offset : ℤ) (reason : Option ClosureReason) (run : List (Filed (List ℕ))) (division : Division (List ℕ))
     → IsReadable offset run → AllReadable offset division.closed
     → AllReadable offset (closed_first reason run division).closed
-with_first offset None run division is all = all
-with_first offset (Some reason) run division is all = (is, all)
+with_first offset reason run division is all = grind arith
 
 module _ (limits : Limits) (are : AreLimits limits) (offset : ℤ) where
   -- an open run hasn't reached the size
@@ -194,8 +157,7 @@ module _ (limits : Limits) (are : AreLimits limits) (offset : ℤ) where
   none_open = record { short = are.size_from; each = tt }
 
   still_open : (reason : Option ClosureReason) (run : List (Filed (List ℕ))) → IsOpen run → IsOpen (still reason run [])
-  still_open None run is = is
-  still_open (Some reason) run is = none_open
+  still_open reason run is = grind (arith, none_open)
 
   readable : (run : List (Filed (List ℕ))) → IsOpen run → IsReadable offset run
   readable run is = record { long = omega (arith, is.short, are.size_to); each = is.each }
@@ -203,29 +165,18 @@ module _ (limits : Limits) (are : AreLimits limits) (offset : ℤ) where
   -- a run with an item more, which may be closed after it
   with_item : (run : List (Filed (List ℕ))) (i : stream.Item (List ℕ)) → IsOpen run → IsItemSayable offset i
       → Joins run i → IsReadable offset (run ++ stream.record_in i)
-  with_item run (Record filed) is sayable joint = record {
-    long = omega (arith, is.short, are.size_to, sayable.octets, one_longer run filed);
-    each = sayable_more offset run filed is.each sayable joint;
-  }
-  with_item run _ is sayable joint = subst (IsReadable offset) (sym (append-nil run)) (readable run is)
+  with_item run i is sayable joint = grind (arith, one_longer, sayable_more, append-nil, readable)
 
   short_of : (run : List (Filed (List ℕ))) → run_limit_reached limits run ≡ None → run_length run < limits.size
   unfolding run_limit_reached
-  short_of run h =
-      elim (cases_lt (run_length run) limits.size) [
-        | inl less ↦ less
-        | inr reached ↦ absurd (cc (le-leb limits.size (run_length run) reached, h))
-      ]
+  short_of run h = search (arith, nat_tests, cases_lt, le-leb)
 
   -- what is left open
   left_open : (run : List (Filed (List ℕ))) (i : stream.Item (List ℕ)) → IsOpen run → IsItemSayable offset i
       → Joins run i → (after : Option ClosureReason) → ends_after limits (run ++ stream.record_in i) i ≡ after
       → IsOpen (still after (run ++ stream.record_in i) [])
   unfolding ends_after
-  left_open run i is sayable joint (Some reason) e = none_open
-  left_open run (Record filed) is sayable joint None e =
-      record { short = short_of (run ++ filed ∷ []) e; each = sayable_more offset run filed is.each sayable joint }
-  left_open run _ is sayable joint None e = subst IsOpen (sym (append-nil run)) is
+  left_open run i is sayable joint after e = grind (arith, none_open, short_of, sayable_more, append-nil)
 
   all_closed : (run : List (Filed (List ℕ))) → IsOpen run → (items : List (stream.Item (List ℕ)))
       → AreItemsSayable offset items → AllReadable offset (divided_from limits run items).closed
@@ -249,8 +200,7 @@ unfolding node_address
 address_is ip = refl
 
 reason_is : (r : ClosureReason) → code_of r < 256
-reason_is reason.Normal = omega arith
-reason_is _ = omega arith
+reason_is r = grind arith
 
 last_stamp : (offset : ℤ) (kind : FiledKind) (first : Filed (List ℕ)) (later : List (Filed (List ℕ)))
     → AreOf offset kind (first ∷ later) → stamp_of (last_moment (run_records (first ∷ later))) offset < 2 ^ 32
@@ -279,29 +229,12 @@ header_fits settings first later sequence r is low =
 cdrs_fit : (offset : ℤ) (kind : FiledKind) (run : List (Filed (List ℕ))) → AreOf offset kind run
     → AreCdrs (is_some kind.extension || is_some kind.extension) (map cdr_of (run_records run))
 cdrs_fit offset kind [] all = tt
-cdrs_fit offset kind (x ∷ run) all = (
-  record {
-    header = record {
-      length = omega (arith, all.0.octets, all.0.stated);
-      release = all.0.kind.release;
-      version = all.0.kind.version;
-      format = all.0.kind.format;
-      ts = omega arith;
-      extension = all.0.kind.extension;
-    };
-    extension = subst (λ (k : FiledKind). IsExtension ((is_some k.extension || is_some k.extension)
-        && (x.kind.release == 7)) x.kind.extension) all.1
-        (extends_one x.kind.release x.kind.extension all.0.kind.extension);
-    stated = refl;
-  },
-  cdrs_fit offset kind run all.2,
-)
+cdrs_fit offset kind (x ∷ run) all = search (arith, extends_one, (cdrs_fit offset kind run all.2))
 
 cdr_at : (run : List (Filed (List ℕ))) (index : ℕ) (filed : Filed (List ℕ)) → slice_get run index ≡ Some filed
     → slice_get (map cdr_of (run_records run)) index ≡ Some (cdr_of (record_of filed))
 cdr_at [] index filed h = let no : ⊥ = none-some filed h in absurd no
-cdr_at (x ∷ run) zero filed h =
-    let same : x ≡ filed = cc in ap (λ (f : Filed (List ℕ)). Some (cdr_of (record_of f))) same
+cdr_at (x ∷ run) zero filed h = search arith
 cdr_at (x ∷ run) (suc index) filed h = cdr_at run index filed h
 
 -- ---- the file with a number
@@ -317,20 +250,9 @@ closed_at : (settings : FileSettings) (s q : ℕ) (closed : List (ClosedRun (Lis
     (before : ℕ) → before < length closed → AllReadable settings.offset closed
     → IsClosedAt settings s q closed left before
 closed_at settings s q [] left before less all = let no : ⊥ = omega (arith, less) in absurd no
-closed_at settings s q (x ∷ closed) left zero less all = record {
-  c = x;
-  run_is = refl;
-  file_is = ap (λ (n : ℕ). Some (sealed_file settings s n x)) (omega arith);
-  is = all.0;
-}
+closed_at settings s q (x ∷ closed) left zero less all = search arith
 closed_at settings s q (x ∷ closed) left (suc before) less all =
-    let rest = closed_at settings s (q + 1) closed left before (omega (arith, less)) all.1 in
-    record {
-      c = rest.c;
-      run_is = rest.run_is;
-      file_is = rest.file_is ∙ ap (λ (n : ℕ). Some (sealed_file settings s n rest.c)) (omega arith);
-      is = rest.is;
-    }
+    search (arith, (closed_at settings s (q + 1) closed left before (omega (arith, less)) all.1))
 
 kept_at : {X : Type 0} (xs : List X) (k : ℕ) (x : X) → slice_get xs k ≡ Some x → Contains xs x
 kept_at xs k x h = (k, slice_get_within xs k x h, get_or_from_slice_get xs k x x h)
@@ -348,9 +270,7 @@ reads : ReadsBack → (settings : FileSettings) (run : List (Filed (List ℕ))) 
     → reading.file_in (file_octets (run_records run) sequence r settings) ≡ Ok
     (read_file (run_records run) sequence r settings)
 reads law settings [] sequence r index filed is low h = let no : ⊥ = none-some filed h in absurd no
-reads law settings (first ∷ later) sequence r index filed is low h =
-    law (run_records (first ∷ later)) sequence r settings (header_fits settings first later sequence r is low)
-    (cdrs_fit settings.offset first.kind (first ∷ later) is.each)
+reads law settings (first ∷ later) sequence r index filed is low h = search (arith, header_fits, cdrs_fit)
 
 pub read-there : ReadsBack → (settings : Settings) (items : List Item) (place : FilePlace) (filed : Filed (List ℕ))
     → AreLimits settings.limits → All IsFit items → All (IsStamped settings.file) items → place.sequence < 2 ^ 32

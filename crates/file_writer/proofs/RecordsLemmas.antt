@@ -1,5 +1,6 @@
 -- Where records stand in runs, that more items leave them there, and that each record has one place.
 use Rattle.std.proofs.Common.{◌≡◌, ℕ, ◌+◌, ◌-◌, ◌<◌, nat_lt, if◌then◌else◌, Bool, true, false, List, [], ◌∷◌, ◌++◌, length, map, take, slice_get, Option, None, Some, refl, sym, ap, ◌∙◌, arith, append_assoc, append-nil, length-append, inl, inr, ◌⊎◌, zero, suc, ◌≤◌, subst}
+use Rattle.std.proofs.lemmas.Bool.Decides.{nat_tests}
 use Rattle.std.proofs.lemmas.List.{take-append-le, map-append}
 use Rattle.std.proofs.lemmas.Option.{none-some, slice_get_within, same_Some}
 use Rattle.cdr_file.specs.declared.closure.ClosureReason.{ClosureReason}
@@ -31,15 +32,13 @@ slice_get-after : {X : Type 0} (xs ys : List X) (i : ℕ) → length xs ≤ i �
     ≡ slice_get ys (i - length xs)
 slice_get-after [] ys i h = ap (λ (j : ℕ). slice_get ys j) (omega arith)
 slice_get-after (x ∷ xs) ys zero h = absurd (omega arith)
-slice_get-after (x ∷ xs) ys (suc i) h = slice_get-after xs ys i (omega (arith, h))
-    ∙ ap (λ (j : ℕ). slice_get ys j) (omega arith)
+slice_get-after (x ∷ xs) ys (suc i) h = search (arith, (slice_get-after xs ys i (omega (arith, h))))
 
 -- ---- places in runs
 
 -- what follows another choice
 if_later : {A : Type 0} (b : Bool) (x y z r : A) → (y ≡ r → z ≡ r) → (if b then x else y) ≡ r → (if b then x else z) ≡ r
-if_later true x y z r f h = h
-if_later false x y z r f h = f h
+if_later b x y z r f h = grind arith
 
 -- a place behind runs that stay, where what follows them keeps its places
 nth_place-front : {P : Type 0} (s q : ℕ) (xs ys zs : List (List (Filed P))) (n : ℕ) (p : FilePlace)
@@ -47,21 +46,13 @@ nth_place-front : {P : Type 0} (s q : ℕ) (xs ys zs : List (List (Filed P))) (n
     → nth_place s q (xs ++ ys) n ≡ Some p → nth_place s q (xs ++ zs) n ≡ Some p
 nth_place-front s q [] ys zs n p later h = later q n h
 nth_place-front s q (x ∷ xs) ys zs n p later h =
-    if_later (nat_lt n (length x)) (Some (record { stream = s; sequence = q; index = n }))
-    (nth_place s (q + 1) (xs ++ ys) (n - length x)) (nth_place s (q + 1) (xs ++ zs) (n - length x)) (Some p)
-    (nth_place-front s (q + 1) xs ys zs (n - length x) p later) h
+    search (arith, if_later, (nth_place-front s (q + 1) xs ys zs (n - length x) p later))
 
 -- a place in the last run, which grows
 nth_place-last : {P : Type 0} (s q : ℕ) (run more : List (Filed P)) (later : List (List (Filed P))) (n : ℕ)
     (p : FilePlace)
     → nth_place s q (run ∷ []) n ≡ Some p → nth_place s q ((run ++ more) ∷ later) n ≡ Some p
-nth_place-last s q run more later n p h =
-    elim (cases_lt n (length run)) [
-      | inl less ↦
-          rw (lt-ltb n (length (run ++ more)) (omega (arith, less, length-append run more)))
-          (rw (lt-ltb n (length run) less) at h)
-      | inr past ↦ absurd (cc (le-ltb n (length run) past, h))
-    ]
+nth_place-last s q run more later n p h = search (arith, nat_tests, cases_lt, lt-ltb, length-append, le-ltb)
 
 -- ---- the first run of a division
 
@@ -100,13 +91,7 @@ nth_place-goes_on {P} limits s q division items n p h =
     let first = begins limits division.left_open items in
     let more : Division P = divided_from limits division.left_open items in
     let runs : List (ClosedRun P) → List (List (Filed P)) = λ closed. map (λ (c : ClosedRun P). c.run) closed in
-    ap (λ (rs : List (List (Filed P))). nth_place s q rs n)
-    (ap (λ (rs : List (List (Filed P))). rs ++ more.left_open ∷ [])
-    (map-append (λ (c : ClosedRun P). c.run) division.closed more.closed)
-    ∙ append_assoc (runs division.closed) (runs more.closed) (more.left_open ∷ []))
-    ∙ nth_place-front s q (runs division.closed) (division.left_open ∷ []) (runs_of more) n p
-    (λ (r : ℕ) (m : ℕ) there. ap (λ (rs : List (List (Filed P))). nth_place s r rs m) first.2
-    ∙ nth_place-last s r division.left_open first.0 first.1 m p there) h
+    search (arith, map-append, append_assoc, nth_place-front, nth_place-last)
 
 pub place-stays : DivisionGoesOn → (settings : Settings) (items more : List Item) (k : ℕ) (place : FilePlace)
     → place_in settings items k ≡ Some place → place_in settings (items ++ more) k ≡ Some place
@@ -137,9 +122,7 @@ pub all_of-runs : {P : Type 0} (closed : List (ClosedRun P)) (left_open : List (
     → all_of (map (λ (c : ClosedRun P). c.run) closed ++ left_open ∷ []) ≡ flat_map (λ (c : ClosedRun P). c.run) closed
     ++ left_open
 all_of-runs [] left_open = append-nil left_open
-all_of-runs (x ∷ xs) left_open =
-    ap (λ (rest : List (Filed _)). x.run ++ rest) (all_of-runs xs left_open)
-    ∙ sym (append_assoc x.run (flat_map (λ (c : ClosedRun _). c.run) xs) left_open)
+all_of-runs (x ∷ xs) left_open = search (arith, (all_of-runs xs left_open), append_assoc)
 
 -- the place of a record, and that it stands there
 record Placed {P : Type 0} (s q : ℕ) (runs : List (List (Filed P))) (n : ℕ) : Type 0 where
@@ -177,8 +160,7 @@ placed s q (run ∷ later) n h =
 -- numbers of files count from 1
 run_is : {P : Type 0} (sequence : ℕ) (runs : List (List (Filed P))) → 1 ≤ sequence
     → run_with sequence runs ≡ slice_get runs (sequence - 1)
-run_is zero runs h = absurd (omega arith)
-run_is (suc before) runs h = ap (λ (n : ℕ). slice_get runs n) (omega arith)
+run_is sequence runs h = grind arith
 
 stands : {P : Type 0} (s : ℕ) (runs : List (List (Filed P))) (n : ℕ) (p : Placed s 1 runs n)
     → in_run p.place.index (run_with p.place.sequence runs) ≡ slice_get (all_of runs) n
@@ -188,16 +170,14 @@ stands s runs n p = ap (in_run p.place.index) (run_is p.place.sequence runs p.fr
 
 of_test : {X : Type 0} (b : Bool) (x y : X) (rest : Option X) → (if b then Some x else rest) ≡ Some y
     → ((b ≡ true) × (x ≡ y)) ⊎ ((b ≡ false) × (rest ≡ Some y))
-of_test true x y rest h = inl (refl, same_Some x y h)
-of_test false x y rest h = inr (refl, h)
+of_test b x y rest h = grind (arith, same_Some)
 
 from_there : {P : Type 0} (s q : ℕ) (runs : List (List (Filed P))) (n : ℕ) (p : FilePlace)
     → nth_place s q runs n ≡ Some p → (s ≡ p.stream) × (q ≤ p.sequence)
 from_there s q [] n p h = let no : ⊥ = none-some p h in absurd no
 from_there s q (run ∷ later) n p h =
     elim (of_test (nat_lt n (length run)) _ p _ h) [
-      | inl here ↦
-          (ap (λ (at : FilePlace). at.stream) here.1, omega (arith, ap (λ (at : FilePlace). at.sequence) here.1))
+      | inl here ↦ search arith
       | inr past ↦ let r = from_there s (q + 1) later (n - length run) p past.1 in (r.0, omega (arith, r.1))
     ]
 
@@ -206,21 +186,13 @@ same_number : {P : Type 0} (s q : ℕ) (runs : List (List (Filed P))) (n m : ℕ
 same_number s q [] n m p h k = let no : ⊥ = none-some p h in absurd no
 same_number s q (run ∷ later) n m p h k =
     elim (of_test (nat_lt n (length run)) _ p _ h) [
-      | inl here ↦
-          elim (of_test (nat_lt m (length run)) _ p _ k) [
-            | inl there ↦ ap (λ (at : FilePlace). at.index) (here.1 ∙ sym there.1)
-            | inr past ↦ absurd (omega (arith, ap (λ (at : FilePlace). at.sequence) here.1, (beyond m past.1).1))
-          ]
+      | inl here ↦ search (arith, of_test, beyond)
       | inr past ↦
           elim (of_test (nat_lt m (length run)) _ p _ k) [
             | inl here ↦ absurd (omega (arith, ap (λ (at : FilePlace). at.sequence) here.1, (beyond n past.1).1))
             | inr there ↦
-                omega (
-                  arith,
-                  same_number s (q + 1) later (n - length run) (m - length run) p past.1 there.1,
-                  ltb-false n (length run) past.0,
-                  ltb-false m (length run) there.0,
-                )
+                search (arith, nat_tests,
+                (same_number s (q + 1) later (n - length run) (m - length run) p past.1 there.1), ltb-false)
           ]
     ]
   where
@@ -232,8 +204,7 @@ same_number s q (run ∷ later) n m p h k =
 records_of-append : {P : Type 0} (xs ys : List (stream.Item P)) → records_of (xs ++ ys) ≡ records_of xs ++ records_of ys
 records_of-append [] ys = refl
 records_of-append (x ∷ xs) ys =
-    ap (λ (rest : List (Filed _)). record_in x ++ rest) (records_of-append xs ys)
-    ∙ sym (append_assoc (record_in x) (records_of xs) (records_of ys))
+    cc (records_of-append xs ys, append_assoc (record_in x) (records_of xs) (records_of ys))
 
 pub length-records : {P : Type 0} (xs ys : List (stream.Item P)) → length (records_of (xs ++ ys))
     ≡ length (records_of xs) + length (records_of ys)
@@ -246,20 +217,10 @@ record_there : (profile : ℕ) (rules : List Rule) (s : ℕ) (items : List Item)
     → slice_get (records_of (stream_items profile rules s items)) (length (records_of (stream_items profile rules s (take k items))))
     ≡ Some filed
 record_there profile rules s [] k found filed h is = let no : ⊥ = none-some found h in absurd no
-record_there profile rules s (x ∷ xs) zero found filed h is =
-    ap (λ (front : List (stream.Item (List ℕ))). slice_get (records_of (front ++ stream_items profile rules s xs)) 0)
-    (ap (λ (i : Item). stream_item profile rules s i) (same_Some x found h) ∙ is)
+record_there profile rules s (x ∷ xs) zero found filed h is = cc (same_Some x found h)
 record_there profile rules s (x ∷ xs) (suc k) found filed h is =
-    let here : List (Filed (List ℕ)) = records_of (stream_item profile rules s x) in
-    let before : List (Filed (List ℕ)) = records_of (stream_items profile rules s (take k xs)) in
-    let left : length here + length before - length here ≡ length before = omega arith in
-    cc (
-      length-records (stream_item profile rules s x) (stream_items profile rules s (take k xs)),
-      records_of-append (stream_item profile rules s x) (stream_items profile rules s xs),
-      slice_get-after here (records_of (stream_items profile rules s xs)) (length here + length before) (omega arith),
-      left,
-      record_there profile rules s xs k found filed h is,
-    )
+    search (arith, length-records, records_of-append, slice_get-after,
+    (record_there profile rules s xs k found filed h is))
 
 -- a record of a stream is one more for the items after it
 one_more_after : (profile : ℕ) (rules : List Rule) (s : ℕ) (items : List Item) (k l : ℕ) (found : Item) (filed : Filed (List ℕ))
@@ -269,18 +230,9 @@ one_more_after : (profile : ℕ) (rules : List Rule) (s : ℕ) (items : List Ite
     (records_of (stream_items profile rules s (take l items)))
 one_more_after profile rules s [] k l found filed h is less = let no : ⊥ = none-some found h in absurd no
 one_more_after profile rules s (x ∷ xs) k zero found filed h is less = absurd (omega arith)
-one_more_after profile rules s (x ∷ xs) zero (suc l) found filed h is less =
-    let one : length (records_of (stream_item profile rules s x)) ≡ 1 =
-    ap (λ (front : List (stream.Item (List ℕ))). length (records_of front))
-    (ap (λ (i : Item). stream_item profile rules s i) (same_Some x found h) ∙ is) in
-    omega (arith, one, length-records (stream_item profile rules s x) (stream_items profile rules s (take l xs)))
+one_more_after profile rules s (x ∷ xs) zero (suc l) found filed h is less = search (arith, same_Some, length-records)
 one_more_after profile rules s (x ∷ xs) (suc k) (suc l) found filed h is less =
-    omega (
-      arith,
-      one_more_after profile rules s xs k l found filed h is (omega (arith, less)),
-      length-records (stream_item profile rules s x) (stream_items profile rules s (take k xs)),
-      length-records (stream_item profile rules s x) (stream_items profile rules s (take l xs)),
-    )
+    search (arith, (one_more_after profile rules s xs k l found filed h is (omega (arith, less))), length-records)
 
 -- ---- items that are records
 
@@ -310,8 +262,7 @@ place-has law settings items k kind tag octets moment h =
     record_there settings.profile settings.rules s items k (item.Part kind tag octets moment) filed h is in
     let division : Division (List ℕ) = stream_division settings s items in
     let all : all_of (runs_of division) ≡ records_of (stream_items settings.profile settings.rules s items) =
-    all_of-runs division.closed division.left_open
-    ∙ law settings.limits (stream_items settings.profile settings.rules s items) in
+        search (arith, all_of-runs) in
     let p = placed s 1 (runs_of division) n
     (omega (
       arith,
@@ -371,9 +322,7 @@ place-only settings items k l p h g =
     other = is_there settings items l p g
 
     equal : records_to settings p.stream (take k items) ≡ records_to settings p.stream (take l items)
-    equal = same_number p.stream 1 (runs_of (stream_division settings p.stream items))
-        (records_to settings p.stream (take k items))
-        (records_to settings p.stream (take l items)) p one.nth other.nth
+    equal = search (arith, same_number, one, other)
 
     later : (i j : ℕ) (there : IsThere settings items i p) → i < j
         → records_to settings p.stream (take i items) < records_to settings p.stream (take j items)

@@ -1,13 +1,13 @@
 -- Calls keep streams shut of which all files are sealed, whatever comes of them.
-use Rattle.std.proofs.Common.{◌≡◌, ◌≢◌, inl, inr, ℕ, ◌<◌, ◌≤◌, max, Bool, true, false, if◌then◌else◌, IsTrue, List, [], ◌∷◌, ◌++◌, None, Some, Result, refl, sym, ap, ◌∙◌, subst, arith, Ok, Err}
+use Rattle.std.proofs.Common.{◌≡◌, ◌≢◌, inl, ℕ, ◌<◌, ◌≤◌, Bool, false, if◌then◌else◌, IsTrue, List, [], ◌∷◌, ◌++◌, None, Some, Result, refl, sym, ap, ◌∙◌, subst, arith, Ok, Err}
 use Rattle.std.proofs.lemmas.Bool.{cases_eq, ne_eqb}
 use Rattle.area_disk.specs.declared.plan.Fate.{Fate}
-use Rattle.area_disk.specs.declared.plan.Fate.TheVariants.{Runs, Fails, Stops}
+use Rattle.area_disk.specs.declared.plan.Fate.TheVariants.{Fails}
 use Rattle.area_disk.specs.Plan.{next_fate}
 use Rattle.cdr_shelf.specs.Calls.{Seals, State, Steps, Told}
 use Rattle.cdr_shelf.specs.FileLaws.{greatest_in-append}
 use Rattle.cdr_shelf.specs.Files.{SealedFile, Unsealed, UnsealedFile, greatest_in, number_in, sealed_as}
-use Rattle.cdr_shelf.specs.Steps.{LeavesAfter, SealLeaves, files_after, is_done, left_by, left_unsealed, seal_step, synced, written}
+use Rattle.cdr_shelf.specs.Steps.{LeavesAfter, SealLeaves, files_after, is_done, left_unsealed, seal_step, synced, written}
 use Rattle.cdr_shelf.specs.declared.file_name.FileName.{FileName}
 use Rattle.cdr_shelf.specs.declared.shelf.Shelf.{Ghosts}
 use Rattle.file_writer.specs.Shutting.{BeginsShut, StaysShut}
@@ -28,21 +28,8 @@ by_fate : (fate : Fate) (most : ℕ → ℕ) (old_files new_files : List SealedF
     → ((s : ℕ) → s ≢ stream → greatest_in s new_files ≡ greatest_in s old_files)
     → (fate ≡ Fails → greatest_in stream new_files ≡ greatest_in stream old_files)
     → LeavesAfter fate stream step old new → Shut most old_files old → Shut most new_files new
-by_fate Runs most old_files new_files stream step old new here same failed leaves shut s h =
-    elim (cases_eq s stream) [
-      | inl e ↦ rw e (leaves.here ∙ here (rw e at h))
-      | inr other ↦ leaves.others s other ∙ shut s (omega (arith, h, same s other))
-    ]
-by_fate Fails most old_files new_files stream step old new here same failed leaves shut s h =
-    elim (cases_eq s stream) [
-      | inl e ↦ rw e (leaves stream ∙ shut stream (omega (arith, rw e at h, failed refl)))
-      | inr other ↦ leaves s ∙ shut s (omega (arith, h, same s other))
-    ]
-by_fate (Stops outcome) most old_files new_files stream step old new here same failed leaves shut s h =
-    elim (cases_eq s stream) [
-      | inl e ↦ rw e (leaves.here ∙ ap (left_by outcome) (here (rw e at h)))
-      | inr other ↦ leaves.others s other ∙ ap (left_by outcome) (shut s (omega (arith, h, same s other)))
-    ]
+by_fate fate most old_files new_files stream step old new here same failed leaves shut s h =
+    grind (arith, failed, cases_eq)
 
 -- a call that seals nothing
 steps_shut : {T E : Type 0} (told : Told) (stream : ℕ) (step : Unsealed → Unsealed) (starved : Bool) (old new : State)
@@ -50,11 +37,7 @@ steps_shut : {T E : Type 0} (told : Told) (stream : ℕ) (step : Unsealed → Un
     → (most : ℕ → ℕ)
     → (most stream ≤ greatest_in stream old.files → old.unsealed stream ≡ None → step (old.unsealed stream) ≡ None)
     → Shut most old.files old.unsealed → Shut most new.files new.unsealed
-steps_shut told stream step true old new result files plan e most here shut s h =
-    (e.no_memory refl).2 s ∙ shut s (rw e.files at h)
-steps_shut told stream step false old new result files plan e most here shut s h =
-    by_fate (next_fate old.plan) most old.files old.files stream step old.unsealed new.unsealed
-    (λ k. here k (shut stream k)) (λ t other. refl) (λ f. refl) (e.leaves files plan refl) shut s (rw e.files at h)
+steps_shut told stream step starved old new result files plan e most here shut s h = grind (arith, by_fate)
 
 module _ {A : Type 0} (tells : Ghosts A) (old new : A) where
   abbrev state : A → State
@@ -86,55 +69,41 @@ module _ {A : Type 0} (tells : Ghosts A) (old new : A) where
       → Steps told name.stream step starved (state old) (state new) result
       → greatest_in name.stream (tells.files old) < name.sequence
       → BeginsShut tells name.stream name.sequence old new
-  begins name step starved result e above files plan most within shut =
-      steps_shut told name.stream step starved (state old) (state new) result files plan e most
-      (λ h none. absurd (omega (arith, h, above, within))) shut
+  begins name step starved result e above files plan most within shut = search (arith, steps_shut)
 
   pub writes : {T E : Type 0} (stream at : ℕ) (from : List ℕ) (starved : Bool) (result : Result T E)
       → Steps told stream (written at from) starved (state old) (state new) result → StaysShut tells old new
-  writes stream at from starved result e files plan most shut =
-      steps_shut told stream (written at from) starved (state old) (state new) result files plan e most
-      (λ h none. ap (written at from) none) shut
+  writes stream at from starved result e files plan most shut = search (arith, steps_shut)
 
   pub syncs : {T E : Type 0} (stream : ℕ) (starved : Bool) (result : Result T E)
       → Steps told stream synced starved (state old) (state new) result → StaysShut tells old new
-  syncs stream starved result e files plan most shut =
-      steps_shut told stream synced starved (state old) (state new) result files plan e most
-      (λ h none. ap synced none) shut
+  syncs stream starved result e files plan most shut = search (arith, steps_shut)
 
 -- ---- a seal
 
 gone_where : (b : Bool) (f : UnsealedFile) (file : SealedFile)
     → (if b then record { name = f.name; octets = f.octets } ∷ [] else []) ≡ file ∷ []
     → (if b then None else Some f) ≡ None
-gone_where true f file e = refl
-gone_where false f file e = absurd (cc)
+gone_where b f file e = grind arith
 
 -- a file that a seal makes stand is gone
 gone : (u : Unsealed) (file : SealedFile) → sealed_as u ≡ file ∷ [] → left_unsealed u ≡ None
-gone None file e = absurd (cc)
-gone (Some f) file e = gone_where f.is_synced f file e
+gone u file e = grind (arith, gone_where)
 
 -- a name of another stream
 other_number : (s stream : ℕ) (name : FileName) → name.stream ≡ stream → s ≢ stream → number_in s name ≡ 0
-other_number s stream name e h =
-    ap (λ (b : Bool). if b then name.sequence else 0) (ne_eqb name.stream s (λ same. h (sym same ∙ e)))
+other_number s stream name e h = cc (ne_eqb name.stream s (λ same. h (sym same ∙ e)))
 
 here_by : (b : Bool) (most : ℕ → ℕ) (stream : ℕ) (u : Unsealed) (files : List SealedFile) (file : SealedFile)
     → sealed_as u ≡ file ∷ [] → (most stream ≤ greatest_in stream files → u ≡ None)
     → most stream ≤ greatest_in stream (if b then files ++ sealed_as u else files)
     → (if b then left_unsealed u else u) ≡ None
-here_by true most stream u files file e shut h = gone u file e
-here_by false most stream u files file e shut h = shut h
+here_by b most stream u files file e shut h = grind (arith, gone)
 
 others_by : (b : Bool) (s stream : ℕ) (u : Unsealed) (files : List SealedFile) (file : SealedFile)
     → sealed_as u ≡ file ∷ [] → file.name.stream ≡ stream → s ≢ stream
     → greatest_in s (if b then files ++ sealed_as u else files) ≡ greatest_in s files
-others_by true s stream u files file e own other =
-    let one : greatest_in s (sealed_as u) ≡ max (number_in s file.name) 0 =
-    ap (λ (fs : List SealedFile). greatest_in s fs) e in
-    omega (arith, greatest_in-append s files (sealed_as u), one, other_number s stream file.name own other)
-others_by false s stream u files file e own other = refl
+others_by b s stream u files file e own other = grind (arith, greatest_in-append, other_number)
 
 module _ {A : Type 0} (tells : Ghosts A) (old new : A) where
   pub seals_shut : {T E : Type 0} (stream : ℕ) (result : Result T E)

@@ -1,5 +1,5 @@
 -- What writes do to the file that is being written.
-use Rattle.std.proofs.Common.{◌≡◌, ◌≢◌, ℕ, max, ◌+◌, ◌≤◌, ◌<◌, Bool, false, if◌then◌else◌, List, [], ◌∷◌, ◌++◌, length, drop, Option, None, Some, Result, Ok, Err, OnOk, refl, sym, ap, ◌∙◌, arith, append_assoc, length-append}
+use Rattle.std.proofs.Common.{◌≡◌, ◌≢◌, ℕ, max, ◌+◌, ◌≤◌, ◌<◌, Bool, if◌then◌else◌, List, [], ◌∷◌, ◌++◌, length, Option, None, Some, Result, OnOk, refl, ap, ◌∙◌, arith, append_assoc, length-append}
 use Rattle.std.proofs.lemmas.Bool.{eq-eqb, lt-leb}
 use Rattle.std.proofs.lemmas.List.{append-nil, drop-append-le, drop_all}
 use Rattle.std.proofs.lemmas.List.Elements.{All-cons, All-nil}
@@ -19,29 +19,18 @@ use Rattle.file_writer.specs.Writing.{HasLength, IsBegun, IsOpenAt, appended, bo
 
 -- octets written at the end
 overwritten-end : (xs from : List ℕ) → overwritten xs (length xs) from ≡ xs ++ from
-overwritten-end xs from =
-    ap (λ (ys : List ℕ). (ys ++ from) ++ drop (length xs + length from) xs) (take-length xs)
-    ∙ ap (λ (ys : List ℕ). (xs ++ from) ++ ys) (drop_all (length xs + length from) xs (omega arith))
-    ∙ append-nil (xs ++ from)
-
--- a file that is written, with these octets
-abbrev with_octets : UnsealedFile → List ℕ → Option UnsealedFile
-with_octets f octets = Some (record { name = f.name; octets = octets; is_synced = false })
+overwritten-end xs from = search (arith, take-length, drop_all, append-nil)
 
 pub written_end : (at : ℕ) (from : List ℕ) (u : Option UnsealedFile) → HasLength at u → written at from u
     ≡ appended from u
-written_end at from None h = absurd h
-written_end at from (Some f) h =
-    ap (with_octets f) (ap (λ (n : ℕ). overwritten f.octets n from) (sym h) ∙ overwritten-end f.octets from)
+written_end at from u h = grind (arith, overwritten-end)
 
 appended_both : (xs ys : List ℕ) (u : Option UnsealedFile) → appended ys (appended xs u) ≡ appended (xs ++ ys) u
-appended_both xs ys None = refl
-appended_both xs ys (Some f) = ap (with_octets f) (append_assoc f.octets xs ys)
+appended_both xs ys u = grind (arith, append_assoc)
 
 longer : (at n m : ℕ) (from : List ℕ) (u : Option UnsealedFile) → length from ≡ m → HasLength at u
     → HasLength (at + m) (appended from u)
-longer at n m from None e h = absurd h
-longer at n m from (Some f) e h = omega (arith, length-append f.octets from)
+longer at n m from u e h = grind (arith, length-append)
 
 -- behind a first write at the end
 pub has_longer : (at m : ℕ) (from : List ℕ) (old new : Option UnsealedFile) → length from ≡ m → HasLength at old
@@ -49,23 +38,18 @@ pub has_longer : (at m : ℕ) (from : List ℕ) (old new : Option UnsealedFile) 
 has_longer at m from old new e h same = rw (same ∙ written_end at from old h) (longer at 0 m from old e h)
 
 pub takes_end : (at : ℕ) (u : Option UnsealedFile) → HasLength at u → TakesWrite at u
-takes_end at None h = absurd h
-takes_end at (Some f) h = omega arith
+takes_end at u h = grind arith
 
 -- two writes, one behind the other
 pub written_both : (at m : ℕ) (xs ys : List ℕ) (old mid new : ℕ → Option UnsealedFile) (s : ℕ) → length xs ≡ m
     → HasLength at (old s)
     → StepsAt s (written at xs) old mid → StepsAt s (written (at + m) ys) mid new
     → StepsAt s (appended (xs ++ ys)) old new
-written_both at m xs ys old mid new s e h first next = record {
-  here = next.here ∙ written_end (at + m) ys (mid s) (has_longer at m xs (old s) (mid s) e h first.here)
-      ∙ ap (appended ys) (first.here ∙ written_end at xs (old s) h) ∙ appended_both xs ys (old s);
-  others = λ t other. next.others t other ∙ first.others t other;
-}
+written_both at m xs ys old mid new s e h first next =
+    search (arith, written_end, has_longer, appended_both, first.others)
 
 pub on_ok : {T E P Q : Type 0} (r : Result T E) → (P → Q) → OnOk r P → OnOk r Q
-on_ok (Ok x) f p = f p
-on_ok (Err e) f p = tt
+on_ok r f p = grind arith
 
 abbrev pub named_file : FileName → List ℕ → SealedFile
 named_file own octets = record { name = own; octets = octets }
@@ -75,10 +59,7 @@ pub sealed_of : (name : FileName) (kind : FiledKind) (n : ℕ) (header : List �
     → IsOpenAt name kind n u → length header ≡ header_length kind
     → v ≡ written 0 header u → w ≡ synced v
     → sealed_as w ≡ record { name = name; octets = header ++ body_of kind u } ∷ []
-sealed_of name kind n header None v w h long e f = absurd h
-sealed_of name kind n header (Some file) v w h long e f =
-    let end : 0 + length header ≡ header_length kind = omega (arith, long) in
-    ap sealed_as (f ∙ ap synced e) ∙ (λ i. named_file (h.0 i) (header ++ drop (end i) file.octets) ∷ [])
+sealed_of name kind n header u v w h long e f = grind arith
 
 -- ---- names
 
@@ -88,10 +69,7 @@ own_number s n = ap (λ (b : Bool). if b then n else 0) (eq-eqb s s refl)
 fresh_above : (s n : ℕ) (files : List SealedFile) → greatest_in s files < n
     → IsFresh (record { stream = s; sequence = n }) files
 fresh_above s n [] h = All-nil (λ (f : SealedFile). f.name ≢ record { stream = s; sequence = n })
-fresh_above s n (f ∷ files) h =
-    All-cons (λ (g : SealedFile). g.name ≢ record { stream = s; sequence = n }) f files
-    (λ same. omega (arith, h, ap (λ (name : FileName). number_in s name) same, own_number s n))
-    (fresh_above s n files (omega (arith, h)))
+fresh_above s n (f ∷ files) h = search (arith, All-cons, own_number, (fresh_above s n files (omega (arith, h))))
 
 -- no file is sealed that has the next number
 pub is_fresh : (s closed sealed : ℕ) (files : List SealedFile) → greatest_in s files ≤ max closed sealed
@@ -110,8 +88,7 @@ opened_at name kind header old mid new e f long =
 
 pub begun_at : (name : FileName) (kind : FiledKind) (u : Option UnsealedFile) → IsOpenAt name kind 0 u
     → IsOpenAt name kind 0 u × (body_of kind u ≡ [])
-begun_at name kind None h = absurd h
-begun_at name kind (Some f) h = (h, drop_all (header_length kind) f.octets (omega (arith, h.1)))
+begun_at name kind u h = grind (arith, drop_all)
 
 pub none_begun : (name : FileName) (kind : FiledKind) (growing : Option RunFacts) (old new : Option UnsealedFile)
     → growing ≡ None → IsOpenAt name kind 0 new → IsBegun name kind growing old new
@@ -122,13 +99,7 @@ more_at : (name : FileName) (kind : FiledKind) (n m : ℕ) (filed : FiledRecord)
     (mid new : Option UnsealedFile) → m ≡ n + cdr_length filed
     → IsOpenAt name kind n mid → body_of kind mid ≡ body → new ≡ appended (cdr_octets filed) mid
     → IsOpenAt name kind m new × (body_of kind new ≡ body ++ cdr_octets filed)
-more_at name kind n m filed body None new sum h e f = absurd h
-more_at name kind n m filed body (Some file) new sum h e f =
-    rw f (
-      (h.0, omega (arith, h.1, length-append file.octets (cdr_octets filed), length-cdr_octets filed, sum)),
-      drop-append-le (header_length kind) file.octets (cdr_octets filed) (omega (arith, h.1))
-          ∙ ap (λ (octets : List ℕ). octets ++ cdr_octets filed) e,
-    )
+more_at name kind n m filed body mid new sum h e f = grind (arith, length-append, length-cdr_octets, drop-append-le)
 
 pub grown_at : (name : FileName) (growing : Option RunFacts) (filed : FiledRecord) (old mid new : Option UnsealedFile)
     → IsBegun name (grown_facts growing filed).kind growing old mid

@@ -1,6 +1,7 @@
 -- Lists: what holds of each element, which elements there are, and the first that passes a test. What holds of both
 -- ends of a choice holds of what is chosen.
-use Rattle.std.proofs.Common.{◌≡◌, ◌⊎◌, inl, inr, ℕ, zero, suc, ◌<◌, Bool, true, false, List, [], ◌∷◌, ◌++◌, length, map, slice_index_or, Some, None, option_map, refl, sym, ap, ◌∙◌, arith, ◌==◌, Option, ◌≢◌, subst}
+use Rattle.std.proofs.Common.{◌≡◌, ◌⊎◌, inl, inr, ℕ, suc, Bool, true, false, List, [], ◌∷◌, ◌++◌, map, Some, None, option_map, refl, ap, ◌∙◌, arith, Option, ◌≢◌}
+use Rattle.std.proofs.lemmas.Bool.Decides.{nat_tests}
 use Rattle.std.specs.List.{AllByRecursion, Contains, find, list_any}
 use Rattle.std.proofs.lemmas.Bool.{cases_Bool, false≢true, cond_both}
 use Rattle.std.proofs.lemmas.List.{get_or-map, length-map}
@@ -13,7 +14,7 @@ use Rattle.node_core.specs.declared.copy.PacketCopy.{PacketCopy}
 use Rattle.node_core.specs.declared.port.Port.{Port}
 use Rattle.node_core.specs.declared.sending.Sending.{Sending}
 use Rattle.node_core.specs.Copies.{copy_hearing, copy_hearing_own}
-use Rattle.node_core.specs.Packets.{PacketState, commanded, copies_after, is_done, is_of, packet_after, packet_after_all, while_open, with_command}
+use Rattle.node_core.specs.Packets.{PacketState, commanded, copies_after, is_done, packet_after, packet_after_all, while_open, with_command}
 
 -- ---- each of a list
 
@@ -58,11 +59,7 @@ module _ {A : Type 0} where
   contains_more xs y x at = (suc at.0, omega (arith, at.1), at.2)
 
   pub in_cons : (x y : A) (xs : List A) → Contains (x ∷ xs) y → (x ≡ y) ⊎ Contains xs y
-  in_cons x y xs is = by is.0 is.1 is.2
-    where
-      by : (k : ℕ) → k < length (x ∷ xs) → slice_index_or (x ∷ xs) k y ≡ y → (x ≡ y) ⊎ Contains xs y
-      by zero lt e = inl e
-      by (suc k) lt e = inr (k, omega (arith, lt), e)
+  in_cons x y xs is = grind (arith, nat_tests)
 
   pub in_map : (f : A → A) (xs : List A) (x : A) → Contains xs x → Contains (map f xs) (f x)
   in_map f xs x at = (at.0, omega (arith, at.1, length-map xs f), get_or-map f xs at.0 x (f x) at.1 ∙ ap f at.2)
@@ -73,10 +70,7 @@ module _ {A : Type 0} where
   find_is test [] x found = absurd (cc)
   find_is test (y ∷ xs) x found =
       elim (cases_Bool (test y)) [
-        | inl passes ↦
-            let at : Some y ≡ Some x = rw passes at found in
-            let same : y ≡ x = cc in
-            ((0, omega arith, same), ap test (sym same) ∙ passes)
+        | inl passes ↦ search arith
         | inr fails ↦ let later = find_is test xs x (rw fails at found) in (contains_more xs y x later.0, later.1)
       ]
 
@@ -98,8 +92,7 @@ module _ {A : Type 0} where
   pub find_mapped : (test : A → Bool) (f : A → A) (xs : List A) →
       find test (map f xs) ≡ option_map f (find (λ (x : A). test (f x)) xs)
   find_mapped test f [] = refl
-  find_mapped test f (x ∷ xs) =
-      elim (cases_Bool (test (f x))) [ inl is ↦ rw is refl | inr isnt ↦ rw isnt (find_mapped test f xs) ]
+  find_mapped test f (x ∷ xs) = search (arith, cases_Bool, (find_mapped test f xs))
 
   pub find_map : (test : A → Bool) (f : A → A) → ((x : A) → test (f x) ≡ test x) → (xs : List A) →
       find test (map f xs) ≡ option_map f (find test xs)
@@ -118,10 +111,7 @@ module _ {A : Type 0} where
       elim (cases_Bool (test x)) [
         | inl is ↦ rw is (ap (λ (y : A). Some y) (only x (in_head x xs) is))
         | inr isnt ↦
-            let later : Contains xs c = elim (in_cons x c xs at) [
-              | inl same ↦ absurd (false≢true (sym isnt ∙ ap test same ∙ passes))
-              | inr later ↦ later
-            ] in
+            let later : Contains xs c = search (arith, in_cons, false≢true) in
             rw isnt (find_only test c passes xs (λ y there. only y (contains_more xs x y there)) later)
       ]
 
@@ -130,23 +120,18 @@ module _ {A : Type 0} where
 module _ (P : PacketCopy → Type 0) where
   pub either_commanded : (gateway : ℕ) (command : Command) (copy : PacketCopy) → P (with_command command copy) →
       P copy → P (commanded gateway command copy)
-  either_commanded gateway command copy there elsewhere =
-      cond_both (copy.gateway == gateway) (with_command command copy) copy P (λ _. there) (λ _. elsewhere)
+  either_commanded gateway command copy there elsewhere = search (arith, cond_both)
 
   pub either_hears : (port : Port) (gateway cause : ℕ) (numbers : List ℕ) (copy : PacketCopy) →
       P (copy_hearing_own port cause numbers copy) → P copy →
       P (copy_hearing port gateway cause numbers copy)
-  either_hears port gateway cause numbers copy there elsewhere =
-      cond_both (copy.gateway == gateway) (copy_hearing_own port cause numbers copy) copy P
-      (λ _. there) (λ _. elsewhere)
+  either_hears port gateway cause numbers copy there elsewhere = search (arith, cond_both)
 
 module _ (P : PacketState → Type 0) where
   pub either_sent : (sending : Sending) (packet : PacketState) →
       P (record packet { copies = copies_after sending packet.copies }) → P packet →
       P (packet_after sending packet)
-  either_sent sending packet its another =
-      cond_both (is_of packet.number sending) (record packet { copies = copies_after sending packet.copies }) packet P
-      (λ _. its) (λ _. another)
+  either_sent sending packet its another = search (arith, cond_both)
 
   pub either_open : (f : PacketState → PacketState) (packet : PacketState) → P packet →
       (is_done packet.copies ≡ false → P (f packet)) → P (while_open f packet)
@@ -168,24 +153,20 @@ after_all_keeps P (sending ∷ sendings) keeps packet is =
 
 pub if_or : {A : Type 0} (P : A → Type 0) (o other : Option A) → IfSome o P → IfSome other P →
     IfSome (option_or o other) P
-if_or P None other was new = new
-if_or P (Some x) other was new = was
+if_or P o other was new = grind arith
 
 pub if_mapped : {A : Type 0} (P : A → Type 0) (f : A → A) (o : Option A) → IfSome o (λ x. P (f x)) →
     IfSome (option_map f o) P
-if_mapped P f None was = tt
-if_mapped P f (Some x) was = was
+if_mapped P f o was = grind arith
 
 -- a test of what is in it
 pub else_fails : {A : Type 0} (test : A → Bool) (o : Option A) (x : A) → test x ≡ false →
     option_map_or test (option_or o (Some x)) false ≡ option_map_or test o false
-else_fails test None x fails = fails
-else_fails test (Some y) x fails = refl
+else_fails test o x fails = grind arith
 
 pub mapped_passes : {A : Type 0} (test : A → Bool) (f : A → A) (o : Option A) →
     option_map_or test (option_map f o) false ≡ option_map_or (λ (x : A). test (f x)) o false
-mapped_passes test f None = refl
-mapped_passes test f (Some x) = refl
+mapped_passes test f o = grind arith
 
 -- ---- what leaves each copy where it is
 
@@ -205,5 +186,4 @@ hearing_puts port gateway cause numbers copy = either_hears (StaysPut copy) port
 -- ---- at one place or elsewhere
 
 pub at_or_apart : (P : ℕ → Type 0) (place other : ℕ) → P place → (place ≢ other → P other) → P other
-at_or_apart P place other there elsewhere =
-    elim (eqb_tells place other) [ inl same ↦ subst P same.1 there | inr differs ↦ elsewhere differs.1 ]
+at_or_apart P place other there elsewhere = search (arith, nat_tests, eqb_tells)

@@ -1,6 +1,7 @@
 -- What was sent for the copies of a packet: a release for the choice alone, where the first copy is sealed; and while
 -- the first copy waits, nothing, or a release among it. Each move and each response leaves it so.
-use Rattle.std.proofs.Common.{◌≡◌, ◌≢◌, ◌⊎◌, inl, inr, ℕ, ◌==◌, Bool, true, false, if◌then◌else◌, List, [], ◌∷◌, ◌++◌, map, Option, Some, None, option_map, refl, sym, ap, subst, ◌∙◌}
+use Rattle.std.proofs.Common.{◌≡◌, ◌≢◌, ◌⊎◌, inl, inr, ℕ, ◌==◌, Bool, true, false, if◌then◌else◌, List, [], ◌∷◌, ◌++◌, map, Option, Some, None, option_map, refl, sym, ap, subst, ◌∙◌, arith}
+use Rattle.std.proofs.lemmas.Bool.Decides.{nat_tests}
 use Rattle.std.specs.List.{AllByRecursion, Contains, find, list_any}
 use Rattle.std.specs.Option.{IfSome, option_map_or, option_or}
 use Rattle.std.proofs.lemmas.Bool.{cases_Bool, eqb-true, false≢true, ne_eqb, or_from, or_left}
@@ -34,8 +35,7 @@ pub found_at : (copies : List PacketCopy) (copy : PacketCopy) → AreApart copie
 found_at [] copy apart there = absurd (in_none copy there)
 found_at (first ∷ copies) copy apart there =
     elim (in_cons first copy copies there) [
-      | inl same ↦ subst (λ (c : PacketCopy). find_at c.gateway (first ∷ copies) ≡ Some c) same
-          (rw (own_number first.gateway) refl)
+      | inl same ↦ search (arith, own_number)
       | inr later ↦ rw (ne_eqb first.gateway copy.gateway
           (each_contains (λ (other : PacketCopy). first.gateway ≢ other.gateway) copies copy apart.0 later))
           (found_at copies copy apart.1 later)
@@ -44,17 +44,11 @@ found_at (first ∷ copies) copy apart there =
 -- ---- the choice
 
 pub chosen_is : (copies : List PacketCopy) (copy : PacketCopy) → chosen copies ≡ Some copy → Contains copies copy
-chosen_is copies copy is = by (find is_chosen copies) refl is
-  where
-    by : (there : Option PacketCopy) → find is_chosen copies ≡ there →
-        option_or there (find (λ (c : PacketCopy). is_held c.verdict) copies) ≡ Some copy → Contains copies copy
-    by None e is = (find_is (λ (c : PacketCopy). is_held c.verdict) copies copy is).0
-    by (Some there) e is = (find_is is_chosen copies copy (e ∙ is)).0
+chosen_is copies copy is = grind (arith, nat_tests, find_is)
 
 -- one for which a release was sent is the choice
 pub found_chosen : (copies : List PacketCopy) (copy : PacketCopy) → find is_chosen copies ≡ Some copy → chosen copies ≡ Some copy
-found_chosen copies copy found =
-    ap (λ (there : Option PacketCopy). option_or there (find (λ (c : PacketCopy). is_held c.verdict) copies)) found
+found_chosen copies copy found = cc
 
 -- who is released is the first that is, and the first copy is sealed
 abbrev pub IsFirstChosen : PacketCopy → List PacketCopy → PacketCopy → Type 0
@@ -76,16 +70,7 @@ HasOrder order copy = IfSome copy.command (λ (command : Command). command.order
 
 -- what isn't released was cancelled, if anything was sent for it
 pub has_order : (copy : PacketCopy) (is : Bool) → is_chosen copy ≡ is → HasOrder (if is then Release else Cancel) copy
-has_order copy is = by copy.command
-  where
-    at : (order : Order) → is_release order ≡ is → order ≡ (if is then Release else Cancel)
-    at Release e = rw (← e) refl
-    at Cancel e = rw (← e) refl
-
-    by : (command : Option Command) → option_map_or (λ (c : Command). is_release c.order) command false ≡ is →
-        IfSome command (λ (c : Command). c.order ≡ (if is then Release else Cancel))
-    by None e = tt
-    by (Some command) e = at command.order e
+has_order copy is = grind (arith, nat_tests)
 
 -- where there is no choice none is held
 pub none_held : (copies : List PacketCopy) → chosen copies ≡ None → AllByRecursion (λ (copy : PacketCopy). is_held copy.verdict ≡ false) copies
@@ -119,20 +104,15 @@ choice_released plain duplicates was waits sealed choice is = elim (waits (ap is
 ]
   where
     by : (there : Option PacketCopy) → find is_chosen duplicates ≡ there → list_any is_chosen (plain ∷ duplicates) ≡ true → is_chosen choice ≡ true
-    by None e any = absurd
-        (false≢true (sym (or_from (is_chosen plain) _ was.0 (none_passes is_chosen duplicates e)) ∙ any))
-    by (Some copy) e any =
-        let both : Some copy ≡ Some choice = sym (found_chosen duplicates copy e) ∙ is in
-        let same : copy ≡ choice = cc in
-        ap is_chosen (sym same) ∙ (find_is is_chosen duplicates copy e).1
+    by None e any = search (arith, false≢true, or_from, none_passes)
+    by (Some copy) e any = search (arith, found_chosen, find_is)
 
 -- who is released or cancelled keeps a release among the copies
 pub may_still : (order : Order) (copies : List PacketCopy) (copy : PacketCopy) → Contains copies copy →
     IsRight order copies copy →
     HasOrder order copy → (copy.command ≡ None → ⊥) → MayCancel copies
 may_still Cancel copies copy there right has sent = right
-may_still Release copies copy there right has sent = λ waits. passes_in is_chosen copies copy there
-    (by copy.command has sent)
+may_still Release copies copy there right has sent = λ waits. search (arith, nat_tests, passes_in, by)
   where
     by : (command : Option Command) → IfSome command (λ (c : Command). c.order ≡ Release) → (command ≡ None → ⊥) →
         option_map_or (λ (c : Command). is_release c.order) command false ≡ true
@@ -155,32 +135,16 @@ chosen_map f keeps (plain ∷ duplicates) is = (
 )
 
 cancel_keeps : (gateway number : ℕ) → KeepsChoice (commanded gateway (command_with Cancel number))
-cancel_keeps gateway number = record {
-  same = λ copy. either_commanded (λ (c : PacketCopy).
-      is_chosen c ≡ is_chosen copy) gateway (command_with Cancel number) copy
-      (else_fails (λ (c : Command). is_release c.order) copy.command (command_with Cancel number) refl) refl;
-  sealed = λ copy is. either_commanded (λ (c : PacketCopy).
-      c.verdict ≡ Sealed) gateway (command_with Cancel number) copy is is;
-}
+cancel_keeps gateway number = search (arith, command_with, else_fails)
 
 pub hearing_keeps : (port : Port) (gateway cause : ℕ) (numbers : List ℕ) → KeepsChoice (copy_hearing port gateway cause numbers)
-hearing_keeps port gateway cause numbers = record {
-  same = λ copy. either_hears (λ (c : PacketCopy). is_chosen c ≡ is_chosen copy) port gateway cause numbers copy
-      (mapped_passes (λ (c : Command). is_release c.order) (command_hearing cause numbers) copy.command) refl;
-  sealed = λ copy is. either_hears (λ (c : PacketCopy).
-      c.verdict ≡ Sealed) port gateway cause numbers copy
-      (ap (λ (v : Verdict). first_told v (told_if (names numbers copy.number) port copy.is_plain cause)) is) is;
-}
+hearing_keeps port gateway cause numbers = search (arith, mapped_passes)
 
 -- ---- a release
 
 released_now : (copies : List PacketCopy) (gateway number : ℕ) (one : CommandsOne copies gateway Release) →
     is_chosen (commanded gateway (command_with Release number) one.copy) ≡ true
-released_now copies gateway number one =
-    ap (λ (b : Bool). is_chosen (if b then with_command (command_with Release number) one.copy else one.copy))
-    (find_is (λ (c : PacketCopy). c.gateway == gateway) copies one.copy one.found).1
-    ∙ ap (λ (c : Option Command). option_map_or (λ (command : Command). is_release command.order)
-    (option_or c (Some (command_with Release number))) false) one.fresh
+released_now copies gateway number one = search (arith, command_with, find_is)
 
 module _ (plain : PacketCopy) (duplicates : List PacketCopy) (apart : AreApart (plain ∷ duplicates)) (gateway number : ℕ)
     (one : CommandsOne (plain ∷ duplicates) gateway Release) where
@@ -191,31 +155,21 @@ module _ (plain : PacketCopy) (duplicates : List PacketCopy) (apart : AreApart (
   among = chosen_is duplicates one.copy one.right.1
 
   place_is : one.copy.gateway ≡ gateway
-  place_is = eqb-true one.copy.gateway gateway
-      (find_is (λ (c : PacketCopy). c.gateway == gateway) (plain ∷ duplicates) one.copy one.found).1
+  place_is = search (arith, nat_tests, eqb-true, find_is)
 
   none_yet : AllByRecursion (λ (copy : PacketCopy). is_chosen copy ≡ false) duplicates
   none_yet = find_none is_chosen duplicates (by (find is_chosen duplicates) refl)
     where
       by : (found : Option PacketCopy) → find is_chosen duplicates ≡ found → find is_chosen duplicates ≡ None
       by None e = e
-      by (Some copy) e =
-          let both : Some copy ≡ Some one.copy = sym (found_chosen duplicates copy e) ∙ one.right.1 in
-          let same : copy ≡ one.copy = cc in
-          let is_so : is_chosen one.copy ≡ true = ap is_chosen (sym same) ∙ (find_is is_chosen duplicates copy e).1 in
-          let is_not : is_chosen one.copy ≡ false =
-          ap (λ (c : Option Command). option_map_or (λ (command : Command). is_release command.order) c false)
-          one.fresh in
-          absurd (cc)
+      by (Some copy) e = search (arith, found_chosen, find_is)
 
   -- who is released now is the one at the gateway
   only : (copy : PacketCopy) → Contains duplicates copy → is_chosen (after_release copy) ≡ true → copy ≡ one.copy
   only copy there is_so = elim (eqb_tells copy.gateway gateway) [
     | inl is ↦
-        let found : find_at copy.gateway (plain ∷ duplicates) ≡ Some copy =
-        found_at (plain ∷ duplicates) copy apart (contains_more duplicates plain copy there) in
-        let both : Some copy ≡ Some one.copy = sym found ∙ ap (λ (g : ℕ). find_at g (plain ∷ duplicates)) is.1 ∙ one.found in
-        cc
+        let found : find_at copy.gateway (plain ∷ duplicates) ≡ Some copy = search (arith, found_at, contains_more) in
+        search arith
     | inr isnt ↦
         let chosen_so : is_chosen copy ≡ true = rw isnt.0 at is_so in
         absurd (false≢true
@@ -256,32 +210,13 @@ may_commanded Release copies gateway number one =
     (in_map f copies one.copy (find_is (λ (c : PacketCopy). c.gateway == gateway) copies one.copy one.found).0)
     (released_now copies gateway number one)
 may_commanded Cancel copies gateway number one =
-    λ waits. any_map is_chosen (commanded gateway (command_with Cancel number))
-    (cancel_keeps gateway number).same copies
-    ∙ one.right (stays copies waits)
-  where
-    stays : (copies : List PacketCopy) → waiting (map (commanded gateway (command_with Cancel number)) copies) ≡ true →
-        waiting copies ≡ true
-    stays [] waits = refl
-    stays (plain ∷ duplicates) waits =
-        either_commanded (λ (c : PacketCopy). is_waiting c.verdict ≡ true → is_waiting plain.verdict ≡ true)
-        gateway (command_with Cancel number) plain (λ e. e) (λ e. e) waits
+    search (arith, any_map, command_with, cancel_keeps, waiting, either_commanded, is_waiting)
 
 pub chosen_moved : (move : Move) (peers : List Peer) (copies : List PacketCopy) → AreApart copies → IsMove peers copies move → Chosen copies →
     Chosen (copies_moved peers move copies)
 chosen_moved (Copying gateway) peers [] apart is was = (refl, tt)
 chosen_moved (Copying gateway) peers (plain ∷ duplicates) apart is was =
-    let copy : PacketCopy = new_copy gateway (next_number peers gateway) false in (
-      was.0,
-      each_push (IsFirstChosen plain (duplicates ++ copy ∷ [])) duplicates copy
-          (each_weaker (IsFirstChosen plain duplicates) (IsFirstChosen plain (duplicates ++ copy ∷ []))
-          (λ c first is_so. (
-            (first is_so).0,
-            find-append is_chosen duplicates (copy ∷ []) ∙ ap (λ (o : Option PacketCopy). option_or o None)
-                (first is_so).1,
-          )) duplicates was.1)
-          (λ is_so. absurd (cc)),
-    )
+    search (arith, each_push, each_weaker, find-append)
 chosen_moved (Commanding gateway Cancel) peers copies apart is was =
     chosen_map (commanded gateway (command_with Cancel (next_number peers gateway))) (cancel_keeps gateway (next_number peers gateway)) copies was
 chosen_moved (Commanding gateway Release) peers [] apart is was = tt
@@ -290,27 +225,15 @@ chosen_moved (Commanding gateway Release) peers (plain ∷ duplicates) apart is 
 
 pub waits_moved : (move : Move) (peers : List Peer) (copies : List PacketCopy) → IsMove peers copies move → Waits copies →
     Waits (copies_moved peers move copies)
-waits_moved (Copying gateway) peers copies is waits = λ still. elim (waits (before copies still)) [
-  | inl none ↦ inl (each_push (λ (c : PacketCopy). c.command ≡ None) copies copy none refl)
-  | inr any ↦ inr (list_any-append is_chosen copies (copy ∷ []) ∙ or_left (list_any is_chosen copies) _ any)
-]
-  where
-    copy : PacketCopy
-    copy = new_copy gateway (next_number peers gateway) (are_none copies)
-
-    before : (copies : List PacketCopy) → waiting (copies ++ copy ∷ []) ≡ true → waiting copies ≡ true
-    before [] still = refl
-    before (plain ∷ duplicates) still = still
-waits_moved (Commanding gateway order) peers copies is waits =
-    λ still. inr (may_commanded order copies gateway (next_number peers gateway) is.fits still)
+waits_moved move peers copies is waits =
+    grind (arith, each_push, list_any-append, or_left, are_none, waiting, may_commanded)
 
 pub waits_hearing : (port : Port) (gateway cause : ℕ) (numbers : List ℕ) (copies : List PacketCopy) → Waits copies →
     Waits (map (copy_hearing port gateway cause numbers) copies)
 waits_hearing port gateway cause numbers copies waits = λ still. elim (waits (before copies still)) [
   | inl none ↦ inl (each_map (λ (c : PacketCopy). c.command ≡ None) (λ (c : PacketCopy). c.command ≡ None)
       (copy_hearing port gateway cause numbers) fresh copies none)
-  | inr any ↦ inr (any_map is_chosen (copy_hearing port gateway cause numbers)
-      (hearing_keeps port gateway cause numbers).same copies ∙ any)
+  | inr any ↦ search (arith, any_map, hearing_keeps)
 ]
   where
     first : (one two : Verdict) → is_waiting (first_told one two) ≡ true → is_waiting one ≡ true
@@ -320,11 +243,7 @@ waits_hearing port gateway cause numbers copies waits = λ still. elim (waits (b
 
     before : (copies : List PacketCopy) → waiting (map (copy_hearing port gateway cause numbers) copies) ≡ true → waiting copies ≡ true
     before [] still = refl
-    before (plain ∷ duplicates) still =
-        either_hears (λ (c : PacketCopy). is_waiting c.verdict ≡ true → is_waiting plain.verdict ≡ true)
-        port gateway cause numbers plain (first plain.verdict _) (λ e. e) still
+    before (plain ∷ duplicates) still = search (arith, either_hears, is_waiting, first)
 
     fresh : (copy : PacketCopy) → copy.command ≡ None → (copy_hearing port gateway cause numbers copy).command ≡ None
-    fresh copy e =
-        either_hears (λ (c : PacketCopy). c.command ≡ None) port gateway cause numbers copy
-        (ap (option_map (command_hearing cause numbers)) e) e
+    fresh copy e = search (arith, either_hears)

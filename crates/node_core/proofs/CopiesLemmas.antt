@@ -1,5 +1,5 @@
 -- Loops over copies and numbers: one more.
-use Rattle.std.proofs.Common.{◌≡◌, ℕ, ◌+◌, ◌<◌, ◌==◌, ◌||◌, min, if◌then◌else◌, Bool, true, false, List, ◌∷◌, ◌++◌, length, map, take, drop, set, get_or, Option, Some, None, refl, ap, ◌∙◌, arith, inl, inr}
+use Rattle.std.proofs.Common.{◌≡◌, ℕ, ◌+◌, ◌<◌, ◌==◌, ◌||◌, min, if◌then◌else◌, Bool, false, List, ◌∷◌, ◌++◌, length, map, take, drop, set, get_or, Option, refl, ◌∙◌, arith, inl, inr}
 use Rattle.std.proofs.Math.Bool.{or-false}
 use Rattle.std.proofs.lemmas.Bool.{cases_Bool}
 use Rattle.std.proofs.lemmas.List.{at_drop_all, at_drop_more}
@@ -56,33 +56,22 @@ names_none f numbers number = at_drop_all (λ (ns : List ℕ). names (map f ns) 
 
 -- it tells nothing of a copy
 pub failure_tells : (port : Port) (is_plain : Bool) → told port is_plain SYSTEM_FAILURE ≡ verdict.Unknown
-failure_tells port.First true = refl
-failure_tells port.First false = refl
-failure_tells port.Second true = refl
-failure_tells port.Second false = refl
+failure_tells port is_plain = grind arith
 
 failure_told : (is_named : Bool) (port : Port) (is_plain : Bool) → told_if is_named port is_plain SYSTEM_FAILURE ≡ verdict.Unknown
-failure_told true port is_plain = failure_tells port is_plain
-failure_told false port is_plain = refl
+failure_told is_named port is_plain = grind (arith, failure_tells)
 
 stays_told : (known : Verdict) → first_told known verdict.Unknown ≡ known
-stays_told verdict.Unknown = refl
-stays_told _ = refl
+stays_told known = grind arith
 
 failure_commands : (numbers : List ℕ) (command : Option Command) →
     option_map (command_hearing SYSTEM_FAILURE numbers) command ≡ command
-failure_commands numbers None = refl
-failure_commands numbers (Some command) = λ i. Some (record command { is_answered = or-false command.is_answered i })
+failure_commands numbers command = grind (arith, or-false)
 
 failure_keeps_own : (port : Port) (numbers : List ℕ) (copy : PacketCopy) → copy_hearing_own port SYSTEM_FAILURE numbers copy ≡ copy
-failure_keeps_own port numbers copy =
-    let known : first_told copy.verdict (told_if (names numbers copy.number) port copy.is_plain SYSTEM_FAILURE) ≡ copy.verdict =
-    ap (first_told copy.verdict) (failure_told (names numbers copy.number) port copy.is_plain) ∙ stays_told copy.verdict in
-    λ i. record copy { verdict = known i; command = failure_commands numbers copy.command i }
+failure_keeps_own port numbers copy = search (arith, failure_told, stays_told, failure_commands)
 
 -- it leaves a copy as it was
 pub failure_keeps : (port : Port) (gateway : ℕ) (numbers : List ℕ) (copy : PacketCopy) →
     copy_hearing port gateway SYSTEM_FAILURE numbers copy ≡ copy
-failure_keeps port gateway numbers copy =
-    either_hears (λ (c : PacketCopy). c ≡ copy) port gateway SYSTEM_FAILURE numbers copy
-    (failure_keeps_own port numbers copy) refl
+failure_keeps port gateway numbers copy = search (arith, either_hears, failure_keeps_own)

@@ -1,22 +1,23 @@
 -- What is due for a packet makes moves, one for each number that it draws, and is of the packet's copies: each release
 -- or cancel is the one that was sent for its copy.
-use Rattle.std.proofs.Common.{◌≡◌, ⊎_elim, ℕ, List, [], ◌∷◌, Option, Some, None, refl, subst, ◌∙◌, ◌≢◌, ◌⊎◌, inl, inr, ◌<◌, ◌≤◌, ◌==◌, Bool, true, false, if◌then◌else◌, ◌++◌, length, map, sym, ap, arith}
+use Rattle.std.proofs.Common.{◌≡◌, ⊎_elim, ℕ, List, [], ◌∷◌, Option, Some, None, refl, subst, ◌∙◌, ◌≢◌, ◌⊎◌, inl, inr, ◌<◌, ◌≤◌, ◌==◌, Bool, true, false, ◌++◌, length, map, sym, ap, arith, if◌then◌else◌}
+use Rattle.std.proofs.lemmas.Bool.Decides.{nat_tests}
 use Rattle.std.specs.List.{Contains, AllByRecursion, flat_map, list_any}
 use Rattle.std.proofs.lemmas.Bool.{cond_both, false≢true}
 use Rattle.std.proofs.lemmas.Bool.Decides.{eqb_tells}
 use Rattle.std.proofs.lemmas.List.Elements.{Contains-push}
-use Rattle.std.specs.Option.{IfSome, option_map_or, option_or}
+use Rattle.std.specs.Option.{option_map_or, option_or, IfSome}
 use Rattle.node_core.specs.declared.copy.Command.{Command}
 use Rattle.node_core.specs.declared.copy.Order.{Order}
 use Rattle.node_core.specs.declared.copy.PacketCopy.{PacketCopy}
 use Rattle.node_core.specs.declared.sending.Sending.{Sending}
 use Rattle.node_core.specs.declared.sending.Sending.TheVariants as send
-use Rattle.node_core.specs.Growing.{CommandGrows, CopyGrows, Extends}
+use Rattle.node_core.specs.Growing.{CopyGrows, Extends}
 use Rattle.node_core.specs.Packets.{PacketState, chosen, commanded, copies_after, is_of, with_command}
 use Rattle.node_core.specs.Sent.{HasCopyAt, IsCommandOf, IsSent}
 use Rattle.node_core.specs.declared.copy.Order.TheVariants.{Release, Cancel}
 use Rattle.node_core.specs.declared.copy.Verdict.{Verdict}
-use Rattle.node_core.specs.declared.copy.Verdict.TheVariants.{Unknown, Filed, Sealed, Held}
+use Rattle.node_core.specs.declared.copy.Verdict.TheVariants.{Unknown, Sealed, Held}
 use Rattle.node_core.specs.declared.peer.Peer.{Peer}
 use Rattle.node_core.specs.Copies.{is_answered, is_held, new_copy}
 use Rattle.node_core.specs.Peers.{drawn, next_number}
@@ -53,12 +54,7 @@ goes_on (first ∷ copies) (next ∷ after) grows copy is = ⊎_elim
     (in_cons first copy copies is)
 
 command_goes_on : (copy later : PacketCopy) (order : Order) (number : ℕ) → CopyGrows copy later → IsCommandOf copy order number → IsCommandOf later order number
-command_goes_on copy later order number grows is =
-    by later.command refl (subst (λ (o : Option Command). CommandGrows o later.command) is.sent grows.command)
-  where
-    by : (there : Option Command) → later.command ≡ there → CommandGrows (Some is.command) there → IsCommandOf later order number
-    by None e grown = absurd grown
-    by (Some command) e grown = record { command = command; sent = e; order_is = grown.0 ∙ is.order_is; number_is = grown.1 ∙ is.number_is }
+command_goes_on copy later order number grows is = grind (arith, nat_tests)
 
 module _ (copies after : List PacketCopy) (grows : Extends CopyGrows copies after) where
   copy_goes_on : (gateway number : ℕ) → HasCopyAt copies gateway number → HasCopyAt after gateway number
@@ -81,15 +77,13 @@ module _ (copies after : List PacketCopy) (grows : Extends CopyGrows copies afte
 pub sent_here : (number : ℕ) (state : PacketState) (packets : List PacketState) → state.number ≡ number → (sending : Sending) → Own number state.copies sending →
     IsSent (state ∷ packets) sending
 sent_here number state packets same (send.Probe gateway path) own = tt
-sent_here number state packets same (send.Test packet gateway drawn) own =
-    record { state = state; kept = in_head state packets; packet_is = same ∙ own.0; at = own.1 }
+sent_here number state packets same (send.Test packet gateway drawn) own = search (arith, in_head)
 sent_here number state packets same _ own =
     (record { state = state; kept = in_head state packets; packet_is = same ∙ own.0; at = own.1 }, own.2)
 
 pub sent_later : (state : PacketState) (packets : List PacketState) (sending : Sending) → IsSent packets sending → IsSent (state ∷ packets) sending
 sent_later state packets (send.Probe gateway path) is = tt
-sent_later state packets (send.Test packet gateway drawn) is =
-    search (contains_more packets state is.state is.kept, is.packet_is, is.at)
+sent_later state packets (send.Test packet gateway drawn) is = search (arith, contains_more)
 sent_later state packets _ is =
     (record { state = is.0.state; kept = contains_more packets state is.0.state is.0.kept; packet_is = is.0.packet_is; at = is.0.at }, is.1)
 
@@ -133,13 +127,7 @@ module _ (number : ℕ) (first : List Peer) where
   moved_stays : (peers : List Peer) (copies : List PacketCopy) (gateway : ℕ) (order : Order) →
       StaysReady first gateway peers copies (peers_moved (Commanding gateway order) peers) (copies_moved peers (Commanding gateway order) copies)
   moved_stays peers copies gateway order copy apart ready =
-      let same = next_elsewhere (Commanding gateway order) copy.gateway peers apart in
-      record {
-        found = find_commanded gateway copy.gateway (command_with order (next_number peers gateway)) copies apart ∙ ready.found;
-        place = omega (arith, ready.place, length_moved (Commanding gateway order) peers);
-        same = ready.same ∙ sym same;
-        room = λ fresh. omega (arith, ready.room fresh, same);
-      }
+      search (arith, next_elsewhere, find_commanded, command_with, length_moved, ready.room)
 
   -- a release or a cancel of a copy, and what follows
   command_goes : (peers : List Peer) (copies : List PacketCopy) (order : Order) (copy : PacketCopy)
@@ -246,12 +234,7 @@ is_ready : (peers : List Peer) (copies : List PacketCopy) → IsKept peers copie
 is_ready peers copies kept room copy there =
     let found : find_at copy.gateway copies ≡ Some copy = found_at copies copy kept.apart there in
     let place : copy.gateway < length peers = each_contains (IsPlaced peers) copies copy kept.places there in
-    record {
-      found = found;
-      place = place;
-      same = refl;
-      room = λ fresh. room copy.gateway place (omega (arith, weight_fresh 2 copy.gateway copies copy found fresh));
-    }
+    search (arith, weight_fresh)
 
 module _ (number favourite : ℕ) (up : Bool) (peers : List Peer) (within : favourite < length peers) where
   copy_does : (alive : Bool) (copies : List PacketCopy) (is_plain : Bool) → HasRoom peers copies → are_none copies ≡ is_plain → find_at favourite copies ≡ None →
@@ -309,15 +292,7 @@ module _ (number favourite : ℕ) (up : Bool) (peers : List Peer) (within : favo
 
     all_settle : is_waiting plain.verdict ≡ false →
         Does number peers (plain ∷ duplicates) (flat_map (settling peers number) duplicates)
-    all_settle settled =
-        settles number peers (settling peers number) duplicates kept.apart.1 peers (plain ∷ duplicates)
-        (λ waits. absurd (false≢true (sym settled ∙ waits)))
-        (λ copy there. inr (
-          refl,
-          ready copy there,
-          cancelled plain duplicates kept.chosen copy there
-              (λ sealed is. false≢true (sym settled ∙ ap is_waiting sealed)),
-        ))
+    all_settle settled = search (arith, settles, false≢true, ready, cancelled, is_waiting)
 
     releasing_does : plain.verdict ≡ Sealed → (choice : Option PacketCopy) → chosen duplicates ≡ choice →
         Does number peers (plain ∷ duplicates) (releasing choice peers number duplicates)
@@ -344,11 +319,7 @@ module _ (number favourite : ℕ) (up : Bool) (peers : List Peer) (within : favo
 
     verdict_does : (verdict : Verdict) → plain.verdict ≡ verdict →
         Does number peers (plain ∷ duplicates) (due_by_verdict verdict favourite up peers number plain duplicates)
-    verdict_does Unknown is = asking_does plain duplicates room
-    verdict_does Sealed is = releasing_does is (chosen duplicates) refl
-    verdict_does Filed is = all_settle (ap is_waiting is)
-    verdict_does Held is = all_settle (ap is_waiting is)
+    verdict_does verdict is = grind (arith, asking_does, releasing_does, all_settle, is_waiting)
 
   pub due_does : (copies : List PacketCopy) → IsKept peers copies → HasRoom peers copies → Does number peers copies (due_by_copies favourite up peers number copies)
-  due_does [] kept room = copy_does up [] true room refl refl
-  due_does (plain ∷ duplicates) kept room = verdict_does plain duplicates kept room plain.verdict refl
+  due_does copies kept room = grind (arith, copy_does, verdict_does)

@@ -1,6 +1,7 @@
 -- What each move and each response leaves of a packet's copies: they are at as many gateways, the first alone is plain,
 -- their numbers are below the next ones, and what was sent for them rests on the choice.
-use Rattle.std.proofs.Common.{◌≡◌, ◌≢◌, ℕ, suc, ◌<◌, ◌≤◌, ◌==◌, false, List, [], ◌∷◌, ◌++◌, length, map, Some, None, refl, sym, ap, ◌∙◌, arith, inl, inr}
+use Rattle.std.proofs.Common.{◌≡◌, ◌≢◌, ℕ, suc, ◌<◌, ◌≤◌, ◌==◌, false, List, [], ◌∷◌, ◌++◌, length, map, None, refl, sym, ◌∙◌, arith}
+use Rattle.std.proofs.lemmas.Bool.Decides.{nat_tests}
 use Rattle.std.specs.List.{AllByRecursion}
 use Rattle.std.specs.Option.{IfSome}
 use Rattle.std.proofs.lemmas.Bool.{eqb-false}
@@ -15,7 +16,7 @@ use Rattle.node_core.specs.Copies.{command_hearing, copy_hearing, new_copy}
 use Rattle.node_core.specs.Packets.{PacketState, commanded}
 use Rattle.node_core.specs.Peers.{next_number}
 use Rattle.node_core.specs.Roles.{IsPlainFirst}
-use Rattle.node_core.proofs.CaseLemmas.{StaysPut, at_or_apart, commanded_puts, either_hears, hearing_puts, if_mapped, if_or, each_map, each_push, each_weaker, find_none}
+use Rattle.node_core.proofs.CaseLemmas.{StaysPut, commanded_puts, either_hears, hearing_puts, if_mapped, if_or, each_map, each_push, each_weaker, find_none}
 use Rattle.node_core.proofs.ChosenLemmas.{AreApart, Chosen, Waits, chosen_map, hearing_keeps, chosen_moved, waits_hearing, waits_moved}
 use Rattle.node_core.proofs.Moves.{Copying, Commanding, IsMove, Move, Moves, One, are_none, beyond, command_with, copies_moved, find_at, here, length_moved, next_elsewhere, next_is, one_is, onward, peers_moved, place, still}
 
@@ -27,12 +28,7 @@ pub record GoOn (peers later : List Peer) : Type 0 where
 
 pub goes_on : {peers : List Peer} {copies : List PacketCopy} {move : Move} → IsMove peers copies move →
     GoOn peers (peers_moved move peers)
-goes_on {peers} {copies} {move} is = record {
-  size = length_moved move peers;
-  numbers = λ gateway. at_or_apart (λ (g : ℕ). next_number peers g ≤ next_number (peers_moved move peers) g)
-      (place move) gateway (omega (arith, next_is is))
-      (λ apart. omega (arith, next_elsewhere move gateway peers apart));
-}
+goes_on {peers} {copies} {move} is = search (arith, length_moved, peers_moved, place, next_is, next_elsewhere)
 
 -- ---- what holds of a packet's copies
 
@@ -58,23 +54,10 @@ abbrev pub AllKept : List Peer → List PacketState → Type 0
 AllKept peers packets = AllByRecursion (λ (packet : PacketState). IsKept peers packet.copies) packets
 
 pub kept_on : (peers later : List Peer) (copies : List PacketCopy) → GoOn peers later → IsKept peers copies → IsKept later copies
-kept_on peers later copies on kept = record {
-  apart = kept.apart;
-  places = each_weaker (IsPlaced peers) (IsPlaced later) (λ copy is. omega (arith, on.size, is)) copies kept.places;
-  plain = kept.plain;
-  below = each_weaker (IsBelow peers) (IsBelow later)
-      (λ copy is. record {
-        number = omega (arith, on.numbers copy.gateway, is.number);
-        command = IfSome_then copy.command is.command (λ c was. (was.0, omega (arith, was.1, on.numbers copy.gateway)));
-      }) copies kept.below;
-  chosen = kept.chosen;
-  waits = kept.waits;
-}
+kept_on peers later copies on kept = search (arith, each_weaker, on.numbers, IfSome_then)
 
 pub all_kept_on : (peers later : List Peer) (packets : List PacketState) → GoOn peers later → AllKept peers packets → AllKept later packets
-all_kept_on peers later packets on kept =
-    each_weaker (λ (p : PacketState). IsKept peers p.copies) (λ (p : PacketState). IsKept later p.copies)
-    (λ packet is. kept_on peers later packet.copies on is) packets kept
+all_kept_on peers later packets on kept = search (arith, each_weaker)
 
 -- ---- copies that stay where they are
 
@@ -119,8 +102,7 @@ absent gateway copies none =
 apart_push : (copies : List PacketCopy) (copy : PacketCopy) → AreApart copies → AllByRecursion (λ (other : PacketCopy). other.gateway ≢ copy.gateway) copies →
     AreApart (copies ++ copy ∷ [])
 apart_push [] copy apart differ = (tt, tt)
-apart_push (first ∷ copies) copy apart differ =
-    (each_push (λ (other : PacketCopy). first.gateway ≢ other.gateway) copies copy apart.0 differ.0, apart_push copies copy apart.1 differ.1)
+apart_push (first ∷ copies) copy apart differ = search (arith, each_push, (apart_push copies copy apart.1 differ.1))
 
 plain_push : (copies : List PacketCopy) (gateway number : ℕ) → IsPlainFirst copies → IsPlainFirst (copies ++ new_copy gateway number (are_none copies) ∷ [])
 plain_push [] gateway number plain = (refl, All-nil (λ (c : PacketCopy). c.is_plain ≡ false))
@@ -133,20 +115,7 @@ commanded_below : (gateway : ℕ) (command : Command) (peers later : List Peer) 
     next_number later gateway ≡ suc (next_number peers gateway) → command.number ≡ next_number peers gateway → (copy : PacketCopy) → IsBelow peers copy →
     IsBelow later (commanded gateway command copy)
 commanded_below gateway command peers later on next is_next copy below =
-    let number : copy.number < next_number later copy.gateway = omega (arith, on.numbers copy.gateway, below.number) in
-    let was : IfSome copy.command (IsBetween copy.number (next_number later copy.gateway)) =
-    IfSome_then copy.command below.command (λ c is. (is.0, omega (arith, is.1, on.numbers copy.gateway))) in
-    elim (eqb_tells copy.gateway gateway) [
-      | inl same ↦
-          let here_is : next_number peers copy.gateway ≡ next_number peers gateway = ap (next_number peers) same.1 in
-          let there : next_number later copy.gateway ≡ next_number later gateway = ap (next_number later) same.1 in
-          rw same.0 (record {
-            number = number;
-            command = if_or (IsBetween copy.number (next_number later copy.gateway)) copy.command (Some command) was
-                (omega (arith, here_is, is_next, below.number), omega (arith, there, next, is_next));
-          })
-      | inr isnt ↦ rw isnt.0 (record { number = number; command = was })
-    ]
+    search (arith, nat_tests, on.numbers, IfSome_then, eqb_tells, if_or)
 
 -- ---- a move
 
@@ -172,11 +141,8 @@ kept_moved (Commanding gateway order) peers copies is kept =
 
 pub all_kept_moved : {peers : List Peer} {move : Move} {packets after : List PacketState} → One peers move packets after → AllKept peers packets →
     AllKept (peers_moved move peers) after
-all_kept_moved {peers} {move} (here {packet} {packets} open_yet is) kept = (
-  kept_moved move peers packet.copies is kept.0,
-  all_kept_on peers (peers_moved move peers) packets
-      (goes_on is) kept.1,
-)
+all_kept_moved {peers} {move} (here {packet} {packets} open_yet is) kept =
+    search (arith, kept_moved, all_kept_on, peers_moved, goes_on)
 all_kept_moved {peers} {move} (beyond {packet} one) kept =
     (kept_on peers (peers_moved move peers) packet.copies (goes_on (one_is one).1) kept.0, all_kept_moved one kept.1)
 

@@ -1,5 +1,6 @@
 -- What a node knows of a copy of an open packet is what the first response tells that says something of its number.
 use Rattle.std.proofs.Common.{◌≡◌, ℕ, ◌<◌, ◌≤◌, ◌==◌, ◌&&◌, ◌||◌, Bool, true, false, if◌then◌else◌, List, [], ◌∷◌, ◌++◌, length, map, Option, Some, None, refl, sym, ap, ◌∙◌, arith, inl, inr}
+use Rattle.std.proofs.lemmas.Bool.Decides.{nat_tests}
 use Rattle.std.proofs.Math.Bool.{and-false, and-true, or-false}
 use Rattle.std.specs.List.{All, AllByRecursion, Contains, list_any}
 use Rattle.std.specs.Option.{IfSome}
@@ -12,20 +13,16 @@ use Rattle.std.proofs.lemmas.Option.{IfSome_then}
 use Rattle.node_core.specs.declared.copy.Command.{Command}
 use Rattle.node_core.specs.declared.copy.Order.{Order}
 use Rattle.node_core.specs.declared.copy.PacketCopy.{PacketCopy}
-use Rattle.node_core.specs.declared.copy.Verdict.{Verdict}
-use Rattle.node_core.specs.declared.copy.Verdict.TheVariants.{Unknown}
 use Rattle.node_core.specs.declared.peer.Peer.{Peer}
 use Rattle.node_core.specs.declared.port.Port.{Port}
 use Rattle.node_core.specs.declared.sending.Sending.{Sending}
 use Rattle.node_core.specs.declared.sending.Sending.TheVariants as send
-use Rattle.node_core.specs.Copies.{command_hearing, copy_hearing, copy_hearing_own, first_told, is_fulfilled, names, new_copy, told, told_if}
+use Rattle.node_core.specs.Copies.{copy_hearing, copy_hearing_own, first_told, is_fulfilled, told_if}
 use Rattle.node_core.specs.Knowing.{AreKnown, IsKnown, Response, draws, first_of, is_fulfilled_at, responses_to, tellings}
-use Rattle.node_core.specs.Log.{LogEntry, Submitted, Appointed, Ticked, Heard, NodeSetup, Saying, Responds, packets_of, peers_of}
-use Rattle.node_core.specs.Packets.{PacketState, commanded, copies_after, is_done, packet_after_all, packet_hearing, while_open}
+use Rattle.node_core.specs.Log.{LogEntry, Appointed, Ticked, Heard, NodeSetup, Saying, Responds, packets_of}
+use Rattle.node_core.specs.Packets.{PacketState, commanded, copies_after, is_done, packet_after_all, while_open, packet_hearing}
 use Rattle.node_core.specs.Peers.{next_number}
 use Rattle.node_core.specs.Reached.{NodeCall, log_of, reached}
-use Rattle.node_core.specs.Ticks.{due_now}
-use Rattle.node_core.specs.Value.{node_of}
 use Rattle.node_core.proofs.CaseLemmas.{after_all_keeps, if_mapped, if_or, each_both, each_map, each_push, each_weaker, passes_in}
 use Rattle.node_core.proofs.ChosenLemmas.{own_number}
 use Rattle.node_core.proofs.KeptLemmas.{AllKept, IsBelow}
@@ -41,33 +38,14 @@ module _ (port : Port) (cause : ℕ) where
   told_more : (named is_plain : Bool) (responses : List Response) →
       first_of (tellings is_plain (responses ++ if_named named))
       ≡ first_told (first_of (tellings is_plain responses)) (told_if named port is_plain cause)
-  told_more named is_plain (response ∷ responses) = by (told response.port is_plain response.cause) (told_more named is_plain responses)
-    where
-      by : (verdict : Verdict) →
-          first_of (tellings is_plain (responses ++ if_named named))
-          ≡ first_told (first_of (tellings is_plain responses)) (told_if named port is_plain cause) →
-          first_of (verdict ∷ tellings is_plain (responses ++ if_named named))
-          ≡ first_told (first_of (verdict ∷ tellings is_plain responses)) (told_if named port is_plain cause)
-      by Unknown rest = rest
-      by _ rest = refl
+  told_more named is_plain (response ∷ responses) = grind (arith, nat_tests, (told_more named is_plain responses))
   told_more false is_plain [] = refl
-  told_more true is_plain [] = by (told port is_plain cause)
-    where
-      by : (verdict : Verdict) → first_of (verdict ∷ []) ≡ first_told Unknown verdict
-      by Unknown = refl
-      by _ = refl
+  told_more true is_plain [] = grind (arith, nat_tests)
 
   fulfilled_more : (named : Bool) (responses : List Response) →
       list_any (λ (r : Response). is_fulfilled r.cause) (responses ++ if_named named)
       ≡ (list_any (λ (r : Response). is_fulfilled r.cause) responses || (is_fulfilled cause && named))
-  fulfilled_more named responses =
-      list_any-append (λ (r : Response). is_fulfilled r.cause) responses (if_named named)
-      ∙ ap (λ (b : Bool). list_any (λ (r : Response). is_fulfilled r.cause) responses || b) (by named)
-    where
-      by : (named : Bool) →
-          list_any (λ (r : Response). is_fulfilled r.cause) (if_named named) ≡ (is_fulfilled cause && named)
-      by true = or-false (is_fulfilled cause) ∙ sym (and-true (is_fulfilled cause))
-      by false = sym (and-false (is_fulfilled cause))
+  fulfilled_more named responses = grind (arith, nat_tests, list_any-append, or-false, and-true, and-false)
 
 -- ---- what each copy of a packet, or of an open one, is by the log
 
@@ -97,27 +75,16 @@ same_known log later copy same same_command known = record {
 -- what changes no response to a copy
 all_same_known : (log later : List LogEntry) (copy : PacketCopy) →
     ((number : ℕ) → responses_to copy.gateway number later ≡ responses_to copy.gateway number log) → IsKnown log copy → IsKnown later copy
-all_same_known log later copy same = same_known log later copy (same copy.number) (by copy.command)
-  where
-    by : (command : Option Command) → IfSome command (λ (c : Command). responses_to copy.gateway c.number later ≡ responses_to copy.gateway c.number log)
-    by None = tt
-    by (Some command) = same command.number
+all_same_known log later copy same = grind (arith, nat_tests, same_known)
 
 all_same : (log later : List LogEntry) → ((gateway number : ℕ) → responses_to gateway number later ≡ responses_to gateway number log) →
     (packets : List PacketState) → AllKnown log packets → AllKnown later packets
-all_same log later same packets known =
-    each_weaker (OpenKnown log) (OpenKnown later)
-    (λ packet is open_yet. each_weaker (IsKnown log) (IsKnown later)
-    (λ copy. all_same_known log later copy (same copy.gateway)) packet.copies (is open_yet)) packets known
+all_same log later same packets known = search (arith, each_weaker)
 
 -- what happens to open packets
 when_open : (log later : List LogEntry) (f : PacketState → PacketState) (packet : PacketState) → (Known log packet → Known later (f packet)) →
     OpenKnown log packet → OpenKnown later (while_open f packet)
-when_open log later f packet step known =
-    elim (cases_Bool (is_done packet.copies)) [
-      | inl done ↦ λ open_yet. absurd (false≢true (sym (rw done at open_yet) ∙ done))
-      | inr open_yet ↦ rw open_yet (λ still. step (known open_yet))
-    ]
+when_open log later f packet step known = search (arith, cases_Bool, false≢true)
 
 -- ---- a tick
 
@@ -130,17 +97,7 @@ undrawn peers gateway number below sendings all =
     (each_weaker (DrawsNext peers) (λ (s : Sending). draws gateway number s ≡ false) one sendings all))
   where
     if_new : (is_new : Bool) (place drawn : ℕ) → (is_new ≡ true → next_number peers place ≤ drawn) → (is_new && ((place == gateway) && (drawn == number))) ≡ false
-    if_new is_new place drawn above = false_from_ne_true (is_new && ((place == gateway) && (drawn == number)))
-        (λ draws_it.
-        let new = and_parts is_new ((place == gateway) && (drawn == number)) draws_it in
-        let both = and_parts (place == gateway) (drawn == number) new.1 in
-        absurd (omega (
-          arith,
-          above new.0,
-          below,
-          eqb-true drawn number both.1,
-          ap (next_number peers) (eqb-true place gateway both.0),
-        )))
+    if_new is_new place drawn above = search (arith, nat_tests, false_from_ne_true, and_parts, eqb-true)
 
     one : (sending : Sending) → DrawsNext peers sending → draws gateway number sending ≡ false
     one (send.Data packet place drawn is_plain is_new) is = if_new is_new place drawn is
@@ -173,16 +130,9 @@ module _ (sendings : List Sending) (log : List LogEntry) where
   copies_known : (sending : Sending) → Contains sendings sending → (copies : List PacketCopy) → AllByRecursion (IsKnown after_tick) copies →
       AllByRecursion (IsKnown after_tick) (copies_after sending copies)
   copies_known (send.Data packet gateway number is_plain true) there copies known =
-      let drawn = passes_in (draws gateway number) sendings (send.Data packet gateway number is_plain true) there
-      (and_from (gateway == gateway) (number == number) (own_number gateway) (own_number number)) in
-      each_push (IsKnown after_tick) copies (new_copy gateway number is_plain) known (record {
-        verdict = sym (ap (λ (rs : List Response). first_of (tellings is_plain rs)) (none_yet gateway number drawn));
-        command = tt;
-      })
+      search (arith, passes_in, send.Data, and_from, own_number, each_push, none_yet)
   copies_known (send.Command packet gateway named number order true) there copies known =
-      let drawn = passes_in (draws gateway number) sendings (send.Command packet gateway named number order true) there
-      (and_from (gateway == gateway) (number == number) (own_number gateway) (own_number number)) in
-      each_map (IsKnown after_tick) (IsKnown after_tick) _ (commanded_known order number gateway drawn) copies known
+      search (arith, passes_in, send.Command, and_from, own_number, each_map, commanded_known)
   copies_known _ there copies known = known
 
   -- what was known before stays, as the tick draws no number of it
@@ -212,30 +162,10 @@ module _ (port : Port) (place cause : ℕ) (numbers : List ℕ) (log : List LogE
   after_response = Heard port place (Responds cause numbers) ∷ log
 
   hears_own : (copy : PacketCopy) → (copy.gateway == place) ≡ true → IsKnown log copy → IsKnown after_response (copy_hearing_own port cause numbers copy)
-  hears_own copy mine known = record {
-    verdict = rw mine (
-        ap (λ (v : Verdict). first_told v (told_if (names numbers copy.number) port copy.is_plain cause)) known.verdict
-        ∙ sym (told_more port cause (names numbers copy.number) copy.is_plain
-        (responses_to copy.gateway copy.number log)));
-    command = if_mapped (λ (c : Command). c.is_answered ≡ is_fulfilled_at after_response copy.gateway c.number)
-        (command_hearing cause numbers) copy.command (IfSome_then copy.command known.command (answered copy mine));
-  }
-    where
-      answered : (copy : PacketCopy) → (copy.gateway == place) ≡ true → (command : Command) →
-          command.is_answered ≡ is_fulfilled_at log copy.gateway command.number →
-          (command.is_answered || (is_fulfilled cause && names numbers command.number)) ≡ is_fulfilled_at after_response copy.gateway command.number
-      answered copy mine command was = rw mine (
-          ap (λ (b : Bool). b || (is_fulfilled cause && names numbers command.number)) was
-          ∙ sym (fulfilled_more port cause (names numbers command.number)
-          (responses_to copy.gateway command.number log)))
+  hears_own copy mine known = search (arith, told_more, if_mapped, IfSome_then, fulfilled_more)
 
   hears : (copy : PacketCopy) → IsKnown log copy → IsKnown after_response (copy_hearing port place cause numbers copy)
-  hears copy known =
-      elim (cases_Bool (copy.gateway == place)) [
-        | inl mine ↦ rw mine (hears_own copy mine known)
-        | inr other ↦ rw other (all_same_known log after_response copy
-            (λ number. rw other (append-nil (responses_to copy.gateway number log))) known)
-      ]
+  hears copy known = search (arith, cases_Bool, hears_own, all_same_known, append-nil)
 
 heard_known : (port : Port) (place : ℕ) (saying : Saying) (log : List LogEntry) → AllKnown log (packets_of log) →
     AllKnown (Heard port place saying ∷ log) (packets_of (Heard port place saying ∷ log))
@@ -258,12 +188,9 @@ known_law : (setup : NodeSetup) → Law setup (λ (log : List LogEntry). AllKnow
 known_law setup = record {
   begins = λ log. tt;
   halts = λ log. tt;
-  submits = λ log form unrefused known. each_push (OpenKnown (Submitted form ∷ log)) (packets_of log) _
-      (all_same log (Submitted form ∷ log) (λ place number. refl) (packets_of log) known) (λ open_yet. tt);
+  submits = λ log form unrefused known. search (arith, each_push, all_same);
   appoints = λ log gateway known. all_same log (Appointed gateway ∷ log) (λ place number. refl) (packets_of log) known;
-  ticks = λ log stands tick known. ticked_known (due_now (node_of setup log)) log (peers_of setup.gateways log)
-      (packets_of log)
-      tick.draws stands.kept known;
+  ticks = λ log stands tick known. search (arith, ticked_known);
   hears = λ log port gateway saying known. heard_known port gateway saying log known;
 }
 

@@ -1,8 +1,8 @@
 -- What a node knows within a start only grows, and rests on what it heard since its start.
-use Rattle.std.proofs.Common.{◌≡◌, ℕ, ◌&&◌, true, false, List, [], ◌∷◌, ◌++◌, map, Option, Some, None, option_map, refl, ap, ◌∙◌, inl, inr, ◌||◌, Bool, sym, arith}
+use Rattle.std.proofs.Common.{◌≡◌, ℕ, ◌&&◌, true, false, List, [], ◌∷◌, ◌++◌, map, Option, option_map, refl, ap, inl, inr, ◌||◌, Bool, sym, arith}
+use Rattle.std.proofs.lemmas.Bool.Decides.{nat_tests}
 use Rattle.std.proofs.lemmas.Bool.{and_from, and_parts, or_cases, or_left, or_right}
 use Rattle.std.specs.List.{list_any, All, AllByRecursion, Contains}
-use Rattle.std.specs.Option.{option_map_or, option_or}
 use Rattle.std.proofs.lemmas.List.Elements.{All-from_recursion}
 use Rattle.std.proofs.lemmas.Bool.Decides.{eqb_tells}
 use Rattle.std.proofs.lemmas.Option.{IfSome_then}
@@ -13,7 +13,7 @@ use Rattle.node_core.specs.declared.copy.Verdict.TheVariants.{Unknown}
 use Rattle.node_core.specs.declared.port.Port.{Port}
 use Rattle.node_core.specs.declared.sending.Sending.{Sending}
 use Rattle.node_core.specs.declared.sending.Sending.TheVariants as send
-use Rattle.node_core.specs.Copies.{command_hearing, copy_hearing, first_told, is_filed, is_release, is_released, is_unknown, copy_hearing_own, is_fulfilled, names, told_if}
+use Rattle.node_core.specs.Copies.{command_hearing, copy_hearing, first_told, is_filed, is_released, is_unknown, copy_hearing_own, is_fulfilled, names, told_if}
 use Rattle.node_core.specs.Growing.{CommandGrows, CopyGrows, Extends, PacketGrows, is_within_start}
 use Rattle.node_core.specs.Log.{LogEntry, Submitted, Appointed, Ticked, Heard, Responds, packets_of}
 use Rattle.node_core.specs.Packets.{PacketState, commanded, copies_after, is_resolved, packet_after_all, packet_hearing, while_open}
@@ -47,53 +47,25 @@ module _ {A : Type 0} (R : A → A → Type 0) where
 -- ---- commands and copies
 
 same_command : (command : Option Command) → CommandGrows command command
-same_command None = tt
-same_command (Some command) = (refl, refl, λ is. is)
+same_command command = grind arith
 
 command_on : (one two three : Option Command) → CommandGrows one two → CommandGrows two three → CommandGrows one three
-command_on None two three first second = tt
-command_on (Some one) None three first second = absurd first
-command_on (Some one) (Some two) None first second = absurd second
-command_on (Some one) (Some two) (Some three) first second =
-    (second.0 ∙ first.0, second.1 ∙ first.1, λ is. second.2 (first.2 is))
+command_on one two three first second = grind (arith, first)
 
 pub same_copy : (copy : PacketCopy) → CopyGrows copy copy
 same_copy copy = record { gateway = refl; number = refl; is_plain = refl; verdict = λ known. refl; command = same_command copy.command }
 
 copy_on : (one two three : PacketCopy) → CopyGrows one two → CopyGrows two three → CopyGrows one three
-copy_on one two three first second = record {
-  gateway = second.gateway ∙ first.gateway;
-  number = second.number ∙ first.number;
-  is_plain = second.is_plain ∙ first.is_plain;
-  verdict = λ known. second.verdict (ap is_unknown (first.verdict known) ∙ known) ∙ first.verdict known;
-  command = command_on one.command two.command three.command first.command second.command;
-}
+copy_on one two three first second = search (arith, first.verdict, command_on)
 
 commanded_grows : (gateway : ℕ) (command : Command) (copy : PacketCopy) → CopyGrows copy (commanded gateway command copy)
-commanded_grows gateway command copy = either_commanded (CopyGrows copy) gateway command copy
-    (record { gateway = refl; number = refl; is_plain = refl; verdict = λ known. refl; command = one_more copy.command })
-    (same_copy copy)
-  where
-    one_more : (before : Option Command) → CommandGrows before (option_or before (Some command))
-    one_more None = tt
-    one_more (Some before) = (refl, refl, λ is. is)
+commanded_grows gateway command copy = search (arith, either_commanded, same_copy)
 
 first_stays : (verdict later : Verdict) → is_unknown verdict ≡ false → first_told verdict later ≡ verdict
-first_stays Unknown later known = absurd (cc)
-first_stays _ later known = refl
+first_stays verdict later known = grind arith
 
 hearing_grows : (port : Port) (gateway cause : ℕ) (numbers : List ℕ) (copy : PacketCopy) → CopyGrows copy (copy_hearing port gateway cause numbers copy)
-hearing_grows port gateway cause numbers copy = either_hears (CopyGrows copy) port gateway cause numbers copy (record {
-  gateway = refl;
-  number = refl;
-  is_plain = refl;
-  verdict = first_stays copy.verdict _;
-  command = answered copy.command;
-}) (same_copy copy)
-  where
-    answered : (before : Option Command) → CommandGrows before (option_map (command_hearing cause numbers) before)
-    answered None = tt
-    answered (Some before) = (refl, refl, or_left before.is_answered _)
+hearing_grows port gateway cause numbers copy = search (arith, either_hears, first_stays, same_copy, or_left)
 
 -- ---- packets
 
@@ -101,9 +73,7 @@ pub same_copies : (copies : List PacketCopy) → Extends CopyGrows copies copies
 same_copies = extends_itself CopyGrows same_copy
 
 copies_grow : (sending : Sending) (copies : List PacketCopy) → Extends CopyGrows copies (copies_after sending copies)
-copies_grow (send.Data packet gateway number is_plain true) copies = extends_push CopyGrows same_copy copies _
-copies_grow (send.Command packet gateway named number order true) copies = extends_map CopyGrows _ (commanded_grows gateway _) copies
-copies_grow _ copies = same_copies copies
+copies_grow sending copies = grind (arith, extends_push, same_copy, extends_map, commanded_grows, same_copies)
 
 pub after_all_grows : (sendings : List Sending) (packet : PacketState) → Extends CopyGrows packet.copies (packet_after_all sendings packet).copies
 after_all_grows sendings packet =
@@ -115,20 +85,10 @@ after_all_grows sendings packet =
 -- ---- resolved and done
 
 filed_known : (verdict : Verdict) → is_filed verdict ≡ true → is_unknown verdict ≡ false
-filed_known Unknown is = absurd (cc)
-filed_known _ is = refl
+filed_known verdict is = grind arith
 
 released_stays : (copy after : PacketCopy) → CopyGrows copy after → is_released copy ≡ true → is_released after ≡ true
-released_stays copy after grows = by copy.command after.command grows.command
-  where
-    by : (one two : Option Command) → CommandGrows one two →
-        (option_map_or (λ (c : Command). is_release c.order) one false && option_map_or (λ (c : Command). c.is_answered) one false) ≡ true →
-        (option_map_or (λ (c : Command). is_release c.order) two false && option_map_or (λ (c : Command). c.is_answered) two false) ≡ true
-    by None two grows is = absurd (cc)
-    by (Some one) None grows is = absurd grows
-    by (Some one) (Some two) grows is =
-        let was = and_parts (is_release one.order) one.is_answered is in
-        and_from (is_release two.order) two.is_answered (ap is_release grows.0 ∙ was.0) (grows.2 was.1)
+released_stays copy after grows = grind (arith, nat_tests, and_parts, and_from)
 
 any_stays : (copies after : List PacketCopy) → Extends CopyGrows copies after → list_any is_released copies ≡ true → list_any is_released after ≡ true
 any_stays [] after grows is = absurd (cc)
@@ -143,10 +103,7 @@ pub resolved_stays : (copies after : List PacketCopy) → Extends CopyGrows copi
 resolved_stays [] after grows is = absurd (cc)
 resolved_stays (plain ∷ duplicates) [] grows is = absurd grows
 resolved_stays (plain ∷ duplicates) (first ∷ after) grows is =
-    elim (or_cases (is_filed plain.verdict) (list_any is_released duplicates) is) [
-      | inl filed ↦ or_left _ _ (ap is_filed (grows.0.verdict (filed_known plain.verdict filed)) ∙ filed)
-      | inr released ↦ or_right (is_filed first.verdict) _ (any_stays duplicates after grows.1 released)
-    ]
+    search (arith, or_cases, or_left, grows.0.verdict, filed_known, or_right, any_stays)
 
 pub same_packet : (packet : PacketState) → PacketGrows packet packet
 same_packet packet = record { number = refl; copies = same_copies packet.copies; resolved = λ is. is; done = λ is. is }
@@ -154,12 +111,7 @@ same_packet packet = record { number = refl; copies = same_copies packet.copies;
 -- a packet that is changed while it is open
 open_grows : (f : PacketState → PacketState) → ((packet : PacketState) → (f packet).number ≡ packet.number) →
     ((packet : PacketState) → Extends CopyGrows packet.copies (f packet).copies) → (packet : PacketState) → PacketGrows packet (while_open f packet)
-open_grows f keeps grows packet = either_open (PacketGrows packet) f packet (same_packet packet) (λ open_yet. record {
-  number = keeps packet;
-  copies = grows packet;
-  resolved = resolved_stays packet.copies (f packet).copies (grows packet);
-  done = λ is. absurd (cc);
-})
+open_grows f keeps grows packet = search (arith, either_open, same_packet, resolved_stays)
 
 -- ---- one more entry
 
@@ -167,12 +119,9 @@ pub entry_grows : (entry : LogEntry) (log : List LogEntry) → is_within_start e
     Extends PacketGrows (packets_of log) (packets_of (entry ∷ log))
 entry_grows (Submitted form) log is = extends_push PacketGrows same_packet (packets_of log) _
 entry_grows (Appointed gateway) log is = extends_itself PacketGrows same_packet (packets_of log)
-entry_grows (Ticked sendings) log is =
-    extends_map PacketGrows _ (open_grows (packet_after_all sendings) (after_all-number sendings) (after_all_grows sendings)) (packets_of log)
+entry_grows (Ticked sendings) log is = search (arith, extends_map, open_grows, after_all-number, after_all_grows)
 entry_grows (Heard port gateway (Responds cause numbers)) log is =
-    extends_map PacketGrows _
-    (open_grows (packet_hearing port gateway cause numbers) (λ packet. refl)
-    (λ packet. extends_map CopyGrows _ (hearing_grows port gateway cause numbers) packet.copies)) (packets_of log)
+    search (arith, extends_map, open_grows, hearing_grows)
 entry_grows (Heard port gateway _) log is = extends_itself PacketGrows same_packet (packets_of log)
 entry_grows _ log is = absurd (cc)
 
@@ -182,8 +131,7 @@ entry_grows _ log is = absurd (cc)
 
 more_rests : (entry : LogEntry) (entries : List LogEntry) (copy : PacketCopy) → RestsOn entries copy → RestsOn (entry ∷ entries) copy
 more_rests entry entries copy rests = record {
-  verdict = λ known. let is : IsTold entries copy = rests.verdict known in
-      search (contains_more entries entry _ is.heard, is.named, is.tells);
+  verdict = search (arith, rests.verdict, contains_more);
   command = IfSome_then copy.command rests.command (λ c now answered.
       let is : IsFulfilled entries copy.gateway c.number = now answered in
       search (contains_more entries entry _ is.heard, is.named, is.tells));
@@ -195,9 +143,7 @@ Each entries packet = AllByRecursion (RestsOn entries) packet.copies
 
 more_each : (entry : LogEntry) (entries : List LogEntry) (packets : List PacketState) →
     AllByRecursion (Each entries) packets → AllByRecursion (Each (entry ∷ entries)) packets
-more_each entry entries packets all =
-    each_weaker (Each entries) (Each (entry ∷ entries))
-    (λ packet each. each_weaker (RestsOn entries) (RestsOn (entry ∷ entries)) (more_rests entry entries) packet.copies each) packets all
+more_each entry entries packets all = search (arith, each_weaker, more_rests)
 
 -- what is said of a command of a copy at a gateway
 abbrev CommandRests : List LogEntry → ℕ → Command → Type 0
@@ -208,16 +154,11 @@ CommandRests entries gateway command = command.is_answered ≡ true → IsFulfil
 module _ (entries : List LogEntry) where
   commanded_rests : (order : Order) (number gateway : ℕ) (copy : PacketCopy) → RestsOn entries copy →
       RestsOn entries (commanded gateway (record { order = order; number = number; is_answered = false }) copy)
-  commanded_rests order number gateway copy rests = either_commanded (RestsOn entries) gateway _ copy (record {
-    verdict = λ known. let is : IsTold entries copy = rests.verdict known in search (is.heard, is.named, is.tells);
-    command = if_or (CommandRests entries copy.gateway) copy.command
-        (Some (record { order = order; number = number; is_answered = false })) rests.command (λ answered. absurd (cc));
-  }) rests
+  commanded_rests order number gateway copy rests = search (arith, either_commanded, rests.verdict, if_or)
 
   copies_rest : (sending : Sending) (copies : List PacketCopy) → AllByRecursion (RestsOn entries) copies →
       AllByRecursion (RestsOn entries) (copies_after sending copies)
-  copies_rest (send.Data packet gateway number is_plain true) copies all = each_push (RestsOn entries) copies _ all
-      (record { verdict = λ known. absurd (cc); command = tt })
+  copies_rest (send.Data packet gateway number is_plain true) copies all = search (arith, each_push)
   copies_rest (send.Command packet gateway named number order true) copies all =
       each_map (RestsOn entries) (RestsOn entries) _ (commanded_rests order number gateway) copies all
   copies_rest _ copies all = all
@@ -252,8 +193,7 @@ module _ (port : Port) (gateway cause : ℕ) (numbers : List ℕ) (since : List 
   hears_own : (copy : PacketCopy) → copy.gateway ≡ gateway → RestsOn with_response copy → RestsOn with_response (copy_hearing_own port cause numbers copy)
   hears_own copy e rests = record {
     verdict = by copy.verdict rests.verdict;
-    command = if_mapped (CommandRests with_response copy.gateway) (command_hearing cause numbers) copy.command
-        (IfSome_then copy.command rests.command (fulfilled_by copy.gateway e));
+    command = search (arith, if_mapped, IfSome_then, fulfilled_by);
   }
     where
       now_told : (named : Bool) → names numbers copy.number ≡ named → is_unknown (told_if named port copy.is_plain cause) ≡ false →
@@ -271,16 +211,12 @@ module _ (port : Port) (gateway cause : ℕ) (numbers : List ℕ) (since : List 
       by _ was known = let is = was refl in search (is.heard, is.named, is.tells)
 
   hears : (copy : PacketCopy) → RestsOn with_response copy → RestsOn with_response (copy_hearing port gateway cause numbers copy)
-  hears copy rests = elim (eqb_tells copy.gateway gateway) [
-    | inl is ↦ rw is.0 (hears_own copy is.1 rests)
-    | inr isnt ↦ rw isnt.0 rests
-  ]
+  hears copy rests = search (arith, nat_tests, eqb_tells, hears_own)
 
 -- ---- all logs
 
 rests : (log : List LogEntry) → AllByRecursion (Each (since_start log)) (packets_of log)
-rests (Submitted form ∷ log) =
-    each_push (Each (Submitted form ∷ since_start log)) (packets_of log) _ (more_each _ (since_start log) (packets_of log) (rests log)) tt
+rests (Submitted form ∷ log) = search (arith, each_push, more_each, (rests log))
 rests (Appointed gateway ∷ log) = more_each _ (since_start log) (packets_of log) (rests log)
 rests (Ticked sendings ∷ log) =
     let entries : List LogEntry = Ticked sendings ∷ since_start log in
@@ -297,7 +233,4 @@ rests (Heard port gateway _ ∷ log) = more_each _ (since_start log) (packets_of
 rests _ = tt
 
 pub all_rest : (log : List LogEntry) → All (AllRestOn (since_start log)) (packets_of log)
-all_rest log =
-    All-from_recursion (AllRestOn (since_start log)) (packets_of log)
-    (each_weaker (Each (since_start log)) (AllRestOn (since_start log))
-    (λ packet each. All-from_recursion (RestsOn (since_start log)) packet.copies each) (packets_of log) (rests log))
+all_rest log = search (arith, All-from_recursion, each_weaker, rests)

@@ -1,5 +1,6 @@
 -- What stands of each packet, number and request of every node.
-use Rattle.std.proofs.Common.{◌≡◌, ◌≢◌, ◌≤◌, true, false, List, [], ◌∷◌, length, refl, arith, ℕ, min, ◌==◌, Bool, if◌then◌else◌, ◌++◌, map, Option, Some, None, sym, ap, ◌∙◌, append_assoc, inl, inr, subst}
+use Rattle.std.proofs.Common.{◌≡◌, ◌≢◌, ◌≤◌, true, List, [], ◌∷◌, length, refl, arith, ℕ, min, ◌==◌, Bool, if◌then◌else◌, ◌++◌, map, Option, Some, sym, ap, ◌∙◌, append_assoc, inl, inr, subst}
+use Rattle.std.proofs.lemmas.Bool.Decides.{nat_tests}
 use Rattle.std.specs.List.{All, AllByRecursion, AllPairs, filter, flat_map}
 use Rattle.std.proofs.lemmas.List.Elements.{All-from_recursion}
 use Rattle.std.proofs.lemmas.List.Kept.{AllPairs-cons}
@@ -12,9 +13,9 @@ use Rattle.node_core.specs.declared.peer.Peer.{Peer}
 use Rattle.node_core.specs.Choosing.{IsChoice, ReleasesChoice}
 use Rattle.node_core.specs.Copies.{is_chosen}
 use Rattle.node_core.specs.Log.{NodeSetup, LogEntry, packets_of, peers_of}
-use Rattle.node_core.specs.Packets.{PacketState, is_done}
+use Rattle.node_core.specs.Packets.{PacketState}
 use Rattle.node_core.specs.Reached.{NodeCall, reached, Tick, log_of}
-use Rattle.node_core.specs.Roles.{IsRising, IsSingle, DrawsBetween}
+use Rattle.node_core.specs.Roles.{IsSingle, DrawsBetween}
 use Rattle.node_core.specs.declared.copy.Command.{Command}
 use Rattle.node_core.specs.Nearness.{all_numbers_of, all_unsettled_at}
 use Rattle.node_core.specs.Peers.{next_number}
@@ -24,9 +25,8 @@ use Rattle.node_core.specs.declared.sending.Sending.TheVariants as send
 use Rattle.node_core.specs.Sent.{HasCopyOf, IsSent}
 use Rattle.node_core.specs.Ticks.{due, tick_entries}
 use Rattle.node_core.specs.Value.{logged}
-use Rattle.node_core.proofs.ChosenLemmas.{AreApart, Chosen, IsFirstChosen, found_chosen}
-use Rattle.node_core.proofs.DueLemmas.{choice_of}
-use Rattle.node_core.proofs.KeptLemmas.{IsBelow, IsKept, IsPlaced, AllKept, IsBetween}
+use Rattle.node_core.proofs.ChosenLemmas.{AreApart, Chosen, found_chosen}
+use Rattle.node_core.proofs.KeptLemmas.{IsBelow, IsKept, AllKept, IsBetween}
 use Rattle.node_core.proofs.CaseLemmas.{each_both, each_weaker, each_contains}
 use Rattle.node_core.proofs.ReachedLemmas.{all_stand, next_tick}
 use Rattle.node_core.proofs.TickMoves.{DrawsNext}
@@ -36,19 +36,10 @@ use Rattle.node_core.proofs.TickMoves.{DrawsNext}
 
 apart_pairs : (copies : List PacketCopy) → AreApart copies → AllPairs (λ (one other : PacketCopy). one.gateway ≢ other.gateway) copies
 apart_pairs [] apart = λ i j d before below. absurd (omega (arith, below))
-apart_pairs (copy ∷ copies) apart =
-    AllPairs-cons (λ (one other : PacketCopy). one.gateway ≢ other.gateway) copy copies
-    (All-from_recursion (λ (other : PacketCopy). copy.gateway ≢ other.gateway) copies apart.0) (apart_pairs copies apart.1)
+apart_pairs (copy ∷ copies) apart = search (arith, AllPairs-cons, All-from_recursion, (apart_pairs copies apart.1))
 
 single : (peers : List Peer) (packet : PacketState) → IsKept peers packet.copies → IsSingle peers packet
-single peers packet kept = record {
-  plain = kept.plain;
-  apart = apart_pairs packet.copies kept.apart;
-  rising = All-from_recursion (IsRising peers) packet.copies
-      (each_both (IsPlaced peers) (IsBelow peers) (IsRising peers)
-      (λ copy place below. record { place = place; command = IfSome_then copy.command below.command (λ c is. is.0) })
-      packet.copies kept.places kept.below);
-}
+single peers packet kept = search (arith, apart_pairs, All-from_recursion, each_both, IfSome_then)
 
 released_is_choice : (peers : List Peer) (packet : PacketState) → IsKept peers packet.copies → ReleasesChoice packet
 released_is_choice peers packet kept =
@@ -58,12 +49,7 @@ released_is_choice peers packet kept =
     by : (copies : List PacketCopy) → packet.copies ≡ copies → Chosen copies →
         AllByRecursion (λ (copy : PacketCopy). is_chosen copy ≡ true → IsChoice packet.copies copy.gateway copy.number) copies
     by [] whole is = tt
-    by (plain ∷ duplicates) whole is = (
-      λ is_so. let is_not : is_chosen plain ≡ false = is.0 in absurd (cc),
-      each_weaker (IsFirstChosen plain duplicates) (λ (copy : PacketCopy). is_chosen copy ≡ true → IsChoice packet.copies copy.gateway copy.number)
-          (λ copy first is_so. choice_of plain duplicates copy whole (first is_so).0
-          (found_chosen duplicates copy (first is_so).1)) duplicates is.1,
-    )
+    by (plain ∷ duplicates) whole is = search (arith, each_weaker, found_chosen)
 
 module _ (P : List Peer → PacketState → Type 0)
     (of_kept : (peers : List Peer) (packet : PacketState) → IsKept peers packet.copies → P peers packet)
@@ -92,10 +78,7 @@ SameLeast ones others = (number : ℕ) → least number ones ≡ least number ot
 command_adds : (copy next number : ℕ) (command : Option Command) (rest : List ℕ) →
     IfSome command (IsBetween copy next) →
     least (min number copy) rest ≡ least (min number copy) (map (λ (c : Command). c.number) (option_to_list command) ++ rest)
-command_adds copy next number None rest below = refl
-command_adds copy next number (Some command) rest below =
-    let same : min number copy ≡ min (min number copy) command.number = omega (arith, below.0) in
-    ap (λ (n : ℕ). least n rest) same
+command_adds copy next number command rest below = grind arith
 
 copies_least : (peers : List Peer) (gateway : ℕ) (copies : List PacketCopy) (ones others : List ℕ) → AllByRecursion (IsBelow peers) copies → SameLeast ones others →
     SameLeast (numbers_at gateway copies ++ ones) (flat_map all_numbers_of (filter (λ copy. copy.gateway == gateway) copies) ++ others)
@@ -115,13 +98,8 @@ copies_least peers gateway (copy ∷ copies) ones others below same =
 packets_least : (peers : List Peer) (gateway : ℕ) (packets : List PacketState) → AllKept peers packets →
     SameLeast (flat_map (unsettled_at gateway) packets) (flat_map (all_unsettled_at gateway) packets)
 packets_least peers gateway [] kept number = refl
-packets_least peers gateway (packet ∷ packets) kept number = by (is_done packet.copies) (packets_least peers gateway packets kept.1)
-  where
-    by : (done : Bool) → SameLeast (flat_map (unsettled_at gateway) packets) (flat_map (all_unsettled_at gateway) packets) →
-        least number ((if done then [] else numbers_at gateway packet.copies) ++ flat_map (unsettled_at gateway) packets)
-        ≡ least number ((if done then [] else flat_map all_numbers_of (filter (λ copy. copy.gateway == gateway) packet.copies)) ++ flat_map (all_unsettled_at gateway) packets)
-    by true same = same number
-    by false same = copies_least peers gateway packet.copies _ _ kept.0.below same number
+packets_least peers gateway (packet ∷ packets) kept number =
+    grind (arith, nat_tests, (packets_least peers gateway packets kept.1), copies_least)
 
 pub least_of_copies : (setup : NodeSetup) (calls : List NodeCall) (gateway number : ℕ) → 1 ≤ length setup.gateways →
     least number (flat_map (unsettled_at gateway) (reached setup calls).packets) ≡ least number (flat_map (all_unsettled_at gateway) (reached setup calls).packets)

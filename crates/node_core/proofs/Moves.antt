@@ -1,8 +1,7 @@
 -- The moves of a tick, one number each: a packet gets one more copy, or a release or a cancel for one of its copies.
-use Rattle.std.proofs.Common.{◌≡◌, ℕ, zero, suc, min, ◌<◌, ◌==◌, Bool, true, false, if◌then◌else◌, List, [], ◌∷◌, ◌++◌, length, map, Option, Some, None, refl, sym, ap, ◌∙◌, arith, inl, inr, ◌≢◌}
+use Rattle.std.proofs.Common.{◌≡◌, ℕ, zero, suc, min, ◌<◌, ◌==◌, Bool, true, false, List, [], ◌∷◌, ◌++◌, length, map, Option, Some, None, refl, sym, ap, ◌∙◌, arith, ◌≢◌}
+use Rattle.std.proofs.lemmas.Bool.Decides.{nat_tests}
 use Rattle.std.specs.List.{find, list_any}
-use Rattle.std.specs.Prelude.{slice_get, slice_set}
-use Rattle.std.specs.Option.{option_map_or}
 use Rattle.std.proofs.lemmas.Bool.Decides.{eqb_tells}
 use Rattle.std.proofs.lemmas.Bool.{ne_eqb}
 use Rattle.std.proofs.lemmas.List.{length-map}
@@ -101,13 +100,7 @@ changed (suc i) f (peer ∷ peers) = peer ∷ changed i f peers
 placed : (i : ℕ) (f : Peer → Peer) (peers : List Peer) → at_place i f peers ≡ changed i f peers
 placed i f [] = refl
 placed zero f (peer ∷ peers) = refl
-placed (suc i) f (peer ∷ peers) = behind (slice_get peers i) ∙ ap (λ (ps : List Peer). peer ∷ ps) (placed i f peers)
-  where
-    behind : (there : Option Peer) → option_map_or (λ (p : Peer). slice_set (peer ∷ peers) (suc i) (f p)) there
-        (peer ∷ peers)
-        ≡ peer ∷ option_map_or (λ (p : Peer). slice_set peers i (f p)) there peers
-    behind None = refl
-    behind (Some p) = refl
+placed (suc i) f (peer ∷ peers) = search (arith, (placed i f peers))
 
 -- what the change leaves of each stays of all
 pub place_keeps : {B : Type 0} (g : Peer → B) (f : Peer → Peer) → ((peer : Peer) → g (f peer) ≡ g peer) →
@@ -159,8 +152,7 @@ length_moved move peers = length_placed (place move) (raised (next_number peers 
 
 pub next_elsewhere : (move : Move) (gateway : ℕ) (peers : List Peer) → place move ≢ gateway →
     next_number (peers_moved move peers) gateway ≡ next_number peers gateway
-next_elsewhere move gateway peers apart =
-    next_placed (place move) gateway (raised (next_number peers (place move))) (λ e. absurd (apart e)) peers
+next_elsewhere move gateway peers apart = search (arith, next_placed)
 
 pub next_is : {peers : List Peer} {copies : List PacketCopy} {move : Move} → IsMove peers copies move →
     next_number (peers_moved move peers) (place move) ≡ suc (next_number peers (place move))
@@ -183,9 +175,4 @@ pub find_commanded : (gateway other : ℕ) (command : Command) (copies : List Pa
     find_at other (map (commanded gateway command) copies) ≡ find_at other copies
 find_commanded gateway other command [] apart = refl
 find_commanded gateway other command (copy ∷ copies) apart =
-    let rest : find_at other (map (commanded gateway command) copies) ≡ find_at other copies = find_commanded gateway other command copies apart in
-    elim (eqb_tells copy.gateway gateway) [
-      | inl is ↦ rw (is.0, ne_eqb copy.gateway other (λ same. apart (sym is.1 ∙ same))) rest
-      | inr isnt ↦ rw isnt.0 (ap (λ (found : Option PacketCopy).
-          if copy.gateway == other then Some copy else found) rest)
-    ]
+    search (arith, nat_tests, (find_commanded gateway other command copies apart), eqb_tells, ne_eqb)

@@ -1,5 +1,6 @@
 -- The numbers of open packets stay near the next one.
 use Rattle.std.proofs.Common.{◌≡◌, ℕ, zero, suc, min, ◌+◌, ◌-◌, ◌<◌, ◌≤◌, not, nat_le, Bool, true, false, if◌then◌else◌, List, [], ◌∷◌, ◌++◌, length, map, Option, Some, None, refl, sym, subst, ◌∙◌, arith, inl, inr}
+use Rattle.std.proofs.lemmas.Bool.Decides.{nat_tests}
 use Rattle.std.specs.List.{AllByRecursion, flat_map}
 use Rattle.std.specs.Option.{option_or}
 use Rattle.std.proofs.lemmas.Bool.{cases_Bool, leb-false}
@@ -50,10 +51,7 @@ abbrev NearAll : ℕ → ℕ → List PacketState → Type 0
 NearAll most gateway packets = AllByRecursion (NearIn most gateway) packets
 
 near_less : (most less gateway : ℕ) (packets : List PacketState) → less ≤ most → NearAll most gateway packets → NearAll less gateway packets
-near_less most less gateway packets below near =
-    each_weaker (NearIn most gateway) (NearIn less gateway)
-    (λ packet is open_yet. each_weaker (IsNear most gateway) (IsNear less gateway) (λ copy holds same. omega (arith, holds same, below)) packet.copies (is open_yet))
-    packets near
+near_less most less gateway packets below near = search (arith, each_weaker)
 
 near_moved : {peers : List Peer} {move : Move} {packets after : List PacketState} (most gateway : ℕ) → One peers move packets after →
     (place move ≡ gateway → most ≤ next_number peers (place move) + 16511) → NearAll most gateway packets → NearAll most gateway after
@@ -88,25 +86,17 @@ near_heard port heard_gateway cause numbers most gateway packets near =
 -- ---- a packet that is submitted
 
 or_none : {A : Type 0} (one other : Option A) → option_or one other ≡ None → (one ≡ None) × (other ≡ None)
-or_none None other none = (refl, none)
-or_none (Some x) other none = absurd (cc)
+or_none one other none = grind arith
 
 out_none : (first : ℕ) (peers : List Peer) (packets : List PacketState) → numbers_out first peers packets ≡ None → (i gateway : ℕ) → i < length peers →
     first + i ≡ gateway → out_at gateway (next_number peers i) packets ≡ None
 out_none first [] packets none i gateway below is = absurd (omega (arith, below))
-out_none first (peer ∷ peers) packets none zero gateway below is =
-    let here_is : first ≡ gateway = omega (arith, is) in
-    subst (λ (g : ℕ). out_at g peer.next packets ≡ None) here_is (or_none (out_at first peer.next packets) _ none).0
+out_none first (peer ∷ peers) packets none zero gateway below is = search (arith, or_none)
 out_none first (peer ∷ peers) packets none (suc i) gateway below is =
     out_none (suc first) peers packets (or_none (out_at first peer.next packets) _ none).1 i gateway (omega (arith, below)) (omega (arith, is))
 
 window : (gateway next : ℕ) (packets : List PacketState) → out_at gateway next packets ≡ None → next - oldest_number gateway next packets < 16384
-window gateway next packets none =
-    elim (cases_Bool (nat_le 16384 (next - oldest_number gateway next packets))) [
-      | inl out ↦ let some : Some (NumbersOut gateway (oldest_number gateway next packets) next)
-          ≡ None = rw out at none in absurd (cc)
-      | inr fits ↦ leb-false _ _ fits
-    ]
+window gateway next packets none = search (arith, nat_tests, cases_Bool, leb-false)
 
 least_most : (number : ℕ) (numbers : List ℕ) → least number numbers ≤ number
 least_most number [] = omega arith
@@ -132,13 +122,9 @@ module _ (most gateway : ℕ) where
   near_packets low [] near = tt
   near_packets low (packet ∷ packets) near =
       let first : ℕ = least low (unsettled_at gateway packet) in
-      let later : most ≤ oldest_number gateway first packets + 16511 =
-      omega (arith, near, least-append low (unsettled_at gateway packet) (flat_map (unsettled_at gateway) packets)) in
-      let here_is : most ≤ first + 16511 =
-      omega (arith, later, least_most first (flat_map (unsettled_at gateway) packets)) in (
-        λ open_yet. near_copies low packet.copies
-            (subst (λ (done : Bool). most ≤ least low (if done then [] else numbers_at gateway packet.copies) + 16511)
-            open_yet here_is),
+      let later : most ≤ oldest_number gateway first packets + 16511 = search (arith, least-append) in
+      let here_is : most ≤ first + 16511 = search (arith, least_most) in (
+        λ open_yet. search (arith, near_copies),
         near_packets first packets later,
       )
 
@@ -167,8 +153,7 @@ near_pushed peers packets number unrefused is = record {
   few = omega (arith, total_pushed (λ copies. 1) packets number, opens_are packets, unrefused.few);
   near = λ gateway below.
       let next : ℕ = next_number peers gateway in
-      let none_out : out_at gateway next packets ≡ None =
-      out_none 0 peers packets unrefused.near gateway gateway below (omega arith) in
+      let none_out : out_at gateway next packets ≡ None = search (arith, out_none) in
       let most : ℕ = next + weights gateway (packets ++ new_packet number ∷ []) in
       each_push (NearIn most gateway) packets (new_packet number)
       (near_packets most gateway next packets (omega (

@@ -1,6 +1,7 @@
 -- A tick, step by step: what is due for the packets, and the Node Alive Requests, from a place on: what is there, and
 -- then from the next place on.
 use Rattle.std.proofs.Common.{◌≡◌, ℕ, suc, ◌+◌, ◌<◌, min, Bool, List, [], ◌∷◌, ◌++◌, length, map, drop, get_or, Option, Some, None, refl, sym, ap, ◌∙◌, append_assoc, add-one, arith}
+use Rattle.std.proofs.lemmas.Bool.Decides.{nat_tests}
 use Rattle.std.proofs.lemmas.List.{at_drop_all, at_drop_more}
 use Rattle.std.specs.Option.{option_or}
 use Rattle.std.specs.Prelude.{IfSome}
@@ -89,9 +90,7 @@ module _ (favourite : ℕ) (up : Bool) where
 pub probes_more : (paths : PathsOfNode) (gateways : List Peer) (i : ℕ) (d : Peer) → i < length gateways →
     probes_from i paths (drop i gateways)
     ≡ probe_of (is_alive paths i) i (get_or gateways i d) ++ probes_from (i + 1) paths (drop (i + 1) gateways)
-probes_more paths gateways i d below =
-    at_drop_more (probes_from i paths) gateways i d below
-    ∙ ap (λ (n : ℕ). probe_of (is_alive paths i) i (get_or gateways i d) ++ probes_from n paths (drop (i + 1) gateways)) (sym (add-one i))
+probes_more paths gateways i d below = cc (at_drop_more (probes_from i paths) gateways i d below, add-one i)
 
 -- so much is probed
 abbrev pub AreProbed : PathsOfNode → List Peer → List Sending → List Peer → List Sending → List Peer → ℕ → Type 0
@@ -107,8 +106,7 @@ pub probe_step : (paths : PathsOfNode) (gateways : List Peer) (sendings₀ : Lis
 probe_step paths gateways sendings₀ peers₀ sendings sendings₁ peers peers₁ i d below sent numbered so_far =
     let here : List Sending = probe_of (is_alive paths i) i (get_or gateways i d) in
     let later : List Sending = probes_from (i + 1) paths (drop (i + 1) gateways) in (
-      ap (λ (xs : List Sending). xs ++ later) sent ∙ append_assoc sendings here later
-          ∙ ap (λ (xs : List Sending). sendings ++ xs) (sym (probes_more paths gateways i d below)) ∙ so_far.0,
+        search (arith, append_assoc, probes_more),
       ap (all_drawn later) numbered ∙ sym (all_drawn_append here later peers)
           ∙ ap (λ (xs : List Sending). all_drawn xs peers) (sym (probes_more paths gateways i d below)) ∙ so_far.1,
     )
@@ -119,8 +117,7 @@ pub out_more : (gateways : List Peer) (packets : List PacketState) (i : ℕ) (d 
     numbers_out i (drop i gateways) packets
     ≡ option_or (out_at i (get_or gateways i d).next packets) (numbers_out (i + 1) (drop (i + 1) gateways) packets)
 out_more gateways packets i d below =
-    at_drop_more (λ (peers : List Peer). numbers_out i peers packets) gateways i d below
-    ∙ ap (λ (n : ℕ). option_or (out_at i (get_or gateways i d).next packets) (numbers_out n (drop (i + 1) gateways) packets)) (sym (add-one i))
+    cc (at_drop_more (λ (peers : List Peer). numbers_out i peers packets) gateways i d below, add-one i)
 
 pub out_none : (gateways : List Peer) (packets : List PacketState) → numbers_out (length gateways) (drop (length gateways) gateways) packets ≡ None
 out_none gateways packets =
@@ -143,12 +140,7 @@ after_tick node moved = record node {
 }
 
 tick_is : (node : NodeValue) → befallen (tick_entries node) node ≡ after_tick node (moved_at_tick node)
-tick_is node = by (moved_at_tick node)
-  where
-    by : (moved : Option ℕ) → befallen
-        (appointing moved ++ Ticked (due_now (befallen (appointing moved) node)) ∷ []) node ≡ after_tick node moved
-    by None = refl
-    by (Some gateway) = refl
+tick_is node = grind (arith, nat_tests)
 
 pub tick_result : (node : NodeValue) (moved : Option ℕ) (favourite : ℕ) (up : Bool) (quiet : ℕ) (peers : List Peer) (packets : List PacketState) →
     moved ≡ moved_at_tick node → favourite ≡ favourite_by moved node.favourite_place → up ≡ is_alive node.paths favourite →
@@ -157,19 +149,12 @@ pub tick_result : (node : NodeValue) (moved : Option ℕ) (favourite : ℕ) (up 
     packets ≡ map (while_open (packet_after_all (due_by favourite up node.paths node.gateways node.packets))) node.packets →
     record node { favourite_place = favourite; quiet = quiet; gateways = peers; packets = packets } ≡ befallen (tick_entries node) node
 tick_result node moved favourite up quiet peers packets is_moved is_favourite is_up is_quiet is_peers is_packets =
-    let due_is : due_by favourite up node.paths node.gateways node.packets ≡ due_if node moved =
-    ap (λ (b : Bool). due_by favourite b node.paths node.gateways node.packets) is_up
-    ∙ ap (λ (g : ℕ). due_by g (is_alive node.paths g) node.paths node.gateways node.packets) is_favourite in
-    let drawn_is : peers ≡ all_drawn (due_if node moved) node.gateways = is_peers ∙ ap (λ (ss : List Sending). all_drawn ss node.gateways) due_is in
-    let sent_is : packets ≡ map (while_open (packet_after_all (due_if node moved))) node.packets =
-    is_packets ∙ ap (λ (ss : List Sending). map (while_open (packet_after_all ss)) node.packets) due_is in
-    (λ i. record node { favourite_place = is_favourite i; quiet = is_quiet i; gateways = drawn_is i; packets = sent_is i })
-    ∙ ap (λ (o : Option ℕ). after_tick node o) is_moved ∙ sym (tick_is node)
+    let due_is : due_by favourite up node.paths node.gateways node.packets ≡ due_if node moved = cc in
+    search (arith, tick_is)
 
 -- the favourite is one of the gateways
 pub within_by : (moved : Option ℕ) (favourite size : ℕ) → IfSome moved (λ place. place < size) → favourite < size → favourite_by moved favourite < size
-within_by None favourite size moves stays = stays
-within_by (Some place) favourite size moves stays = moves
+within_by moved favourite size moves stays = grind arith
 
 pub length-all_drawn : (sendings : List Sending) (peers : List Peer) → length (all_drawn sendings peers) ≡ length peers
 length-all_drawn sendings peers =

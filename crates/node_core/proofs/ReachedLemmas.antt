@@ -1,6 +1,7 @@
 -- What holds of a node without packets, and stays through each move, submission and response, holds of every node that any
 -- calls make.
 use Rattle.std.proofs.Common.{◌≡◌, ℕ, suc, ◌+◌, ◌*◌, ◌%◌, ◌<◌, ◌≤◌, ◌==◌, ◌&&◌, Bool, false, if◌then◌else◌, nat_le, nat_lt, List, [], ◌∷◌, ◌++◌, length, map, Option, Some, None, inl, refl, ap, ◌∙◌, arith, length-append}
+use Rattle.std.proofs.lemmas.Bool.Decides.{nat_tests}
 use Rattle.std.specs.List.{AllByRecursion}
 use Rattle.std.specs.Option.{IfSome, option_and_then}
 use Rattle.std.proofs.lemmas.Bool.{cond_both, leb-false, ltb-true}
@@ -41,13 +42,7 @@ pub record Unrefused (peers : List Peer) (packets : List PacketState) : Type 0 w
   pub near : numbers_out 0 peers packets ≡ None
 
 unrefused : (node : NodeValue) (form : PacketForm) → refusal node form ≡ None → Unrefused node.gateways node.packets
-unrefused node form none = by (is_without_records form) (nat_le 64 (open_among node.packets)) refl none
-  where
-    by : (empty many : Bool) → nat_le 64 (open_among node.packets) ≡ many →
-        (if empty then Some SubmitFault.Empty else if many then Some SubmitFault.InFlight else numbers_out 0 node.gateways node.packets) ≡ None →
-        Unrefused node.gateways node.packets
-    by false false many_is none = record { few = leb-false 64 (open_among node.packets) many_is; near = none }
-    by _ _ many_is none = absurd (cc)
+unrefused node form none = grind (arith, nat_tests, leb-false)
 
 pub record Closed (Q : List Peer → List PacketState → Type 0) : Type 0 where
   pub anew : (addresses : List Addr) → Q (map peer_anew addresses) []
@@ -65,51 +60,22 @@ abbrev Within : ℕ → Option ℕ → Type 0
 Within size to = IfSome to (λ gateway. gateway < size)
 
 next_within : (size gateway : ℕ) → Within size (next_place size gateway)
-next_within size gateway =
-    cond_both (nat_lt 1 size) (Some ((gateway + 1) % size)) None (Within size)
-    (λ e. let more : 1 < size = ltb-true _ _ e in omega arith) (λ _. tt)
+next_within size gateway = search (arith, nat_tests, cond_both, ltb-true)
 
 place_within : (peers : List Peer) (ip : ℕ) → Within (length peers) (place_of peers ip)
-place_within peers ip = by (place_of peers ip) refl
-  where
-    by : (place : Option ℕ) → place_of peers ip ≡ place → Within (length peers) place
-    by None e = tt
-    by (Some place) e = (position-Some (has_ip ip) peers place (peer_anew (record { ip = 0; port = 0 })) e).0
+place_within peers ip = grind (arith, nat_tests, position-Some)
 
 at_within : (peers : List Peer) (octets : List ℕ) → Within (length peers) (place_at peers octets)
-at_within peers octets =
-    cond_both (length octets == 4) (place_of peers (big_number 4 octets)) None (Within (length peers))
-    (λ _. place_within peers (big_number 4 octets)) (λ _. tt)
+at_within peers octets = search (arith, cond_both)
 
 redirected_within : (peers : List Peer) (gateway : ℕ) (to : Option (List ℕ)) → Within (length peers) (redirected peers gateway to)
-redirected_within peers gateway to =
-    if_or (λ (place : ℕ). place < length peers) (another gateway (option_and_then (place_at peers) to)) _
-    (other _ (there to)) (next_within (length peers) gateway)
-  where
-    there : (to : Option (List ℕ)) → Within (length peers) (option_and_then (place_at peers) to)
-    there None = tt
-    there (Some octets) = at_within peers octets
-
-    other : (place : Option ℕ) → Within (length peers) place → Within (length peers) (another gateway place)
-    other None is = tt
-    other (Some place) is = cond_both (place == gateway) None (Some place) (Within (length peers)) (λ _. tt) (λ _. is)
+redirected_within peers gateway to = search (arith, if_or, next_within, at_within, cond_both)
 
 tick_within : (node : NodeValue) → Within (length node.gateways) (moved_at_tick node)
-tick_within node =
-    cond_both (is_silent node) (next_place (length node.gateways) node.favourite_place) None
-    (Within (length node.gateways))
-    (λ _. next_within (length node.gateways) node.favourite_place) (λ _. tt)
+tick_within node = search (arith, cond_both)
 
 moved_within : (node : NodeValue) (port : Port) (gateway : ℕ) (saying : Saying) → Within (length node.gateways) (moved_by node port gateway saying)
-moved_within node port gateway (Redirects to) =
-    cond_both (gateway == node.favourite_place) (redirected node.gateways gateway to) None
-    (Within (length node.gateways))
-    (λ _. redirected_within node.gateways gateway to) (λ _. tt)
-moved_within node port gateway (Responds cause numbers) =
-    cond_both ((gateway == node.favourite_place) && is_refusal port cause) (next_place (length node.gateways) gateway)
-    None (Within (length node.gateways))
-    (λ _. next_within (length node.gateways) gateway) (λ _. tt)
-moved_within node port gateway _ = tt
+moved_within node port gateway saying = grind (arith, cond_both)
 
 -- ---- what stands of every log
 
@@ -147,27 +113,10 @@ module _ (setup : NodeSetup) where
 
   is_submitted : (form : PacketForm) (log : List LogEntry) → submitted log < 4611686018427355136 → Stands log → Stands (Submitted form ∷ log)
   is_submitted form log fewer is =
-      let size = length-append (packets_of log) (new_packet (suc (submitted log)) ∷ []) in
-      record {
-        size = is.size;
-        place = is.place;
-        before = is.before;
-        numbered = numbered_push is.before (suc (submitted log)) (packets_of log) is.numbered (ap suc is.counted);
-        counted = omega (arith, is.counted, size);
-        kept = each_push (λ (p : PacketState). IsKept (peers_of setup.gateways log) p.copies) (packets_of log) _ is.kept
-            (record { apart = tt; places = tt; plain = tt; below = tt; chosen = tt; waits = λ _. inl tt });
-        few = fewer;
-        bounded = λ gateway below. omega (
-          arith,
-          is.bounded gateway below,
-          total_pushed (left_at 2 gateway) (packets_of log) (suc (submitted log)),
-          size,
-        );
-      }
+      search (arith, length-append, new_packet, numbered_push, each_push, total_pushed, left_at)
 
   is_appointed : (gateway : ℕ) (log : List LogEntry) → gateway < length (peers_of setup.gateways log) → Stands log → Stands (Appointed gateway ∷ log)
-  is_appointed gateway log below is =
-      let within : gateway < length setup.gateways = omega (arith, below, is.size) in search within
+  is_appointed gateway log below is = search arith
 
   is_heard : (port : Port) (gateway : ℕ) (saying : Saying) (log : List LogEntry) → Stands log → Stands (Heard port gateway saying ∷ log)
   is_heard port heard_gateway (Responds cause numbers) log is =
@@ -184,22 +133,13 @@ module _ (setup : NodeSetup) where
             (λ _. kept_hearing (peers_of setup.gateways log) port heard_gateway cause numbers packet.copies kept))
             (packets_of log) is.kept;
         few = is.few;
-        bounded = λ gateway below. omega (
-          arith,
-          is.bounded gateway below,
-          length-map (packets_of log) (while_open hears),
-          weights_heard 2 port heard_gateway cause numbers gateway (packets_of log),
-        );
+        bounded = λ gateway below. search (arith, is.bounded, length-map, weights_heard);
       }
   is_heard port gateway _ log is = search (is.place)
 
   tick_of : (log : List LogEntry) → Stands log →
       IsTick (peers_of setup.gateways log) (packets_of log) (due_now (node_of setup log))
-  tick_of log is =
-      a_tick (favourite log) (65536 + 2 * length (packets_of log)) is.before
-      (is_alive (node_of setup log).paths (favourite log))
-      (node_of setup log).paths (peers_of setup.gateways log) (packets_of log)
-      (omega (arith, is.few, is.counted)) (omega (arith, is.place, is.size)) is.kept is.bounded is.numbered
+  tick_of log is = search (arith, a_tick)
 
   is_ticked : (log : List LogEntry) → Stands log → Stands (Ticked (due_now (node_of setup log)) ∷ log)
   is_ticked log is =
@@ -208,20 +148,10 @@ module _ (setup : NodeSetup) where
       let tick : IsTick (peers_of setup.gateways log) packets sendings = tick_of log is in
       let after : PacketState → PacketState = while_open (packet_after_all sendings) in
       let most : ℕ = 65536 + 2 * length packets in
-      let before : Bounded most tick.probed packets =
-      λ gateway below. omega (arith, is.bounded gateway (omega (arith, below, tick.alike.size)), tick.alike.numbers gateway) in
+      let before : Bounded most tick.probed packets = search (arith, is.bounded) in
       let bounded : Bounded most (all_drawn sendings (peers_of setup.gateways log)) (map after packets) =
       bounded_after tick.row before in
-      record {
-        size = tick.on.size ∙ is.size;
-        place = is.place;
-        before = is.before;
-        numbered = numbered_map after (while_open-number (packet_after_all sendings) (after_all-number sendings)) is.before packets is.numbered;
-        counted = omega (arith, is.counted, length-map packets after);
-        kept = all_kept_after tick.row tick.kept;
-        few = is.few;
-        bounded = λ gateway below. omega (arith, bounded gateway below, length-map packets after);
-      }
+      search (arith, numbered_map, while_open-number, after_all-number, length-map, all_kept_after)
 
   -- ---- what holds beside it
 
@@ -241,11 +171,9 @@ module _ (setup : NodeSetup) where
   of_closed Q law = record {
     begins = λ log. law.anew setup.gateways;
     halts = λ log. law.anew setup.gateways;
-    submits = λ log form unrefused is. law.pushed (peers_of setup.gateways log) (packets_of log)
-        (suc (submitted log)) unrefused is;
+    submits = search (arith, unrefused);
     appoints = λ log gateway is. is;
-    ticks = λ log stands tick is. row tick.row tick.kept
-        (law.alike (peers_of setup.gateways log) tick.probed (packets_of log) tick.alike is);
+    ticks = search (arith, law.alike, row);
     hears = hears;
   }
     where
@@ -257,8 +185,7 @@ module _ (setup : NodeSetup) where
 
       hears : (log : List LogEntry) (port : Port) (gateway : ℕ) (saying : Saying) → Q (peers_of setup.gateways log) (packets_of log) →
           Q (peers_of setup.gateways log) (packets_of (Heard port gateway saying ∷ log))
-      hears log port gateway (Responds cause numbers) is =
-          law.heard (peers_of setup.gateways log) (packets_of log) port gateway cause numbers is
+      hears log port gateway (Responds cause numbers) is = search (arith, law.heard)
       hears log port gateway _ is = is
 
   module _ (some : 1 ≤ length setup.gateways) (Q : List LogEntry → Type 0) (law : Law Q) where

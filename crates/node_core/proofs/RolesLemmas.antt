@@ -1,5 +1,6 @@
 -- Each number that is drawn is that of one copy, or of one release or cancel.
-use Rattle.std.proofs.Common.{◌≡◌, ◌≢◌, ℕ, suc, ◌+◌, ◌<◌, ◌≤◌, ◌==◌, if◌then◌else◌, List, [], ◌∷◌, ◌++◌, length, map, Option, Some, None, option_map, refl, sym, ap, ◌∙◌, arith, inl, inr}
+use Rattle.std.proofs.Common.{◌≡◌, ◌≢◌, ℕ, suc, ◌+◌, ◌<◌, ◌≤◌, List, [], ◌∷◌, ◌++◌, length, map, Some, None, refl, arith, inl, inr}
+use Rattle.std.proofs.lemmas.Bool.Decides.{nat_tests}
 use Rattle.std.proofs.lemmas.Bool.Decides.{eqb_tells}
 use Rattle.std.proofs.lemmas.Bool.{eq-eqb, ne_eqb}
 use Rattle.std.proofs.lemmas.List.Elements.{All-from_recursion}
@@ -8,7 +9,7 @@ use Rattle.node_core.specs.declared.copy.Command.{Command}
 use Rattle.node_core.specs.declared.copy.PacketCopy.{PacketCopy}
 use Rattle.node_core.specs.declared.peer.Peer.{Peer}
 use Rattle.node_core.specs.declared.port.Port.{Port}
-use Rattle.node_core.specs.Copies.{command_hearing, copy_hearing, new_copy}
+use Rattle.node_core.specs.Copies.{copy_hearing}
 use Rattle.node_core.specs.Log.{NodeSetup}
 use Rattle.node_core.specs.Packets.{PacketState, commanded, packet_hearing, while_open}
 use Rattle.node_core.specs.Peers.{next_number}
@@ -17,7 +18,7 @@ use Rattle.node_core.specs.Roles.{HasOneRole, use_of, uses, uses_by_command, use
 use Rattle.node_core.proofs.CaseLemmas.{at_or_apart, either_hears, either_open, each_weaker}
 use Rattle.node_core.proofs.ChosenLemmas.{AreApart}
 use Rattle.node_core.proofs.KeptLemmas.{AllKept}
-use Rattle.node_core.proofs.Moves.{Copying, Commanding, IsMove, Move, One, are_none, beyond, command_with, copies_moved, find_at, here, length_moved, next_elsewhere, next_moved, peers_moved, place}
+use Rattle.node_core.proofs.Moves.{IsMove, Move, One, are_none, beyond, command_with, copies_moved, find_at, here, length_moved, next_elsewhere, next_moved, peers_moved, place}
 use Rattle.node_core.proofs.ReachedLemmas.{Closed, all_closed, all_stand, anew_next}
 use Rattle.node_core.proofs.WeightLemmas.{new_packet}
 
@@ -41,17 +42,7 @@ command_uses : (gateway number : ℕ) (command : Command) (copies : List PacketC
 command_uses gateway number command [] copy apart found fresh = absurd (cc)
 command_uses gateway number command (first ∷ copies) copy apart found fresh =
     elim (eqb_tells first.gateway gateway) [
-      | inl is ↦
-          let at : Some first ≡ Some copy = rw is.0 at found in
-          let same : first ≡ copy = cc in
-          let fresh_first : first.command ≡ None = ap (λ (c : PacketCopy). c.command) same ∙ fresh in
-          let rest : map (commanded gateway command) copies ≡ copies =
-          map_fixed (commanded gateway command) copies
-          (All-from_recursion (λ (c : PacketCopy). commanded gateway command c ≡ c) copies
-          (each_weaker (λ (c : PacketCopy). first.gateway ≢ c.gateway)
-          (λ (c : PacketCopy). commanded gateway command c ≡ c)
-          (λ c differs. rw (ne_eqb c.gateway gateway (λ e. differs (is.1 ∙ sym e))) refl) copies apart.0)) in
-          rw (is.0, is.0, fresh_first, rest) (omega arith)
+      | inl is ↦ search (arith, nat_tests, map_fixed, All-from_recursion, each_weaker, ne_eqb)
       | inr isnt ↦ rw (isnt.0, isnt.0)
           (omega (arith, command_uses gateway number command copies copy apart.1 (rw isnt.0 at found) fresh))
     ]
@@ -60,36 +51,24 @@ command_uses_other : (gateway other number : ℕ) (command : Command) (copies : 
     uses_by_copies other number (map (commanded gateway command) copies) ≡ uses_by_copies other number copies
 command_uses_other gateway other number command [] apart = refl
 command_uses_other gateway other number command (copy ∷ copies) apart =
-    let one : uses_by_copy other number (commanded gateway command copy) ≡ uses_by_copy other number copy =
-    elim (eqb_tells copy.gateway gateway) [
-      | inl is ↦ rw (is.0, ne_eqb copy.gateway other (λ e. apart (sym is.1 ∙ e))) refl
-      | inr isnt ↦ rw isnt.0 refl
-    ] in
-    omega (arith, one, command_uses_other gateway other number command copies apart)
+    search (arith, nat_tests, eqb_tells, ne_eqb, (command_uses_other gateway other number command copies apart))
 
 copies_uses : (move : Move) (peers : List Peer) (copies : List PacketCopy) (number : ℕ) → AreApart copies → IsMove peers copies move →
     uses_by_copies (place move) number (copies_moved peers move copies)
     ≡ uses_by_copies (place move) number copies + use_of number (next_number peers (place move))
-copies_uses (Copying gateway) peers copies number apart is =
-    let copy : PacketCopy = new_copy gateway (next_number peers gateway) (are_none copies) in
-    omega (arith, uses_push gateway number copies copy, here_uses gateway number copy refl)
-copies_uses (Commanding gateway order) peers copies number apart is =
-    command_uses gateway number (command_with order (next_number peers gateway)) copies is.fits.copy apart is.fits.found is.fits.fresh
+copies_uses move peers copies number apart is =
+    grind (arith, are_none, uses_push, here_uses, command_uses, command_with)
 
 copies_uses_other : (move : Move) (peers : List Peer) (copies : List PacketCopy) (gateway number : ℕ) → place move ≢ gateway →
     uses_by_copies gateway number (copies_moved peers move copies) ≡ uses_by_copies gateway number copies
-copies_uses_other (Copying there) peers copies gateway number apart =
-    let copy : PacketCopy = new_copy there (next_number peers there) (are_none copies) in
-    omega (arith, uses_push gateway number copies copy, there_uses gateway number copy apart)
-copies_uses_other (Commanding there order) peers copies gateway number apart =
-    command_uses_other there gateway number (command_with order (next_number peers there)) copies apart
+copies_uses_other move peers copies gateway number apart =
+    grind (arith, are_none, uses_push, there_uses, command_uses_other, command_with)
 
 -- ---- all packets
 
 uses_moved : {peers : List Peer} {move : Move} {packets after : List PacketState} (number : ℕ) → AllKept peers packets → One peers move packets after →
     uses (place move) number after ≡ uses (place move) number packets + use_of number (next_number peers (place move))
-uses_moved {peers} {move} number kept (here {packet} {packets} open_yet is) =
-    omega (arith, copies_uses move peers packet.copies number kept.0.apart is)
+uses_moved {peers} {move} number kept (here {packet} {packets} open_yet is) = search (arith, copies_uses)
 uses_moved number kept (beyond one) = omega (arith, uses_moved number kept.1 one)
 
 uses_moved_other : {peers : List Peer} {move : Move} {packets after : List PacketState} (gateway number : ℕ) → place move ≢ gateway → One peers move packets after →
@@ -104,15 +83,7 @@ uses_pushed gateway number (packet ∷ packets) new = omega (arith, uses_pushed 
 
 module _ (port : Port) (heard_gateway cause : ℕ) (numbers : List ℕ) (gateway number : ℕ) where
   copy_heard : (copy : PacketCopy) → uses_by_copy gateway number (copy_hearing port heard_gateway cause numbers copy) ≡ uses_by_copy gateway number copy
-  copy_heard copy =
-      either_hears (λ (c : PacketCopy). uses_by_copy gateway number c ≡ uses_by_copy gateway number copy) port
-      heard_gateway cause numbers copy
-      (ap (λ (n : ℕ). if copy.gateway == gateway then use_of number copy.number + n else 0)
-      (command_heard copy.command)) refl
-    where
-      command_heard : (command : Option Command) → uses_by_command number (option_map (command_hearing cause numbers) command) ≡ uses_by_command number command
-      command_heard None = refl
-      command_heard (Some command) = refl
+  copy_heard copy = search (arith, either_hears)
 
   copies_heard : (copies : List PacketCopy) → uses_by_copies gateway number (map (copy_hearing port heard_gateway cause numbers) copies) ≡ uses_by_copies gateway number copies
   copies_heard [] = refl
@@ -159,14 +130,7 @@ one_moved peers move packets after kept one is gateway number below =
     there was =
         let next : next_number (peers_moved move peers) (place move) ≡ suc (next_number peers (place move)) = next_moved one in
         let many : uses (place move) number after ≡ uses (place move) number packets + use_of number (next_number peers (place move)) = uses_moved number kept one in
-        elim (eqb_tells (next_number peers (place move)) number) [
-          | inl same ↦
-              let used : use_of number (next_number peers (place move)) ≡ 1 = rw same.0 refl in
-              omega (arith, was, next, many, used, same.1)
-          | inr differs ↦
-              let unused : use_of number (next_number peers (place move)) ≡ 0 = rw differs.0 refl in
-              omega (arith, was, next, many, unused, differs.1)
-        ]
+        search (arith, nat_tests, eqb_tells, place)
 
 pub one_use : Closed OneUses
 one_use = record {
@@ -184,6 +148,4 @@ pub one_role : (setup : NodeSetup) (calls : List NodeCall) (gateway number : ℕ
     HasOneRole (reached setup calls) gateway number
 one_role setup calls gateway number some within =
     let size = (all_stand setup some calls).size in
-    let one : OneUse (reached setup calls).gateways (reached setup calls).packets gateway number =
-    all_closed setup some OneUses one_use calls gateway number (omega (arith, within, size)) in
-    search (one.before, one.drawn, one.behind)
+    search (arith, all_closed, one_use)

@@ -1,6 +1,7 @@
 -- Packets of which those in front are done: what is asked of all can be asked of the rest. What is due for a packet is
 -- of that packet alone, so each packet changes by what is due for it.
-use Rattle.std.proofs.Common.{◌≡◌, ℕ, zero, suc, ◌+◌, ◌≤◌, ◌<◌, ◌&&◌, not, Bool, true, false, if◌then◌else◌, List, [], ◌∷◌, ◌++◌, length, map, take, drop, set, get_or, Option, None, refl, sym, ap, subst, ◌∙◌, add-one, min, arith, inl, inr, ◌==◌, append_assoc, length-drop}
+use Rattle.std.proofs.Common.{◌≡◌, ℕ, zero, suc, ◌+◌, ◌≤◌, ◌<◌, ◌&&◌, not, Bool, true, false, if◌then◌else◌, List, [], ◌∷◌, ◌++◌, length, map, take, drop, set, get_or, Option, None, refl, sym, ap, subst, ◌∙◌, add-one, min, arith, ◌==◌, append_assoc, length-drop}
+use Rattle.std.proofs.lemmas.Bool.Decides.{nat_tests}
 use Rattle.std.specs.List.{count_by, flat_map, list_any, AllByRecursion}
 use Rattle.std.specs.Option.{option_or}
 use Rattle.std.proofs.lemmas.List.{at_drop_all, at_drop_more, map-append, take-append-drop, take-map, take_more}
@@ -29,14 +30,11 @@ use Rattle.node_core.proofs.CaseLemmas.{each_append}
 
 count_by-pass : (f : PacketState → Bool) (packet : PacketState) (packets : List PacketState) (is : Bool) → f packet ≡ is →
     count_by f (packet ∷ packets) ≡ (if is then 1 else 0) + count_by f packets
-count_by-pass f packet packets is e =
-    sum_by-cons (λ x. if f x then 1 else 0) packet packets
-    ∙ ap (λ (b : Bool). (if b then 1 else 0) + count_by f packets) e
+count_by-pass f packet packets is e = cc (sum_by-cons (λ x. if f x then 1 else 0) packet packets)
 
 -- a done packet is resolved
 resolved_first : (copies : List PacketCopy) → is_done copies ≡ true → is_resolved copies ≡ true
-resolved_first [] done = done
-resolved_first (plain ∷ duplicates) done = (and_parts (is_resolved (plain ∷ duplicates)) _ done).0
+resolved_first copies done = grind (arith, and_parts)
 
 -- ---- the packets from the first open one on
 
@@ -65,12 +63,7 @@ counted f passes kept settled = by kept.settled kept.packets settled.within sett
     by zero packets within done = omega arith
     by (suc n) [] within done = absurd (omega (arith, within))
     by (suc n) (packet ∷ packets) within done =
-        omega (
-          arith,
-          by n packets (omega (arith, within)) done.1,
-          count_by-pass f packet packets true
-              (passes packet done.0),
-        )
+        search (arith, nat_tests, (by n packets (omega (arith, within)) done.1), count_by-pass)
 
 pub resolved_settled : (kept : KeptPackets) → IsSettled kept →
     kept.settled + resolved_among (drop kept.settled kept.packets) ≡ resolved_among kept.packets
@@ -125,11 +118,7 @@ heard_more port gateway cause numbers = map_over_more (while_open (packet_hearin
 module _ (test : List PacketCopy → Bool) (change : PacketState → PacketState) where
   made-append : (one two : List PacketState) → first_made test change (one ++ two) ≡ option_or (first_made test change one) (first_made test change two)
   made-append [] two = refl
-  made-append (packet ∷ one) two =
-      elim (cases_Bool (not (test packet.copies) && test (change packet).copies)) [
-        | inl is ↦ rw is refl
-        | inr isnt ↦ rw isnt (made-append one two)
-      ]
+  made-append (packet ∷ one) two = search (arith, cases_Bool, (made-append one two))
 
   pub made_more : (packets : List PacketState) (i : ℕ) (d : PacketState) → i < length packets →
       first_made test change (take (i + 1) packets)
@@ -155,8 +144,7 @@ pub changed_settled : (f : PacketState → PacketState) (kept : KeptPackets) →
     take kept.settled kept.packets ++ map (while_open f) (drop kept.settled kept.packets) ≡ map (while_open f) kept.packets
 changed_settled f kept settled =
     let n : ℕ = kept.settled in
-    ap (λ (ps : List PacketState). ps ++ map (while_open f) (drop n kept.packets))
-    (sym (front_same f n kept.packets settled.done))
+    (λ i. (sym (front_same f n kept.packets settled.done) i) ++ map (while_open f) (drop n kept.packets))
     ∙ sym (map-append (while_open f) (take n kept.packets) (drop n kept.packets))
     ∙ ap (λ (ps : List PacketState). map (while_open f) ps) (take-append-drop n kept.packets)
 
@@ -164,17 +152,14 @@ changed_settled f kept settled =
 
 pub changed_front : (f : PacketState → PacketState) (n : ℕ) (packets : List PacketState) → AllDone (take n packets) →
     packets ≡ map (while_open f) (take n packets) ++ drop n packets
-changed_front f n packets done =
-    sym (take-append-drop n packets) ∙ ap (λ (ps : List PacketState). ps ++ drop n packets)
-    (sym (front_same f n packets done))
+changed_front f n packets done = cc (take-append-drop n packets, front_same f n packets done)
 
 pub done_front : (f : PacketState → PacketState) (n : ℕ) (packets : List PacketState) → AllDone (take n packets) →
     AllDone (take n (map (while_open f) packets))
 done_front f n packets done = subst AllDone (sym (take-map (while_open f) n packets ∙ front_same f n packets done)) done
 
 never_both : (b : Bool) → (not b && b) ≡ false
-never_both true = refl
-never_both false = refl
+never_both b = grind arith
 
 pub made_front : (test : List PacketCopy → Bool) (f : PacketState → PacketState) (n : ℕ) (packets : List PacketState) → AllDone (take n packets) →
     ◌≡◌ {A = Option ℕ} None (first_made test (while_open f) (take n packets))
@@ -192,11 +177,7 @@ pub made_step : (test : List PacketCopy → Bool) (f : PacketState → PacketSta
     (before here after : Option ℕ) → i < length xs → ys ≡ map f (take i xs) ++ drop i xs → x ≡ get_or ys i x →
     before ≡ first_made test f (take i xs) → here ≡ first_made test f (x ∷ []) → after ≡ option_or before here →
     after ≡ first_made test f (take (i + 1) xs)
-made_step test f xs ys i x before here after below so_far is was now result =
-    let at : x ≡ get_or xs i x = is ∙ ap (λ (zs : List PacketState). get_or zs i x) so_far ∙ middle f xs i x below in
-    result ∙ ap (λ (o : Option ℕ). option_or o here) was
-    ∙ ap (option_or (first_made test f (take i xs))) (now ∙ ap (λ (p : PacketState). first_made test f (p ∷ [])) at)
-    ∙ sym (made_more test f xs i x below)
+made_step test f xs ys i x before here after below so_far is was now result = search (arith, middle, made_more)
 
 -- ---- what is due for a packet is of it
 
@@ -222,12 +203,7 @@ after_all-append (sending ∷ one) two packet = after_all-append one two (packet
 
 due-others : (number favourite : ℕ) (up : Bool) (peers : List Peer) (packet : PacketState) → (packet.number == number) ≡ false →
     AreOfOthers number (due_for favourite up peers packet)
-due-others number favourite up peers packet other = due_each (IsOfAnother number) favourite up peers packet (record {
-  copied = λ gateway is_plain. other;
-  repeated = λ copy. other;
-  tested = λ copy. other;
-  commanded = λ order copy drawn is_new next choice. other;
-})
+due-others number favourite up peers packet other = search (arith, due_each)
 
 -- what is due for packets with greater numbers
 later-others : (number favourite : ℕ) (up : Bool) (before : ℕ) (peers : List Peer) (packets : List PacketState) → AreNumbered before packets → number ≤ before →
@@ -246,19 +222,7 @@ module _ (favourite : ℕ) (up : Bool) where
       while_open (packet_after_all (sent ++ (due_for favourite up peers packet ++ later))) packet
       ≡ packet_after_all (due_for favourite up peers packet) packet
   one_packet peers packet sent later before behind =
-      let due : List Sending = due_for favourite up peers packet in
-      let others : AreOfOthers (packet_after_all due packet).number later =
-      subst (λ (n : ℕ). AreOfOthers n later) (sym (after_all-number due packet)) behind in
-      let all : packet_after_all (sent ++ (due ++ later)) packet ≡ packet_after_all due packet =
-      after_all-append sent (due ++ later) packet
-      ∙ ap (packet_after_all (due ++ later)) (others_change_nothing packet sent before)
-      ∙ after_all-append due later packet
-      ∙ others_change_nothing (packet_after_all due packet) later others in
-      elim (cases_Bool (is_done packet.copies)) [
-        | inl done ↦ rw done refl
-        | inr open_yet ↦ ap (λ (is : Bool). if is then packet else packet_after_all (sent ++ (due ++ later)) packet)
-            open_yet ∙ all
-      ]
+      search (arith, after_all-number, after_all-append, others_change_nothing, cases_Bool)
 
   -- all that a tick sends, behind what is of none of these packets: each packet changes by what is due for it
   pub planned_is_map : (before : ℕ) (peers : List Peer) (packets : List PacketState) (sent : List Sending) → AreNumbered before packets →
@@ -268,8 +232,7 @@ module _ (favourite : ℕ) (up : Bool) where
   planned_is_map before peers (packet ∷ packets) sent numbered low =
       let due : List Sending = due_for favourite up peers packet in
       let later : List Sending = due_for_all favourite up (all_drawn due peers) packets in
-      let of_later : AreOfOthers packet.number later =
-      later-others packet.number favourite up (suc before) (all_drawn due peers) packets numbered.1 (omega (arith, numbered.0)) in
+      let of_later : AreOfOthers packet.number later = search (arith, later-others) in
       let head : while_open (packet_after_all (sent ++ (due ++ later))) packet ≡ packet_after_all due packet =
       one_packet peers packet sent later (low packet.number (omega (arith, numbered.0))) of_later in
       let lower : (n : ℕ) → suc before < n → AreOfOthers n (sent ++ due) =
@@ -278,8 +241,7 @@ module _ (favourite : ℕ) (up : Bool) where
       let tail : map (while_open (packet_after_all (sent ++ (due ++ later)))) packets ≡ planned favourite up (all_drawn due peers) packets =
       ap (λ (all : List Sending). map (while_open (packet_after_all all)) packets) (sym (append_assoc sent due later))
       ∙ planned_is_map (suc before) (all_drawn due peers) packets (sent ++ due) numbered.1 lower in
-      ap (λ (p : PacketState). p ∷ map (while_open (packet_after_all (sent ++ (due ++ later)))) packets) head
-      ∙ ap (λ (ps : List PacketState). packet_after_all due packet ∷ ps) tail
+      search arith
 
   -- the same behind the Node Alive Requests
   pub planned_after_probes : (before : ℕ) (paths : PathsOfNode) (gateways peers : List Peer) (packets : List PacketState) → AreNumbered before packets →
@@ -301,10 +263,7 @@ numbered_drop before (suc n) (packet ∷ packets) numbered =
 -- the planned packets and those before them are as many as before
 pub length-replaced : (favourite : ℕ) (up : Bool) (peers : List Peer) (kept : KeptPackets) (after : List PacketState) → IsSettled kept →
     after ≡ planned favourite up peers (drop kept.settled kept.packets) → length after + kept.settled ≡ length kept.packets
-length-replaced favourite up peers kept after settled is =
-    let size : length after ≡ length (drop kept.settled kept.packets) =
-    ap (λ (ps : List PacketState). length ps) is ∙ length-planned favourite up peers (drop kept.settled kept.packets) in
-    omega (arith, size, length-drop kept.settled kept.packets, settled.within)
+length-replaced favourite up peers kept after settled is = search (arith, length-planned, length-drop)
 
 -- with them in their place, each packet is as it is after the whole tick
 pub replaced_is : (favourite : ℕ) (up : Bool) (paths : PathsOfNode) (gateways : List Peer) (before : ℕ) (kept : KeptPackets) (after now : List PacketState) →
@@ -320,5 +279,4 @@ replaced_is favourite up paths gateways before kept after now numbered settled i
     let changed : after ≡ map (while_open (packet_after_all (due_by favourite up paths gateways kept.packets))) rest =
     is ∙ sym (planned_after_probes favourite up (before + kept.settled) paths gateways peers rest (numbered_drop before kept.settled kept.packets numbered))
     ∙ ap (λ (all : List Sending). map (while_open (packet_after_all all)) rest) same in
-    replaced ∙ ap (λ (ps : List PacketState). take kept.settled kept.packets ++ ps) changed
-    ∙ changed_settled (packet_after_all (due_by favourite up paths gateways kept.packets)) kept settled
+    search (arith, changed_settled)

@@ -1,5 +1,6 @@
 -- Behind each copy's number another copy's number, or the next number, comes within 65.
 use Rattle.std.proofs.Common.{◌≡◌, ℕ, ◌+◌, ◌<◌, ◌≤◌, ◌==◌, ◌&&◌, ◌⊎◌, Bool, true, List, [], ◌∷◌, ◌++◌, length, map, refl, sym, ap, subst, ◌∙◌, arith, inl, inr}
+use Rattle.std.proofs.lemmas.Bool.Decides.{nat_tests}
 use Rattle.std.proofs.Math.Bool.{or-false}
 use Rattle.std.proofs.lemmas.Bool.{and_from, and_parts, eq-eqb, eqb-true, or_cases, or_left, or_right}
 use Rattle.std.proofs.lemmas.List.Folds.{Any-from_list_any, list_any-append}
@@ -7,13 +8,12 @@ use Rattle.std.specs.List.{list_any}
 use Rattle.node_core.specs.declared.copy.PacketCopy.{PacketCopy}
 use Rattle.node_core.specs.declared.peer.Peer.{Peer}
 use Rattle.node_core.specs.declared.port.Port.{Port}
-use Rattle.node_core.specs.Copies.{new_copy}
 use Rattle.node_core.specs.Log.{NodeSetup}
 use Rattle.node_core.specs.Nearness.{ComesSoon, HasCopy, HasOpenCopy, IsCopyOrBase}
 use Rattle.node_core.specs.Packets.{PacketState, packet_hearing, while_open}
 use Rattle.node_core.specs.Peers.{next_number}
 use Rattle.node_core.specs.Reached.{NodeCall, reached}
-use Rattle.node_core.proofs.CaseLemmas.{StaysPut, at_or_apart, commanded_puts, either_open, hearing_puts, any_map, each_contains, passes_in}
+use Rattle.node_core.proofs.CaseLemmas.{StaysPut, at_or_apart, commanded_puts, hearing_puts, any_map, each_contains, passes_in}
 use Rattle.node_core.proofs.ChosenLemmas.{own_number}
 use Rattle.node_core.proofs.KeptLemmas.{AllKept, IsBelow, IsKept, goes_on}
 use Rattle.node_core.proofs.Moves.{Copying, Commanding, Move, One, are_none, beyond, copies_moved, here, length_moved, next_elsewhere, next_moved, one_is, peers_moved, place}
@@ -34,23 +34,10 @@ module _ (gateway number : ℕ) where
   has_in packets = list_any sent_in packets
 
   found : (packets : List PacketState) → has_in packets ≡ true → HasCopy packets gateway number
-  found packets has =
-      let there = Any-from_list_any sent_in packets has in
-      let at = Any-from_list_any is_at there.1.copies there.4 in
-      let same = and_parts (at.1.gateway == gateway) (at.1.number == number) at.4 in
-      record {
-        packet = there.1;
-        copy = at.1;
-        kept = (there.0, there.2, there.3);
-        sent = (at.0, at.2, at.3);
-        gateway_is = eqb-true at.1.gateway gateway same.0;
-        number_is = eqb-true at.1.number number same.1;
-      }
+  found packets has = search (arith, nat_tests, Any-from_list_any, and_parts, eqb-true)
 
   has : (packets : List PacketState) → HasCopy packets gateway number → has_in packets ≡ true
-  has packets of = passes_in sent_in packets of.packet of.kept (passes_in is_at of.packet.copies of.copy of.sent
-      (and_from (of.copy.gateway == gateway) (of.copy.number == number)
-      (eq-eqb of.copy.gateway gateway of.gateway_is) (eq-eqb of.copy.number number of.number_is)))
+  has packets of = search (arith, nat_tests, passes_in, and_from, eq-eqb)
 
   below_has : (peers : List Peer) (packets : List PacketState) → AllKept peers packets → has_in packets ≡ true → number < next_number peers gateway
   below_has peers packets kept has =
@@ -65,30 +52,17 @@ module _ (gateway number : ℕ) where
 
   in_moved : (move : Move) (peers : List Peer) (copies : List PacketCopy) → list_any is_at copies ≡ true →
       list_any is_at (copies_moved peers move copies) ≡ true
-  in_moved (Copying there) peers copies has =
-      list_any-append is_at copies (new_copy there (next_number peers there) (are_none copies) ∷ [])
-      ∙ or_left (list_any is_at copies) _ has
-  in_moved (Commanding there order) peers copies has = puts_same _ (commanded_puts there _) copies ∙ has
+  in_moved move peers copies has = grind (arith, has, list_any-append, are_none, or_left, puts_same, commanded_puts)
 
   in_before : (move : Move) (peers : List Peer) (copies : List PacketCopy) → list_any is_at (copies_moved peers move copies) ≡ true →
       (list_any is_at copies ≡ true) ⊎ ((place move ≡ gateway) × (next_number peers (place move) ≡ number))
-  in_before (Copying there) peers copies has =
-      let new : List PacketCopy = new_copy there (next_number peers there) (are_none copies) ∷ [] in
-      elim (or_cases (list_any is_at copies) (list_any is_at new) (sym (list_any-append is_at copies new) ∙ has)) [
-        | inl was ↦ inl was
-        | inr is ↦
-            let at = and_parts (there == gateway) (next_number peers there == number) (sym (or-false _) ∙ is) in
-            inr (eqb-true there gateway at.0, eqb-true (next_number peers there) number at.1)
-      ]
-  in_before (Commanding there order) peers copies has = inl (sym (puts_same _ (commanded_puts there _) copies) ∙ has)
+  in_before move peers copies has =
+      grind (arith, nat_tests, has, are_none, or_cases, list_any-append, and_parts, or-false, eqb-true, puts_same,
+      commanded_puts)
 
   has_moved : {peers : List Peer} {move : Move} {packets after : List PacketState} → One peers move packets after → has_in packets ≡ true → has_in after ≡ true
   has_moved {peers} {move} (here {packet} {packets} open_yet is) has =
-      elim (or_cases (sent_in packet) (has_in packets) has) [
-        | inl its ↦ or_left (list_any is_at (copies_moved peers move packet.copies)) (has_in packets)
-            (in_moved move peers packet.copies its)
-        | inr later ↦ or_right (list_any is_at (copies_moved peers move packet.copies)) (has_in packets) later
-      ]
+      search (arith, or_cases, or_left, copies_moved, in_moved, or_right)
   has_moved (beyond {packet} {packets} {after} one) has = elim (or_cases (sent_in packet) (has_in packets) has) [
     | inl its ↦ or_left (sent_in packet) (has_in after) its
     | inr later ↦ or_right (sent_in packet) (has_in after) (has_moved one later)
@@ -97,15 +71,10 @@ module _ (gateway number : ℕ) where
   has_before : {peers : List Peer} {move : Move} {packets after : List PacketState} → One peers move packets after → has_in after ≡ true →
       (has_in packets ≡ true) ⊎ ((place move ≡ gateway) × (next_number peers (place move) ≡ number))
   has_before {peers} {move} (here {packet} {packets} open_yet is) has =
-      elim (or_cases (list_any is_at (copies_moved peers move packet.copies)) (has_in packets) has) [
-        | inl its ↦ elim (in_before move peers packet.copies its)
-            [ inl was ↦ inl (or_left (sent_in packet) (has_in packets) was) | inr new ↦ inr new ]
-        | inr later ↦ inl (or_right (sent_in packet) (has_in packets) later)
-      ]
+      search (arith, or_cases, copies_moved, in_before, or_left, or_right)
   has_before (beyond {packet} {packets} {after} one) has = elim (or_cases (sent_in packet) (has_in after) has) [
     | inl its ↦ inl (or_left (sent_in packet) (has_in packets) its)
-    | inr later ↦ elim (has_before one later)
-        [ inl was ↦ inl (or_right (sent_in packet) (has_in packets) was) | inr new ↦ inr new ]
+    | inr later ↦ search (arith, (has_before one later), or_right)
   ]
 
   has_pushed : (packets : List PacketState) (new : ℕ) → has_in (packets ++ new_packet new ∷ []) ≡ has_in packets
@@ -113,25 +82,14 @@ module _ (gateway number : ℕ) where
 
   has_heard : (port : Port) (heard cause : ℕ) (numbers : List ℕ) (packets : List PacketState) →
       has_in (map (while_open (packet_hearing port heard cause numbers)) packets) ≡ has_in packets
-  has_heard port heard cause numbers =
-      let hears : PacketState → PacketState = packet_hearing port heard cause numbers in
-      any_map sent_in (while_open hears)
-      (λ packet. either_open (λ (p : PacketState). sent_in p ≡ sent_in packet) hears packet refl
-      (λ _. puts_same _ (hearing_puts port heard cause numbers) packet.copies))
+  has_heard port heard cause numbers = search (arith, any_map, hearing_puts)
 
 -- a new copy is there
 new_has : {peers : List Peer} {gateway : ℕ} {packets after : List PacketState} → One peers (Copying gateway) packets after →
     has_in gateway (next_number peers gateway) after ≡ true
 new_has {peers} {gateway} (here {packet} {packets} open_yet is) =
-    let next : ℕ = next_number peers gateway in
-    or_left (list_any (is_at gateway next) (copies_moved peers (Copying gateway) packet.copies))
-    (has_in gateway next packets)
-    (list_any-append (is_at gateway next) packet.copies (new_copy gateway next (are_none packet.copies) ∷ [])
-    ∙ or_right (list_any (is_at gateway next) packet.copies) _
-    (or-false _ ∙ and_from (gateway == gateway) (next == next) (own_number gateway) (own_number next)))
-new_has {peers} {gateway} (beyond {packet} {packets} {after} one) =
-    or_right (sent_in gateway (next_number peers gateway) packet) (has_in gateway (next_number peers gateway) after)
-    (new_has one)
+    search (arith, or_left, copies_moved, list_any-append, are_none, or_right, or-false, and_from, own_number)
+new_has {peers} {gateway} (beyond {packet} {packets} {after} one) = search (arith, or_right, (new_has one))
 
 -- ---- the law
 
@@ -154,29 +112,19 @@ record AllSoon (peers : List Peer) (packets : List PacketState) : Type 0 where
 soon_on : (peers other : List Peer) (packets after : List PacketState) (gateway number : ℕ) → next_number other gateway ≡ next_number peers gateway →
     lones gateway after ≤ lones gateway packets → ((later : ℕ) → has_in gateway later packets ≡ true → has_in gateway later after ≡ true) →
     SoonAt peers packets gateway number → SoonAt other after gateway number
-soon_on peers other packets after gateway number next less has (inl bound) = inl (omega (arith, bound, next, less))
-soon_on peers other packets after gateway number next less has (inr at) = inr (at.0, has at.0 at.1, at.2, at.3)
+soon_on peers other packets after gateway number next less has h = grind (arith, has)
 
 soon_same : (peers other : List Peer) (packets after : List PacketState) → length other ≡ length peers →
     ((gateway : ℕ) → next_number other gateway ≡ next_number peers gateway) → opens after ≤ 64 →
     ((gateway : ℕ) → lones gateway after ≤ lones gateway packets) →
     ((gateway number : ℕ) → has_in gateway number after ≡ has_in gateway number packets) → AllSoon peers packets →
     AllSoon other after
-soon_same peers other packets after size next few less same is = record {
-  few = few;
-  first = λ gateway below. omega (arith, is.first gateway (omega (arith, below, size)), next gateway);
-  base = λ gateway below. soon_on peers other packets after gateway 65535 (next gateway) (less gateway)
-      (λ later has. same gateway later ∙ has) (is.base gateway (omega (arith, below, size)));
-  copies = λ gateway number below has. soon_on peers other packets after gateway number (next gateway) (less gateway)
-      (λ later has. same gateway later ∙ has)
-      (is.copies gateway number (omega (arith, below, size)) (sym (same gateway number) ∙ has));
-}
+soon_same peers other packets after size next few less same is = search (arith, is.first, has, is.base, is.copies)
 
 soon_there : (peers : List Peer) (move : Move) (packets after : List PacketState) (number : ℕ) → One peers move packets after →
     number < next_number peers (place move) → SoonAt peers packets (place move) number → SoonAt (peers_moved move peers) after (place move) number
 soon_there peers move packets after number one below (inr at) = inr (at.0, has_moved (place move) at.0 one at.1, at.2, at.3)
-soon_there peers (Copying gateway) packets after number one below (inl bound) =
-    inr (next_number peers gateway, new_has one, below, omega (arith, bound))
+soon_there peers (Copying gateway) packets after number one below (inl bound) = search (arith, new_has)
 soon_there peers (Commanding gateway order) packets after number one below (inl bound) =
     inl (omega (
       arith,
@@ -226,15 +174,8 @@ all_soon_moved peers move packets after kept one is = record {
 
 all_soon : Closed AllSoon
 all_soon = record {
-  anew = λ addresses. record {
-    few = omega arith;
-    first = λ gateway below. omega (arith, anew_next addresses gateway);
-    base = λ gateway below. inl (omega (arith, anew_next addresses gateway));
-    copies = λ gateway number below has. absurd (cc);
-  };
-  alike = λ peers other packets alike is.
-      soon_same peers other packets packets alike.size alike.numbers is.few (λ gateway. omega arith)
-      (λ gateway number. refl) is;
+  anew = search (arith, anew_next, has);
+  alike = search arith;
   pushed = λ peers packets new unrefused is. soon_same peers peers packets (packets ++ new_packet new ∷ []) refl
       (λ gateway. refl)
       (omega (arith, total_pushed (λ copies. 1) packets new, opens_are packets, unrefused.few))

@@ -1,8 +1,8 @@
 -- What a tick makes of the packets and of the numbers is a row of moves; each number that it draws is at least the next
 -- one of its gateway, and each request is of a copy that the packets have then.
-use Rattle.std.proofs.Common.{◌≡◌, ℕ, suc, ◌+◌, ◌%◌, ◌<◌, ◌≤◌, ◌&&◌, Bool, true, false, if◌then◌else◌, List, [], ◌∷◌, ◌++◌, length, map, Option, Some, None, refl, sym, ap, subst, ◌∙◌, arith}
+use Rattle.std.proofs.Common.{◌≡◌, ℕ, suc, ◌+◌, ◌%◌, ◌<◌, ◌≤◌, ◌&&◌, Bool, true, false, if◌then◌else◌, List, [], ◌∷◌, ◌++◌, length, map, Option, Some, None, refl, sym, ap, subst, arith}
 use Rattle.std.proofs.lemmas.Bool.{and_right, cond_both}
-use Rattle.std.specs.List.{AllByRecursion, list_all}
+use Rattle.std.specs.List.{AllByRecursion}
 use Rattle.std.specs.Option.{option_map_or, option_or}
 use Rattle.std.proofs.lemmas.List.Folds.{list_all-append, list_all-map}
 use Rattle.path_mgmt.specs.NodePath.{PathsOfNode, is_alive}
@@ -12,41 +12,35 @@ use Rattle.node_core.specs.declared.copy.PacketCopy.{PacketCopy}
 use Rattle.node_core.specs.declared.peer.Peer.{Peer}
 use Rattle.node_core.specs.declared.sending.Sending.{Sending}
 use Rattle.node_core.specs.declared.sending.Sending.TheVariants as send
-use Rattle.node_core.specs.Copies.{is_release, is_released, is_settled, new_copy}
-use Rattle.node_core.specs.Packets.{PacketState, commanded, copies_after, is_done, is_resolved, packet_after_all, while_open}
-use Rattle.node_core.specs.Peers.{all_drawn, next_number, path_drawn}
+use Rattle.node_core.specs.Copies.{is_release, is_released, new_copy}
+use Rattle.node_core.specs.Packets.{PacketState, commanded, copies_after, is_done, packet_after_all, while_open}
+use Rattle.node_core.specs.Peers.{all_drawn, next_number}
 use Rattle.node_core.specs.Sendings.{due_by_copies, due_for, due_for_all, probe_of, probes, probes_from}
 use Rattle.node_core.specs.Sent.{IsSent}
 use Rattle.node_core.specs.Sound.{AreNumbered, planned}
 use Rattle.node_core.specs.Ticks.{due_by}
-use Rattle.node_core.proofs.CaseLemmas.{either_commanded, else_fails, any_map, each_append, each_weaker}
+use Rattle.node_core.proofs.CaseLemmas.{either_commanded, any_map, each_append, each_weaker}
 use Rattle.node_core.proofs.DueLemmas.{due_each, probes_each}
 use Rattle.node_core.proofs.DueMoves.{Does, HasRoom, Step, due_does, ends, idles, moves, sends, Own, own_goes_on, sent_here, sent_later}
 use Rattle.node_core.proofs.KnowledgeLemmas.{after_all_grows}
 use Rattle.node_core.proofs.KeptLemmas.{AllKept, GoOn, IsKept, all_kept_after, all_kept_on, goes_on}
-use Rattle.node_core.proofs.Moves.{Copying, Commanding, Move, Moves, are_none, beyond, command_with, copies_moved, here, length_placed, next_placed, one_is, onward, still}
+use Rattle.node_core.proofs.Moves.{Move, Moves, are_none, beyond, command_with, copies_moved, here, length_placed, next_placed, one_is, onward, still}
 use Rattle.node_core.proofs.NodeLemmas.{after_all-number}
 use Rattle.node_core.proofs.SettledLemmas.{planned_after_probes}
 use Rattle.node_core.proofs.PlanLemmas.{all_drawn_append}
-use Rattle.node_core.proofs.WeightLemmas.{Bounded, bounded_after, left_at, weight_unless}
+use Rattle.node_core.proofs.WeightLemmas.{Bounded, bounded_after, left_at}
 
 -- ---- an open packet stays open
 
 open_copied : (gateway number : ℕ) (copies : List PacketCopy) → is_done (copies ++ new_copy gateway number (are_none copies) ∷ []) ≡ false
-open_copied gateway number [] = refl
-open_copied gateway number (plain ∷ duplicates) =
-    let copy : PacketCopy = new_copy gateway number false in
-    let last : list_all is_settled (duplicates ++ copy ∷ []) ≡ false =
-    list_all-append is_settled duplicates (copy ∷ []) ∙ and_right (list_all is_settled duplicates) false refl in
-    and_right (is_resolved (plain ∷ (duplicates ++ copy ∷ []))) (list_all is_settled (duplicates ++ copy ∷ [])) last
+open_copied gateway number copies = grind (arith, list_all-append, and_right)
 
 module _ (gateway number : ℕ) (order : Order) where
   abbrev after_command : PacketCopy → PacketCopy
   after_command = commanded gateway (command_with order number)
 
   verdict_same : (copy : PacketCopy) → (after_command copy).verdict ≡ copy.verdict
-  verdict_same copy =
-      either_commanded (λ (c : PacketCopy). c.verdict ≡ copy.verdict) gateway (command_with order number) copy refl refl
+  verdict_same copy = search (arith, either_commanded, command_with)
 
   released_same : (copy : PacketCopy) → is_released (after_command copy) ≡ is_released copy
   released_same copy =
@@ -60,22 +54,11 @@ module _ (gateway number : ℕ) (order : Order) where
       at None = and_right (is_release order) false refl
       at (Some command) = refl
 
-  settled_same : (copy : PacketCopy) → is_settled (after_command copy) ≡ is_settled copy
-  settled_same copy =
-      either_commanded (λ (c : PacketCopy). is_settled c ≡ is_settled copy) gateway (command_with order number) copy
-      (rw (else_fails (λ (c : Command). c.is_answered) copy.command (command_with order number) refl) refl) refl
-
   done_commanded : (copies : List PacketCopy) → is_done (map after_command copies) ≡ is_done copies
-  done_commanded [] = refl
-  done_commanded (plain ∷ duplicates) =
-      let all : list_all is_settled (map after_command duplicates) ≡ list_all is_settled duplicates =
-      list_all-map is_settled after_command duplicates
-      ∙ (λ i. list_all (λ (c : PacketCopy). settled_same c i) duplicates) in
-      rw (verdict_same plain, any_map is_released after_command released_same duplicates, all) refl
+  done_commanded copies = grind (arith, list_all-map, verdict_same, any_map, released_same)
 
 open_moved : (move : Move) (peers : List Peer) (copies : List PacketCopy) → is_done copies ≡ false → is_done (copies_moved peers move copies) ≡ false
-open_moved (Copying gateway) peers copies open_yet = open_copied gateway (next_number peers gateway) copies
-open_moved (Commanding gateway order) peers copies open_yet = done_commanded gateway (next_number peers gateway) order copies ∙ open_yet
+open_moved move peers copies open_yet = grind (arith, open_copied, done_commanded)
 
 -- ---- what is due for one packet
 
@@ -120,10 +103,7 @@ moves_on still second = second
 moves_on (onward move one rest) second = onward move one (moves_on rest second)
 
 goes_further : {peers between later : List Peer} → GoOn peers between → GoOn between later → GoOn peers later
-goes_further first second = record {
-  size = second.size ∙ first.size;
-  numbers = λ gateway. omega (arith, first.numbers gateway, second.numbers gateway);
-}
+goes_further first second = search (arith, first.numbers, second.numbers)
 
 moves_go_on : {peers later : List Peer} {packets after : List PacketState} → Moves peers packets later after → GoOn peers later
 moves_go_on still = record { size = refl; numbers = λ gateway. omega arith }
@@ -141,18 +121,11 @@ abbrev pub AllDraw : List Peer → List Sending → Type 0
 AllDraw peers sendings = AllByRecursion (DrawsNext peers) sendings
 
 due_draws : (favourite : ℕ) (up : Bool) (peers : List Peer) (packet : PacketState) → AllDraw peers (due_for favourite up peers packet)
-due_draws favourite up peers packet = due_each (DrawsNext peers) favourite up peers packet (record {
-  copied = λ gateway is_plain is. omega arith;
-  repeated = λ copy is. absurd (cc);
-  tested = λ copy. tt;
-  commanded = λ order copy drawn is_new next choice is. omega (arith, next is);
-})
+due_draws favourite up peers packet = search (arith, due_each)
 
 -- where the numbers have gone on, one that is drawn there is at least the next one from before too
 draws_before : (peers later : List Peer) → GoOn peers later → (sending : Sending) → DrawsNext later sending → DrawsNext peers sending
-draws_before peers later on (send.Data packet gateway drawn is_plain is_new) is = λ new. omega (arith, on.numbers gateway, is new)
-draws_before peers later on (send.Command packet gateway named drawn order is_new) is = λ new. omega (arith, on.numbers gateway, is new)
-draws_before peers later on _ is = tt
+draws_before peers later on sending is = grind arith
 
 -- ---- what is due for all packets
 
@@ -177,13 +150,7 @@ module _ (favourite : ℕ) (up : Bool) where
     where
       -- so many numbers are left
       room : is_done packet.copies ≡ false → HasRoom peers packet.copies
-      room open_yet gateway place left = omega (
-        arith,
-        bounded gateway place,
-        ap (λ (b : Bool). weight_unless b (left_at 2 gateway packet.copies)) open_yet,
-        left,
-        few,
-      )
+      room open_yet gateway place left = search (arith, left_at)
 
   tick_plan : (most : ℕ) (peers : List Peer) (packets : List PacketState) → most ≤ 9223372036854775808 → favourite < length peers → AllKept peers packets →
       Bounded most peers packets → IsPlan peers packets
@@ -198,18 +165,9 @@ module _ (favourite : ℕ) (up : Bool) where
       let on : GoOn peers between = moves_go_on first.0 in
       let rest = tick_plan most between packets few (omega (arith, on.size, within)) kept_between.1
       (λ gateway below. omega (arith, bounded_between gateway below)) in
-      let later : List PacketState = planned favourite up between packets in
-      let due_later : List Sending = due_for_all favourite up between packets in
-      record {
-        row = subst (λ (ps : List Peer). Moves peers (packet ∷ packets) ps (after ∷ later))
-            (sym (all_drawn_append due due_later peers)) (moves_on first.0 (moves_beyond after rest.row));
-        draws = each_append (DrawsNext peers) due due_later (due_draws favourite up peers packet)
-            (each_weaker (DrawsNext between) (DrawsNext peers) (draws_before peers between on) due_later rest.draws);
-        sent = each_append (IsSent (after ∷ later)) due due_later
-            (each_weaker (Own packet.number after.copies) (IsSent (after ∷ later))
-            (sent_here packet.number after later (after_all-number due packet)) due first.1)
-            (each_weaker (IsSent later) (IsSent (after ∷ later)) (sent_later after later) due_later rest.sent);
-      }
+
+          search (arith, all_drawn_append, moves_on, moves_beyond, each_append, due_draws, each_weaker, draws_before,
+          sent_here, after_all-number, sent_later)
 
 -- ---- the Node Alive Requests: as many gateways, with the same request numbers
 
@@ -227,12 +185,7 @@ probes_alike gateway paths (peer ∷ probed) peers = by (is_alive paths gateway)
     by : (alive : Bool) → ((ps : List Peer) → Alike ps (all_drawn (probes_from (suc gateway) paths probed) ps)) →
         Alike peers (all_drawn (probe_of alive gateway peer ++ probes_from (suc gateway) paths probed) peers)
     by true rest = rest peers
-    by false rest =
-        let later = rest (path_drawn gateway peer.path peers) in
-        record {
-          size = later.size ∙ length_placed gateway step peers;
-          numbers = λ other. later.numbers other ∙ next_placed gateway other step (λ _ p. refl) peers;
-        }
+    by false rest = search (arith, length_placed, step, next_placed)
 
 -- ---- the whole tick
 
@@ -252,8 +205,7 @@ a_tick favourite most before up paths peers packets few within kept bounded numb
     let probed : List Peer = all_drawn (probes paths peers) peers in
     let due : List Sending = due_for_all favourite up probed packets in
     let alike : Alike peers probed = probes_alike 0 paths peers peers in
-    let on : GoOn peers probed =
-    record { size = alike.size; numbers = λ gateway. omega (arith, alike.numbers gateway) } in
+    let on : GoOn peers probed = search arith in
     let there : AllKept probed packets = all_kept_on peers probed packets on kept in
     let plan = tick_plan favourite up most probed packets few (omega (arith, within, alike.size)) there
     (λ gateway below. omega (arith, bounded gateway (omega (arith, below, alike.size)), alike.numbers gateway)) in
@@ -265,13 +217,9 @@ a_tick favourite most before up paths peers packets few within kept bounded numb
       probed = probed;
       alike = alike;
       kept = there;
-      row = subst (λ (ps : List Peer). Moves probed packets ps
-          (map (while_open (packet_after_all (probes paths peers ++ due))) packets))
-          (sym drawn_is) (subst (Moves probed packets (all_drawn due probed)) (sym is) plan.row);
+      row = search arith;
       on = subst (GoOn peers) (sym drawn_is) (goes_further on (moves_go_on plan.row));
-      draws = each_append (DrawsNext peers) (probes paths peers) due
-          (probes_each (DrawsNext peers) (λ gateway path. tt) 0 paths peers)
-          (each_weaker (DrawsNext probed) (DrawsNext peers) (draws_before peers probed on) due plan.draws);
+      draws = search (arith, each_append, probes_each, each_weaker, draws_before);
       sent = subst (λ (ps : List PacketState). AllByRecursion (IsSent ps) (probes paths peers ++ due)) (sym is)
           (each_append (IsSent after) (probes paths peers) due
           (probes_each (IsSent after) (λ gateway path. tt) 0 paths peers) plan.sent);

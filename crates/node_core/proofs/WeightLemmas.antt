@@ -1,14 +1,15 @@
 -- How many numbers of a gateway an open packet may still draw: 2 before it has a copy there, 1 with a copy, none with a command.
 -- Each move draws one of them.
-use Rattle.std.proofs.Common.{◌≡◌, ◌≢◌, ℕ, suc, ◌+◌, ◌*◌, ◌<◌, ◌≤◌, ◌==◌, Bool, true, false, List, [], ◌∷◌, ◌++◌, length, map, Option, Some, None, refl, ap, ◌∙◌, arith}
-use Rattle.std.specs.Option.{option_map, option_or}
+use Rattle.std.proofs.Common.{◌≡◌, ◌≢◌, ℕ, suc, ◌+◌, ◌*◌, ◌<◌, ◌≤◌, Bool, true, false, List, [], ◌∷◌, ◌++◌, length, map, Option, Some, None, refl, ap, ◌∙◌, arith}
+use Rattle.std.proofs.lemmas.Bool.Decides.{nat_tests}
+use Rattle.std.specs.Option.{option_map}
 use Rattle.std.proofs.lemmas.List.Folds.{find-append}
 use Rattle.std.proofs.lemmas.Bool.{eq-eqb, ne_eqb}
 use Rattle.node_core.specs.declared.copy.Command.{Command}
 use Rattle.node_core.specs.declared.copy.PacketCopy.{PacketCopy}
 use Rattle.node_core.specs.declared.peer.Peer.{Peer}
 use Rattle.node_core.specs.declared.port.Port.{Port}
-use Rattle.node_core.specs.Copies.{command_hearing, copy_hearing, new_copy}
+use Rattle.node_core.specs.Copies.{command_hearing, copy_hearing}
 use Rattle.node_core.specs.Packets.{PacketState, commanded, is_done, packet_hearing, while_open, with_command}
 use Rattle.node_core.specs.Peers.{next_number}
 use Rattle.node_core.specs.declared.copy.Order.{Order}
@@ -38,22 +39,13 @@ module _ (left : List PacketCopy → ℕ) where
       less + left after.copies ≤ left packet.copies →
       less + weight_unless (is_done after.copies) (left after.copies)
       ≤ weight_unless (is_done packet.copies) (left packet.copies)
-  adds_less less packet after open_yet is =
-      omega (arith, ap (λ (b : Bool). weight_unless b (left packet.copies)) open_yet, least (is_done after.copies), is)
-    where
-      least : (done : Bool) → weight_unless done (left after.copies) ≤ left after.copies
-      least true = omega arith
-      least false = omega arith
+  adds_less less packet after open_yet is = search arith
 
   pub total_moved : (less : ℕ) {peers : List Peer} {move : Move} {packets after : List PacketState} →
       ((copies : List PacketCopy) → IsMove peers copies move →
       less + left (copies_moved peers move copies) ≤ left copies) →
       One peers move packets after → less + total left after ≤ total left packets
-  total_moved less {peers} {move} step (here {packet} {packets} open_yet is) = omega (
-    arith,
-    adds_less less packet (record packet { copies = copies_moved peers move packet.copies }) open_yet
-        (step packet.copies is),
-  )
+  total_moved less {peers} {move} step (here {packet} {packets} open_yet is) = search (arith, adds_less, copies_moved)
   total_moved less step (beyond one) = omega (arith, total_moved less step one)
 
   pub total_pushed : (packets : List PacketState) (number : ℕ) →
@@ -65,27 +57,13 @@ module _ (left : List PacketCopy → ℕ) where
       ((copies : List PacketCopy) → left (map (copy_hearing port heard cause numbers) copies) ≤ left copies) →
       (packets : List PacketState) → total left (map (while_open (packet_hearing port heard cause numbers)) packets) ≤ total left packets
   total_heard port heard cause numbers step [] = omega arith
-  total_heard port heard cause numbers step (packet ∷ packets) = omega (
-    arith,
-    total_heard port heard cause numbers step packets,
-    either_open (λ (p : PacketState). weight_unless (is_done p.copies) (left p.copies)
-        ≤ weight_unless (is_done packet.copies) (left packet.copies))
-        (packet_hearing port heard cause numbers) packet (omega arith)
-        (λ open_yet. omega (
-          arith,
-          adds_less 0 packet (packet_hearing port heard cause numbers packet) open_yet
-              (omega (arith, step packet.copies)),
-        )),
-  )
+  total_heard port heard cause numbers step (packet ∷ packets) =
+      search (arith, (total_heard port heard cause numbers step packets), either_open, adds_less)
 
   pub total_most : (most : ℕ) → ((copies : List PacketCopy) → left copies ≤ most) → (packets : List PacketState) →
       total left packets ≤ most * opens packets
   total_most most each [] = omega arith
-  total_most most each (packet ∷ packets) = omega (arith, total_most most each packets, one (is_done packet.copies))
-    where
-      one : (done : Bool) → weight_unless done (left packet.copies) ≤ most * weight_unless done 1
-      one true = omega arith
-      one false = omega (arith, each packet.copies)
+  total_most most each (packet ∷ packets) = search (arith, (total_most most each packets))
 
 pub opens_moved : {peers : List Peer} {move : Move} {packets after : List PacketState} → One peers move packets after → opens after ≤ opens packets
 opens_moved one = omega (arith, total_moved (λ copies. 1) 0 (λ copies is. omega arith) one)
@@ -119,69 +97,35 @@ weight_fresh none gateway copies copy found fresh = ap (weight_by none) found �
 
 pub weights_few : (none most gateway : ℕ) (packets : List PacketState) → none ≤ most → 1 ≤ most →
     weights_by none gateway packets ≤ most * opens packets
-weights_few none most gateway packets few one =
-    total_most (left_at none gateway) most (λ copies. by (find_at gateway copies)) packets
-  where
-    with_one : (command : Option Command) → weight_with command ≤ most
-    with_one None = one
-    with_one (Some command) = omega arith
-
-    by : (there : Option PacketCopy) → weight_by none there ≤ most
-    by None = few
-    by (Some copy) = with_one copy.command
+weights_few none most gateway packets few one = grind (arith, nat_tests, total_most, find_at)
 
 -- ---- what a move makes of the copy at a gateway
 
 find_pushed : (gateway : ℕ) (copies : List PacketCopy) (copy : PacketCopy) → find_at gateway copies ≡ None →
     copy.gateway ≡ gateway →
     find_at gateway (copies ++ copy ∷ []) ≡ Some copy
-find_pushed gateway copies copy none same =
-    find-append (λ (c : PacketCopy). c.gateway == gateway) copies
-    (copy ∷ []) ∙ rw (none, eq-eqb copy.gateway gateway same) refl
+find_pushed gateway copies copy none same = search (arith, nat_tests, find-append, eq-eqb)
 
 find_commanded_there : (gateway : ℕ) (command : Command) (copies : List PacketCopy) (copy : PacketCopy) →
     find_at gateway copies ≡ Some copy →
     find_at gateway (map (commanded gateway command) copies) ≡ Some (with_command command copy)
-find_commanded_there gateway command copies copy found =
-    find_map (λ (c : PacketCopy). c.gateway == gateway) (commanded gateway command)
-    (λ c. ap (λ (g : ℕ). g == gateway) (commanded_puts gateway command c).gateway) copies
-    ∙ rw (found, (find_is (λ (c : PacketCopy). c.gateway == gateway) copies copy found).1) refl
+find_commanded_there gateway command copies copy found = search (arith, find_map, commanded_puts, find_is)
 
 find_moved_other : (move : Move) (peers : List Peer) (copies : List PacketCopy) (gateway : ℕ) → place move ≢ gateway →
     find_at gateway (copies_moved peers move copies) ≡ find_at gateway copies
-find_moved_other (Copying there) peers copies gateway apart =
-    find-append (λ (c : PacketCopy). c.gateway == gateway) copies
-    (new_copy there (next_number peers there) (are_none copies) ∷ [])
-    ∙ rw (ne_eqb there gateway apart) (by (find_at gateway copies))
-  where
-    by : (found : Option PacketCopy) → option_or found None ≡ found
-    by None = refl
-    by (Some c) = refl
-find_moved_other (Commanding there order) peers copies gateway apart =
-    find_commanded there gateway (command_with order (next_number peers there)) copies apart
+find_moved_other move peers copies gateway apart =
+    grind (arith, nat_tests, find-append, are_none, ne_eqb, find_at, find_commanded, command_with)
 
 -- the number that is drawn is one of those that were left
 pub weight_commanded : (none gateway : ℕ) (order : Order) (peers : List Peer) (copies : List PacketCopy) →
     CommandsOne copies gateway order →
     suc (left_at none gateway (copies_moved peers (Commanding gateway order) copies)) ≤ left_at none gateway copies
 weight_commanded none gateway order peers copies one =
-    let command : Command = command_with order (next_number peers gateway) in
-    omega (
-      arith,
-      weight_fresh none gateway copies one.copy one.found one.fresh,
-      ap (weight_by none) (find_commanded_there gateway command copies one.copy one.found),
-      ap (λ (c : Option Command). weight_with (option_or c (Some command))) one.fresh,
-    )
+    search (arith, command_with, weight_fresh, find_commanded_there)
 
 weight_moved : (move : Move) (peers : List Peer) (copies : List PacketCopy) → IsMove peers copies move →
     suc (left_at 2 (place move) (copies_moved peers move copies)) ≤ left_at 2 (place move) copies
-weight_moved (Copying gateway) peers copies is =
-    omega (
-      arith,
-      ap (weight_by 2) is.fits,
-      ap (weight_by 2)
-          (find_pushed gateway copies (new_copy gateway (next_number peers gateway) (are_none copies)) is.fits refl),
-    )
+weight_moved (Copying gateway) peers copies is = search (arith, find_pushed, are_none)
 weight_moved (Commanding gateway order) peers copies is = weight_commanded 2 gateway order peers copies is.fits
 
 pub weights_moved_other : (none : ℕ) {peers : List Peer} {move : Move} {packets after : List PacketState} (gateway : ℕ) →
@@ -204,8 +148,7 @@ weights_heard none port heard cause numbers gateway packets =
   where
     found : (copies : List PacketCopy) → find_at gateway (map (copy_hearing port heard cause numbers) copies)
         ≡ option_map (copy_hearing port heard cause numbers) (find_at gateway copies)
-    found = find_map (λ (copy : PacketCopy). copy.gateway == gateway) (copy_hearing port heard cause numbers)
-        (λ copy. ap (λ (g : ℕ). g == gateway) (hearing_puts port heard cause numbers copy).gateway)
+    found = search (arith, find_map, hearing_puts)
 
     own : (command : Option Command) → weight_with (option_map (command_hearing cause numbers) command) ≡ weight_with command
     own None = refl
@@ -214,9 +157,7 @@ weights_heard none port heard cause numbers gateway packets =
     by : (there : Option PacketCopy) →
         weight_by none (option_map (copy_hearing port heard cause numbers) there) ≡ weight_by none there
     by None = refl
-    by (Some copy) =
-        either_hears (λ (c : PacketCopy). weight_with c.command ≡ weight_with copy.command) port heard cause numbers
-        copy (own copy.command) refl
+    by (Some copy) = search (arith, either_hears, own)
 
 -- ---- the next numbers and what is left of them stay below a bound
 

@@ -1,11 +1,10 @@
 -- How long a message is, and a message that is spelled with 0 for each number, with its own numbers in their places.
-use Rattle.std.proofs.Common.{◌≡◌, ℕ, ◌+◌, ◌≤◌, ◌%◌, ◌/◌, None, length, lit≤, refl, arith}
+use Rattle.std.proofs.Common.{◌≡◌, ℕ, ◌+◌, ◌≤◌, ◌%◌, ◌/◌, None, length, refl, arith}
 use Rattle.gtpp_message.specs.Message.{MessageValue, TransferRequest, Possible}
 use Rattle.gtpp_message.specs.Packet.{Empty}
 use Rattle.gtpp_message.specs.PathMessages.{path_message, path_number}
 use Rattle.gtpp_message.specs.Writing.{body_octets, written}
 use Rattle.path_mgmt.specs.declared.event.PathEvent.{PathEvent}
-use Rattle.path_mgmt.specs.declared.event.PathEvent.TheVariants.{EchoAsked}
 use Rattle.node_core.specs.declared.copy.Order.{Order}
 use Rattle.node_core.specs.declared.copy.Order.TheVariants as order
 use Rattle.node_core.specs.Hearing.{path_octets}
@@ -17,8 +16,7 @@ length-written number message = omega arith
 
 -- the answers of path management are short
 short : (event : PathEvent) → length (path_octets event) ≤ 64
-short (EchoAsked number) = lit≤ tt
-short _ = lit≤ tt
+short event = grind arith
 
 pub path_is_short : (event : PathEvent) → length (written (path_number event) (path_message event None)) ≤ 64
 path_is_short event = short event
@@ -36,5 +34,4 @@ test_numbered number = rw (high number) refl
 pub order_numbered : (order : Order) (number named : ℕ) →
     numbered_at 11 (wire named) (numbered_at 4 (wire number) (order_pattern order))
     ≡ written (wire number) (TransferRequest (order_of order named))
-order_numbered order.Release number named = rw (high number, high named) refl
-order_numbered order.Cancel number named = rw (high number, high named) refl
+order_numbered order number named = grind (arith, high)

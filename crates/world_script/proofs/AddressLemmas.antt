@@ -1,5 +1,6 @@
 -- Lemmas on addresses, offsets and modes: what a word says is printed as a word that says it, and that is as long.
-use Rattle.std.proofs.Common.{◌≡◌, ℕ, zero, suc, ◌+◌, ◌-◌, ◌*◌, ◌/◌, ◌%◌, ◌^◌, ◌<◌, ◌≤◌, Bool, true, false, ◌&&◌, ◌==◌, nat_le, if◌then◌else◌, List, [], ◌∷◌, ◌++◌, length, Option, Some, None, option_map, option_and_then, refl, ap, sym, ◌∙◌, subst, arith, append_assoc, length-append, le-leb, ℤ, pos, neg_ℤ, codes, inl, inr}
+use Rattle.std.proofs.Common.{◌≡◌, ℕ, ◌+◌, ◌*◌, ◌/◌, ◌%◌, ◌^◌, ◌<◌, ◌≤◌, Bool, true, ◌==◌, if◌then◌else◌, List, [], ◌∷◌, ◌++◌, length, Option, Some, None, option_map, refl, ap, sym, ◌∙◌, subst, arith, append_assoc, length-append, le-leb, ℤ, pos, neg_ℤ, codes, inl, inr}
+use Rattle.std.proofs.lemmas.Bool.Decides.{nat_tests}
 use Rattle.std.proofs.lemmas.Bool.{eqb-true, leb-true}
 use Rattle.std.proofs.lemmas.Option.{same_Some}
 use Rattle.std.proofs.lemmas.Slice.Eq.{bytes_eq-Decides}
@@ -7,7 +8,7 @@ use Rattle.std.specs.Char.{is_ascii_digit}
 use Rattle.std.specs.Fmt.{decimal}
 use Rattle.std.specs.Str.{bytes_eq}
 use Rattle.gw_base.specs.declared.address.Addr.{Addr}
-use Rattle.route_filter.specs.Words.{at_most, cut_at, number_up_to}
+use Rattle.route_filter.specs.Words.{cut_at, number_up_to}
 use Rattle.world_script.specs.Printing.{address_text, hours_text, mode_text, offset_text, pair_text}
 use Rattle.world_script.specs.Values.{address_of, ip_of, mode_of, offset_of, signed, two_digits}
 use Rattle.world_script.specs.declared.mode.Mode.{Mode}
@@ -26,13 +27,7 @@ cut_case : (separator x : ℕ) (xs a b : List ℕ) (found : Bool) (parts : Optio
     ((c d : List ℕ) → parts ≡ Some (c, d) → xs ≡ c ++ separator ∷ d) →
     (if found then at_once xs else option_map (λ (p : List ℕ × List ℕ). (x ∷ p.0, p.1)) parts) ≡ Some (a, b) →
     x ∷ xs ≡ a ++ separator ∷ b
-cut_case separator x xs a b true parts e later h =
-    let same : ◌≡◌ {A = List ℕ × List ℕ} ([], xs) (a, b) = same_Some ([], xs) (a, b) h in
-    ap (λ (y : ℕ). y ∷ xs) (eqb-true x separator e) ∙ ap (λ (p : List ℕ × List ℕ). p.0 ++ separator ∷ p.1) same
-cut_case separator x xs a b false None e later h = cc
-cut_case separator x xs a b false (Some p) e later h =
-    let same : ◌≡◌ {A = List ℕ × List ℕ} (x ∷ p.0, p.1) (a, b) = same_Some (x ∷ p.0, p.1) (a, b) h in
-    ap (λ (l : List ℕ). x ∷ l) (later p.0 p.1 refl) ∙ ap (λ (q : List ℕ × List ℕ). q.0 ++ separator ∷ q.1) same
+cut_case separator x xs a b found parts e later h = grind (arith, nat_tests, same_Some, eqb-true)
 
 pub cut_joined : (separator : ℕ) (xs a b : List ℕ) → cut_at separator xs ≡ Some (a, b) → xs ≡ a ++ separator ∷ b
 cut_joined separator [] a b h = cc
@@ -51,9 +46,7 @@ ip_text ip = pair_text (ip / 16777216) (ip / 65536 % 256) ++ 46 ∷ pair_text (i
 
 ip_joined : (ip a b c d : ℕ) → (ip / 16777216 ≡ a) × (ip / 65536 % 256 ≡ b) × (ip / 256 % 256 ≡ c) × (ip % 256 ≡ d) →
     decimal a ++ 46 ∷ (decimal b ++ 46 ∷ (decimal c ++ 46 ∷ decimal d)) ≡ ip_text ip
-ip_joined ip a b c d h =
-    sym (append_assoc (decimal a) (46 ∷ decimal b) (46 ∷ pair_text c d))
-    ∙ (λ i. pair_text (sym h.0 i) (sym h.1 i) ++ 46 ∷ pair_text (sym h.2 i) (sym h.3 i))
+ip_joined ip a b c d h = search (arith, append_assoc)
 
 ip_printed : (text : List ℕ) (ip : ℕ) → ip_of text ≡ Some ip → (text ≡ ip_text ip) × (ip < 2 ^ 32)
 ip_printed text ip h =
@@ -122,24 +115,13 @@ is_digit : (n : ℕ) → n < 10 → is_ascii_digit (48 + n) ≡ true
 is_digit n h = grind (arith, h)
 
 digits_read : (most n : ℕ) → n ≤ most → most < 100 → two_digits most (48 + n / 10) (48 + n % 10) ≡ Some n
-digits_read most n h small =
-    let value : (48 + n / 10 - 48) * 10 + (48 + n % 10 - 48) ≡ n = omega arith in
-    let within : at_most most n ≡ Some n = rw (le-leb n most h) refl in
-    (λ i. if is_digit (n / 10) (omega (arith, h, small)) i && is_digit (n % 10) (omega arith) i then at_most most (value i) else None)
-    ∙ within
+digits_read most n h small = search (arith, nat_tests, le-leb, is_digit)
 
 hours_read : (sign minutes : ℕ) → minutes ≤ 959 → offset_of (sign ∷ hours_text minutes) ≡ signed sign minutes
-hours_read sign minutes h =
-    let whole : minutes / 60 * 60 + minutes % 60 ≡ minutes = omega arith in
-    (λ i. option_and_then (λ hours. option_and_then (λ minutes. signed sign (hours * 60 + minutes)) (digits_read 59 (minutes % 60) (omega arith) (omega arith) i))
-    (digits_read 15 (minutes / 60) (omega (arith, h)) (omega arith) i))
-    ∙ ap (signed sign) whole
+hours_read sign minutes h = search (arith, digits_read)
 
 digits_within : (most tens ones n : ℕ) → two_digits most tens ones ≡ Some n → n ≤ most
-digits_within most tens ones n h =
-    let p = where_some (is_ascii_digit tens && is_ascii_digit ones) (at_most most ((tens - 48) * 10 + (ones - 48))) n h in
-    let q = where_some (nat_le ((tens - 48) * 10 + (ones - 48)) most) (Some ((tens - 48) * 10 + (ones - 48))) n p.1 in
-    subst (λ (v : ℕ). v ≤ most) (same_Some _ n q.1) (leb-true ((tens - 48) * 10 + (ones - 48)) most q.0)
+digits_within most tens ones n h = search (arith, nat_tests, where_some, same_Some, leb-true)
 
 pub record IsOffset (word : List ℕ) (z : ℤ) : Type 0 where
   pub is : IsWord (offset_text z)
@@ -147,23 +129,13 @@ pub record IsOffset (word : List ℕ) (z : ℤ) : Type 0 where
   pub again : offset_of (offset_text z) ≡ Some z
 
 hours_glyphs : (minutes : ℕ) → minutes ≤ 959 → AllGlyphs (hours_text minutes)
-hours_glyphs minutes h =
-    (omega arith, omega (arith, h), (omega arith, omega (arith, h), (omega arith, omega arith, (omega arith, omega (arith, h), (omega arith, omega (arith, h), tt)))))
+hours_glyphs minutes h = search arith
 
 plus : (word : List ℕ) (n : ℕ) → length word ≡ 6 → n ≤ 959 → IsOffset word (pos n)
-plus word n six h = record {
-  is = (omega arith, (omega arith, omega arith, hours_glyphs n h));
-  long = sym six;
-  again = hours_read 43 n h;
-}
+plus word n six h = search (arith, hours_glyphs, hours_read)
 
 minus : (word : List ℕ) (n : ℕ) → length word ≡ 6 → n ≤ 959 → IsOffset word (neg_ℤ (pos n))
-minus word zero six h = plus word 0 six h
-minus word (suc n) six h = record {
-  is = (omega arith, (omega arith, omega arith, hours_glyphs (suc n) h));
-  long = sym six;
-  again = hours_read 45 (suc n) h;
-}
+minus word n six h = grind (arith, plus, hours_glyphs, hours_read)
 
 pub offset_printed : (word : List ℕ) (z : ℤ) → offset_of word ≡ Some z → IsOffset word z
 offset_printed (s ∷ a ∷ b ∷ colon ∷ c ∷ d ∷ []) z h =
@@ -190,11 +162,7 @@ mode_case : (word : List ℕ) (m : Mode) (old new rot : Bool) → bytes_eq word 
     bytes_eq word (codes "new") ≡ new → bytes_eq word (codes "rot") ≡ rot →
     (if old then Some mode.Old else if new then Some mode.New else if rot then Some mode.Rot else None) ≡ Some m →
     word ≡ mode_text m
-mode_case word m true new rot e f g h = same_bytes word (codes "old") e ∙ ap mode_text (same_Some mode.Old m h)
-mode_case word m false true rot e f g h = same_bytes word (codes "new") f ∙ ap mode_text (same_Some mode.New m h)
-mode_case word m false false true e f g h = same_bytes word (codes "rot") g ∙ ap mode_text (same_Some mode.Rot m h)
-mode_case word m false false false e f g h = absurd (cc)
+mode_case word m old new rot e f g h = grind (arith, same_bytes, same_Some)
 
 pub mode_printed : (word : List ℕ) (m : Mode) → mode_of word ≡ Some m → word ≡ mode_text m
-mode_printed word m h =
-    mode_case word m (bytes_eq word (codes "old")) (bytes_eq word (codes "new")) (bytes_eq word (codes "rot")) refl refl refl h
+mode_printed word m h = search (arith, mode_case)

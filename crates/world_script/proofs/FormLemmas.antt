@@ -84,8 +84,7 @@ same {words = words} are shows again =
 -- words in front of others
 pub more_words : (first : List ℕ) (words more : List (List ℕ)) →
     (first ++ words_text words) ++ words_text more ≡ first ++ words_text (words ++ more)
-more_words first words more =
-    append_assoc first (words_text words) (words_text more) ∙ ap (λ l. first ++ l) (sym (flat_map-append (λ (word : List ℕ). 32 ∷ word) words more))
+more_words first words more = search (arith, append_assoc, flat_map-append)
 
 -- Tests that are passed.
 
@@ -95,26 +94,22 @@ ok_same a b e = cc
 pub then_read : {A : Type 0} (why : InputKind) (o : Option A) (later : A → Result Line InputKind) (said : Line) →
     read_then why o later ≡ Ok said →
     (x : A) × (o ≡ Some x) × (later x ≡ Ok said)
-then_read why None later said h = let no : ⊥ = cc in absurd no
-then_read why (Some x) later said h = (x, refl, h)
+then_read why o later said h = grind arith
 
 pub or_read : {A : Type 0} (why : InputKind) (of : A → Line) (o : Option A) (said : Line) → read_or why of o ≡ Ok said →
     (x : A) × (o ≡ Some x) × (of x ≡ said)
-or_read why of None said h = let no : ⊥ = cc in absurd no
-or_read why of (Some x) said h = (x, refl, ok_same (of x) said h)
+or_read why of o said h = grind (arith, ok_same)
 
 as_read : {A : Type 0} (of : A → Line) (o : Option A) (why : InputKind) (said : Line) → said_as of (ok_or o why) ≡ Ok said →
     (x : A) × (o ≡ Some x) × (of x ≡ said)
-as_read of None why said h = let no : ⊥ = cc in absurd no
-as_read of (Some x) why said h = (x, refl, ok_same (of x) said h)
+as_read of o why said h = grind (arith, ok_same)
 
 -- Lines of one word.
 
 one_word : {of : ScriptKind} {form : Keyword} (is : Line) → Shows of form [] is →
     ((rules : ℕ) (content : List ℕ) → said_by of form rules content [] ≡ Ok is) →
     (words : List (List ℕ)) (said : Line) → word_said is words ≡ Ok said → IsSpoken of form words said
-one_word is shows again [] said h = rw (sym (ok_same is said h)) (same tt shows again)
-one_word is shows again (word ∷ words) said h = let no : ⊥ = cc in absurd no
+one_word is shows again words said h = grind (arith, ok_same, same)
 
 -- Lines of one number.
 
@@ -298,8 +293,7 @@ pub packet_again : (of : ScriptKind) (node format version : List ℕ) (records w
     0 < span words →
     packet_said node format version words ≡ Ok said → (rules : ℕ) (content : List ℕ) →
     said_by of keyword.Submit rules content (node ∷ format ∷ version ∷ words) ≡ Ok said
-packet_again of node format version records [] said some h rules content = absurd (omega (arith, some))
-packet_again of node format version records (word ∷ words) said some h rules content = h
+packet_again of node format version records words said some h rules content = grind arith
 
 submit_spoken : (of : ScriptKind) (words : List (List ℕ)) (said : Line) → AreWords words →
     submit_said words ≡ Ok said → IsSpoken of keyword.Submit words said
@@ -312,9 +306,7 @@ submit_spoken of (node ∷ format ∷ version ∷ word ∷ words) said are h =
     let rs = records_printed (word ∷ words) s.0 are.1.1.1 s.1 in
     let e = any_printed node p.0 p.1 in
     let f = (number_printed 255 format q.0 (omega arith) q.1).1 in
-    let all : packet_said node format (version_text r.0) (map encode_upper s.0) ≡ Ok said =
-    (λ i. read_then kind.Number (p.1 i) (λ node. read_then kind.Number (q.1 i) (λ format. read_then kind.Hex (v.again i) (λ version.
-    read_or kind.Hex (line.Submit node format version) (rs.again i))))) ∙ ap Ok s.2 in
+    let all : packet_said node format (version_text r.0) (map encode_upper s.0) ≡ Ok said = search arith in
     record {
       spoken = node ∷ format ∷ version_text r.0 ∷ map encode_upper s.0;
       text = ap (λ (l : Line). line_text of l) (sym s.2)

@@ -1,11 +1,11 @@
 -- Lemmas on octets in hexadecimal: how they are read from pairs of digits, and printed as words that say them again.
-use Rattle.std.proofs.Common.{◌≡◌, ◌≢◌, ℕ, ◌+◌, ◌*◌, ◌%◌, ◌<◌, ◌≤◌, ◌==◌, List, [], ◌∷◌, ◌++◌, length, take, drop, slice_index, slice_set, Option, Some, None, unwrap_or, option_and_then, Result, Ok, Err, refl, ap, sym, ◌∙◌, arith, append-nil, zero, suc, ◌/◌, map, length-append}
+use Rattle.std.proofs.Common.{◌≡◌, ◌≢◌, ℕ, ◌+◌, ◌*◌, ◌%◌, ◌<◌, ◌≤◌, List, [], ◌∷◌, ◌++◌, length, take, drop, slice_index, slice_set, Option, Some, None, unwrap_or, option_and_then, Result, Ok, Err, refl, ap, sym, ◌∙◌, arith, append-nil, zero, suc, ◌/◌, map, length-append}
+use Rattle.std.proofs.lemmas.Bool.Decides.{nat_tests}
 use Rattle.std.specs.Result.{result_ok}
 use Rattle.hex.proofs.HexLemmas.{decode_of-even, IsDigits-upper_digits, decode_of-encode_upper, decode_of-ok, length-encode_with}
 use Rattle.hex.proofs.Pairs.{decode_done, decode_err, decode_step, prepend}
-use Rattle.hex.specs.Hex.{decode_of, decode_pairs, digit_or_error, hex_digit_value, pair_value, value_at, ◌>>=◌, IsBytes, encode_upper, encode_with, upper_digits}
+use Rattle.hex.specs.Hex.{decode_of, decode_pairs, hex_digit_value, pair_value, value_at, ◌>>=◌, IsBytes, encode_upper, encode_with, upper_digits}
 use Rattle.hex.specs.declared.error.FromHexError.{FromHexError}
-use Rattle.hex.specs.declared.error.FromHexError.TheVariants.{InvalidHexCharacter, OddLength}
 use Rattle.route_filter.specs.Words.{decoded, octets_in, octets_of}
 use Rattle.world_script.proofs.WordLemmas.{AllGlyphs, AreWords, IsWord, span}
 use Rattle.world_script.proofs.ValueLemmas.{passed, then_some}
@@ -16,33 +16,23 @@ use Rattle.world_script.specs.Values.{records_of, two_octets, version_of}
 -- Digits.
 
 is_digit : (o : Option ℕ) (n : ℕ) → n ≡ unwrap_or o 16 → n < 16 → o ≡ Some n
-is_digit (Some v) n e h = ap Some (sym e)
-is_digit None n e h = absurd (omega arith)
+is_digit o n e h = grind arith
 
 pub both_digits : (high low a b place : ℕ) → a ≡ unwrap_or (hex_digit_value high) 16 → b ≡ unwrap_or (hex_digit_value low) 16 →
     a < 16 → b < 16 → Some (16 * a + b) ≡ result_ok (pair_value high low place)
-both_digits high low a b place e f h k =
-    let first : value_at high place ≡ Ok a = ap (digit_or_error high place) (is_digit (hex_digit_value high) a e h) in
-    let second : value_at low (place + 1) ≡ Ok b = ap (digit_or_error low (place + 1)) (is_digit (hex_digit_value low) b f k) in
-    rw (first, second) (ap Some (omega arith))
+both_digits high low a b place e f h k = search (arith, is_digit)
 
 no_digit : (c : ℕ) → 16 ≤ unwrap_or (hex_digit_value c) 16 → hex_digit_value c ≡ None
 no_digit c h = grind (arith, h)
 
 pub no_high : (high low a place : ℕ) → a ≡ unwrap_or (hex_digit_value high) 16 → 16 ≤ a → None ≡ result_ok (pair_value high low place)
-no_high high low a place e h =
-    let first : value_at high place ≡ Err (InvalidHexCharacter high place) =
-    ap (digit_or_error high place) (no_digit high (omega (arith, e, h))) in rw first
+no_high high low a place e h = search (arith, no_digit)
 
 refused_second : (r : Result ℕ FromHexError) (e : FromHexError) → result_ok (r >>= (λ h. Err e >>= (λ l. Ok (h * 16 + l)))) ≡ None
-refused_second (Ok h) e = refl
-refused_second (Err d) e = refl
+refused_second r e = grind arith
 
 pub no_low : (high low b place : ℕ) → b ≡ unwrap_or (hex_digit_value low) 16 → 16 ≤ b → None ≡ result_ok (pair_value high low place)
-no_low high low b place e h =
-    let second : value_at low (place + 1) ≡ Err (InvalidHexCharacter low (place + 1)) =
-    ap (digit_or_error low (place + 1)) (no_digit low (omega (arith, e, h))) in
-    rw second (sym (refused_second (value_at high place) (InvalidHexCharacter low (place + 1))))
+no_low high low b place e h = search (arith, no_digit, refused_second)
 
 -- Pairs.
 
@@ -51,12 +41,10 @@ abbrev pub IsSpelt : List ℕ → List ℕ → ℕ → Type 0
 IsSpelt digits octets k = decode_pairs 0 digits ≡ prepend (take k octets) (decode_pairs (2 * k) (drop (2 * k) digits))
 
 is_ok : (r : Result ℕ FromHexError) (v : ℕ) → Some v ≡ result_ok r → r ≡ Ok v
-is_ok (Ok x) v e = cc
-is_ok (Err d) v e = cc
+is_ok r v e = grind arith
 
 is_err : (r : Result ℕ FromHexError) → None ≡ result_ok r → (d : FromHexError) × (r ≡ Err d)
-is_err (Ok x) e = absurd (cc)
-is_err (Err d) e = (d, refl)
+is_err r e = grind arith
 
 pub spelt_more : (digits octets : List ℕ) (k v : ℕ) → length digits ≡ 2 * length octets → k < length octets →
     Some v ≡ result_ok (pair_value (slice_index digits (2 * k)) (slice_index digits (2 * k + 1)) (2 * k)) →
@@ -70,14 +58,11 @@ even_octets digits n twice = ap decoded (decode_of-even digits (omega arith))
 pub spelt_not : (digits octets : List ℕ) (k : ℕ) → length digits ≡ 2 * length octets → k < length octets →
     None ≡ result_ok (pair_value (slice_index digits (2 * k)) (slice_index digits (2 * k + 1)) (2 * k)) →
     IsSpelt digits octets k → octets_in digits ≡ None
-spelt_not digits octets k twice within e so_far =
-    let bad = is_err (pair_value (slice_index digits (2 * k)) (slice_index digits (2 * k + 1)) (2 * k)) e in
-    even_octets digits (length octets) twice ∙ ap decoded (decode_err digits octets k bad.0 (omega arith) bad.1 so_far)
+spelt_not digits octets k twice within e so_far = search (arith, is_err, even_octets, decode_err)
 
 pub spelt_all : (digits octets : List ℕ) (k : ℕ) → length digits ≡ 2 * length octets → length octets ≤ k →
     IsSpelt digits octets k → octets_in digits ≡ Some octets
-spelt_all digits octets k twice whole so_far =
-    even_octets digits (length octets) twice ∙ ap decoded (decode_done digits octets k whole (omega arith) so_far)
+spelt_all digits octets k twice whole so_far = search (arith, even_octets, decode_done)
 
 -- Words.
 
@@ -86,8 +71,7 @@ odd word h = let one : length word % 2 ≡ 1 = omega arith in rw one refl
 
 joined_one : (octets : Option (List ℕ)) →
     octets ≡ option_and_then (λ found. option_and_then (λ rest. Some (found ++ rest)) (Some [])) octets
-joined_one None = refl
-joined_one (Some octets) = ap Some (sym (append-nil octets))
+joined_one octets = grind (arith, append-nil)
 
 pub one_word : (word : List ℕ) → octets_in word ≡ octets_of (word ∷ [])
 one_word word = joined_one (octets_in word)
@@ -96,18 +80,13 @@ one_word word = joined_one (octets_in word)
 
 then_ok : {A B : Type 0} (r : Result A FromHexError) (f : A → Result B FromHexError) (y : B) → (r >>= f) ≡ Ok y →
     (x : A) × (r ≡ Ok x) × (f x ≡ Ok y)
-then_ok (Ok x) f y h = (x, refl, h)
-then_ok (Err e) f y h = absurd (cc)
+then_ok r f y h = grind arith
 
 pub digit_glyph : (c v : ℕ) → hex_digit_value c ≡ Some v → (32 < c) × (c ≤ 126)
 digit_glyph c v h = (grind (arith, h), grind (arith, h))
 
 glyph : (c place v : ℕ) → value_at c place ≡ Ok v → (32 < c) × (c ≤ 126)
-glyph c place v h = by (hex_digit_value c) refl h
-  where
-    by : (o : Option ℕ) → hex_digit_value c ≡ o → digit_or_error c place o ≡ Ok v → (32 < c) × (c ≤ 126)
-    by None e k = absurd (cc)
-    by (Some w) e k = digit_glyph c w e
+glyph c place v h = grind (arith, nat_tests, digit_glyph)
 
 pairs_glyphs : (place : ℕ) (digits octets : List ℕ) → decode_pairs place digits ≡ Ok octets → AllGlyphs digits
 unfolding decode_pairs
@@ -123,14 +102,11 @@ pairs_glyphs place (high ∷ low ∷ rest) octets h =
     (a.0, a.1, (b.0, b.1, pairs_glyphs (place + 2) rest later.0 later.1))
 
 pub from_decoded : (r : Result (List ℕ) FromHexError) (octets : List ℕ) → decoded r ≡ Some octets → r ≡ Ok octets
-from_decoded (Ok found) octets h = cc
-from_decoded (Err e) octets h = absurd (cc)
+from_decoded r octets h = grind arith
 
 -- a word that spells octets has no space
 pub octets_glyphs : (word octets : List ℕ) → octets_in word ≡ Some octets → AllGlyphs word
-octets_glyphs word octets h =
-    pairs_glyphs 0 word octets (passed (length word % 2 == 1) OddLength (decode_pairs 0 word) octets
-    (from_decoded (decode_of word) octets h)).1
+octets_glyphs word octets h = search (arith, pairs_glyphs, passed, from_decoded)
 
 -- octets that a word says
 pub octets_said : (word octets : List ℕ) → octets_in word ≡ Some octets →
@@ -165,18 +141,12 @@ pub record ArePrinted (words : List (List ℕ)) (records : List (List ℕ)) : Ty
 
 pub records_printed : (words records : List (List ℕ)) → AreWords words → records_of words ≡ Some records →
     ArePrinted words records
-records_printed [] records are h =
-    rw (sym (same_Some [] records h)) (record { are = tt; long = refl; again = refl })
+records_printed [] records are h = search (arith, same_Some)
 records_printed (word ∷ words) records are h =
     let here = then_some (octets_in word) _ records h in
     let later = then_some (records_of words) _ records here.2 in
     let rest = records_printed words later.0 are.1 later.1 in
-    let said = octets_said word here.0 here.1 in
-    rw (sym (same_Some (here.0 ∷ later.0) records later.2)) (record {
-      are = (hex_word here.0 (omega (arith, are.0.0, said.0)) said.1, rest.are);
-      long = omega (arith, said.0, printed_length here.0, rest.long);
-      again = rw (printed_octets here.0 said.1, rest.again) refl;
-    })
+    search (arith, octets_said, same_Some, hex_word, printed_length, printed_octets)
 
 -- Octets of all words, joined.
 
@@ -196,8 +166,7 @@ octets_joined (word ∷ words) octets h =
     let later = then_some (octets_of words) _ octets here.2 in
     let said = octets_said word here.0 here.1 in
     let rest = octets_joined words later.0 later.1 in
-    rw (sym (same_Some (here.0 ++ later.0) octets later.2))
-    (omega (arith, said.0, rest.0, length-append here.0 later.0), joined_bytes here.0 later.0 said.1 rest.1)
+    search (arith, same_Some, length-append, joined_bytes)
 
 words_room : (words : List (List ℕ)) → AreWords words → 2 * length words ≤ span words
 words_room [] are = omega arith

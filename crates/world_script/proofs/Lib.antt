@@ -1,11 +1,9 @@
 pub mod AddressLemmas
 pub mod ArityLemmas
-pub mod DatagramLemmas
 pub mod FormLemmas
 pub mod HexadecimalLemmas
 pub mod LineLemmas
 pub mod PrintedLemmas
-pub mod ReadLemmas
 pub mod SampleGrammar
 pub mod SampleLemmas
 pub mod SampleLines

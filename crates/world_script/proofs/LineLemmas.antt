@@ -41,14 +41,12 @@ named word form of later false e otherwise h = otherwise h
 
 first_named : (forms : List Keyword) (word : List ℕ) (form : Keyword) → first_of forms word ≡ Some form → word ≡ name form
 first_named [] word form h = let no : ⊥ = cc in absurd no
-first_named (of ∷ later) word form h =
-    named word form of (first_of later word) (bytes_eq word (name of)) refl (first_named later word form) h
+first_named (of ∷ later) word form h = search (arith, named, name, (first_named later word form))
 
 either_named : (word : List ℕ) (form : Keyword) (a b : Option Keyword) → (a ≡ Some form → word ≡ name form) →
     (b ≡ Some form → word ≡ name form) →
     option_or a b ≡ Some form → word ≡ name form
-either_named word form None b p q h = q h
-either_named word form (Some x) b p q h = p h
+either_named word form a b p q h = grind arith
 
 abbrev shared : List Keyword
 shared =
@@ -78,8 +76,7 @@ form_named script.Serve word form h =
     first_named (keyword.End ∷ keyword.Limit ∷ keyword.Offset ∷ keyword.Profile ∷ keyword.Rule ∷ []) word form h
 
 known_form : (o : Option Keyword) (form : Keyword) → known o ≡ Ok form → o ≡ Some form
-known_form None form h = let no : ⊥ = cc in absurd no
-known_form (Some x) form h = cc
+known_form o form h = grind arith
 
 built : (later : Bool) (o : Option Keyword) (form : Keyword) →
     (if later then Err kind.NotBuilt else known o) ≡ Ok form → o ≡ Some form
@@ -91,8 +88,7 @@ keyword_named of word form h = form_named of word form (built (is_later_in of wo
 
 -- No form's name is a comment.
 pub names_show : (form : Keyword) (rest : List ℕ) → is_blank (name form ++ rest) ≡ false
-names_show keyword.At rest = refl
-names_show _ rest = refl
+names_show form rest = grind arith
 
 -- After these lines the line's text says it.
 pub record IsSayable (of : ScriptKind) (before : List Line) (said : Line) : Type 0 where
@@ -110,16 +106,11 @@ pub again_by_words : (p : Progress) (form : Keyword) (said : Line) (text word : 
     p.has_end ≡ false → (is_setting form && p.has_action) ≡ false → is_blank text ≡ false → is_printable text ≡ true →
     words_of text ≡ word ∷ words → keyword_of p.kind word ≡ Ok form → said_by p.kind form p.rules text words ≡ Ok said →
     contented p text ≡ Ok said
-again_by_words p form said text word words going early shows plain split known says =
-    (λ i. if shows i then Ok line.Blank else if plain i then worded p text (split i) else Err kind.Word)
-    ∙ ap (λ (r : Result Keyword InputKind). keyed p r text words) known
-    ∙ (λ i. if going i then Err kind.After else if early i then Err kind.Late else said_by p.kind form p.rules text words)
-    ∙ says
+again_by_words p form said text word words going early shows plain split known says = search arith
 
 pub onward_ok : (place : ℕ) (r : Result Line InputKind) (later : Line → Result (List Line) Refusal) (lines : List Line) →
     onward place r later ≡ Ok lines → (said : Line) × (r ≡ Ok said) × (later said ≡ Ok lines)
-onward_ok place (Err e) later lines h = let no : ⊥ = cc in absurd no
-onward_ok place (Ok said) later lines h = (said, refl, h)
+onward_ok place r later lines h = grind arith
 
 record IsRead (of : ScriptKind) (before : List Line) (content : List ℕ) (said : Line) : Type 0 where
   form : Keyword
@@ -152,9 +143,7 @@ worded_case of size before content (word ∷ words) said split h =
 rule_is : (of : ScriptKind) (form : Keyword) (rules : ℕ) (content : List ℕ) (words : List (List ℕ)) (said : Line) →
     is_rule_form form ≡ true →
     said_by of form rules content words ≡ Ok said → (line.Rule content ≡ said) × (is_setting form ≡ true)
-rule_is of keyword.Rule rules content (a ∷ b ∷ c ∷ []) said is h =
-    ((ok_if _ (line.Rule content) said kind.Rule h).1, refl)
-rule_is of _ rules content _ said is h = let no : ⊥ = cc in absurd no
+rule_is of form rules content words said is h = grind (arith, ok_if)
 
 rule_printed : (of : ScriptKind) (before : List Line) (content : List ℕ) (said : Line) → is_printable content ≡ true →
     ((size : ℕ) → contented (progress_of of size before) content ≡ Ok said) → line.Rule content ≡ said →
@@ -179,10 +168,7 @@ words_printed of before content said r plain other =
     let shows = names_show r.form (words_text s.spoken) in
     let plain_text = joined_printable (name r.form) s.spoken word_of s.are in
     let again : (size : ℕ) → contented (progress_of of size before) (name r.form ++ words_text s.spoken) ≡ Ok said =
-    λ size. again_by_words (progress_of of size before) r.form said (name r.form ++ words_text s.spoken) (name r.form)
-    s.spoken r.going r.early shows plain_text (words_of_joined (name r.form) s.spoken word_of s.are)
-    (subst (λ (w : List ℕ). keyword_of of w ≡ Ok r.form) first r.known)
-    (s.again (count_by is_rule_line before) (name r.form ++ words_text s.spoken)) in
+        search (arith, name, words_of_joined) in
     let long : length (line_text of said) ≡ length (name r.form) + span s.spoken =
     ap length s.text ∙ omega (arith, length-append (name r.form) (words_text s.spoken), length_words s.spoken) in
     record {
@@ -197,13 +183,7 @@ pub line_printed : (of : ScriptKind) (size : ℕ) (before : List Line) (content 
     IsPrintedLine of before content said
 line_printed of size before content said h =
     elim (if_cases (is_blank content) (Ok line.Blank) _ (Ok said) h) [
-      | inl p ↦
-          let same : said ≡ line.Blank = cc (p.1) in
-          rw same (record {
-            sayable = record { plain = refl; again = λ size. refl };
-            short = omega arith;
-            late = λ acted. refl;
-          })
+      | inl p ↦ search arith
       | inr p ↦
           let q = where_ok (is_printable content) _ kind.Word said p.1 in
           let r = worded_case of size before content (words_of content) said refl q.1 in

@@ -1,18 +1,19 @@
 -- Lemmas on the text of a script: it reads as that script.
-use Rattle.std.proofs.Common.{◌≡◌, ℕ, zero, suc, ◌+◌, ◌-◌, ◌<◌, ◌≤◌, Bool, true, false, ◌==◌, nat_lt, if◌then◌else◌, List, [], ◌∷◌, ◌++◌, length, take, slice_get, Ok, Err, refl, ap, sym, ◌∙◌, subst, arith, append_assoc, append-nil, length-append, inl, inr}
+use Rattle.std.proofs.Common.{◌≡◌, ℕ, zero, suc, ◌+◌, ◌-◌, ◌<◌, ◌≤◌, Bool, true, false, ◌==◌, nat_lt, if◌then◌else◌, List, [], ◌∷◌, ◌++◌, length, take, slice_get, Ok, Err, refl, ap, sym, ◌∙◌, subst, arith, append_assoc, append-nil, length-append}
+use Rattle.std.proofs.lemmas.Bool.Decides.{nat_tests}
 use Rattle.std.proofs.lemmas.Bool.{cases_lt, le-leb, lt-leb, ltb-false, ne_eqb}
 use Rattle.std.proofs.lemmas.List.{length-take, take_at}
 use Rattle.std.specs.List.{list_any}
 use Rattle.std.specs.Option.{option_map_or}
 use Rattle.world_script.specs.Printing.{ReadsBack, fitted, line_text, lines_text}
-use Rattle.world_script.specs.Script.{Refusal, contented, is_end_line, most_text, progress_of, reading_of, script_after, script_in}
-use Rattle.world_script.specs.Text.{RawLine, ends_with, is_printable, line_content, line_size, onto_line, raw_lines}
+use Rattle.world_script.specs.Script.{Refusal, is_end_line, most_text, progress_of, reading_of, script_after, script_in}
+use Rattle.world_script.specs.Text.{RawLine, is_printable, line_content, line_size, onto_line, raw_lines}
 use Rattle.world_script.specs.declared.fault.InputKind.TheVariants.{NoEnd, TooLong}
 use Rattle.world_script.specs.declared.kind.ScriptKind.{ScriptKind}
 use Rattle.world_script.specs.declared.line.Line.{Line}
 use Rattle.world_script.proofs.LineLemmas.{IsPrintedLine, IsSayable, line_printed, onward_ok}
 use Rattle.world_script.proofs.WordLemmas.{printable_parts}
-use Rattle.world_script.proofs.DatagramLemmas.{not_long}
+use Rattle.world_script.proofs.ScriptLemmas.{not_long}
 use Rattle.world_script.proofs.ValueLemmas.{ok_if, passed}
 
 -- each line's text says it, after the lines before it
@@ -67,8 +68,7 @@ all_raws of ended before [] are shows = refl
 all_raws of true before (said ∷ []) are shows = line_raw (line_text of said) [] are.0.plain
 all_raws of false before (said ∷ []) are shows = last_line (line_text of said) (shows refl) are.0.plain
 all_raws of ended before (said ∷ next ∷ later) are shows =
-    line_raw (line_text of said) (text_of of ended (next ∷ later)) are.0.plain
-    ∙ ap (λ (raws : List RawLine). raw_of of true said ∷ raws) (all_raws of ended (before ++ said ∷ []) (next ∷ later) are.1 shows)
+    search (arith, line_raw, (all_raws of ended (before ++ said ∷ []) (next ∷ later) are.1 shows))
 
 no_return : (xs : List ℕ) (k : ℕ) → is_printable xs ≡ true → option_map_or (λ x. x == 13) (slice_get xs k) false ≡ false
 no_return [] k h = refl
@@ -85,22 +85,17 @@ plain_content of false said h = refl
 read_again : (of : ScriptKind) (ended : Bool) (size : ℕ) (before : List Line) (said : Line) → IsSayable of before said →
     size + line_size (raw_of of ended said) ≤ most_text →
     reading_of (progress_of of size before) (raw_of of ended said) ≡ Ok said
-read_again of ended size before said is room =
-    (λ i. if not_long (size + line_size (raw_of of ended said)) room i then Err TooLong
-    else contented (progress_of of size before) (plain_content of ended said is.plain i))
-    ∙ is.again size
+read_again of ended size before said is room = search (arith, not_long, plain_content, is.again)
 
 one_ended : (of : ScriptKind) (ended : Bool) (said : Line) →
     line_size (raw_of of ended said) ≡ length (text_of of ended (said ∷ []))
-one_ended of true said = omega (arith, length-append (line_text of said) (10 ∷ []))
-one_ended of false said = omega (arith, length-append (line_text of said) [])
+one_ended of ended said = grind (arith, length-append)
 
 script_again : (of : ScriptKind) (ended : Bool) (size : ℕ) (before lines all : List Line) → AreSayable of before lines →
     before ++ lines ≡ all → list_any is_end_line all ≡ true →
     size + length (text_of of ended lines) ≤ most_text →
     script_after of size before (raws_of of ended lines) ≡ Ok all
-script_again of ended size before [] all are e ends room =
-    let same : before ≡ all = sym (append-nil before) ∙ e in rw (same, ends)
+script_again of ended size before [] all are e ends room = search (arith, append-nil)
 script_again of ended size before (said ∷ []) all are e ends room =
     let within : size + line_size (raw_of of ended said) ≤ most_text = omega (arith, room, one_ended of ended said) in
     rw (read_again of ended size before said are.0 within)
@@ -118,24 +113,18 @@ script_again of ended size before (said ∷ next ∷ later) all are e ends room 
 whole_text : (of : ScriptKind) (lines : List Line) → text_of of true lines ≡ lines_text of lines
 whole_text of [] = refl
 whole_text of (said ∷ []) = sym (append-nil (line_text of said ++ 10 ∷ []))
-whole_text of (said ∷ next ∷ later) =
-    ap (λ (l : List ℕ). line_text of said ++ 10 ∷ l) (whole_text of (next ∷ later))
-    ∙ sym (append_assoc (line_text of said) (10 ∷ []) (lines_text of (next ∷ later)))
+whole_text of (said ∷ next ∷ later) = search (arith, (whole_text of (next ∷ later)), append_assoc)
 
 but_the_last : (of : ScriptKind) (lines : List Line) → LastShows of lines →
     text_of of true lines ≡ text_of of false lines ++ 10 ∷ []
 but_the_last of [] shows = absurd shows
 but_the_last of (said ∷ []) shows = ap (λ (l : List ℕ). l ++ 10 ∷ []) (sym (append-nil (line_text of said)))
-but_the_last of (said ∷ next ∷ later) shows =
-    ap (λ (l : List ℕ). line_text of said ++ 10 ∷ l) (but_the_last of (next ∷ later) shows)
-    ∙ sym (append_assoc (line_text of said) (10 ∷ text_of of false (next ∷ later)) (10 ∷ []))
+but_the_last of (said ∷ next ∷ later) shows = search (arith, (but_the_last of (next ∷ later) shows), append_assoc)
 
 read_whole : (of : ScriptKind) (ended : Bool) (lines : List Line) → AreSayable of [] lines →
     list_any is_end_line lines ≡ true → (ended ≡ false → LastShows of lines) →
     length (text_of of ended lines) ≤ most_text → script_in of (text_of of ended lines) ≡ Ok lines
-read_whole of ended lines are ends shows room =
-    ap (script_after of 0 []) (all_raws of ended [] lines are shows)
-    ∙ script_again of ended 0 [] lines lines are refl ends (omega (arith, room))
+read_whole of ended lines are ends shows room = search (arith, all_raws, script_again)
 
 -- lines that are sayable and fit
 pub fitting : (of : ScriptKind) (lines : List Line) → AreSayable of [] lines → list_any is_end_line lines ≡ true →
@@ -153,12 +142,7 @@ overlong of lines are ends shows long =
     let front = text_of of false lines in
     let joined = but_the_last of lines shows in
     let as_long : length front ≡ most_text = omega (arith, long, ap length joined, length-append front (10 ∷ [])) in
-    let cut : fitted (text_of of true lines) ≡ take (length (text_of of true lines) - 1) (text_of of true lines) =
-    rw (lt-leb (length (text_of of true lines)) most_text (omega (arith, long))) refl in
-    ap (script_in of)
-    (ap fitted (sym (whole_text of lines)) ∙ cut ∙ ap (λ (t : List ℕ). take (length (text_of of true lines) - 1) t) joined
-    ∙ take_at front (10 ∷ []) (length (text_of of true lines) - 1) (omega (arith, long, as_long)))
-    ∙ read_whole of false lines are ends (λ e. shows) (omega (arith, as_long))
+    search (arith, nat_tests, lt-leb, whole_text, take_at, read_whole)
 
 -- Lines that were read.
 
@@ -169,17 +153,14 @@ WellEnded (raw ∷ []) = raw.ended ≡ false → 0 < length raw.octets
 WellEnded (raw ∷ next ∷ raws) = (raw.ended ≡ true) × WellEnded (next ∷ raws)
 
 ended_first : (raws : List RawLine) → WellEnded raws → WellEnded (record { octets = []; ended = true } ∷ raws)
-ended_first [] h = λ e. absurd (cc)
-ended_first (raw ∷ raws) h = (refl, h)
+ended_first raws h = grind arith
 
 onto_ended : (x : ℕ) (raws : List RawLine) → WellEnded raws → WellEnded (onto_line x raws)
-onto_ended x (raw ∷ next ∷ raws) h = (h.0, h.1)
-onto_ended x _ h = λ e. omega arith
+onto_ended x raws h = grind arith
 
 ended_case : (x : ℕ) (raws : List RawLine) (b : Bool) → WellEnded raws →
     WellEnded (if b then record { octets = []; ended = true } ∷ raws else onto_line x raws)
-ended_case x raws true h = ended_first raws h
-ended_case x raws false h = onto_ended x raws h
+ended_case x raws b h = grind (arith, ended_first, onto_ended)
 
 raws_end : (text : List ℕ) → WellEnded (raw_lines text)
 raws_end [] = tt
@@ -200,43 +181,22 @@ no_end before = record { place = length before + 1; kind = NoEnd }
 
 none_read : (of : ScriptKind) (size : ℕ) (before lines : List Line) → size ≤ most_text →
     (if list_any is_end_line before then Ok before else Err (no_end before)) ≡ Ok lines → AreRead of size before [] lines
-none_read of size before lines room h =
-    let p = ok_if (list_any is_end_line before) before lines (no_end before) h in record {
-      rest = [];
-      all = append-nil before ∙ p.1;
-      sayable = tt;
-      ends = subst (λ (ls : List Line). list_any is_end_line ls ≡ true) p.1 p.0;
-      count = refl;
-      room = omega (arith, room);
-      last = λ long. absurd (omega (arith, room, long));
-    }
+none_read of size before lines room h = search (arith, ok_if, append-nil)
 
 longer : (of : ScriptKind) (said : Line) (rest : List Line) →
     length (text_of of true (said ∷ rest)) ≡ length (line_text of said) + 1 + length (text_of of true rest)
-longer of said [] = omega (arith, length-append (line_text of said) (10 ∷ []))
-longer of said (next ∷ later) = omega (arith, length-append (line_text of said) (10 ∷ text_of of true (next ∷ later)))
+longer of said rest = grind (arith, length-append)
 
 no_later : (of : ScriptKind) (rest : List Line) → length rest ≡ 0 → length (text_of of true rest) ≡ 0
 no_later of [] h = refl
 no_later of (said ∷ rest) h = absurd (omega (arith, h))
 
-last_after : (of : ScriptKind) (said : Line) (rest : List Line) → LastShows of rest → LastShows of (said ∷ rest)
-last_after of said [] h = absurd h
-last_after of said (next ∷ later) h = h
-
-last_alone : (of : ScriptKind) (said : Line) (rest : List Line) → length rest ≡ 0 → 0 < length (line_text of said) →
-    LastShows of (said ∷ rest)
-last_alone of said [] none h = h
-last_alone of said (next ∷ later) none h = absurd (omega (arith, none))
-
 returned : (xs : List ℕ) (b : Bool) → length (if b then take (length xs - 1) xs else xs) ≤ length xs
-returned xs true = omega (arith, length-take (length xs - 1) xs)
-returned xs false = omega arith
+returned xs b = grind (arith, length-take)
 
 content_within : (octets : List ℕ) (ended : Bool) →
     length (line_content (record { octets = octets; ended = ended })) ≤ length octets
-content_within octets true = returned octets (ends_with 13 octets)
-content_within octets false = omega arith
+content_within octets ended = grind (arith, returned)
 
 one_read : (of : ScriptKind) (size : ℕ) (before : List Line) (octets : List ℕ) (ended : Bool) (raws : List RawLine)
     (lines : List Line) (said : Line) →
@@ -246,35 +206,12 @@ one_read : (of : ScriptKind) (size : ℕ) (before : List Line) (octets : List �
     AreRead of (size + line_size (record { octets = octets; ended = ended })) (before ++ said ∷ []) raws lines →
     AreRead of size before (record { octets = octets; ended = ended } ∷ raws) lines
 one_read of size before octets true raws lines said fit well is later =
-    let long = longer of said later.rest in
-    let short : length (line_text of said) ≤ length octets = omega (arith, is.short, content_within octets true) in
-    record {
-      rest = said ∷ later.rest;
-      all = sym (append_assoc before (said ∷ []) later.rest) ∙ later.all;
-      sayable = (is.sayable, later.sayable);
-      ends = later.ends;
-      count = omega (arith, later.count);
-      room = omega (arith, later.room, long, short);
-      last = λ full. last_after of said later.rest (later.last (omega (arith, full, later.room, long, short)));
-    }
-one_read of size before octets false [] lines said fit well is later =
-    let long = longer of said later.rest in
-    let none = no_later of later.rest later.count in
-    let some : 0 < length octets = well refl in
-    record {
-      rest = said ∷ later.rest;
-      all = sym (append_assoc before (said ∷ []) later.rest) ∙ later.all;
-      sayable = (is.sayable, later.sayable);
-      ends = later.ends;
-      count = omega (arith, later.count);
-      room = omega (arith, fit, long, none, is.short);
-      last = λ full. last_alone of said later.rest later.count (omega (arith, full, fit, long, none, some));
-    }
+    search (arith, longer, content_within, append_assoc, later.last)
+one_read of size before octets false [] lines said fit well is later = search (arith, longer, no_later, append_assoc)
 one_read of size before octets false (next ∷ raws) lines said fit well is later = absurd (cc)
 
 well_later : (raw : RawLine) (raws : List RawLine) → WellEnded (raw ∷ raws) → WellEnded raws
-well_later raw [] h = tt
-well_later raw (next ∷ raws) h = h.1
+well_later raw raws h = grind arith
 
 are_read : (of : ScriptKind) (size : ℕ) (before : List Line) (raws : List RawLine) (lines : List Line) →
     size ≤ most_text → WellEnded raws →
@@ -290,14 +227,7 @@ are_read of size before (raw ∷ raws) lines room well h =
 
 read_lines : (of : ScriptKind) (raws : List RawLine) (lines : List Line) (r : AreRead of 0 [] raws lines) →
     ReadsBack of r.rest
-read_lines of raws lines r =
-    let ends = subst (λ (ls : List Line). list_any is_end_line ls ≡ true) (sym r.all) r.ends in
-    elim (cases_lt (length (text_of of true r.rest)) (most_text + 1)) [
-      | inl below ↦ fitting of r.rest r.sayable ends (subst (λ (t : List ℕ). length t ≤ most_text) (whole_text of r.rest) (omega (arith, below)))
-      | inr full ↦
-          let long : length (text_of of true r.rest) ≡ most_text + 1 = omega (arith, full, r.room) in
-          overlong of r.rest r.sayable ends (r.last (omega (arith, long))) long
-    ]
+read_lines of raws lines r = search (arith, cases_lt, fitting, whole_text, overlong, r.last)
 
 -- a script that was read prints as a text that reads as it
 pub reads_back : (of : ScriptKind) (text : List ℕ) (lines : List Line) → script_in of text ≡ Ok lines →

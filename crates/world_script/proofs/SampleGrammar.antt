@@ -13,18 +13,17 @@ use Rattle.rand_pcg.specs.Lcg.{Lcg}
 use Rattle.rand_pcg.specs.Pcg.{output_xsh_rr}
 use Rattle.world_script.specs.Printing.{ReadsBack, line_text, lines_text, version_text, words_text}
 use Rattle.world_script.specs.Sample.{after_words, block, block_time, blocks, calm_round, commits, first_moment, opening, packets_from, packets_of, record_octets, runs, sample_of, seeded, stopped_during, stormy, submitted, ticks, times, wild_round, wild_rounds, word, words_of_block, writes}
-use Rattle.world_script.specs.Saying.{packet_said, read_or, read_then}
+use Rattle.world_script.specs.Saying.{packet_said}
 use Rattle.world_script.specs.Script.{is_end_line, most_text}
 use Rattle.world_script.specs.Values.{records_of, two_octets, version_of}
 use Rattle.world_script.specs.declared.extent.Extent.{Extent}
-use Rattle.world_script.specs.declared.fault.InputKind.TheVariants as kind
 use Rattle.world_script.specs.declared.keyword.Keyword.TheVariants as keyword
 use Rattle.world_script.specs.declared.kind.ScriptKind.TheVariants.{Replay}
 use Rattle.world_script.specs.declared.line.Line.{Line}
 use Rattle.world_script.specs.declared.line.Line.TheVariants as line
 use Rattle.world_script.proofs.HexadecimalLemmas.{hex_word, printed_length, printed_octets}
 use Rattle.world_script.proofs.PrintedLemmas.{AreSayable, fitting}
-use Rattle.world_script.proofs.SampleLines.{IsPlain, Part, at_part, commit_part, done_then_end, flow_part, mark_part, mix_part, one, open_part, part_flat, part_line, part_map, part_most, part_pass, part_then, plain_of, plain_sayable, stop_part, tick_part, write_part, name_word}
+use Rattle.world_script.proofs.SampleLines.{IsPlain, Part, at_part, commit_part, done_then_end, flow_part, mark_part, mix_part, one, open_part, part_flat, part_line, part_map, part_most, part_pass, part_then, plain_as, plain_sayable, stop_part, tick_part, write_part}
 use Rattle.world_script.proofs.FormLemmas.{packet_again, more_words}
 use Rattle.world_script.proofs.SampleTaken.{after_settings}
 use Rattle.world_script.proofs.ValueLemmas.{decimal_is_word, printed_between, printed_number}
@@ -93,8 +92,7 @@ writes_part n h =
 -- Packets.
 
 record_bytes : (packet n : ℕ) → packet < 2 ^ 32 → n < 256 → IsBytes (record_octets packet n)
-record_bytes packet n h k (suc (suc (suc (suc (suc (suc zero)))))) = k
-record_bytes packet n h k _ = omega arith
+record_bytes packet n h k h' = grind arith
 
 record AreRecords (n : ℕ) (records : List (List ℕ)) : Type 0 where
   are : AreWords (map encode_upper records)
@@ -115,8 +113,7 @@ records_plain packet a (suc n) h k =
     }
 
 version_bytes : IsBytes (6 ∷ 0 ∷ [])
-version_bytes (suc zero) = omega arith
-version_bytes _ = omega arith
+version_bytes h = grind arith
 
 version_back : version_of (version_text 0x0600) ≡ Some 0x0600
 version_back = ap (λ (o : Option (List ℕ)). option_and_then two_octets o) (printed_octets (6 ∷ 0 ∷ []) version_bytes)
@@ -133,19 +130,13 @@ submit_part node packet h k =
     more_words (codes "submit") (decimal node ∷ decimal 1 ∷ []) (version_text 0x0600 ∷ map encode_upper records) in
     let version = hex_word (6 ∷ 0 ∷ []) (omega arith) version_bytes in
     let all : packet_said (decimal node) (decimal 1) (version_text 0x0600) (map encode_upper records) ≡ Ok (submitted node packet) =
-    λ i. read_then kind.Number (printed_number 18446744073709551615 node (omega (arith, h)) small i) (λ node. read_then kind.Number (printed_number 255 1 (omega arith) (omega arith) i) (λ format.
-    read_then kind.Hex (version_back i) (λ version. read_or kind.Hex (line.Submit node format version) (rs.again i)))) in
+        search (arith, printed_number, version_back) in
     one 92 (submitted node packet)
     (record {
-      plain = record {
-        form = keyword.Submit;
-        words = words;
-        text = text;
-        is = name_word keyword.Submit;
-        are = (decimal_is_word node small, (decimal_is_word 1 (omega arith), (version, rs.are)));
-        known = refl;
-        again = packet_again Replay (decimal node) (decimal 1) (version_text 0x0600) records (map encode_upper records) (submitted node packet) (omega (arith, rs.long)) all;
-      };
+      plain = plain_as keyword.Submit (submitted node packet) words
+          (decimal_is_word node small, (decimal_is_word 1 (omega arith), (version, rs.are))) refl text
+          (packet_again Replay (decimal node) (decimal 1) (version_text 0x0600) records (map encode_upper records)
+          (submitted node packet) (omega (arith, rs.long)) all);
       no_setting = refl;
       no_end = refl;
     })
@@ -185,13 +176,11 @@ block_part e n g hn hg hp h =
     (part_line (at_part (first_moment + block_time * (n + 1)) moment) (writes_part e.gateways hg)))
 
 at_least : (n b : ℕ) → 1 ≤ n → b ≤ n * b
-at_least zero b h = absurd (omega (arith, h))
-at_least (suc n) b h = omega arith
+at_least n b h = grind arith
 
 many : (n b p : ℕ) → n ≤ 16 → p ≤ 20000 → 4 * n * b ≤ p + (4 * n - 1) → b ≤ n * b →
     ((512 * n + 1744) * b ≤ 12000000) × (b < 20000)
-many n b p hn hp blocks least =
-    let product : n * b ≤ 5016 = omega (arith, blocks, hn, hp) in omega (arith, product, least)
+many n b p hn hp blocks least = search arith
 
 blocks_part : (seed : ℕ) (e : Extent) → 1 ≤ e.nodes → e.nodes ≤ 16 → e.gateways ≤ 8 → e.packets ≤ 20000 →
     Part 12000000 (times (blocks e) (λ n. block e n (after_words (words_of_block e * n) (seeded seed))))
@@ -207,13 +196,13 @@ blocks_part seed e some hn hg hp =
 gateways_plain : (n : ℕ) → 1 ≤ n → n ≤ 8 → IsPlain (line.Gateways n)
 gateways_plain n low high =
     let small : n < 2 ^ 64 = omega (arith, high) in
-    plain_of keyword.Gateways line.Gateways n refl refl small
+    plain_as keyword.Gateways (line.Gateways n) (decimal n ∷ []) (decimal_is_word n small, tt) refl refl
     (λ rules content. rw (printed_between 1 8 n low high small) refl)
 
 nodes_plain : (n : ℕ) → 1 ≤ n → n ≤ 16 → IsPlain (line.Nodes n)
 nodes_plain n low high =
     let small : n < 2 ^ 64 = omega (arith, high) in
-    plain_of keyword.Nodes line.Nodes n refl refl small
+    plain_as keyword.Nodes (line.Nodes n) (decimal n ∷ []) (decimal_is_word n small, tt) refl refl
     (λ rules content. rw (printed_between 1 16 n low high small) refl)
 
 -- The sample.

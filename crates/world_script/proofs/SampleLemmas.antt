@@ -1,5 +1,5 @@
 -- Lemmas on samples: lists that grow by one number at their end.
-use Rattle.std.proofs.Common.{◌≡◌, ℕ, zero, suc, ◌+◌, ◌*◌, ◌%◌, ◌≤◌, Bool, true, false, if◌then◌else◌, Option, List, [], ◌∷◌, ◌++◌, map, filter, refl, ap, sym, ◌∙◌, arith, append_assoc}
+use Rattle.std.proofs.Common.{◌≡◌, ℕ, zero, suc, ◌+◌, ◌*◌, ◌%◌, ◌≤◌, Bool, if◌then◌else◌, Option, List, [], ◌∷◌, ◌++◌, map, filter, refl, ap, sym, ◌∙◌, arith, append_assoc}
 use Rattle.std.proofs.lemmas.Bool.{le-ltb}
 use Rattle.std.proofs.lemmas.List.{map-append, map_push, flat_map_more}
 use Rattle.std.proofs.lemmas.List.Elements.{filter-append}
@@ -20,17 +20,7 @@ range-snoc a (suc n) = ap (λ (ms : List ℕ). a ∷ ms) (range-snoc (a + 1) n �
 range_grows : {B : Type 0} (build : List ℕ → List B) (one : ℕ → List B) → ((ns : List ℕ) (x : ℕ) → build (ns ++ x ∷ []) ≡ build ns ++ one x) →
     (a n m : ℕ) (old now new : List B) → m ≡ a + n → now ≡ old ++ build (range_with_len a n) → new ≡ now ++ one m →
     new ≡ old ++ build (range_with_len a (n + 1))
-range_grows build one snoc a n m old now new is so_far grown =
-    let next : n + 1 ≡ suc n = omega arith in
-    cc (
-      is,
-      so_far,
-      grown,
-      next,
-      append_assoc old (build (range_with_len a n)) (one (a + n)),
-      snoc (range_with_len a n) (a + n),
-      range-snoc a n,
-    )
+range_grows build one snoc a n m old now new is so_far grown = search (arith, append_assoc, range-snoc)
 
 -- one more round
 pub flat_range : {B : Type 0} (f : ℕ → List B) (a n m : ℕ) (old now new : List B) → m ≡ a + n →
@@ -44,8 +34,7 @@ map_range f = range_grows (map f) (λ m. f m ∷ []) (map_push f)
 
 -- where the number passes or doesn't
 filter_one : {B : Type 0} (f : ℕ → B) (p : ℕ → Bool) (x : ℕ) → map f (filter p (x ∷ [])) ≡ (if p x then f x ∷ [] else [])
-filter_one f p x =
-    elim (p x) as (λ (b : Bool). map f (if b then x ∷ [] else []) ≡ (if b then f x ∷ [] else [])) [ true ↦ refl | false ↦ refl ]
+filter_one f p x = search arith
 
 pub filter_range : {B : Type 0} (f : ℕ → B) (p : ℕ → Bool) (a n m : ℕ) (old now new : List B) → m ≡ a + n →
     now ≡ old ++ map f (filter p (range_with_len a n)) → new ≡ now ++ (if p m then f m ∷ [] else []) →
@@ -59,12 +48,7 @@ filter_range f p = range_grows (λ ns. map f (filter p ns)) (λ m. if p m then f
 pub word_drawn : (g before after : Lcg) (n drawn : ℕ) → before ≡ after_words n g → (drawn, after) ≡ pcg32 before →
     (drawn ≡ word g n) × (after ≡ after_words (n + 1) g)
 unfolding word after_words
-word_drawn g before after n drawn so_far e =
-    let next : suc n ≡ n + 1 = omega arith in
-    let both : (drawn, after) ≡ pcg32 (after_words n g) = e ∙ ap pcg32 so_far in (
-      ap (λ (p : ℕ × Lcg). p.0) both,
-      ap (λ (p : ℕ × Lcg). p.1) both ∙ ap (λ (m : ℕ). after_words m g) {x = suc n} next,
-    )
+word_drawn g before after n drawn so_far e = search arith
 
 -- the words of two parts, one after the other
 pub words_append : (m n : ℕ) (g : Lcg) → after_words n (after_words m g) ≡ after_words (m + n) g
@@ -110,14 +94,7 @@ pub block_step : (e : Extent) (g before after : Lcg) (n : ℕ) (old now new : Li
     new ≡ now ++ block e n before →
     (new ≡ old ++ flat_map (λ n. block e n (after_words (words_of_block e * n) g)) (range_with_len 0 (n + 1)))
     × (after ≡ after_words (words_of_block e * (n + 1)) g)
-block_step e g before after n old now new so_far drawn lines grown =
-    let same : words_of_block e * n + words_of_block e ≡ words_of_block e * (n + 1) = omega arith in
-    let round : new ≡ now ++ block e n (after_words (words_of_block e * n) g) =
-    grown ∙ ap (λ (h : Lcg). now ++ block e n h) so_far in (
-      flat_range (λ n. block e n (after_words (words_of_block e * n) g)) 0 n n old now new (omega arith) lines round,
-      drawn ∙ ap (λ (h : Lcg). after_words (words_of_block e) h) so_far
-          ∙ words_append (words_of_block e * n) (words_of_block e) g ∙ ap (λ (m : ℕ). after_words m g) same,
-    )
+block_step e g before after n old now new so_far drawn lines grown = search (arith, flat_range, words_append)
 
 pub stormy_stopped : (e : Extent) (g after : Lcg) (drawn : ℕ) (old new : List Line) → 2 ≤ e.gateways → (drawn, after) ≡ pcg32 g →
     new ≡ old ++ stopped_during e (1 + drawn % e.gateways) after → new ≡ old ++ stormy e g

@@ -1,5 +1,5 @@
 -- Lemmas on the lines of samples: each is words, and how long it is.
-use Rattle.std.proofs.Common.{◌≡◌, ℕ, zero, suc, ◌+◌, ◌*◌, ◌^◌, ◌<◌, ◌≤◌, ◌&&◌, ◌||◌, Bool, true, false, if◌then◌else◌, List, [], ◌∷◌, ◌++◌, length, map, filter, Option, Some, Ok, refl, ap, sym, ◌∙◌, subst, arith, length-append}
+use Rattle.std.proofs.Common.{◌≡◌, ℕ, zero, suc, ◌+◌, ◌*◌, ◌^◌, ◌<◌, ◌≤◌, ◌&&◌, ◌||◌, Bool, true, false, if◌then◌else◌, List, [], ◌∷◌, ◌++◌, length, map, filter, Option, Some, Ok, refl, ap, ◌∙◌, subst, arith, length-append}
 use Rattle.std.proofs.lemmas.Fmt.{length-decimal-le}
 use Rattle.std.proofs.lemmas.Grind.{flat_map-append}
 use Rattle.std.proofs.lemmas.List.Folds.{list_any-append}
@@ -8,8 +8,7 @@ use Rattle.std.specs.List.{flat_map, list_any, range_with_len}
 use Rattle.world_script.specs.Forms.{is_setting, keyword_of}
 use Rattle.world_script.specs.Printing.{line_text, lines_text, words_text}
 use Rattle.world_script.specs.Saying.{one_number, read_or, said_as, said_by}
-use Rattle.world_script.specs.Script.{contented, is_action_line, is_end_line, progress_of}
-use Rattle.world_script.specs.Text.{is_printable}
+use Rattle.world_script.specs.Script.{is_action_line, is_end_line}
 use Rattle.world_script.specs.declared.fault.InputKind.TheVariants as kind
 use Rattle.world_script.specs.declared.keyword.Keyword.{Keyword}
 use Rattle.world_script.specs.declared.keyword.Keyword.TheVariants as keyword
@@ -39,8 +38,7 @@ pub record IsPlain (said : Line) : Type 0 where
 
 -- the name of each form is a word
 pub name_word : (form : Keyword) → IsWord (name form)
-name_word keyword.At = (are_words (name keyword.At) refl).0
-name_word form = (are_words (name form) refl).0
+name_word form = grind (arith, are_words, name)
 
 -- it may stand after the settings, and isn't the end
 pub record IsDone (said : Line) : Type 0 where
@@ -56,29 +54,20 @@ pub plain_sayable : (before : List Line) (said : Line) (p : IsPlain said) → li
     (is_setting p.form && list_any is_action_line before) ≡ false →
     IsSayable Replay before said
 plain_sayable before said p going early =
-    let text = name p.form ++ words_text p.words in
-    let plain : is_printable text ≡ true = joined_printable (name p.form) p.words p.is p.are in
-    record {
-      plain = subst (λ (t : List ℕ). is_printable t ≡ true) (sym p.text) plain;
-      again = λ size. subst (λ (t : List ℕ). contented (progress_of Replay size before) t ≡ Ok said) (sym p.text)
-          (again_by_words (progress_of Replay size before) p.form said text (name p.form) p.words going early (names_show p.form (words_text p.words)) plain
-          (words_of_joined (name p.form) p.words p.is p.are) p.known (p.again _ text));
-    }
+    search (arith, name, joined_printable, again_by_words, names_show, words_of_joined, p.again)
 
 pub no_end_more : (before : List Line) (said : Line) → list_any is_end_line before ≡ false →
     is_end_line said ≡ false → list_any is_end_line (before ++ said ∷ []) ≡ false
 no_end_more before said h k = list_any-append is_end_line before (said ∷ []) ∙ (λ i. h i || (k i || false))
 
+abbrev pub plain_as : (form : Keyword) (said : Line) (words : List (List ℕ)) → AreWords words →
+    keyword_of Replay (name form) ≡ Ok form → line_text Replay said ≡ name form ++ words_text words →
+    ((rules : ℕ) (content : List ℕ) → said_by Replay form rules content words ≡ Ok said) → IsPlain said
+plain_as form said words are known text again =
+    record { form = form; words = words; text = text; is = name_word form; are = are; known = known; again = again }
+
 the_end : IsPlain line.End
-the_end = record {
-  form = keyword.End;
-  words = [];
-  text = refl;
-  is = name_word keyword.End;
-  are = tt;
-  known = refl;
-  again = λ rules content. refl;
-}
+the_end = plain_as keyword.End line.End [] tt refl refl (λ rules content. refl)
 
 pub done_then_end : (before lines : List Line) → AreDone lines → list_any is_end_line before ≡ false →
     AreSayable Replay before (lines ++ line.End ∷ [])
@@ -105,14 +94,10 @@ done_then [] ys h k = k
 done_then (said ∷ xs) ys h k = (h.0, done_then xs ys h.1 k)
 
 pub part_then : {a b : ℕ} {xs ys : List Line} → Part a xs → Part b ys → Part (a + b) (xs ++ ys)
-part_then {xs = xs} {ys = ys} p q =
-    let long : length (lines_text Replay (xs ++ ys)) ≡ length (lines_text Replay xs) + length (lines_text Replay ys) =
-    ap length (flat_map-append (λ (said : Line). line_text Replay said ++ 10 ∷ []) xs ys) ∙ length-append (lines_text Replay xs) (lines_text Replay ys) in
-    record { done = done_then xs ys p.done q.done; short = omega (arith, long, p.short, q.short) }
+part_then {xs = xs} {ys = ys} p q = search (arith, flat_map-append, length-append, done_then)
 
 pub one : (a : ℕ) (said : Line) → IsDone said → length (line_text Replay said) + 1 ≤ a → Part a (said ∷ [])
-one a said h fits =
-    record { done = (h, tt); short = omega (arith, fits, length-append (line_text Replay said ++ 10 ∷ []) [], length-append (line_text Replay said) (10 ∷ [])) }
+one a said h fits = search (arith, length-append)
 
 pub part_line : {a b : ℕ} {said : Line} {lines : List Line} → Part a (said ∷ []) → Part b lines → Part (a + b) (said ∷ lines)
 part_line p q = part_then p q
@@ -147,27 +132,17 @@ part_map most make a n h =
 
 -- Lines of one number.
 
-abbrev pub plain_of : (form : Keyword) (make : ℕ → Line) (n : ℕ) → keyword_of Replay (name form) ≡ Ok form →
-    line_text Replay (make n) ≡ name form ++ words_text (decimal n ∷ []) → n < 2 ^ 64 →
-    ((rules : ℕ) (content : List ℕ) → said_by Replay form rules content (decimal n ∷ []) ≡ Ok (make n)) → IsPlain (make n)
-plain_of form make n known shape small again =
-    record {
-      form = form;
-      words = decimal n ∷ [];
-      text = shape;
-      is = name_word form;
-      are = (decimal_is_word n small, tt);
-      known = known;
-      again = again;
-    }
-
 numbered : (form : Keyword) (make : ℕ → Line) (digits n : ℕ) → keyword_of Replay (name form) ≡ Ok form →
     is_setting form ≡ false → ((m : ℕ) → (line_text Replay (make m) ≡ name form ++ words_text (decimal m ∷ [])) × (is_end_line (make m) ≡ false)) →
     ((rules : ℕ) (content : List ℕ) → said_by Replay form rules content (decimal n ∷ []) ≡ Ok (make n)) →
     (n < 2 ^ 64) × (0 < digits) × (n < 10 ^ digits) → Part (length (name form) + digits + 2) (make n ∷ [])
 numbered form make digits n known setting shape again fits =
     one (length (name form) + digits + 2) (make n)
-    (record { plain = plain_of form make n known (shape n).0 fits.0 again; no_setting = setting; no_end = (shape n).1 })
+    (record {
+      plain = plain_as form (make n) (decimal n ∷ []) (decimal_is_word n fits.0, tt) known (shape n).0 again;
+      no_setting = setting;
+      no_end = (shape n).1;
+    })
     (omega (
       arith,
       ap length (shape n).0,
@@ -217,15 +192,7 @@ pub flow_part : Part 5 (line.Flow ∷ [])
 flow_part =
     one 5 line.Flow
     (record {
-      plain = record {
-        form = keyword.Flow;
-        words = [];
-        text = refl;
-        is = name_word keyword.Flow;
-        are = tt;
-        known = refl;
-        again = λ rules content. refl;
-      };
+      plain = plain_as keyword.Flow line.Flow [] tt refl refl (λ rules content. refl);
       no_setting = refl;
       no_end = refl;
     })

@@ -1,5 +1,6 @@
 -- Lemmas on samples: the world takes each line of one.
 use Rattle.std.proofs.Common.{◌≡◌, ℕ, zero, suc, ◌+◌, ◌-◌, ◌*◌, ◌%◌, ◌<◌, ◌≤◌, min, not, ◌||◌, ◌==◌, nat_le, nat_lt, Bool, true, false, if◌then◌else◌, List, [], ◌∷◌, ◌++◌, map, filter, Option, Some, None, refl, ap, subst, arith, le-leb, eq-eqb, mod-lt, ◌&&◌}
+use Rattle.std.proofs.lemmas.Bool.Decides.{nat_tests}
 use Rattle.std.proofs.lemmas.Bool.{and_from, and_parts, or_from, or_parts}
 use Rattle.std.specs.List.{flat_map, range_with_len, list_any}
 use Rattle.rand_pcg.specs.Lcg.{Lcg}
@@ -28,11 +29,7 @@ none s = record { taken = refl; after = refl; acts = refl }
 
 first : (from : Scene) (said : Line) {to : Scene} {lines : List Line} → takes from said ≡ true →
     is_setting_line said ≡ false → Leads (after_line from said) lines to → Leads from (said ∷ lines) to
-first from said {lines = lines} h quiet later = record {
-  taken = and_from (takes from said) (takes_all (after_line from said) lines) h later.taken;
-  after = later.after;
-  acts = or_from (is_setting_line said) (list_any is_setting_line lines) quiet later.acts;
-}
+first from said {lines = lines} h quiet later = search (arith, and_from, or_from)
 
 -- a line that leaves the scene as it is
 stays : (s : Scene) (said : Line) {to : Scene} {lines : List Line} → takes s said ≡ true → after_line s said ≡ s →
@@ -93,25 +90,20 @@ stopped_ones None = []
 stopped_ones (Some gateway) = gateway ∷ []
 
 not_less : (b : Bool) → (not b) ≡ true → (not (b || false)) ≡ true
-not_less true h = h
-not_less false h = refl
+not_less b h = grind arith
 
 gateway_there : (e : Extent) (gateway : ℕ) → 1 ≤ gateway → gateway ≤ e.gateways →
     (nat_le 1 gateway && nat_le gateway e.gateways) ≡ true
-gateway_there e gateway low high =
-    and_from (nat_le 1 gateway) (nat_le gateway e.gateways) (le-leb 1 gateway low) (le-leb gateway e.gateways high)
+gateway_there e gateway low high = search (arith, nat_tests, and_from, le-leb)
 
 runs_there : (e : Extent) (moment gateway : ℕ) (stopped : Option ℕ) → 1 ≤ gateway → gateway ≤ e.gateways →
     runs stopped gateway ≡ true →
     has_running (scene e moment (stopped_ones stopped)) gateway ≡ true
-runs_there e moment gateway None low high h = and_from _ true (gateway_there e gateway low high) refl
-runs_there e moment gateway (Some down) low high h =
-    and_from _ (not (is_stopped (scene e moment (down ∷ [])) gateway)) (gateway_there e gateway low high) (not_less (down == gateway) h)
+runs_there e moment gateway stopped low high h = grind (arith, and_from, gateway_there, not_less)
 
 node_there : (e : Extent) (moment node : ℕ) (stopped : List ℕ) → 1 ≤ node → node ≤ e.nodes →
     has_node (scene e moment stopped) node ≡ true
-node_there e moment node stopped low high =
-    and_from (nat_le 1 node) (nat_le node e.nodes) (le-leb 1 node low) (le-leb node e.nodes high)
+node_there e moment node stopped low high = search (arith, nat_tests, and_from, le-leb)
 
 ticks_taken : (e : Extent) (moment : ℕ) (stopped : List ℕ) →
     Leads (scene e moment stopped) (ticks e.nodes) (scene e moment stopped)

@@ -1,5 +1,6 @@
--- Lemmas on the lines of a script, for the loops that read and print one a turn.
-use Rattle.std.proofs.Common.{◌≡◌, ℕ, ◌+◌, ◌<◌, List, [], ◌∷◌, ◌++◌, length, take, get_or, map, ap, sym, ◌∙◌, append_assoc, ◌||◌, Bool, true, false, if◌then◌else◌, count_by, Ok, Err, arith, length-append}
+-- Lemmas on the lines of a script: loops that read and print one a turn, a line of a feed that is a datagram with its
+-- octets in one word, and that settings stand before all other lines.
+use Rattle.std.proofs.Common.{◌≡◌, ℕ, ◌+◌, ◌<◌, List, [], ◌∷◌, ◌++◌, length, take, get_or, map, ap, sym, ◌∙◌, append_assoc, ◌||◌, Bool, true, false, if◌then◌else◌, count_by, Ok, Err, arith, length-append, ◌≤◌, nat_lt, Some, None, refl, append-nil, codes, not}
 use Rattle.std.proofs.lemmas.List.Folds.{flat_map-map, list_any-append}
 use Rattle.std.specs.List.{flat_map, list_any}
 use Rattle.hex.specs.Hex.{encode_upper}
@@ -10,17 +11,35 @@ use Rattle.std.proofs.lemmas.List.{flat_map_more, take_more}
 use Rattle.std.proofs.Math.Bool.{or-false}
 use Rattle.std.proofs.lemmas.List.Sums.{fold-append}
 use Rattle.world_script.specs.Outcome.{progress_after}
-use Rattle.world_script.specs.Script.{ended_by, is_action_line, is_end_line, is_rule_line, progress_of, reading_of, script_after, script_in}
-use Rattle.world_script.specs.Text.{RawLine, line_size}
+use Rattle.world_script.specs.Script.{ended_by, is_action_line, progress_of, reading_of, script_after, script_in, contented, most_text, is_setting_line}
+use Rattle.world_script.specs.Text.{RawLine, line_size, is_blank, is_printable, line_content, raw_lines}
 use Rattle.world_script.specs.declared.fault.InputKind.{InputKind}
-use Rattle.world_script.specs.declared.fault.InputKind.TheVariants.{NoEnd}
+use Rattle.world_script.specs.declared.fault.InputKind.TheVariants.{NoEnd, TooLong}
 use Rattle.world_script.specs.declared.progress.Progress.{Progress}
+use Rattle.std.proofs.lemmas.Option.{same_Some}
+use Rattle.std.proofs.lemmas.Slice.Eq.{bytes_eq-Decides}
+use Rattle.std.specs.Str.{bytes_eq}
+use Rattle.gw_base.specs.declared.address.Addr.{Addr}
+use Rattle.route_filter.specs.Words.{is_empty, octets_in, words_of}
+use Rattle.world_script.specs.Saying.{behind_in, one_datagram, read_or, read_then}
+use Rattle.world_script.specs.Values.{address_of}
+use Rattle.world_script.specs.declared.fault.InputKind.TheVariants as kind
+use Rattle.world_script.specs.Forms.{keyword_of}
+use Rattle.world_script.specs.declared.keyword.Keyword.TheVariants.{In}
+use Rattle.world_script.specs.declared.kind.ScriptKind.TheVariants.{Feed}
+use Rattle.world_script.specs.declared.line.Line.TheVariants as line
+use Rattle.world_script.proofs.AddressLemmas.{address_word, cut_joined}
+use Rattle.world_script.proofs.HexadecimalLemmas.{octets_glyphs, one_word}
+use Rattle.world_script.proofs.LineLemmas.{again_by_words, line_printed, onward_ok}
+use Rattle.world_script.proofs.ValueLemmas.{then_some, where_some, ok_if, passed}
+use Rattle.world_script.proofs.WordLemmas.{AreWords, IsWord, joined_printable, words_of_joined}
+use Rattle.std.proofs.lemmas.Bool.{not-true, cond_both}
+use Rattle.world_script.specs.World.{are_settings_first}
 
 -- one more item of a list
 more : {A : Type 0} (f : A → List ℕ) (xs : List A) (i : ℕ) (d : A) (old now new : List ℕ) → i < length xs →
     now ≡ old ++ flat_map f (take i xs) → new ≡ now ++ f (get_or xs i d) → new ≡ old ++ flat_map f (take (i + 1) xs)
-more f xs i d old now new h so_far grown =
-    rw (grown, so_far, take_more xs i d h) (flat_map_more f old (take i xs) (get_or xs i d))
+more f xs i d old now new h so_far grown = search (arith, take_more, flat_map_more)
 
 pub words_more : (records : List (List ℕ)) (i : ℕ) (r : List ℕ) (old now new : List ℕ) → i < length records → r ≡ get_or records i r →
     now ≡ old ++ words_text (map encode_upper (take i records)) → new ≡ now ++ 32 ∷ encode_upper r →
@@ -50,14 +69,7 @@ length_after before said = omega (arith, length-append before (said ∷ []))
 
 pub progress_of-append : (of : ScriptKind) (size more : ℕ) (before : List Line) (said : Line) →
     progress_of of (size + more) (before ++ said ∷ []) ≡ progress_after (progress_of of size before) said more
-progress_of-append of size more before said = λ i. record {
-  kind = of;
-  size = size + more;
-  place = length_after before said i;
-  has_end = any_after is_end_line before said i;
-  has_action = any_after is_action_line before said i;
-  rules = count_after is_rule_line before said i;
-}
+progress_of-append of size more before said = search (arith, length_after, any_after, count_after)
 
 -- the progress follows the lines that were read
 pub step_follows : (of : ScriptKind) (progress next : Progress) (lines more : List Line) (said : Line) (size : ℕ) →
@@ -81,9 +93,7 @@ line_read of text progress next lines more rest raws raw said size so_far follow
 pub line_refused : (of : ScriptKind) (text : List ℕ) (progress : Progress) (lines : List Line) (rest raws : List RawLine) (raw : RawLine) (kind : InputKind) →
     script_after of progress.size lines rest ≡ script_in of text → progress ≡ progress_of of progress.size lines → rest ≡ raw ∷ raws →
     reading_of progress raw ≡ Err kind → script_in of text ≡ Err (record { place = progress.place; kind = kind })
-line_refused of text progress lines rest raws raw kind so_far follows here e =
-    sym (rw (here, ap (λ (p : Progress). reading_of p raw) (sym follows) ∙ e) at so_far)
-    ∙ ap (λ n. Err (record { place = n; kind = kind })) (ap (λ (p : Progress). p.place) (sym follows))
+line_refused of text progress lines rest raws raw kind so_far follows here e = search arith
 
 -- No line is left.
 
@@ -94,8 +104,7 @@ ends p b lines e = ap (λ (v : Bool). if v then Ok lines else Err (record { plac
 at_end : (of : ScriptKind) (text : List ℕ) (progress : Progress) (lines : List Line) (rest : List RawLine) (b : Bool) →
     script_after of progress.size lines rest ≡ script_in of text → progress ≡ progress_of of progress.size lines → rest ≡ [] → progress.has_end ≡ b →
     script_in of text ≡ (if b then Ok lines else Err (record { place = progress.place; kind = NoEnd }))
-at_end of text progress lines rest b so_far follows none e =
-    sym so_far ∙ ap (script_after of progress.size lines) none ∙ ap (λ (p : Progress). ended_by p lines) (sym follows) ∙ ends progress b lines e
+at_end of text progress lines rest b so_far follows none e = cc (ends progress b lines e)
 
 -- there was an `end`
 pub script_read : (of : ScriptKind) (text : List ℕ) (progress : Progress) (lines : List Line) (rest : List RawLine) →
@@ -108,3 +117,73 @@ pub no_end : (of : ScriptKind) (text : List ℕ) (progress : Progress) (lines : 
     script_after of progress.size lines rest ≡ script_in of text → progress ≡ progress_of of progress.size lines → rest ≡ [] → progress.has_end ≡ false →
     script_in of text ≡ Err (record { place = progress.place; kind = NoEnd })
 no_end of text progress lines rest so_far follows none e = at_end of text progress lines rest false so_far follows none e
+
+-- the first word of most lines of a feed
+pub in_feed : (of : ScriptKind) (word : List ℕ) → of ≡ Feed → bytes_eq word (codes "in") ≡ true → Ok In ≡ keyword_of of word
+in_feed of word feed e = search (arith, bytes_eq-Decides)
+
+-- its text
+text_of : (text first later : List ℕ) → behind_in text ≡ Some (first, later) → text ≡ codes "in" ++ words_text (first ∷ later ∷ [])
+text_of text first later h = grind (arith, where_some, bytes_eq-Decides, cut_joined, append-nil)
+
+-- an address and octets that are one word are read
+contented_datagram : (before : Progress) (text from word octets : List ℕ) (sender : Addr) → before.kind ≡ Feed → before.has_end ≡ false →
+    text ≡ codes "in" ++ words_text (from ∷ word ∷ []) → 0 < length word → address_of from ≡ Some sender → octets_in word ≡ Some octets →
+    contented before text ≡ Ok (line.Datagram sender octets)
+contented_datagram before text from word octets sender feed going is some address spelt =
+    let name : IsWord (codes "in") = (omega arith, (omega arith, omega arith, (omega arith, omega arith, tt))) in
+    let words : AreWords (from ∷ word ∷ []) = (address_word from sender address, ((some, octets_glyphs word octets spelt), tt)) in
+    let blank : is_blank text ≡ false = ap is_blank is in
+    let printable : is_printable text ≡ true = ap is_printable is ∙ joined_printable (codes "in") (from ∷ word ∷ []) name words in
+    let split : words_of text ≡ codes "in" ∷ from ∷ word ∷ [] = ap words_of is ∙ words_of_joined (codes "in") (from ∷ word ∷ []) name words in
+    again_by_words before In (line.Datagram sender octets) text (codes "in") (from ∷ word ∷ []) going refl blank printable
+    split (ap (λ (k : ScriptKind). keyword_of k (codes "in")) feed)
+    (λ i. read_then kind.Number (address i) (λ (found : Addr). read_or kind.Hex (line.Datagram found) ((sym (one_word word) ∙ spelt) i)))
+
+some_word : (word found : List ℕ) → (if is_empty word then None else Some word) ≡ Some found → (word ≡ found) × (0 < length word)
+some_word word found h = grind (arith, same_Some)
+
+-- a datagram of one word is what its line says
+said_whole : (before : Progress) (text : List ℕ) (said : Line) → before.kind ≡ Feed → before.has_end ≡ false →
+    one_datagram text ≡ Some said → contented before text ≡ Ok said
+said_whole before text said feed going h =
+    let parts = then_some (behind_in text) _ said h in
+    let word = then_some (if is_empty parts.0.1 then None else Some parts.0.1) _ said parts.2 in
+    let from = then_some (address_of parts.0.0) _ said word.2 in
+    let octets = then_some (octets_in word.0) _ said from.2 in
+    let whole = some_word parts.0.1 word.0 word.1 in
+    contented_datagram before text parts.0.0 parts.0.1 octets.0 from.0 feed going
+    (text_of text parts.0.0 parts.0.1 parts.1) whole.1 from.1 (ap octets_in whole.0 ∙ octets.1)
+    ∙ ap Ok (same_Some (line.Datagram from.0 octets.0) said octets.2)
+
+pub not_long : (n : ℕ) → n ≤ most_text → nat_lt most_text n ≡ false
+not_long n h = grind (arith, h)
+
+pub is_read : (before : Progress) (raw : RawLine) (said : Line) → before.size + line_size raw ≤ most_text →
+    before.kind ≡ Feed → before.has_end ≡ false → Some said ≡ one_datagram (line_content raw) → reading_of before raw ≡ Ok said
+is_read before raw said short feed going h =
+    (λ i. if not_long (before.size + line_size raw) short i then Err kind.TooLong else contented before (line_content raw))
+    ∙ said_whole before (line_content raw) said feed going (sym h)
+
+first_append : (before : List Line) (said : Line) → are_settings_first before ≡ true
+    → (list_any is_action_line before ≡ true → is_setting_line said ≡ false) → are_settings_first (before ++ said ∷ []) ≡ true
+first_append [] said h k = cond_both (is_action_line said) true true (λ (b : Bool). b ≡ true) (λ e. refl) (λ e. refl)
+first_append (x ∷ before) said h k =
+    cond_both (is_action_line x) _ _ (λ (b : Bool). b ≡ true)
+    (λ e. ap not (list_any-append is_setting_line before (said ∷ [])
+    ∙ ap (λ (b : Bool). b || (is_setting_line said || false)) (not-true (list_any is_setting_line before) (rw e at h))
+    ∙ ap (λ (b : Bool). b || false) (k (rw e))))
+    (λ e. first_append before said (rw e at h) (λ late. k (rw e late)))
+
+settings_after : (of : ScriptKind) (size : ℕ) (before : List Line) (raws : List RawLine) (lines : List Line) → are_settings_first before ≡ true
+    → script_after of size before raws ≡ Ok lines → are_settings_first lines ≡ true
+settings_after of size before [] lines first is = search (arith, ok_if)
+settings_after of size before (raw ∷ raws) lines first is =
+    let p = onward_ok (length before + 1) (reading_of (progress_of of size before) raw) _ lines is in
+    let q = passed (nat_lt most_text (size + line_size raw)) TooLong _ p.0 p.1 in
+    settings_after of (size + line_size raw) (before ++ p.0 ∷ []) raws lines
+    (first_append before p.0 first (line_printed of size before (line_content raw) p.0 q.1).late) p.2
+
+-- the settings of a script that is read stand before its other lines
+pub settings_first : (of : ScriptKind) (text : List ℕ) (lines : List Line) → script_in of text ≡ Ok lines → are_settings_first lines ≡ true
+settings_first of text lines is = settings_after of 0 [] (raw_lines text) lines refl is

@@ -1,5 +1,5 @@
 -- Lemmas on numbers and other values: how a number is read, a digit at a time, and printed as the word that says it.
-use Rattle.std.proofs.Common.{◌≡◌, ℕ, suc, ◌+◌, ◌*◌, ◌<◌, ◌≤◌, nat_le, Bool, true, false, ◌&&◌, if◌then◌else◌, List, [], ◌∷◌, length, drop, get_or, Option, Some, None, refl, ap, sym, ◌∙◌, arith, zero, ◌^◌, not, ◌==◌, option_and_then, subst, le-leb, Ok, Err, Result, ◌⊎◌, inl, inr}
+use Rattle.std.proofs.Common.{◌≡◌, ℕ, suc, ◌+◌, ◌*◌, ◌<◌, ◌≤◌, nat_le, Bool, true, false, if◌then◌else◌, List, [], ◌∷◌, length, drop, get_or, Option, Some, None, refl, ap, sym, ◌∙◌, arith, ◌^◌, not, ◌==◌, option_and_then, subst, le-leb, Ok, Err, Result, ◌⊎◌}
 use Rattle.std.proofs.Math.Seq.{drop-cons}
 use Rattle.std.proofs.lemmas.Bool.Decides.{nat_tests}
 use Rattle.std.proofs.lemmas.List.{at_drop_all}
@@ -29,28 +29,20 @@ above : (most n : ℕ) → most < n → at_most most n ≡ None
 above most n h = grind (arith, nat_tests)
 
 too_large : (b : Bool) (most n : ℕ) → most < n → (if b then at_most most n else None) ≡ None
-too_large true most n h = above most n h
-too_large false most n h = refl
+too_large b most n h = grind (arith, above)
 
 -- a number so large isn't followed by any that is small enough
 beyond : (most n : ℕ) (rest : List ℕ) → most < n → number_after most n rest ≡ None
-beyond most n rest h =
-    too_large (list_all is_ascii_digit rest) most (digits_value_after 10 n rest) (let g = grows n rest in omega arith)
+beyond most n rest h = search (arith, too_large, grows)
 
 one_more : (most n : ℕ) (rest : List ℕ) (small : Bool) → nat_le n 18446744073709551615 ≡ small → most ≤ 18446744073709551615 →
     number_after most n rest ≡ ((if small then Some n else None) >>= (λ v. number_after most v rest))
-one_more most n rest true e h = refl
-one_more most n rest false e h = beyond most n rest (grind (arith, nat_tests))
+one_more most n rest small e h = grind (arith, nat_tests, beyond)
 
 -- a digit more, or none that is small enough
 pub one_digit : (most n d : ℕ) (rest : List ℕ) → most ≤ 18446744073709551615 →
     number_after most n (d ∷ rest) ≡ (with_digit n d >>= (λ v. number_after most v rest))
-one_digit most n d rest h = by (is_ascii_digit d) refl
-  where
-    by : (digit : Bool) → is_ascii_digit d ≡ digit → (if digit && list_all is_ascii_digit rest then at_most most (digits_value_after 10 (n * 10 + digit_value d) rest) else None)
-        ≡ ((if digit then at_most 18446744073709551615 (n * 10 + digit_value d) else None) >>= (λ v. number_after most v rest))
-    by true e = one_more most (n * 10 + digit_value d) rest (nat_le (n * 10 + digit_value d) 18446744073709551615) refl h
-    by false e = refl
+one_digit most n d rest h = grind (arith, nat_tests, one_more)
 
 -- the digit at this place is taken
 pub taken : (most n next : ℕ) (word : List ℕ) (i : ℕ) → most ≤ 18446744073709551615 → i < length word → Some next ≡ with_digit n (get_or word i 0) →
@@ -64,10 +56,7 @@ taken most n next word i h within e =
 -- it isn't
 pub refused : (most n : ℕ) (word : List ℕ) (i : ℕ) → most ≤ 18446744073709551615 → i < length word → None ≡ with_digit n (get_or word i 0) →
     number_after most n (drop i word) ≡ None
-refused most n word i h within e =
-    ap (number_after most n) (drop-cons word i 0 within)
-    ∙ one_digit most n (get_or word i 0) (drop (suc i) word) h
-    ∙ ap (λ o. o >>= (λ v. number_after most v (drop (suc i) word))) (sym e)
+refused most n word i h within e = search (arith, drop-cons, one_digit)
 
 pub from_form : (most : ℕ) (word : List ℕ) → has_decimal_form word ≡ true → number_up_to most word ≡ number_after most 0 word
 from_form most word e = rw e
@@ -83,32 +72,26 @@ ended most n word i h = at_drop_all (number_after most n) word i h
 
 pub then_some : {A B : Type 0} (o : Option A) (f : A → Option B) (y : B) → option_and_then f o ≡ Some y →
     (x : A) × (o ≡ Some x) × (f x ≡ Some y)
-then_some None f y h = let no : ⊥ = cc in absurd no
-then_some (Some x) f y h = (x, refl, h)
+then_some o f y h = grind arith
 
 pub where_some : {A : Type 0} (b : Bool) (o : Option A) (x : A) → (if b then o else None) ≡ Some x →
     (b ≡ true) × (o ≡ Some x)
-where_some true o x h = (refl, h)
-where_some false o x h = let no : ⊥ = cc in absurd no
+where_some b o x h = grind arith
 
 pub ok_if : {A E : Type 0} (b : Bool) (x y : A) (e : E) → (if b then Ok x else Err e) ≡ Ok y → (b ≡ true) × (x ≡ y)
-ok_if true x y e h = (refl, cc)
-ok_if false x y e h = let no : ⊥ = cc in absurd no
+ok_if b x y e h = grind arith
 
 pub where_ok : {A E : Type 0} (b : Bool) (r : Result A E) (e : E) (x : A) → (if b then r else Err e) ≡ Ok x →
     (b ≡ true) × (r ≡ Ok x)
-where_ok true r e x h = (refl, h)
-where_ok false r e x h = let no : ⊥ = cc in absurd no
+where_ok b r e x h = grind arith
 
 pub passed : {A E : Type 0} (b : Bool) (e : E) (r : Result A E) (x : A) → (if b then Err e else r) ≡ Ok x →
     (b ≡ false) × (r ≡ Ok x)
-passed true e r x h = let no : ⊥ = cc in absurd no
-passed false e r x h = (refl, h)
+passed b e r x h = grind arith
 
 pub if_cases : {A : Type 0} (b : Bool) (x y r : A) → (if b then x else y) ≡ r →
     ((b ≡ true) × (x ≡ r)) ⊎ ((b ≡ false) × (y ≡ r))
-if_cases true x y r h = inl (refl, h)
-if_cases false x y r h = inr (refl, h)
+if_cases b x y r h = grind arith
 
 -- Numbers.
 
@@ -124,16 +107,13 @@ all_digits (c ∷ cs) e =
     let p = and_parts (is_ascii_digit c) (list_all is_ascii_digit cs) e in (below_ten c p.0, all_digits cs p.1)
 
 some_digit : (word : List ℕ) → has_decimal_form word ≡ true → 0 < length word
-some_digit [] e = cc
-some_digit (c ∷ cs) e = omega arith
+some_digit word e = grind arith
 
 not_zero : (d : ℕ) → not (d == 48) ≡ true → d ≡ 48 → ⊥
 not_zero d e z = let no : not (48 == 48) ≡ true = subst (λ (x : ℕ). not (x == 48) ≡ true) z e in cc
 
 no_lead : (word : List ℕ) → has_decimal_form word ≡ true → get_or word 0 0 ≡ 48 → length word ≡ 1
-no_lead [] e z = absurd (omega (arith, z))
-no_lead (d ∷ []) e z = refl
-no_lead (d ∷ c ∷ cs) e z = absurd (not_zero d e z)
+no_lead word e z = grind (arith, not_zero)
 
 decimal_word : (word : List ℕ) → is_decimal word ≡ true → digits_value 10 word < 2 ^ 64 →
     decimal (digits_value 10 word) ≡ word
@@ -144,21 +124,11 @@ decimal_word word e small =
 -- a number is printed as the word that says it
 pub number_printed : (most : ℕ) (word : List ℕ) (n : ℕ) → most < 2 ^ 64 → number_up_to most word ≡ Some n →
     (n ≤ most) × (word ≡ decimal n)
-number_printed most word n small h =
-    let p = where_some (is_decimal word) (at_most most (digits_value 10 word)) n h in
-    let q = where_some (nat_le (digits_value 10 word) most) (Some (digits_value 10 word)) n p.1 in
-    let same : digits_value 10 word ≡ n = same_Some (digits_value 10 word) n q.1 in
-    let within : digits_value 10 word ≤ most = leb-true (digits_value 10 word) most q.0 in (
-      subst (λ (v : ℕ). v ≤ most) same within,
-      sym (decimal_word word p.0 (omega (arith, within, small))) ∙ ap decimal same,
-    )
+number_printed most word n small h = search (arith, nat_tests, where_some, same_Some, leb-true, decimal_word)
 
 pub between_printed : (least most : ℕ) (word : List ℕ) (n : ℕ) → most < 2 ^ 64 →
     number_between least most word ≡ Some n → word ≡ decimal n
-between_printed least most word n small h =
-    let p = then_some (number_up_to most word) (λ n. if nat_le least n then Some n else None) n h in
-    let q = where_some (nat_le least p.0) (Some p.0) n p.2 in
-    (number_printed most word p.0 small p.1).1 ∙ ap decimal (same_Some p.0 n q.1)
+between_printed least most word n small h = search (arith, then_some, where_some, number_printed, same_Some)
 
 pub any_printed : (word : List ℕ) (n : ℕ) → number_of word ≡ Some n → word ≡ decimal n
 any_printed word n h = (number_printed 18446744073709551615 word n (omega arith) h).1
@@ -176,14 +146,10 @@ other_digit : (d : ℕ) → 48 < d → not (d == 48) ≡ true
 other_digit d h = let no : (d == 48) ≡ false = grind (arith, h) in rw no refl
 
 led : (ds : List ℕ) → 0 < length ds → 48 < get_or ds 0 0 → has_decimal_form ds ≡ true
-led [] some h = absurd (omega (arith, some))
-led (d ∷ []) some h = refl
-led (d ∷ e ∷ ds) some h = other_digit d h
+led ds some h = grind (arith, other_digit)
 
 decimal_form : (n : ℕ) → n < 2 ^ 64 → has_decimal_form (decimal n) ≡ true
-decimal_form zero h = ap has_decimal_form (decimal_digit 0 (omega arith))
-decimal_form (suc n) h =
-    led (decimal (suc n)) (decimal_is_IsNumeral (suc n) h).0.0 (first_decimal (suc n) (omega arith) h)
+decimal_form n h = grind (arith, decimal_digit, led, decimal_is_IsNumeral, first_decimal)
 
 decimal_reads : (n : ℕ) → n < 2 ^ 64 → is_decimal (decimal n) ≡ true
 decimal_reads n h = rw (decimal_form n h) (all_ascii (decimal n) (decimal_is_IsNumeral n h).0.1)

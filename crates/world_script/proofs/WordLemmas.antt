@@ -1,5 +1,6 @@
 -- Lemmas on the lines of a text, and on the words of a line.
-use Rattle.std.proofs.Common.{◌≡◌, ℕ, zero, suc, ◌+◌, ◌<◌, ◌≤◌, Bool, true, false, ◌&&◌, ◌==◌, if◌then◌else◌, List, [], ◌∷◌, length, take, drop, get_or, slice_index, Option, Some, None, option_map, refl, ap, sym, ◌∙◌, subst, arith, not, nat_le, ◌++◌, append-nil, append_assoc, length-append, filter}
+use Rattle.std.proofs.Common.{◌≡◌, ℕ, zero, suc, ◌+◌, ◌<◌, ◌≤◌, Bool, true, false, ◌&&◌, ◌==◌, if◌then◌else◌, List, [], ◌∷◌, length, take, drop, get_or, slice_index, Option, Some, None, option_map, refl, ap, sym, ◌∙◌, subst, arith, not, ◌++◌, append-nil, append_assoc, length-append, filter}
+use Rattle.std.proofs.lemmas.Bool.Decides.{nat_tests}
 use Rattle.std.proofs.Math.Bool.{and-true}
 use Rattle.std.proofs.Math.Seq.{drop-cons}
 use Rattle.std.proofs.lemmas.Bool.{false_from_ne_true, and_parts, leb-true}
@@ -21,14 +22,11 @@ LinesAre xs None = raw_lines xs ≡ one_line xs
 LinesAre xs (Some p) = raw_lines xs ≡ record { octets = p.0; ended = true } ∷ raw_lines p.1
 
 onto_one : (x : ℕ) (xs : List ℕ) → onto_line x (one_line xs) ≡ one_line (x ∷ xs)
-onto_one x [] = refl
-onto_one x (y ∷ ys) = refl
+onto_one x xs = grind arith
 
 lines_after : (x : ℕ) (xs : List ℕ) (b : Bool) → (x == 10) ≡ b → (parts : Option (List ℕ × List ℕ)) → LinesAre xs parts →
     LinesAre (x ∷ xs) (if b then Some ([], xs) else option_map (λ p. (x ∷ p.0, p.1)) parts)
-lines_after x xs true e parts h = rw e refl
-lines_after x xs false e None h = rw e (ap (onto_line x) h ∙ onto_one x xs)
-lines_after x xs false e (Some p) h = rw e (ap (onto_line x) h)
+lines_after x xs b e parts h = grind (arith, onto_one)
 
 lines_at : (xs : List ℕ) → LinesAre xs (cut_at 10 xs)
 lines_at [] = refl
@@ -41,8 +39,7 @@ lines_some xs before later e = subst (LinesAre xs) (sym e) (lines_at xs)
 
 -- none does
 pub lines_none : (xs : List ℕ) → 0 < length xs → None ≡ cut_at 10 xs → raw_lines xs ≡ record { octets = xs; ended = false } ∷ []
-lines_none [] h e = elim h [ ]
-lines_none (x ∷ xs) h e = subst (LinesAre (x ∷ xs)) (sym e) (lines_at (x ∷ xs))
+lines_none xs h e = grind (arith, lines_at)
 
 -- Cuts.
 
@@ -76,17 +73,13 @@ cut_missing separator (x ∷ xs) nowhere =
 -- Printable octets.
 
 joined_and : (a b c : Bool) → (a && (b && c)) ≡ ((a && b) && c)
-joined_and true b c = refl
-joined_and false b c = refl
+joined_and a b c = grind arith
 
 -- one octet more is looked at
 pub printable_more : (printable : Bool) (content : List ℕ) (i : ℕ) → i < length content →
     (printable && is_printable (drop i content))
     ≡ ((printable && is_in_range 32 126 (get_or content i 0)) && is_printable (drop (i + 1) content))
-printable_more printable content i h =
-    let here : i + 1 ≡ suc i = omega arith in
-    rw here (ap (λ (xs : List ℕ). printable && is_printable xs) (drop-cons content i 0 h)
-    ∙ joined_and printable (is_in_range 32 126 (get_or content i 0)) (is_printable (drop (suc i) content)))
+printable_more printable content i h = search (arith, drop-cons, joined_and)
 
 -- all were
 pub printable_all : (printable : Bool) (content : List ℕ) (i : ℕ) → length content ≤ i →
@@ -127,14 +120,10 @@ AllParts (part ∷ parts) = AllGlyphs part × AllParts parts
 
 pub printable_parts : (x : ℕ) (xs : List ℕ) → is_printable (x ∷ xs) ≡ true →
     (32 ≤ x) × (x ≤ 126) × (is_printable xs ≡ true)
-printable_parts x xs h =
-    let all = and_parts (is_in_range 32 126 x) (is_printable xs) h in
-    let here = and_parts (nat_le 32 x) (nat_le x 126) all.0 in
-    (leb-true 32 x here.0, leb-true x 126 here.1, all.1)
+printable_parts x xs h = search (arith, nat_tests, and_parts, leb-true)
 
 onto_glyphs : (x : ℕ) (parts : List (List ℕ)) → 32 < x → x ≤ 126 → AllParts parts → AllParts (onto_first x parts)
-onto_glyphs x [] low high h = ((low, high, tt), tt)
-onto_glyphs x (part ∷ parts) low high h = ((low, high, h.0), h.1)
+onto_glyphs x parts low high h = grind arith
 
 no_space : (x : ℕ) → 32 < x → (x == 32) ≡ false
 no_space x h = grind (arith, h)
@@ -144,8 +133,7 @@ a_glyph x e h = grind (arith, e, h)
 
 glyphs_after : (x : ℕ) (parts : List (List ℕ)) (b : Bool) → (x == 32) ≡ b → 32 ≤ x → x ≤ 126 → AllParts parts →
     AllParts (if b then [] ∷ parts else onto_first x parts)
-glyphs_after x parts true e low high h = (tt, h)
-glyphs_after x parts false e low high h = onto_glyphs x parts (a_glyph x e low) high h
+glyphs_after x parts b e low high h = grind (arith, onto_glyphs, a_glyph)
 
 parts_glyphs : (line : List ℕ) → is_printable line ≡ true → AllParts (parts_of line)
 parts_glyphs [] h = (tt, tt)
@@ -164,13 +152,11 @@ are_words line h = words_glyphs (parts_of line) (parts_glyphs line h)
 -- How long a line is.
 
 onto_span : (x : ℕ) (parts : List (List ℕ)) → 0 < span parts → span (onto_first x parts) ≡ span parts + 1
-onto_span x [] h = absurd (omega arith)
-onto_span x (part ∷ parts) h = omega arith
+onto_span x parts h = grind arith
 
 span_after : (x n : ℕ) (parts : List (List ℕ)) (b : Bool) → span parts ≡ n + 1 →
     span (if b then [] ∷ parts else onto_first x parts) ≡ n + 1 + 1
-span_after x n parts true h = omega (arith, h)
-span_after x n parts false h = omega (arith, h, onto_span x parts (omega (arith, h)))
+span_after x n parts b h = grind (arith, onto_span)
 
 parts_span : (line : List ℕ) → span (parts_of line) ≡ length line + 1
 parts_span [] = omega arith
@@ -198,8 +184,7 @@ split_last (x ∷ xs) h = rw (no_space x h.0) (ap (onto_first x) (split_last xs 
 joined_parts : (word : List ℕ) (words : List (List ℕ)) → AllGlyphs word → AreWords words →
     parts_of (word ++ words_text words) ≡ word ∷ words
 joined_parts word [] h hs = ap parts_of (append-nil word) ∙ split_last word h
-joined_parts word (next ∷ words) h hs =
-    split_at_space word (next ++ words_text words) h ∙ ap (λ (ws : List (List ℕ)). word ∷ ws) (joined_parts next words hs.0.1 hs.1)
+joined_parts word (next ∷ words) h hs = search (arith, split_at_space, (joined_parts next words hs.0.1 hs.1))
 
 all_kept : (words : List (List ℕ)) → AreWords words → filter (λ word. not (is_empty word)) words ≡ words
 all_kept [] h = refl
@@ -208,8 +193,7 @@ all_kept ((x ∷ xs) ∷ words) h = ap (λ (ws : List (List ℕ)). (x ∷ xs) �
 
 pub words_of_joined : (word : List ℕ) (words : List (List ℕ)) → IsWord word → AreWords words →
     words_of (word ++ words_text words) ≡ word ∷ words
-words_of_joined word words h hs =
-    ap (λ (ws : List (List ℕ)). filter (λ word. not (is_empty word)) ws) (joined_parts word words h.1 hs) ∙ all_kept (word ∷ words) (h, hs)
+words_of_joined word words h hs = cc (joined_parts word words h.1 hs, all_kept (word ∷ words) (h, hs))
 
 -- They are printable.
 
@@ -241,9 +225,7 @@ PartsAre xs (Some p) = parts_of xs ≡ p.0 ∷ parts_of p.1
 
 parts_after : (x : ℕ) (xs : List ℕ) (b : Bool) → (x == 32) ≡ b → (parts : Option (List ℕ × List ℕ)) → PartsAre xs parts →
     PartsAre (x ∷ xs) (if b then Some ([], xs) else option_map (λ p. (x ∷ p.0, p.1)) parts)
-parts_after x xs true e parts h = rw e refl
-parts_after x xs false e None h = rw e (ap (onto_first x) h)
-parts_after x xs false e (Some p) h = rw e (ap (onto_first x) h)
+parts_after x xs b e parts h = grind arith
 
 parts_at : (xs : List ℕ) → PartsAre xs (cut_at 32 xs)
 parts_at [] = refl
@@ -251,21 +233,13 @@ parts_at (x ∷ xs) = parts_after x xs (x == 32) refl (cut_at 32 xs) (parts_at x
 
 with_first : (word : List ℕ) (words : List (List ℕ)) →
     filter (λ w. not (is_empty w)) (word ∷ words) ≡ with_word word [] ++ filter (λ w. not (is_empty w)) words
-with_first [] words = refl
-with_first (x ∷ xs) words = refl
+with_first word words = grind arith
 
 -- a space stands in the rest of the line
 pub word_taken : (front new : List (List ℕ)) (xs before later : List ℕ) (all : List (List ℕ)) → Some (before, later) ≡ cut_at 32 xs →
     new ≡ front ++ with_word before [] → front ++ words_of xs ≡ all → new ++ words_of later ≡ all
-word_taken front new xs before later all e grown so_far =
-    let parts : parts_of xs ≡ before ∷ parts_of later = subst (PartsAre xs) (sym e) (parts_at xs) in
-    let words : words_of xs ≡ with_word before [] ++ words_of later =
-    ap (filter (λ w. not (is_empty w))) parts ∙ with_first before (parts_of later) in
-    ap (λ (ws : List (List ℕ)). ws ++ words_of later) grown ∙ append_assoc front (with_word before []) (words_of later)
-    ∙ ap (λ (ws : List (List ℕ)). front ++ ws) (sym words) ∙ so_far
+word_taken front new xs before later all e grown so_far = search (arith, parts_at, with_first, append_assoc)
 
 -- none does
 pub last_word : (xs : List ℕ) → None ≡ cut_at 32 xs → words_of xs ≡ with_word xs []
-last_word xs e =
-    let parts : parts_of xs ≡ xs ∷ [] = subst (PartsAre xs) (sym e) (parts_at xs) in
-    ap (filter (λ w. not (is_empty w))) parts ∙ with_first xs [] ∙ append-nil (with_word xs [])
+last_word xs e = search (arith, parts_at, with_first, append-nil)

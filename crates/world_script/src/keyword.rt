@@ -40,7 +40,7 @@ pub enum Keyword {
 
 impl Keyword {
     /// The form of a line of such a script whose first word is this one, or why it is refused.
-    #[tactic(auto, using(crate::proofs::DatagramLemmas::in_feed))]
+    #[tactic(auto, using(crate::proofs::ScriptLemmas::in_feed))]
     pub fn of(kind: ScriptKind, word: &[u8]) -> Result<Keyword, InputKind>
         ensures { result ≡ keyword_of kind word.now }
     {

@@ -9,7 +9,7 @@ ghost use Rattle.world_script.specs.declared.kind.ScriptKind.{ScriptKind};
 ghost use Rattle.world_script.specs.declared.line.Line.{Line};
 
 /// The settings of a script that is read stand before its other lines.
-#[tactic(auto, using(crate::proofs::ReadLemmas::settings_first))]
+#[tactic(auto, using(crate::proofs::ScriptLemmas::settings_first))]
 pub fn settings_stand_first()
     ensures { (of : ScriptKind) (text : List ℕ) (lines : List Line) →
         script_in of text ≡ Ok lines → are_settings_first lines ≡ true }

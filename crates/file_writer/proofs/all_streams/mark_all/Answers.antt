@@ -28,19 +28,7 @@ returns-in_err-mark_one-clause-takes g c = λ settings closed sealed before same
     }
 
 pub loop-s-init : goal.loop-s-init
-loop-s-init g c = record {
-  safe = c.requires.safe;
-  few = c.requires.few;
-  sixteen = c.requires.sixteen;
-  below = λ most h. h;
-  left = λ told start stale h. h;
-  shut = λ files plan most h. h;
-  takes = λ settings closed sealed before same at.
-      let item : Item = mark_told c.args.closes c.args.moment in (
-        by_calls (below_none settings closed sealed before item) (makes_none g.F.Shelf c.args.shelf.now),
-        λ s d h. rw (not_yet 0 before item s (omega arith)) (at s d h),
-      );
-}
+loop-s-init g c = search (arith, by_calls, below_none, makes_none, not_yet)
 
 pub loop-s-preserved : goal.loop-s-preserved
 loop-s-preserved g c =

@@ -18,8 +18,7 @@ returns-in_err-streams-clause-takes g c = λ settings closed sealed before same 
     let x = mark_item c.args.closes c.args.moment in
     let stream : Stream = c.index-streams-s.result in
     let goes = mark_stream_item settings.profile settings.rules s c.args.closes c.args.moment in
-    let at : StreamAt g.F.Shelf settings closed sealed before s stream c.args.shelf.now =
-    rw (c.index-streams-s.is, ← (not_yet s before item s (omega arith))) (each s stream c.requires.within) in
+    let at : StreamAt g.F.Shelf settings closed sealed before s stream c.args.shelf.now = search (arith, not_yet) in
     record {
       makes = ended_at g.F.Shelf (stream_calls settings closed sealed before (item ∷ []) s) _ _ _ _
           c.from_residual.ensures
@@ -38,12 +37,10 @@ returns-clause-takes g c = λ settings closed sealed before same each.
     let stream : Stream = c.index-streams-s.result in
     let law = c.division_goes_on.ensures in
     let goes = mark_stream_item settings.profile settings.rules s c.args.closes c.args.moment in
-    let at : StreamAt g.F.Shelf settings closed sealed before s stream c.args.shelf.now =
-    rw (c.index-streams-s.is, ← (not_yet s before item s (omega arith))) (each s stream c.requires.within) in
+    let at : StreamAt g.F.Shelf settings closed sealed before s stream c.args.shelf.now = search (arith, not_yet) in
     let taken = c.in_ok-streams.ensures.takes (stream_division settings s before).left_open at.behind in
     record {
-      makes = by_calls (calls_are law g.F.Shelf settings closed sealed before item s _ x stream c.args.shelf.now same
-          goes at) taken.makes;
+      makes = search (arith, by_calls, calls_are);
       at = each_set (λ (t : ℕ) (st : Stream). StreamAt g.F.Shelf settings closed sealed (up_to (s + 1) before item t) t
           st c.mark.new.shelf) c.args.streams.now s c.in_ok-streams.field-0
           (omega (arith, c.requires.sixteen, c.requires.within))

@@ -1,4 +1,4 @@
-use Rattle.std.proofs.Common.{◌≡◌, ℕ, List, [], ◌∷◌, ◌++◌, slice_index_or, sym, ap, ◌∙◌, arith}
+use Rattle.std.proofs.Common.{◌≡◌, ℕ, List, [], ◌∷◌, ◌++◌, slice_index_or, sym, ◌∙◌, arith}
 use Rattle.file_rotate.specs.Items.{Item, Record}
 use Rattle.file_writer.specs.AllStreams.{StreamAt}
 use Rattle.file_writer.specs.Calls.{calls_below}
@@ -17,10 +17,9 @@ returns-in_err-streams-clause-takes g c = λ settings closed sealed before item 
     let stream : Stream = c.index-streams-s.result in
     let filed_in : ℕ → Item (List ℕ) =
     λ profile. Record (stream_record profile c.args.next.kind c.args.next.octets.now c.args.next.moment) in
-    let at : StreamAt g.F.Shelf settings closed sealed before s stream c.args.shelf.now =
-    rw c.index-streams-s.is (each s stream c.requires.within) in
+    let at : StreamAt g.F.Shelf settings closed sealed before s stream c.args.shelf.now = search arith in
     let here : stream_item settings.profile settings.rules s item ≡ filed_in stream.cutter.profile ∷ [] =
-    goes.here ∙ ap (λ (profile : ℕ). filed_in profile ∷ []) (sym at.profile) in
+    search arith in
     let law = c.division_goes_on.ensures in
     record {
       makes = ended_at g.F.Shelf (calls_below stream_count settings closed sealed before item) _ _ _ _
@@ -41,10 +40,9 @@ returns-clause-takes g c = λ settings closed sealed before item same goes each.
     let stream : Stream = c.index-streams-s.result in
     let filed_in : ℕ → Item (List ℕ) =
     λ profile. Record (stream_record profile c.args.next.kind c.args.next.octets.now c.args.next.moment) in
-    let at : StreamAt g.F.Shelf settings closed sealed before s stream c.args.shelf.now =
-    rw c.index-streams-s.is (each s stream c.requires.within) in
+    let at : StreamAt g.F.Shelf settings closed sealed before s stream c.args.shelf.now = search arith in
     let here : stream_item settings.profile settings.rules s item ≡ filed_in stream.cutter.profile ∷ [] =
-    goes.here ∙ ap (λ (profile : ℕ). filed_in profile ∷ []) (sym at.profile) in
+    search arith in
     let run = (stream_division settings s before).left_open in
     let taken = c.in_ok-streams.ensures.takes run at.behind in
     let law = c.division_goes_on.ensures in

@@ -72,10 +72,7 @@ loop-item-preserved g c =
                 (makes_then g.F.Shelf (calls_of settings closed sealed before (take i items))
                 (calls_below stream_count settings closed sealed (before ++ take i items) x) _ _ _ _ prev.0
                 next.makes),
-            subst (λ (xs : List Item). AllAt g.F.Shelf settings closed sealed xs c.take_item.new.streams
-                c.take_item.new.shelf)
-                (append_assoc before (take i items) (x ∷ []) ∙ ap (λ (xs : List Item). before ++ xs) (sym more))
-                next.at,
+            search (arith, append_assoc),
             λ files plan most among shut.
                 let later = among_next law settings closed before items i x most more among in
                 next.shut files plan most later

@@ -1,4 +1,4 @@
-use Rattle.std.proofs.Common.{◌≡◌, List, [], ◌∷◌, ℕ, length, ◌++◌, ap, sym, subst, ◌∙◌}
+use Rattle.std.proofs.Common.{◌≡◌, List, [], ◌∷◌, ℕ, length, ◌++◌, sym, subst, ◌∙◌, arith}
 use Rattle.cdr_file.specs.CdrFile.{cdr_header_length}
 use Rattle.cdr_file.specs.Laws.{length-cdr_header_octets}
 use Rattle.cdr_shelf.specs.Steps.{StepsAt}
@@ -13,13 +13,7 @@ returns-in_err-write-clause-makes g c =
     stopped_at g.F.Shelf (Writes ∷ []) (Writes ∷ []) _ _ _ _ c.from_residual.ensures c.in_err-write.ensures.makes
 
 pub write-requires-2 : goal.write-requires-2
-write-requires-2 g c = λ told.
-    let long : length c.octets.result.now ≡ cdr_header_length c.args.kind =
-    ap (λ (xs : List ℕ). length xs) (c.octets.ensures.octets ∙ c.write_cdr-header.ensures)
-    ∙ length-cdr_header_octets _ in
-    takes_end _ _ (has_longer c.args.at c.cdr_header_length.result c.octets.result.now
-    (g.F.Shelf.unsealed c.args.shelf.now c.args.stream) _ (long ∙ sym c.cdr_header_length.ensures.length)
-    (c.requires.end told) (c.in_ok-write.ensures.written told).here)
+write-requires-2 g c = search (arith, length-cdr_header_octets, takes_end, has_longer)
 
 pub returns-clause-makes : goal.returns-clause-makes
 returns-clause-makes g c = makes_then g.F.Shelf (Writes ∷ []) (Writes ∷ []) _ _ _ _ c.in_ok-write.ensures.makes
@@ -27,9 +21,7 @@ returns-clause-makes g c = makes_then g.F.Shelf (Writes ∷ []) (Writes ∷ []) 
 
 pub returns-clause-appended : goal.returns-clause-appended
 returns-clause-appended g c = λ told.
-    let long : length c.octets.result.now ≡ cdr_header_length c.args.kind =
-    ap (λ (xs : List ℕ). length xs) (c.octets.ensures.octets ∙ c.write_cdr-header.ensures)
-    ∙ length-cdr_header_octets _ in
+    let long : length c.octets.result.now ≡ cdr_header_length c.args.kind = search (arith, length-cdr_header_octets) in
     let steps : List ℕ
     → Type 0 = λ xs. StepsAt c.args.stream (appended (xs ++ c.args.octets.now))
     (g.F.Shelf.unsealed c.args.shelf.now) (g.F.Shelf.unsealed c.write-2.new.shelf) in

@@ -1,11 +1,10 @@
-use Rattle.std.proofs.Common.{◌≡◌, ℕ, List, [], ◌∷◌, ◌++◌, length, Option, refl, ap, ◌∙◌}
+use Rattle.std.proofs.Common.{◌≡◌, ℕ, List, [], ◌∷◌, ◌++◌, length, Option, refl, ap, ◌∙◌, arith}
 use Rattle.cdr_file.specs.CdrFile.{header_length, header_of}
 use Rattle.cdr_file.specs.FileHeader.{header_octets}
 use Rattle.cdr_file.specs.declared.filed_kind.FiledKind.{FiledKind}
 use Rattle.cdr_shelf.specs.Files.{UnsealedFile}
 use Rattle.file_writer.specs.Writing.{body_of, settings_of}
-use Rattle.file_writer.proofs.LeavingLemmas.{gone_by}
-use Rattle.file_writer.proofs.WritingLemmas.{named_file, on_ok, sealed_of}
+use Rattle.file_writer.proofs.WritingLemmas.{named_file, sealed_of}
 use Rattle.file_writer.specs.Calls.{Writes, Seals}
 use Rattle.file_writer.proofs.MakingLemmas.{makes_then, stopped_at}
 use Rattle.file_writer.proofs.one_file.close_file.Goals as goal
@@ -21,8 +20,7 @@ returns-in_err-sync-clause-makes g c =
 
 pub returns-clause-makes : goal.returns-clause-makes
 returns-clause-makes g c =
-    let long : length c.octets.result.now ≡ header_length c.args.run.kind =
-    ap (λ (xs : List ℕ). length xs) c.octets.ensures.octets ∙ c.run_header-header.ensures.length in
+    let long : length c.octets.result.now ≡ header_length c.args.run.kind = search arith in
     let kind : FiledKind = c.args.run.kind in
     let header : List ℕ =
     header_octets (header_of c.args.run c.args.name.sequence c.args.reason (settings_of c.args.gateway.now)) in
@@ -37,12 +35,7 @@ returns-clause-makes g c =
     (c.octets.ensures.octets ∙ c.run_header-header.ensures.octets)))
 
 pub returns-clause-gone : goal.returns-clause-gone
-returns-clause-gone g c = λ told.
-    on_ok c.seal.result
-    (λ ended. gone_by c.args.name c.args.run.kind c.args.run.octets c.octets.result.now
-    (g.F.Shelf.unsealed c.args.shelf.now c.args.name.stream) _ _ _ (c.requires.open told)
-    (c.in_ok-write.ensures.written told).here (c.in_ok-sync.ensures.synced told).here ended.here)
-    (c.seal.ensures.ended told)
+returns-clause-gone g c = search arith
 
 pub returns-in_err-write-clause-shut : goal.returns-in_err-write-clause-shut
 returns-in_err-write-clause-shut g c = c.in_err-write.ensures.shut
@@ -54,8 +47,7 @@ returns-in_err-sync-clause-shut g c = λ files plan most shut.
 pub returns-clause-shut : goal.returns-clause-shut
 returns-clause-shut g c = λ files plan most shut.
     let u : Option UnsealedFile = g.F.Shelf.unsealed c.args.shelf.now c.args.name.stream in
-    let long : length c.octets.result.now ≡ header_length c.args.run.kind =
-    ap (λ (xs : List ℕ). length xs) c.octets.ensures.octets ∙ c.run_header-header.ensures.length in
+    let long : length c.octets.result.now ≡ header_length c.args.run.kind = cc in
     let stands =
     sealed_of c.args.name c.args.run.kind c.args.run.octets c.octets.result.now u _ _ (c.requires.open files) long
     (c.in_ok-write.ensures.written files).here (c.in_ok-sync.ensures.synced files).here in

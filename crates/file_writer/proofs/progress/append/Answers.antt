@@ -11,8 +11,7 @@ use Rattle.file_writer.proofs.WritingLemmas.{grown_at, is_fresh, makes_unsealed}
 use Rattle.file_writer.proofs.progress.append.Goals as goal
 
 pub end_of_file-requires-clause-fresh : goal.end_of_file-requires-clause-fresh
-end_of_file-requires-clause-fresh g c = λ told. is_fresh c.args.stream c.args.file.closed c.args.file.sealed
-    _ (c.requires.fresh told) c.if-sequence-sealed.false
+end_of_file-requires-clause-fresh g c = λ told. search (arith, is_fresh, c.requires.fresh)
 
 pub returns-in_err-at-clause-makes : goal.returns-in_err-at-clause-makes
 returns-in_err-at-clause-makes g c =
@@ -21,17 +20,10 @@ returns-in_err-at-clause-makes g c =
     c.in_err-at.ensures.makes)
 
 pub returns-in_err-append_cdr-clause-makes : goal.returns-in_err-append_cdr-clause-makes
-returns-in_err-append_cdr-clause-makes g c =
-    makes_unsealed g.F.Shelf c.args.file.closed c.args.file.sealed _ _ _ _ c.if-sequence-sealed.false
-    (makes_then g.F.Shelf (beginning_of c.args.file.growing) (Writes ∷ Writes ∷ []) _ _ _ _ c.in_ok-at.ensures.makes
-    (ended_at g.F.Shelf (Writes ∷ Writes ∷ []) _ _ _ _ c.from_residual-in_err-append_cdr.ensures
-    c.in_err-append_cdr.ensures.makes))
+returns-in_err-append_cdr-clause-makes g c = search (arith, makes_unsealed, makes_then, ended_at)
 
 pub returns-clause-makes : goal.returns-clause-makes
-returns-clause-makes g c =
-    makes_unsealed g.F.Shelf c.args.file.closed c.args.file.sealed _ _ _ _ c.if-sequence-sealed.false
-    (makes_then g.F.Shelf (beginning_of c.args.file.growing) (Writes ∷ Writes ∷ []) _ _ _ _ c.in_ok-at.ensures.makes
-    c.in_ok-append_cdr.ensures.makes)
+returns-clause-makes g c = search (arith, makes_unsealed, makes_then)
 
 pub returns-clause-stands : goal.returns-clause-stands
 returns-clause-stands g c = λ told.

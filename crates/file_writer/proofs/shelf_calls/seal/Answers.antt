@@ -1,4 +1,4 @@
-use Rattle.std.proofs.Common.{◌≡◌, ◌⊎◌, inl, inr, ◌∙◌, ◌++◌, List, [], ◌∷◌, if◌then◌else◌, ap}
+use Rattle.std.proofs.Common.{◌≡◌, ◌⊎◌, ◌∙◌, ◌++◌, List, [], ◌∷◌, if◌then◌else◌, ap, arith}
 use Rattle.area_disk.specs.Plan.{next_fate}
 use Rattle.cdr_shelf.specs.Files.{SealedFile}
 use Rattle.cdr_shelf.specs.Steps.{is_done}
@@ -17,8 +17,7 @@ returns-in-Ok-clause-makes g c = λ file as_file.
 
 maybe_file : (new old files : List SealedFile) (file : SealedFile) → files ≡ file ∷ [] → (new ≡ old)
     ⊎ (new ≡ old ++ files) → (new ≡ old) ⊎ (new ≡ old ++ file ∷ [])
-maybe_file new old files file e (inl h) = inl h
-maybe_file new old files file e (inr h) = inr (h ∙ ap (λ (fs : List SealedFile). old ++ fs) e)
+maybe_file new old files file e h = grind arith
 
 pub returns-in-Err-clause-makes : goal.returns-in-Err-clause-makes
 returns-in-Err-clause-makes g c = λ file as_file.

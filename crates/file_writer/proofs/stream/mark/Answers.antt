@@ -1,12 +1,11 @@
-use Rattle.std.proofs.Common.{◌≡◌, ℕ, List, Option, None, sym, ap, ◌∙◌, subst}
+use Rattle.std.proofs.Common.{◌≡◌, ℕ, List, Option, None, sym, ap, ◌∙◌, subst, arith}
 use Rattle.cdr_file.specs.declared.closure.ClosureReason.{ClosureReason}
-use Rattle.file_rotate.specs.Cutting.{Cutting, file_of, mark_cuts, mark_file, mark_reason}
+use Rattle.file_rotate.specs.Cutting.{Cutting, file_of, mark_reason}
 use Rattle.file_rotate.specs.Division.{Cuts, cuts_at, run_after, still}
-use Rattle.file_rotate.specs.Items.{AreLimits, Filed, Item}
-use Rattle.file_rotate.specs.declared.limits.Limits.{Limits}
+use Rattle.file_rotate.specs.Items.{Filed, Item}
 use Rattle.file_rotate.specs.declared.cut.Cut.{Cut}
 use Rattle.file_rotate.specs.declared.open_file.OpenFile.{OpenFile}
-use Rattle.file_writer.specs.Calls.{Call, calls_at, closed_by}
+use Rattle.file_writer.specs.Calls.{calls_at, closed_by}
 use Rattle.file_writer.specs.Following.{Follows, IsBehind, Pairs, mark_item}
 use Rattle.file_writer.specs.Making.{Ending, Makes, Went}
 use Rattle.file_writer.specs.Writing.{ClosesOpen, closing_of, settings_of}
@@ -32,10 +31,9 @@ module _ (g : given.Over) (c : After-close g) where
     item = mark_item c.args.closes c.args.moment
 
     cuts : only_before c.reason_of.result ≡ cuts_at c.args.stream.cutter.limits run item
-    cuts = ap only_before is_reason
-        ∙ ap (λ (kept : Option OpenFile). mark_cuts c.args.stream.cutter.limits kept c.args.closes c.args.moment) behind.cut
-        ∙ sym (mark_cuts_is c.args.stream.cutter.limits (file_of run) c.args.closes c.args.moment)
-        ∙ c.cutter_keeps_the_run.ensures.cuts c.args.stream.cutter.limits run item
+    cuts =
+        cc (is_reason, mark_cuts_is c.args.stream.cutter.limits (file_of run) c.args.closes c.args.moment,
+        c.cutter_keeps_the_run.ensures.cuts c.args.stream.cutter.limits run item)
 
     -- the calls are those for the item
     makes : (ended : Ending)
@@ -43,12 +41,7 @@ module _ (g : given.Over) (c : After-close g) where
         c.reason_of.result) ended c.args.shelf.now c.close.new.shelf
         → Makes g.F.Shelf (calls_at (settings_of c.args.gateway.now) c.args.s c.args.stream.file.sealed (cuts_at c.args.stream.cutter.limits run item)
         c.args.stream.file.closed run item) ended c.args.shelf.now c.close.new.shelf
-    makes ended made =
-        subst (λ (cs : List Call). Makes g.F.Shelf cs ended c.args.shelf.now c.close.new.shelf)
-        (mark_calls (settings_of c.args.gateway.now) c.args.s c.args.stream.file.sealed c.args.stream.file.closed c.reason_of.result run c.args.closes c.args.moment
-        ∙ ap (λ (at : Cuts). calls_at (settings_of c.args.gateway.now) c.args.s c.args.stream.file.sealed at c.args.stream.file.closed run item) cuts)
-        (makes_closing g.F.Shelf (settings_of c.args.gateway.now) c.args.s run c.args.stream.file c.reason_of.result ended c.args.shelf.now c.close.new.shelf
-        behind.follows closes made)
+    makes ended made = search (arith, mark_calls, cuts, makes_closing, closes)
 
 pub returns-in_err-file-clause-takes : goal.returns-in_err-file-clause-takes
 returns-in_err-file-clause-takes g c = λ run behind.
@@ -70,10 +63,7 @@ returns-clause-takes g c = λ run behind.
       makes = makes g at run behind Went c.in_ok-file.ensures.makes;
       after = record {
         behind = record {
-          cut = ap (λ (kept : Cutting). kept.file) c.mark-cut.ensures.kept
-              ∙ ap (λ (kept : Option OpenFile). mark_file stream.cutter.limits kept c.args.closes c.args.moment) behind.cut
-              ∙ sym (mark_file_is stream.cutter.limits (file_of run) c.args.closes c.args.moment)
-              ∙ c.cutter_keeps_the_run.ensures.kept stream.cutter.limits run item;
+          cut = search (arith, mark_file_is, c.cutter_keeps_the_run.ensures.kept);
           follows = subst (λ (rest : List (Filed (List ℕ))). Follows g.F.Shelf c.args.s rest file c.close.new.shelf)
               (mark_run reason run c.args.closes c.args.moment ∙ ap (λ (at : Cuts). run_after at run item) same)
               (close_follows g.F.Shelf c.args.s run stream.file file reason _ _ behind.follows
@@ -93,15 +83,12 @@ returns-clause-safe g c =
     let file = c.in_ok-file.file in
     let reason : Option ClosureReason = c.reason_of.result in
     record {
-      limits =
-          subst (λ (limits : Limits). AreLimits limits)
-          (sym (ap (λ (kept : Cutting). kept.limits) c.mark-cut.ensures.kept)) c.requires.safe.limits;
+      limits = search arith;
       pairs = subst (λ (kept : Option OpenFile). Pairs kept file.growing)
           (ap (λ (r : Option ClosureReason). still r stream.cutter.file None) (is_reason g (goal.at.returns-clause-safe g c).After-close)
           ∙ sym (ap (λ (kept : Cutting). kept.file) c.mark-cut.ensures.kept))
           (pairs_closed reason stream.cutter.file stream.file file c.requires.safe.pairs c.in_ok-file.ensures.closed);
-      up = close_up g.F.Shelf (settings_of c.args.gateway.now) c.args.s stream.file file reason _ _ c.requires.safe.up
-          c.in_ok-file.ensures.closed c.in_ok-file.ensures.still c.in_ok-file.ensures.makes;
+      up = search (arith, close_up);
     }
 
 pub returns-clause-others : goal.returns-clause-others

@@ -1,4 +1,4 @@
-use Rattle.std.proofs.Common.{◌≡◌, ◌≤◌, ◌+◌, IsTrue, ℕ, List, length, Option, Some, None, sym, ap, ◌∙◌, subst}
+use Rattle.std.proofs.Common.{◌≡◌, ◌≤◌, ◌+◌, IsTrue, ℕ, List, length, Option, Some, None, sym, ap, ◌∙◌, subst, arith}
 use Rattle.cdr_file.specs.CdrFile.{FiledRecord}
 use Rattle.cdr_file.specs.Profile.{IsFiledKind, in_profile}
 use Rattle.cdr_file.specs.declared.closure.ClosureReason.{ClosureReason}
@@ -24,15 +24,12 @@ use Rattle.file_writer.proofs.stream.put.Goals.{In_ok-file, In_ok-file-2}
 number : (g : _) (c : In_ok-file g) (run : List (Filed (List ℕ))) → IsBehind g.F.Shelf c.args.s run c.args.stream c.args.shelf.now
     → closed_by (cuts_at c.args.stream.cutter.limits run (Record (stream_record c.args.stream.cutter.profile c.args.next.kind c.args.next.octets.now c.args.next.moment))).before
     c.args.stream.file.closed + 1 ≡ c.in_ok-file.file.closed + 1
-number g c run behind =
-    number_1 _ _ _ _ _ _ _ c.requires.safe.pairs (c.reason_of.ensures _ (ap (λ (cut : Cut). cut.before) c.put-cut.ensures.cut))
-    c.cutter_keeps_the_run.ensures.cuts run behind _ _ c.in_ok-file.ensures.closed c.in_ok-file.ensures.still c.in_ok-file.ensures.makes
+number g c run behind = search (arith, number_1, c.reason_of.ensures)
 
 -- the file grew by the record
 grows : (g : _) (c : In_ok-file-2 g)
     → c.in_ok-file-2.file ≡ grown c.in_ok-file.file (filed_of (in_profile c.args.stream.cutter.profile c.args.next.kind) c.args.next.octets.now c.args.next.moment)
-grows g c = c.in_ok-file-2.ensures.grown
-    ∙ ap (λ (k : FiledKind). grown c.in_ok-file.file (filed_of k c.args.next.octets.now c.args.next.moment)) c.kind.ensures.kind
+grows g c = search arith
 
 stands : (g : _) (c : In_ok-file-2 g) → IsTrue g.F.Shelf.tells_files
     → IsGrown c.args.s c.in_ok-file.file (filed_of (in_profile c.args.stream.cutter.profile c.args.next.kind) c.args.next.octets.now c.args.next.moment)

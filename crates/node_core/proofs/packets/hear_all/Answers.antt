@@ -1,18 +1,12 @@
-use Rattle.std.proofs.Common.{◌≡◌, List, ap, sym, subst, take, map, get_or, arith}
+use Rattle.std.proofs.Common.{◌≡◌, ap, get_or, arith}
 use Rattle.std.proofs.lemmas.Grind.{common_steps}
 use Rattle.node_core.specs.Packets.{PacketState, is_done, is_resolved, packet_hearing, while_open}
-use Rattle.node_core.specs.Sound.{AllDone}
 use Rattle.node_core.specs.declared.packets.Made.{Made}
 use Rattle.node_core.proofs.SettledLemmas.{changed_front, done_front, heard_more, made_front, made_step}
 use Rattle.node_core.proofs.packets.hear_all.Goals as goal
 
 pub loop-i-init : goal.loop-i-init
-loop-i-init c =
-    let hears : PacketState → PacketState = packet_hearing c.args.port c.args.gateway c.args.cause c.args.numbers.now in (
-      changed_front hears c.args.from c.args.packets.now c.requires.done,
-      made_front is_resolved hears c.args.from c.args.packets.now c.requires.done,
-      made_front is_done hears c.args.from c.args.packets.now c.requires.done,
-    )
+loop-i-init c = search (arith, changed_front, made_front)
 
 pub loop-i-preserved : goal.loop-i-preserved
 loop-i-preserved c =
@@ -21,9 +15,7 @@ loop-i-preserved c =
     let so_far = c.loop-i.invariant in
     let packet : PacketState = get_or c.loop-i.packets c.loop-i.i c.index-packets-i.result in
     let is : packet ≡ get_or c.loop-i.packets c.loop-i.i packet = ap (get_or c.loop-i.packets c.loop-i.i) c.index-packets-i.is in (
-      rw c.hear_one.ensures.packet
-          (heard_more c.args.port c.args.gateway c.args.cause c.args.numbers.now c.args.packets.now c.loop-i.packets c.loop-i.i
-          packet below so_far.0 is),
+        search (arith, heard_more),
       made_step is_resolved hears c.args.packets.now c.loop-i.packets c.loop-i.i packet c.loop-i.made.resolved
           c.hear_one.result.resolved c.or-made.result.resolved below so_far.0 is so_far.1 c.hear_one.ensures.resolved
           (ap (λ (made : Made). made.resolved) c.or-made.ensures),
@@ -33,8 +25,4 @@ loop-i-preserved c =
     )
 
 pub returns-clause-still : goal.returns-clause-still
-returns-clause-still c =
-    let hears : PacketState → PacketState = packet_hearing c.args.port c.args.gateway c.args.cause c.args.numbers.now in
-    let all : c.loop-i.packets ≡ map (while_open hears) c.args.packets.now = grind (arith, common_steps) in
-    subst (λ (packets : List PacketState). AllDone (take c.args.from packets)) (sym all)
-    (done_front hears c.args.from c.args.packets.now c.requires.done)
+returns-clause-still c = search (arith, common_steps, done_front)

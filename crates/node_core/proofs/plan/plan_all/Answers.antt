@@ -1,4 +1,4 @@
-use Rattle.std.proofs.Common.{◌∙◌, ◌++◌, ◌∷◌, [], ap, arith}
+use Rattle.std.proofs.Common.{◌∙◌, ◌++◌, ◌∷◌, ap, arith, []}
 use Rattle.node_core.specs.Packets.{PacketState}
 use Rattle.node_core.proofs.PlanLemmas.{plan_step}
 use Rattle.node_core.proofs.plan.plan_all.Goals as goal

@@ -1,9 +1,6 @@
-use Rattle.std.proofs.Common.{◌+◌, arith, rules}
-use Rattle.world_script.specs.declared.line.Line.TheVariants as line
-use Rattle.world_script.specs.Sample.{runs}
+use Rattle.std.proofs.Common.{arith}
 use Rattle.world_script.proofs.SampleLemmas.{filter_range}
 use Rattle.world_script.proofs.samples.push_commits.Goals as goal
 
 pub loop-gateway-preserved : goal.loop-gateway-preserved
-loop-gateway-preserved c =
-    filter_range line.Commit (runs c.args.stopped) 1 c.loop-gateway.gateway (c.loop-gateway.gateway + 1) c.args.lines.now.items _ _ (omega arith) c.loop-gateway.invariant (search rules)
+loop-gateway-preserved c = search (arith, filter_range)

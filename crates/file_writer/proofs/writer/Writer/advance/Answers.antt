@@ -1,4 +1,4 @@
-use Rattle.std.proofs.Common.{rules, ◌≡◌, List, ◌++◌, length, refl, slice_index_or}
+use Rattle.std.proofs.Common.{rules, ◌≡◌, List, ◌++◌, length, refl, slice_index_or, arith}
 use Rattle.file_writer.specs.Calls.{Call, calls_of}
 use Rattle.file_writer.specs.Writer.{sealed_in, settings_in}
 use Rattle.file_writer.proofs.AmongLemmas.{moves_shut}
@@ -18,8 +18,7 @@ returns-in_err-take_all-clause-moves g c = λ closed before at.
     let fault = c.in_err-take_all.field-0.0 in
     let made = goes.makes in
     record {
-      makes = ended_at g.F.Shelf (calls_of (settings_in w) closed (sealed_in w) before items) _ _ _ _
-          c.from_residual.ensures made;
+      makes = search (arith, ended_at);
       at = no_result c.from_residual.result fault _ c.from_residual.ensures;
       sealed = no_result c.from_residual.result fault _ c.from_residual.ensures;
       leaves = λ told. no_result c.from_residual.result fault _ c.from_residual.ensures;
@@ -52,8 +51,7 @@ returns-clause-moves g c = λ closed before at.
     c.take_all.new.shelf c.in_ok-take_all.ensures.sixteen goes.at in
     record {
       makes = made;
-      at = at_self g.F.Shelf (settings_in w) closed (sealed_in w) (before ++ items) c.take_all.new.streams
-          c.take_all.new.shelf c.in_ok-take_all.ensures.sixteen goes.at;
+      at = search (arith, at_self);
       sealed = same;
       leaves = λ told. leaves_unsealed g.F.Shelf (settings_in w) closed (sealed_in w) before (before ++ items) w.streams
           c.take_all.new.streams w.shelf c.take_all.new.shelf told at goes.at c.in_ok-take_all.ensures.safe

@@ -1,6 +1,5 @@
-use Rattle.std.proofs.Common.{◌≡◌, ℕ, suc, ◌-◌, ◌<◌, min, List, map, length, sym, ap, subst, ◌∙◌, arith}
+use Rattle.std.proofs.Common.{◌≡◌, suc, ◌-◌, ◌<◌, min, List, map, length, sym, ap, ◌∙◌, arith}
 use Rattle.std.specs.Prelude.{IfSome}
-use Rattle.node_core.specs.declared.peer.Peer.{Peer}
 use Rattle.node_core.specs.declared.sending.Sending.{Sending}
 use Rattle.node_core.specs.Moving.{moved_at_tick, quiet_by}
 use Rattle.node_core.specs.NodeFields.{value_of_node}
@@ -14,9 +13,7 @@ use Rattle.node_core.proofs.PlanLemmas.{length-all_drawn, tick_result, within_by
 use Rattle.node_core.proofs.node.Node.tick.Goals as goal
 
 pub replace-requires : goal.replace-requires
-replace-requires c =
-    length-replaced c.favourite_by-favourite.result c.is_alive.result _ c.self.inside.packets c.in_ok-plan.plan.packets.items
-    c.in_ok-plan.ensures.settled c.in_ok-plan.ensures.packets
+replace-requires c = search (arith, length-replaced)
 
 -- the packets after the tick
 replaced : (c : goal.After-drop-plan-2) → c.replace.new.self.packets
@@ -33,14 +30,9 @@ invariant_of-self c =
     let sound = c.self.invariant in
     let sendings : List Sending = due_by c.favourite_by-favourite.result c.is_alive.result inside.paths c.deref.result.now inside.packets.packets in
     let peers : length c.in_ok-plan.plan.peers.items ≡ length inside.gateways.items =
-    ap (λ (ps : List Peer). length ps) c.in_ok-plan.ensures.peers ∙ length-all_drawn sendings c.deref.result.now
-    ∙ ap (λ (ps : List Peer). length ps) c.deref.ensures.value in
-    let moves : IfSome c.moved_at_tick-moved.result (λ place. place < length inside.gateways.items) =
-    subst (λ (v : NodeValue). IfSome c.moved_at_tick-moved.result (λ place. place < length v.gateways)) (sym c.self.view_is)
-    c.moved_at_tick-moved.ensures.within in
-    let within : c.favourite_by-favourite.result < length inside.gateways.items =
-    subst (λ (n : ℕ). n < length inside.gateways.items) (sym c.favourite_by-favourite.ensures)
-    (within_by c.moved_at_tick-moved.result inside.favourite (length inside.gateways.items) moves sound.within) in
+    search (arith, length-all_drawn) in
+    let moves : IfSome c.moved_at_tick-moved.result (λ place. place < length inside.gateways.items) = search arith in
+    let within : c.favourite_by-favourite.result < length inside.gateways.items = search (arith, within_by) in
     sound_on inside.counter (value_of_node inside) (while_open (packet_after_all sendings))
     (while_open-number (packet_after_all sendings) (after_all-number sendings)) sound
     c.in_ok-plan.plan.peers.items c.favourite_by-favourite.result c.min-self-inside.result c.replace.new.self.packets
@@ -54,12 +46,9 @@ returns-clause-node c =
     let sendings : List Sending = due_by c.favourite_by-favourite.result c.is_alive.result inside.paths inside.gateways.items inside.packets.packets in
     let quiet : c.min-self-inside.result ≡ min most_quiet (suc (quiet_by c.moved_at_tick-moved.result inside.quiet)) =
     omega (arith, c.min-self-inside.ensures, c.quiet_by.ensures) in
-    let peers : c.in_ok-plan.plan.peers.items ≡ all_drawn sendings inside.gateways.items =
-    c.in_ok-plan.ensures.peers
-    ∙ ap (λ (ps : List Peer). all_drawn (due_by c.favourite_by-favourite.result c.is_alive.result inside.paths ps inside.packets.packets) ps) c.deref.ensures.value in
+    let peers : c.in_ok-plan.plan.peers.items ≡ all_drawn sendings inside.gateways.items = search arith in
     let packets : c.replace.new.self.packets ≡ map (while_open (packet_after_all sendings)) inside.packets.packets =
-    replaced c
-    ∙ ap (λ (ps : List Peer). map (while_open (packet_after_all (due_by c.favourite_by-favourite.result c.is_alive.result inside.paths ps inside.packets.packets))) inside.packets.packets) c.deref.ensures.value in
+        cc (replaced c) in
     tick_result node c.moved_at_tick-moved.result c.favourite_by-favourite.result c.is_alive.result c.min-self-inside.result
     c.in_ok-plan.plan.peers.items c.replace.new.self.packets moved c.favourite_by-favourite.ensures c.is_alive.ensures quiet peers packets
     ∙ ap (λ (v : NodeValue). befallen (tick_entries v) v) c.self.view_is

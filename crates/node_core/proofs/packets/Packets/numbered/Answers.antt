@@ -14,5 +14,4 @@ returns c =
     let kept = c.args.self.now in
     let size : c.len.result ≡ length kept.packets = search rules in
     let place : c.args.number - (c.args.last - c.len.result) - 1 ≡ c.args.number - suc (c.args.last - length kept.packets) = omega (arith, size) in
-    c.at.ensures ∙ ap (slice_get kept.packets) place
-    ∙ sym (place_numbered (c.args.last - length kept.packets) c.args.number kept.packets c.requires.numbered (omega (arith, size, c.if-number-before.false)))
+    search (arith, place_numbered)

@@ -5,7 +5,7 @@ use Rattle.world_script.specs.Script.{most_text}
 use Rattle.world_script.specs.Text.{lent_line, line_content, line_size}
 use Rattle.world_script.specs.contracts.kind.ScriptKind.{the_type}
 use Rattle.world_script.specs.declared.kind.ScriptKind.TheVariants.{Feed}
-use Rattle.world_script.proofs.DatagramLemmas.{is_read}
+use Rattle.world_script.proofs.ScriptLemmas.{is_read}
 use Rattle.world_script.proofs.progress.Progress.read.Goals as goal
 
 pub returns-in-Some : goal.returns-in-Some
