@@ -1,6 +1,7 @@
 -- What the turns of a pass added, in turn, and what stands of it in the history.
-use Rattle.std.proofs.Common.{◌≡◌, ◌⊎◌, ⊎_elim, inl, inr, ℕ, ◌==◌, Bool, true, false, if◌then◌else◌, List, [], ◌∷◌, ◌++◌, Option, None, Some, refl, sym, ap, subst, ◌∙◌, append_assoc, arith}
+use Rattle.std.proofs.Common.{◌≡◌, ◌≢◌, ◌⊎◌, ⊎_elim, inl, inr, ℕ, ◌==◌, Bool, true, false, if◌then◌else◌, List, [], ◌∷◌, ◌++◌, Option, None, Some, refl, sym, ap, subst, ◌∙◌, append_assoc, arith}
 use Rattle.std.specs.Prelude.{All, slice_index_or}
+use Rattle.std.proofs.lemmas.Bool.{cases_eq, ne_eqb}
 use Rattle.std.proofs.lemmas.Bool.Decides.{nat_tests}
 use Rattle.std.proofs.lemmas.List.{append-nil}
 use Rattle.std.proofs.lemmas.List.Elements.{All-cons, All-head, All-nil, All-tail}
@@ -32,9 +33,7 @@ added_append (t ∷ ts) us =
 added_none : (ts : List KeptTurn) → All (λ t. t.added ≡ []) ts → added_by ts ≡ []
 added_none [] none = refl
 added_none (t ∷ ts) none =
-    let Empty : KeptTurn → Type 0 = λ t. t.added ≡ [] in
-    ap (λ (l : List HistoryEntry). placed (base t.drops (facts_of t.found)) l ++ added_by ts) (All-head Empty t ts none)
-    ∙ added_none ts (All-tail Empty t ts none)
+    rw (All-head (λ t. t.added ≡ []) t ts none) (added_none ts (All-tail (λ t. t.added ≡ []) t ts none))
 
 -- what a turn added that took the datagram of a job
 one_called : (size session : ℕ) (job : Job) (h : List HistoryEntry)
@@ -49,17 +48,12 @@ one_called size session job h = by (act_decided (decided_at h size job.from job.
 one_added : (told : Bool) (size session : ℕ) (job : Job) (t : KeptTurn) → t.found.size ≡ size
     → (t.added ≡ []) ⊎ (t.added ≡ called_at told session job t)
     → InTurn (AnswersJob size session) (job ∷ []) (placed (base t.drops (facts_of t.found)) t.added)
-one_added told size session job t sized (inl none) =
-    subst (λ (l : List HistoryEntry). InTurn (AnswersJob size session) (job ∷ []) (placed (base t.drops (facts_of t.found)) l)) (sym none) tt
-one_added told size session job t sized (inr is) =
-    subst (λ (l : List HistoryEntry). InTurn (AnswersJob size session) (job ∷ []) (placed (history_at t) l)) (sym is)
-    (subst (λ (n : ℕ). InTurn (AnswersJob n session) (job ∷ []) (placed (history_at t) (called_at told session job t))) sized
-    (one_called t.found.size session job (history_at t)))
+one_added told size session job t sized (inl none) = rw none tt
+one_added told size session job t sized (inr is) = rw (is, ← sized) (one_called t.found.size session job (history_at t))
 
 firsts_added : (told : Bool) (session size : ℕ) (jobs : List Job) (firsts : List KeptTurn) → told ≡ true
     → AreFirstsOf told session size jobs firsts → InTurn (AnswersJob size session) jobs (added_by firsts)
-firsts_added told session size [] firsts y are =
-    subst (λ (ts : List KeptTurn). InTurn (AnswersJob size session) [] (added_by ts)) (sym are) tt
+firsts_added told session size [] firsts y are = rw are tt
 firsts_added told session size (job ∷ jobs) [] y are = absurd are
 firsts_added told session size (job ∷ jobs) (t ∷ firsts) y are =
     in_turn_both (AnswersJob size session) (job ∷ []) (placed (base t.drops (facts_of t.found)) t.added) jobs (added_by firsts)
@@ -71,15 +65,9 @@ pub added_on : (told : Bool) (session : ℕ) (earlier jobs : List Job) (before a
     → InTurn (AnswersJob size session) earlier (added_by before.turns)
     → InTurn (AnswersJob size session) (earlier ++ jobs) (added_by after.turns)
 added_on told session earlier jobs before after size y sized keeps p =
-    let all : added_by after.turns ≡ added_by before.turns ++ added_by keeps.firsts =
-    ap (λ (ts : List KeptTurn). added_by ts) keeps.turns ∙ added_append before.turns (keeps.firsts ++ keeps.later)
-    ∙ ap (λ (l : List Placed). added_by before.turns ++ l)
-    (added_append keeps.firsts keeps.later ∙ ap (λ (l : List Placed). added_by keeps.firsts ++ l) (added_none keeps.later keeps.adds_none)
-    ∙ append-nil (added_by keeps.firsts)) in
-    subst (λ (l : List Placed). InTurn (AnswersJob size session) (earlier ++ jobs) l) (sym all)
+    rw (keeps.turns, added_append, added_append, added_none keeps.later keeps.adds_none, append-nil)
     (in_turn_both (AnswersJob size session) earlier (added_by before.turns) jobs (added_by keeps.firsts) p
-    (firsts_added told session size jobs keeps.firsts y
-    (subst (λ (n : ℕ). AreFirstsOf told session n jobs keeps.firsts) sized keeps.each)))
+    (firsts_added told session size jobs keeps.firsts y (rw sized at keeps.each)))
 
 -- a pass that answered no job added nothing
 pub none_added : (k : Knowledge) → AddsAnswers [] k → added_by k.turns ≡ []
@@ -96,19 +84,14 @@ module _ (passes : List Knowledge) (session : ℕ) where
   has_or_none : (before tail : List HistoryEntry) → All (λ e. HasNumber e.caller.session passes) tail
       → (by_session session (placed before tail) ≡ []) ⊎ HasNumber session passes
   has_or_none before [] all = inl refl
-  has_or_none before (e ∷ tail) all =
-      by (e.caller.session == session) refl (has_or_none (before ++ e ∷ []) tail (All-tail Has e tail all))
+  has_or_none before (e ∷ tail) all = ⊎_elim
+      (λ (is : e.caller.session ≡ session). inr (rw is at (All-head Has e tail all)))
+      (λ (apart : e.caller.session ≢ session). rw (ne_eqb e.caller.session session apart)
+      (has_or_none (before ++ e ∷ []) tail (All-tail Has e tail all)))
+      (cases_eq e.caller.session session)
     where
       Has : HistoryEntry → Type 0
       Has e = HasNumber e.caller.session passes
-
-      rest : List Placed
-      rest = placed (before ++ e ∷ []) tail
-
-      by : (b : Bool) → (e.caller.session == session) ≡ b → (by_session session rest ≡ []) ⊎ HasNumber session passes
-          → ((if b then (e, before) ∷ by_session session rest else by_session session rest) ≡ []) ⊎ HasNumber session passes
-      by true is more = inr (subst (λ (n : ℕ). HasNumber n passes) (grind (arith, nat_tests, is)) (All-head Has e tail all))
-      by false is more = more
 
 module _ (size : ℕ) (jobs : ℕ → List Job) (stood tail : List HistoryEntry) where
   -- what a pass added answers jobs of its session in turn
@@ -131,8 +114,7 @@ module _ (size : ℕ) (jobs : ℕ → List Job) (stood tail : List HistoryEntry)
   pub all_in_turn : (passes : List Knowledge) → All AddsInTurn passes → All (λ e. HasNumber e.caller.session passes) tail
       → All (Owns stood tail) passes → (session : ℕ) → InTurnAt session
   all_in_turn passes adds numbers owns session = ⊎_elim
-      (λ (none : by_session session (placed stood tail) ≡ []).
-      subst (λ (l : List Placed). InTurn (AnswersJob size session) (jobs session) l) (sym none) tt)
+      (λ (none : by_session session (placed stood tail) ≡ []). rw none tt)
       (λ (has : HasNumber session passes). of_pass session passes adds owns has)
       (has_or_none passes session stood tail numbers)
 
@@ -145,9 +127,7 @@ all_sessions P (p ∷ ps) each = All-cons P p ps own (all_sessions P ps rest)
     same = grind (arith, nat_tests)
 
     own : P p
-    own = All-head P p (by_session p.0.caller.session ps)
-        (subst (λ (b : Bool). All P (if b then p ∷ by_session p.0.caller.session ps else by_session p.0.caller.session ps)) same
-        (each p.0.caller.session))
+    own = All-head P p (by_session p.0.caller.session ps) (rw same at (each p.0.caller.session))
 
     rest : (session : ℕ) → All P (by_session session ps)
     rest session = by (p.0.caller.session == session) (each session)

@@ -1,316 +1,364 @@
 -- What a session has done at its desk behind jobs that it served together.
 use Rattle.std.proofs.Common.{◌≡◌, ◌⊎◌, ⊎_elim, inl, inr, ℕ, ◌<◌, ◌≤◌, Bool, true, List, [], ◌∷◌, ◌++◌, Option, None, Some, refl, sym, ap, subst, ◌∙◌, append_assoc, arith}
-use Rattle.std.specs.Prelude.{All, IfSome, MatchOption}
+use Rattle.std.specs.Prelude.{All, MatchOption}
 use Rattle.std.specs.List.{Contains}
+use Rattle.std.specs.Option.{option_or}
 use Rattle.std.proofs.lemmas.List.{append-nil}
-use Rattle.std.proofs.lemmas.List.Elements.{All-push, Contains-append_left, Contains-append_right}
-use Rattle.area_disk.specs.Disk as disk
+use Rattle.std.proofs.lemmas.List.Elements.{All-contains, All-push, Contains-append_left, Contains-append_right}
+use Rattle.std.proofs.lemmas.Option.{IfSome_then}
 use Rattle.area_disk.specs.declared.area.Area.{Ghosts}
-use Rattle.gateway_answer.specs.Answer.{Says, failure_reply, reply_in}
+use Rattle.gateway_answer.specs.Answer.{Says as SaysReply, failure_reply, reply_in}
 use Rattle.gateway_answer.specs.Preparing.{prepared_of}
-use Rattle.gateway_book.specs.Turning.{facts_of as book_facts, tells_lists}
-use Rattle.gw_base.specs.Facts.{Facts, WhereTold}
+use Rattle.gateway_book.specs.Turning.{tells_lists}
+use Rattle.gateway_book.specs.declared.outcome.Outcome.{Outcome}
+use Rattle.gateway_book.specs.declared.outcome.Outcome.TheVariants as outcome
+use Rattle.gw_base.specs.Facts.{Facts}
 use Rattle.gw_base.specs.Faults.{Rose}
 use Rattle.gw_base.specs.Owes.{Begins}
 use Rattle.gw_base.specs.declared.address.Addr.{Addr}
 use Rattle.gw_base.specs.declared.history.HistoryEntry.{HistoryEntry}
 use Rattle.job_inbox.specs.declared.job.Job.{Job}
 use Rattle.net_link.specs.Datagrams.{Datagram, LinkState, with_one}
-use Rattle.node_session.specs.Answering.{HasLostBehind, HasRepliedBehind, IsFaultAt, IsReplyAt, TellsBehind, history_at}
-use Rattle.node_session.specs.Asking.{IsAsked}
+use Rattle.net_link.specs.declared.link.Link as paths
+use Rattle.node_session.specs.Answering.{HasLostBehind, HasRepliedBehind, HasSent, IsFaultAt, IsReplyAt, TellsBehind, history_at}
 use Rattle.node_session.specs.Serving.{GoesOn, caller_of}
-use Rattle.node_session.specs.Together.{AreServed, AreTaken, GoOn, GoesFrom}
+use Rattle.node_session.specs.Together.{AreServed, AreTaken, EachTells, GoOn, GoesFrom, KeepsTurnsOf, TellTogether}
 use Rattle.node_session.specs.Turns.{decided_at, entries_of}
 use Rattle.node_session.specs.declared.gate.Go.{Go}
 use Rattle.node_session.specs.declared.served.Served.{Served}
 use Rattle.node_session.specs.declared.served.Served.TheVariants as served
-use Rattle.gateway_book.specs.declared.outcome.Outcome.{Outcome}
-use Rattle.gateway_book.specs.declared.outcome.Outcome.TheVariants as outcome
-use Rattle.gateway_book.specs.declared.outcome.Settled.{Settled}
-use Rattle.turn_cell.specs.Knowing.{Saw, kept}
+use Rattle.turn_cell.specs.Knowing.{kept}
 use Rattle.turn_cell.specs.Passes.{Took}
 use Rattle.turn_cell.specs.declared.knowing.KeptTurn.{KeptTurn}
 use Rattle.turn_cell.specs.declared.knowing.Knowledge.{Knowledge}
-use Rattle.session_run.specs.Desks.{AreRepliesTo, HasFailedSince, HearsNothing, IsSince, RepliesTo, stop_of}
+use Rattle.session_run.specs.Desks.{AreRepliesTo, Began, HasFailedSince, HasWorked, HearsNothing, IsSince, RepliesTo, first_stop, hand_at, known_at, link_at, stop_of, with_all_taken}
 use Rattle.session_run.specs.History.{IsAnswered, TellsFailure, datagram_of}
+use Rattle.session_run.specs.Latest.{later_of, latest}
+use Rattle.session_run.specs.declared.desk.Desk.{Desk}
+use Rattle.session_run.specs.declared.stop.Stop.{Stop}
+use Rattle.session_run.specs.declared.stop.Stop.TheVariants as stop
+use Rattle.session_run.proofs.AddedLemmas.{added_on}
 use Rattle.session_run.proofs.InTurnLemmas.{in_turn_both, in_turn_more, in_turn_weaker}
+use Rattle.session_run.proofs.TakingLemmas.{latest_of_both}
+use Rattle.session_run.proofs.StopLemmas.{never_clock, none_of, one_of}
 
-abbrev Entries : Type 0
-Entries = List HistoryEntry
-
-pub begins_then : (xs ys zs : Entries) → Begins xs ys → Begins ys zs → Begins xs zs
-begins_then xs ys zs p q = (p.0 ++ q.0, q.1 ∙ ap (λ (l : Entries). l ++ q.0) p.1 ∙ append_assoc xs p.0 q.0)
+pub begins_then : {X : Type 0} (xs ys zs : List X) → (r : List X) × (ys ≡ xs ++ r) → (r : List X) × (zs ≡ ys ++ r)
+    → (r : List X) × (zs ≡ xs ++ r)
+begins_then xs ys zs p q = (p.0 ++ q.0, let same = append_assoc xs p.0 q.0 in cc)
 
 -- what was said of a datagram is said still once more is firm
-pub says_later : {size size' : ℕ} {firm later : Entries} {asked : Datagram} {octets : List ℕ} {P Q : Type 0} → size ≡ size'
-    → Begins firm later → (P → Q) → IsAnswered size firm asked octets ⊎ (TellsFailure asked octets × P)
+pub says_later : {size size' : ℕ} {firm later : List HistoryEntry} {asked : Datagram} {octets : List ℕ} {P Q : Type 0}
+    → size ≡ size' → Begins firm later → (P → Q) → IsAnswered size firm asked octets ⊎ (TellsFailure asked octets × P)
     → IsAnswered size' later asked octets ⊎ (TellsFailure asked octets × Q)
-says_later {firm = firm} {later = later} {asked = asked} {octets = octets} same begins more (inl a) =
-    inl (subst (λ (n : ℕ). IsAnswered n later asked octets) same (record {
-      history = a.history;
-      act = a.act;
-      says = a.says;
-      now = a.now;
-      who = a.who;
-      rests = begins_then (a.history ++ entries_of a.history a.now a.who a.act) firm later a.rests begins;
-    }))
+says_later {firm = firm} {later = later} same begins more (inl a) = inl (rw (← same) (record {
+  history = a.history;
+  act = a.act;
+  says = a.says;
+  now = a.now;
+  who = a.who;
+  rests = begins_then (a.history ++ entries_of a.history a.now a.who a.act) firm later a.rests begins;
+}))
 says_later same begins more (inr f) = inr (f.0, more f.1)
 
 -- a count that rose from a later value rose from an earlier one, and rose to a later one
 pub rose_since : (s a b : ℕ) → s ≤ a → Rose a b → Rose s b
 rose_since s a b le rose = ⊎_elim (λ (lt : a < b). inl (omega (arith, le, lt))) (λ last. inr last) rose
 
--- the same of a count of a device
-pub device_rose_since : (s a b : ℕ) → s ≤ a → disk.Rose a b → disk.Rose s b
-device_rose_since s a b le rose = omega (arith, le, rose)
+-- ---- what a pass knows
 
--- What becomes of what a pass knows: it is the same pass, which knows no less, and its turns found no fewer faults.
-pub record OnFrom (told : Bool) (before after : Knowledge) : Type 0 where
-  pub faults : after.faults ≡ before.faults
-  pub known : WhereTold told (Begins before.known after.known)
-  pub since : All (IsSince before.faults) before.turns → All (IsSince before.faults) after.turns
+-- the cell was made with this count of faults, and each turn found it at least so
+abbrev IsFrom : ℕ → Knowledge → Type 0
+IsFrom n k = (k.faults ≡ n) × All (IsSince n) k.turns
 
-pub on_then : (told : Bool) (one two three : Knowledge) → OnFrom told one two → OnFrom told two three → OnFrom told one three
-on_then told one two three p q = record {
+module _ (n : ℕ) where
+  -- behind a turn
+  from_took : {V A : Type 0} {told : Bool} {facts : V → Facts} {session : Option ℕ}
+      {does : V → V → A → Bool → List HistoryEntry → Type 0} {before : Knowledge} {answer : A} {after : Knowledge}
+      → Took told facts session does before answer after → IsFrom n before → IsFrom n after
+  from_took {facts = facts} {before = before} t from = rw t.kept (
+    from.0,
+    All-push (IsSince n) before.turns (kept (facts t.found) (facts t.left) t.drops t.added) from.1
+        (record { found = omega (arith, t.legal.since, from.0); left = t.owes.faults }),
+  )
+
+  module _ {A : Type 0} (tells : Ghosts A) where
+    from_taken : (session : ℕ) (jobs : List Job) (outcomes : List Outcome) (before after : Knowledge)
+        → AreTaken tells session jobs outcomes before after → IsFrom n before → IsFrom n after
+    from_taken session [] [] before after taken from = rw taken from
+    from_taken session (job ∷ jobs) (o ∷ outcomes) before after taken from =
+        from_taken session jobs outcomes taken.0 after taken.2 (from_took taken.1 from)
+    from_taken session _ _ before after taken from = absurd taken
+
+    module _ (may : ℕ → ℕ → Go → Type 0) (session : ℕ) where
+      from_goes : (job : Job) (old new : LinkState) (result : Served) (taken after : Knowledge) (o : Outcome)
+          → GoesOn tells may session job old new result taken after o → IsFrom n taken → IsFrom n after
+      from_goes job old new result taken after (outcome.Drop why) e from = rw e.1 from
+      from_goes job old new result taken after (outcome.Answer receipt) (inl over) from = rw over.1.1 from
+      from_goes job old new result taken after (outcome.Answer receipt) (inr on) from =
+          let a = on.1.asked in
+          let looked : IsFrom n a.looked = rw a.saw.same from in
+          ⊎_elim (λ firm. rw firm.2 looked) (λ second. from_took second.1 looked) a.ends
+
+      from_gone : (jobs : List Job) (outcomes : List Outcome) (results : List Served) (taken after : Knowledge)
+          (old new : LinkState) → GoOn tells may session jobs outcomes results taken after old new
+          → IsFrom n taken → IsFrom n after
+      from_gone [] outcomes results taken after old new goes from = rw goes.2 from
+      from_gone (job ∷ jobs) (o ∷ outcomes) (r ∷ results) taken after old new goes from =
+          from_gone jobs outcomes results goes.0 after goes.1 new goes.3
+          (from_goes job old goes.1 r taken goes.0 o goes.2 from)
+      from_gone (job ∷ jobs) _ _ taken after old new goes from = absurd goes
+
+more_turns : {told : Bool} {before after : Knowledge} → GoesFrom told before after → (t : KeptTurn)
+    → Contains before.turns t → Contains after.turns t
+more_turns {before = before} goes t has = rw goes.turns (Contains-append_left before.turns goes.later t has)
+
+from_then : {told : Bool} {one two three : Knowledge} → GoesFrom told one two → GoesFrom told two three
+    → GoesFrom told one three
+from_then {one = one} {two = two} {three = three} p q = record {
+  number = q.number ∙ p.number;
+  size = q.size ∙ p.size;
   faults = q.faults ∙ p.faults;
   known = λ y. begins_then one.known two.known three.known (p.known y) (q.known y);
-  since = λ all. subst (λ (n : ℕ). All (IsSince n) three.turns) p.faults
-      (q.since (subst (λ (n : ℕ). All (IsSince n) two.turns) (sym p.faults) (p.since all)));
+  later = p.later ++ q.later;
+  turns = rw (q.turns, p.turns) (append_assoc one.turns p.later q.later);
 }
-
-pub on_same : (told : Bool) (one two : Knowledge) → two ≡ one → OnFrom told one two
-on_same told one two is = subst (λ (k : Knowledge). OnFrom told one k) (sym is)
-    (record { faults = refl; known = λ y. ([], sym (append-nil one.known)); since = λ all. all })
-
--- behind a turn
-pub on_took : {V A : Type 0} (told : Bool) (facts : V → Facts) (session : Option ℕ) (does : V → V → A → Bool → Entries → Type 0)
-    (before : Knowledge) (answer : A) (after : Knowledge) → Took told facts session does before answer after → OnFrom told before after
-on_took told facts session does before answer after t = record {
-  faults = ap (λ (k : Knowledge). k.faults) t.kept;
-  known = λ y. subst (λ (h : Entries). Begins before.known h) (sym (ap (λ (k : Knowledge). k.known) t.kept))
-      (begins_then before.known (facts t.found).firm (facts t.left).firm (t.legal.known y) (t.owes.firm y));
-  since = λ all. subst (λ (ts : List KeptTurn). All (IsSince before.faults) ts) (sym (ap (λ (k : Knowledge). k.turns) t.kept))
-      (All-push (IsSince before.faults) before.turns (kept (facts t.found) (facts t.left) t.drops t.added) all
-      (record { found = t.legal.since; left = t.owes.faults }));
-}
-
--- behind a look at the length
-pub on_saw : (told : Bool) (seen : ℕ) (before after : Knowledge) → Saw told seen before after → OnFrom told before after
-on_saw told seen before after s = record {
-  faults = ap (λ (k : Knowledge). k.faults) s.same;
-  known = s.grows;
-  since = λ all. subst (λ (ts : List KeptTurn). All (IsSince before.faults) ts) (sym (ap (λ (k : Knowledge). k.turns) s.same)) all;
-}
-
-module _ {A : Type 0} (tells : Ghosts A) where
-  on_asked : (front faults : ℕ) (before : Knowledge) (settled : Settled) (after : Knowledge) → IsAsked tells front faults before settled after
-      → OnFrom (tells_lists tells) before after
-  on_asked front faults before settled after a =
-      on_then (tells_lists tells) before a.looked after (on_saw (tells_lists tells) a.seen before a.looked a.saw)
-      (⊎_elim
-      (λ firm. on_same (tells_lists tells) a.looked after firm.2)
-      (λ second. on_took (tells_lists tells) (λ book. book_facts book) _ _ a.looked settled after second.1)
-      a.ends)
-
-  module _ (may : ℕ → ℕ → Go → Type 0) (session : ℕ) where
-    on_goes : (job : Job) (old new : LinkState) (result : Served) (taken after : Knowledge) (o : Outcome)
-        → GoesOn tells may session job old new result taken after o → OnFrom (tells_lists tells) taken after
-    on_goes job old new result taken after (outcome.Drop why) e = on_same (tells_lists tells) taken after e.1
-    on_goes job old new result taken after (outcome.Answer receipt) (inl over) = on_same (tells_lists tells) taken after over.1.1
-    on_goes job old new result taken after (outcome.Answer receipt) (inr on) =
-        on_asked receipt.front receipt.faults taken on.1.settled after on.1.asked
-
-    on_taken : (jobs : List Job) (outcomes : List Outcome) (before after : Knowledge) → AreTaken tells session jobs outcomes before after
-        → OnFrom (tells_lists tells) before after
-    on_taken [] [] before after taken = on_same (tells_lists tells) before after taken
-    on_taken (job ∷ jobs) (o ∷ outcomes) before after taken =
-        on_then (tells_lists tells) before taken.0 after
-        (on_took (tells_lists tells) (λ book. book_facts book) _ _ before o taken.0 taken.1)
-        (on_taken jobs outcomes taken.0 after taken.2)
-    on_taken _ _ before after taken = absurd taken
-
-    on_gone : (jobs : List Job) (outcomes : List Outcome) (results : List Served) (taken after : Knowledge) (old new : LinkState)
-        → GoOn tells may session jobs outcomes results taken after old new → OnFrom (tells_lists tells) taken after
-    on_gone [] outcomes results taken after old new goes = on_same (tells_lists tells) taken after goes.2
-    on_gone (job ∷ jobs) (o ∷ outcomes) (r ∷ results) taken after old new goes =
-        on_then (tells_lists tells) taken goes.0 after (on_goes job old goes.1 r taken goes.0 o goes.2)
-        (on_gone jobs outcomes results goes.0 after goes.1 new goes.3)
-    on_gone (job ∷ jobs) _ _ taken after old new goes = absurd goes
-
-    -- behind jobs that were served together
-    pub on_served : (jobs : List Job) (old new : LinkState) (results : List Served) (before after : Knowledge)
-        → AreServed tells may session jobs old new results before after → OnFrom (tells_lists tells) before after
-    on_served jobs old new results before after s =
-        on_then (tells_lists tells) before s.taken after
-        (on_taken jobs s.outcomes before s.taken s.first)
-        (on_gone jobs s.outcomes results s.taken after old new s.go_on)
 
 -- ---- what was sent
 
-pub more_turns : (told : Bool) (before after : Knowledge) → GoesFrom told before after → (t : KeptTurn) → Contains before.turns t
-    → Contains after.turns t
-more_turns told before after goes t has =
-    subst (λ (ts : List KeptTurn). Contains ts t) (sym goes.turns) (Contains-append_left before.turns goes.later t has)
+-- replies stay replies
+replies_stay : {told : Bool} {before after : Knowledge} → GoesFrom told before after → told ≡ true → (jobs : List Job)
+    (sent : Option (List Datagram)) → AreRepliesTo jobs before sent → AreRepliesTo jobs after sent
+replies_stay {before = before} {after = after} goes y jobs sent are =
+    IfSome_then sent are (λ list p. in_turn_weaker (RepliesTo before) (RepliesTo after) stays jobs list p)
+  where
+    stays : (job : Job) (d : Datagram) → RepliesTo before job d → RepliesTo after job d
+    stays job d r = record {
+      peer = r.peer;
+      says = says_later (sym goes.size) (goes.known y)
+          (λ (f : HasFailedSince before). (f.0, more_turns goes f.0 f.1, rw goes.faults f.2)) r.says;
+    }
 
-module _ (told : Bool) (before after : Knowledge) (goes : GoesFrom told before after) (y : told ≡ true) where
-  -- a reply stays one
-  reply_stays : (job : Job) (d : Datagram) → RepliesTo before job d → RepliesTo after job d
-  reply_stays job d r = record {
-    peer = r.peer;
-    says = says_later (sym goes.size) (goes.known y) (λ (f : HasFailedSince before).
-        (f.0, more_turns told before after goes f.0 f.1, subst (λ (n : ℕ). disk.Rose n f.0.left.faults) (sym goes.faults) f.2)) r.says;
-  }
-
-  pub replies_stay : (jobs : List Job) (sent : Option (List Datagram)) → AreRepliesTo jobs before sent → AreRepliesTo jobs after sent
-  replies_stay jobs None are = tt
-  replies_stay jobs (Some list) are = in_turn_weaker (RepliesTo before) (RepliesTo after) reply_stays jobs list are
+-- each turn that a pass keeps found the count of faults at least at the one that it began with
+abbrev AllSince : Knowledge → Type 0
+AllSince k = (t : KeptTurn) → Contains k.turns t → IsSince k.faults t
 
 -- Behind one more job: `before` is in front of its first turn, `taken` in front of what followed, and `after` behind that.
 -- What was sent before are replies to the jobs in front of it.
 module _ (told : Bool) (session : ℕ) (job : Job) (done : List Job) (between : List KeptTurn)
     (before taken after : Knowledge) (goes : GoesFrom told taken after) (same_size : before.size ≡ after.size)
-    (all_at : (t : KeptTurn) → Contains after.turns t → IsSince after.faults t) (old new : LinkState) (y : told ≡ true)
-    (are : AreRepliesTo done taken old.sent) where
-  none_more : (sent : Option (List Datagram)) → AreRepliesTo done taken sent → AreRepliesTo (done ++ job ∷ []) after sent
-  none_more None were = tt
-  none_more (Some list) were =
-      in_turn_more (RepliesTo after) done list (job ∷ []) (replies_stay told taken after goes y done (Some list) were)
+    (all_at : AllSince after) (old new : LinkState) (y : told ≡ true) (are : AreRepliesTo done taken old.sent) where
+  abbrev AreReplies : Type 0
+  AreReplies = AreRepliesTo (done ++ job ∷ []) after new.sent
 
-  one_more : (sent : Option (List Datagram)) (d : Datagram) → RepliesTo after job d → AreRepliesTo done taken sent
-      → AreRepliesTo (done ++ job ∷ []) after (with_one d sent)
-  one_more None d is were = tt
-  one_more (Some list) d is were =
-      in_turn_both (RepliesTo after) done list (job ∷ []) (d ∷ []) (replies_stay told taken after goes y done (Some list) were)
-      (inl (is, tt))
+  stay : AreRepliesTo done after old.sent
+  stay = replies_stay goes y done old.sent are
 
-  new_reply : (octets : List ℕ) → IsAnswered after.size after.known (datagram_of job) octets
+  none_sent : new.sent ≡ old.sent → AreReplies
+  none_sent same = rw same
+      (IfSome_then old.sent stay (λ list p. in_turn_more (RepliesTo after) done list (job ∷ []) p))
+
+  abbrev Says : List ℕ → Type 0
+  Says octets = IsAnswered after.size after.known (datagram_of job) octets
       ⊎ (TellsFailure (datagram_of job) octets × HasFailedSince after)
-      → RepliesTo after job (record { peer = job.from; octets = octets })
-  new_reply octets says = record { peer = refl; says = says }
+
+  one_sent : (octets : List ℕ) → Says octets → HasSent told session job old new octets → AreReplies
+  one_sent octets says sent = rw sent (by old.sent stay)
+    where
+      reply : Datagram
+      reply = record { peer = job.from; octets = octets }
+
+      by : (o : Option (List Datagram)) → AreRepliesTo done after o
+          → AreRepliesTo (done ++ job ∷ []) after (with_one reply o)
+      by None were = tt
+      by (Some list) were = in_turn_both (RepliesTo after) done list (job ∷ []) (reply ∷ []) were
+          (inl (record { peer = refl; says = says }, tt))
 
   -- a turn of the job that stands in what the pass keeps
-  kept_turn : (first : KeptTurn) (later : List KeptTurn) → after.turns ≡ before.turns ++ first ∷ later → Contains after.turns first
-  kept_turn first later is = subst (λ (ts : List KeptTurn). Contains ts first) (sym is)
-      (Contains-append_right before.turns (first ∷ later) first (0, omega arith, refl))
+  kept_turn : (first : KeptTurn) (later : List KeptTurn) → after.turns ≡ before.turns ++ first ∷ later
+      → Contains after.turns first
+  kept_turn first later is = rw is (Contains-append_right before.turns (first ∷ later) first (0, omega arith, refl))
 
-  replied_says : (cause : Option ℕ) (front : ℕ)
-      → (r : HasRepliedBehind told session job between before after old new cause front)
-      → IsAnswered after.size after.known (datagram_of job) r.reply ⊎ (TellsFailure (datagram_of job) r.reply × HasFailedSince after)
-  replied_says cause front r =
+  replied_says : {cause : Option ℕ} {front : ℕ}
+      → (r : HasRepliedBehind told session job between before after old new cause front) → Says r.reply
+  replied_says r =
       let size : r.first.found.size ≡ after.size = r.size ∙ same_size in
       let has = kept_turn r.first (between ++ r.later) r.turns in
       ⊎_elim
       (λ (a : IsReplyAt told session job r.first r.reply). inl (record {
         history = history_at r.first;
         act = a.act;
-        says = subst (λ (n : ℕ). decided_at (history_at r.first) n job.from job.octets ≡ Says r.reply a.act) size a.decides;
+        says = subst (λ (n : ℕ). decided_at (history_at r.first) n job.from job.octets ≡ SaysReply r.reply a.act) size
+            a.decides;
         now = job.moment;
         who = caller_of session job;
-        rests = subst (λ (h : Entries). Begins h after.known) (a.list ∙ ap (λ (l : Entries). history_at r.first ++ l) a.adds) (r.firm y);
+        rests = rw (a.list, a.adds) at (r.firm y);
       }))
-      (λ (f : IsFaultAt told session job r.first r.reply). inr (
-        ap (λ d. reply_in d) f.decides,
-        (r.first, has, device_rose_since after.faults r.first.found.faults r.first.left.faults (all_at r.first has).found f.rose),
-      ))
+      (λ (f : IsFaultAt told session job r.first r.reply).
+      let since = (all_at r.first has).found in
+      inr (ap (λ d. reply_in d) f.decides, (r.first, has, omega (arith, since, f.rose))))
       (r.answers y)
 
-  lost_on : (l : HasLostBehind told session job between before after old new) → AreRepliesTo (done ++ job ∷ []) after new.sent
-  lost_on l = by_reply (failure_reply (prepared_of job.octets)) refl l.sent
+  lost : HasLostBehind told session job between before after old new → AreReplies
+  lost l = by (failure_reply (prepared_of job.octets)) refl l.sent
     where
-      by_reply : (o : Option (List ℕ)) → failure_reply (prepared_of job.octets) ≡ o
-          → MatchOption o (new ≡ old) (λ octets. new ≡ record old { sent = with_one (record { peer = job.from; octets = octets }) old.sent })
-          → AreRepliesTo (done ++ job ∷ []) after new.sent
-      by_reply None is same =
-          subst (λ (s : LinkState). AreRepliesTo (done ++ job ∷ []) after s.sent) (sym same) (none_more old.sent are)
-      by_reply (Some octets) is sent =
-          let has = kept_turn l.first (between ++ l.second ∷ []) l.turns in
-          let also : Contains after.turns l.second = subst (λ (ts : List KeptTurn). Contains ts l.second) (sym l.turns)
+      by : (o : Option (List ℕ)) → failure_reply (prepared_of job.octets) ≡ o
+          → MatchOption o (new ≡ old) (HasSent told session job old new) → AreReplies
+      by None is same = none_sent (cc)
+      by (Some octets) is sent =
+          let also : Contains after.turns l.second = rw l.turns
           (Contains-append_right before.turns (l.first ∷ (between ++ l.second ∷ [])) l.second
           (Contains-append_right (l.first ∷ between) (l.second ∷ []) l.second (0, omega arith, refl))) in
-          let first = all_at l.first has in
-          let rose : disk.Rose after.faults l.second.left.faults =
-          device_rose_since after.faults l.first.left.faults l.second.left.faults
-          (let a = first.found in let b = first.left in omega (arith, a, b)) l.rose in
-          subst (λ (s : LinkState). AreRepliesTo (done ++ job ∷ []) after s.sent) (sym sent)
-          (one_more old.sent (record { peer = job.from; octets = octets })
-          (new_reply octets (inr (is, (l.second, also, rose)))) are)
-
-  unsent : new.sent ≡ old.sent → AreRepliesTo (done ++ job ∷ []) after new.sent
-  unsent same = subst (λ s. AreRepliesTo (done ++ job ∷ []) after s) (sym same) (none_more old.sent are)
+          let since = all_at l.first (kept_turn l.first (between ++ l.second ∷ []) l.turns) in
+          one_sent octets (inr (is, (l.second, also, omega (arith, since.found, since.left, l.rose)))) sent
 
   -- what was sent stays replies to jobs in turn
-  pub sent_on : (result : Served) → TellsBehind told session job between before after old new result
-      → AreRepliesTo (done ++ job ∷ []) after new.sent
-  sent_on (served.Replied cause front) r =
-      subst (λ (s : LinkState). AreRepliesTo (done ++ job ∷ []) after s.sent) (sym r.sent)
-      (one_more old.sent (record { peer = job.from; octets = r.reply }) (new_reply r.reply (replied_says cause front r)) are)
-  sent_on (served.Dropped why) d = unsent (ap (λ (s : LinkState). s.sent) d.unsent)
-  sent_on served.Lost l = lost_on l
-  sent_on served.Link f = unsent (ap (λ (s : LinkState). s.sent) f.rest)
-  sent_on _ same = unsent (ap (λ (s : LinkState). s.sent) same)
+  sent_on : (result : Served) → TellsBehind told session job between before after old new result → AreReplies
+  sent_on (served.Replied cause front) r = one_sent r.reply (replied_says r) r.sent
+  sent_on served.Lost l = lost l
+  sent_on _ t = none_sent (cc)
 
--- a link by which a session sends hears nothing still, and failed where it had
-module _ (told : Bool) (session : ℕ) (job : Job) (between : List KeptTurn) (before after : Knowledge) (old new : LinkState) where
-  abbrev pub TellsOf : Served → Type 0
-  TellsOf result = TellsBehind told session job between before after old new result
+-- ---- the link
 
-  -- the link's address, turns, datagrams heard and faults are as before
-  record SamePath : Type 0 where
-    pub address : new.address ≡ old.address
-    pub turns : new.turns ≡ old.turns
-    pub received : new.received ≡ old.received
+-- From one state of a session's link to another, by why the session stopped between them.
+record LinkGoes (stops : Option Stop) (old new : LinkState) : Type 0 where
+  pub hears : (at : Addr) → HearsNothing at old → HearsNothing at new
+  pub fails : Rose 0 old.faults → Rose 0 new.faults
+  pub failed : stops ≡ Some stop.Link → Rose 0 new.faults
+  pub calm : stops ≡ None → new.faults ≡ old.faults
 
-  path_of : (x : LinkState) → new ≡ x → x.address ≡ old.address → x.turns ≡ old.turns → x.received ≡ old.received → SamePath
-  path_of x is a t r = record {
-    address = ap (λ (s : LinkState). s.address) is ∙ a;
-    turns = ap (λ (s : LinkState). s.turns) is ∙ t;
-    received = ap (λ (s : LinkState). s.received) is ∙ r;
-  }
+link_then : (s t : Option Stop) {one two three : LinkState} → LinkGoes s one two → LinkGoes t two three
+    → LinkGoes (option_or s t) one three
+link_then s t p q = record {
+  hears = λ at h. q.hears at (p.hears at h);
+  fails = λ rose. q.fails (p.fails rose);
+  failed = λ is. ⊎_elim (λ first. q.fails (p.failed first)) (λ second. q.failed second) (one_of s t stop.Link is);
+  calm = λ none. let both = none_of s t none in q.calm both.1 ∙ p.calm both.0;
+}
 
-  lost_path : (o : Option (List ℕ))
-      → MatchOption o (new ≡ old) (λ octets. new ≡ record old { sent = with_one (record { peer = job.from; octets = octets }) old.sent })
-      → SamePath × (new.faults ≡ old.faults)
-  lost_path None same = (path_of old same refl refl refl, ap (λ (s : LinkState). s.faults) same)
-  lost_path (Some octets) sent = (
-    path_of (record old { sent = with_one (record { peer = job.from; octets = octets }) old.sent }) sent refl refl refl,
-    ap (λ (s : LinkState). s.faults) sent,
-  )
+-- it sent something, or nothing
+link_sent : {stops : Option Stop} {old new : LinkState} (sent : Option (List Datagram))
+    → new ≡ record old { sent = sent }
+    → (stops ≡ Some stop.Link → ⊥) → LinkGoes stops old new
+link_sent sent is other = rw is (record {
+  hears = λ at h. record { address = h.address; turns = h.turns; received = h.received };
+  fails = λ rose. rose;
+  failed = λ link. absurd (other link);
+  calm = λ none. refl;
+})
 
-  same_path : (result : Served) → TellsOf result → SamePath
-  same_path (served.Replied cause front) r =
-      path_of (record old { sent = with_one (record { peer = job.from; octets = r.reply }) old.sent }) r.sent refl refl refl
-  same_path (served.Dropped why) d = path_of old d.unsent refl refl refl
-  same_path served.Lost l = (lost_path (failure_reply (prepared_of job.octets)) l.sent).0
-  same_path served.Link f = path_of (record old { faults = new.faults }) f.rest refl refl refl
-  same_path _ same = path_of old same refl refl refl
+link_goes : (told : Bool) (session : ℕ) (job : Job) (between : List KeptTurn) (before after : Knowledge)
+    (old new : LinkState)
+    (result : Served) → TellsBehind told session job between before after old new result
+    → LinkGoes (stop_of result) old new
+link_goes told session job between before after old new (served.Replied cause front) r = link_sent _ r.sent
+    (λ is. cc is)
+link_goes told session job between before after old new (served.Dropped why) d = link_sent old.sent d.unsent
+    (λ is. cc is)
+link_goes told session job between before after old new served.Lost l = by
+    (failure_reply (prepared_of job.octets)) l.sent
+  where
+    by : (o : Option (List ℕ)) → MatchOption o (new ≡ old) (HasSent told session job old new) → LinkGoes None old new
+    by None same = link_sent old.sent same (λ is. cc is)
+    by (Some octets) sent = link_sent _ sent (λ is. cc is)
+link_goes told session job between before after old new served.Link f =
+    let rose = rose_since 0 old.faults new.faults (omega arith) f.rose in
+    record {
+      hears = λ at h. rw f.rest (record { address = h.address; turns = h.turns; received = h.received });
+      fails = λ first. rose;
+      failed = λ is. rose;
+      calm = λ none. cc none;
+    }
+link_goes told session job between before after old new _ same = link_sent old.sent same (λ is. cc is)
 
-  pub hears_on : (at : Addr) (result : Served) → TellsOf result → HearsNothing at old → HearsNothing at new
-  hears_on at result tells h =
-      let same = same_path result tells in
+-- ---- all jobs
+
+module _ (told : Bool) (session : ℕ) where
+  -- Behind all jobs the pass knows no less, and what was sent stays replies to jobs in turn.
+  record Walked (jobs : List Job) (results : List Served) (before taken after : Knowledge) (old new : LinkState)
+      : Type 0 where
+    pub goes : GoesFrom told taken after
+    pub link : LinkGoes (first_stop results) old new
+    pub sent : (done : List Job) → before.size ≡ after.size → AllSince after → told ≡ true
+        → AreRepliesTo done taken old.sent
+        → AreRepliesTo (done ++ jobs) after new.sent
+
+  walked : (jobs : List Job) (results : List Served) (before taken after : Knowledge) (old new : LinkState)
+      → EachTells told session jobs results before taken after old new → Walked jobs results before taken after old new
+  walked [] results before taken after old new each = rw (each.0, each.1, each.2) (record {
+    goes = record {
+      number = refl;
+      size = refl;
+      faults = refl;
+      known = λ y. ([], sym (append-nil taken.known));
+      later = [];
+      turns = sym (append-nil taken.turns);
+    };
+    link = link_sent old.sent refl (λ is. cc is);
+    sent = λ done size since y are. rw append-nil are;
+  })
+  walked (job ∷ jobs) [] before taken after old new each = absurd each
+  walked (job ∷ jobs) (r ∷ results) before taken after old new each =
+      let now = each.1 in
+      let one = each.3 in
+      let rest = walked jobs results each.0 now after each.2 new each.4 in
       record {
-        address = same.address ∙ h.address;
-        turns = same.turns ∙ h.turns;
-        received = subst (λ r. IfSome r (λ list. list ≡ [])) (sym same.received) h.received;
+        goes = from_then one.goes rest.goes;
+        link = link_then (stop_of r) (first_stop results)
+            (link_goes told session job one.between before now old each.2 r one.tells) rest.link;
+        sent = λ done size since y are. rw (← append_assoc done (job ∷ []) jobs)
+            (rest.sent (done ++ job ∷ []) (one.size ∙ size) since y
+            (sent_on told session job done one.between before taken now one.goes (size ∙ rest.goes.size)
+            (λ t has. rw rest.goes.faults at (since t (more_turns rest.goes t has))) old each.2 y are r one.tells));
       }
 
-  as_failed : new.faults ≡ old.faults → Rose 0 old.faults → Rose 0 new.faults
-  as_failed same rose = subst (λ (n : ℕ). Rose 0 n) (sym same) rose
+module _ {A L : Type 0} (device : Ghosts A) (tells : paths.Ghosts L) (may : ℕ → ℕ → Go → Type 0) (session : ℕ)
+    (jobs : List Job) (old new : Desk L) (results : List Served)
+    (took : hand_at new ≡ with_all_taken jobs (hand_at old))
+    (serves : AreServed device may session jobs (link_at tells old) (link_at tells new) results (known_at old) (known_at new))
+    (keeps : KeepsTurnsOf (tells_lists device) session jobs (known_at old) (known_at new))
+    (told : TellTogether (tells_lists device) session jobs results (known_at old) (known_at new) (link_at tells old) (link_at tells new))
+    (own : session ≡ (known_at new).number)
+    (stops : new.stop ≡ option_or old.stop (first_stop results)) (lasts : new.last ≡ later_of old.last (latest jobs)) (at : Addr) (began : Began)
+    (w : HasWorked tells (tells_lists device) at began old) where
+  from : IsFrom began.faults (known_at new)
+  from = from_gone began.faults device may session jobs serves.outcomes results serves.taken (known_at new)
+      (link_at tells old) (link_at tells new) serves.go_on
+      (from_taken began.faults device session jobs serves.outcomes (known_at old) serves.taken serves.first
+      (w.faults, w.since))
 
-  -- a link that had failed has failed
-  pub fails_still : (result : Served) → TellsOf result → Rose 0 old.faults → Rose 0 new.faults
-  fails_still (served.Replied cause front) r rose = as_failed (ap (λ (s : LinkState). s.faults) r.sent) rose
-  fails_still (served.Dropped why) d rose = as_failed (ap (λ (s : LinkState). s.faults) d.unsent) rose
-  fails_still served.Lost l rose = as_failed (lost_path (failure_reply (prepared_of job.octets)) l.sent).1 rose
-  fails_still served.Link f rose = rose_since 0 old.faults new.faults (omega arith) f.rose
-  fails_still _ same rose = as_failed (ap (λ (s : LinkState). s.faults) same) rose
+  all_since : AllSince (known_at new)
+  all_since t has = rw from.0 (All-contains (IsSince began.faults) (known_at new).turns t from.1 has)
 
-  -- a link that didn't stop the session has failed no more often
-  pub calm_on : (result : Served) → TellsOf result → stop_of result ≡ None → new.faults ≡ old.faults
-  calm_on (served.Replied cause front) r is = ap (λ (s : LinkState). s.faults) r.sent
-  calm_on (served.Dropped why) d is = ap (λ (s : LinkState). s.faults) d.unsent
-  calm_on served.Lost l is = (lost_path (failure_reply (prepared_of job.octets)) l.sent).1
-  calm_on served.Link f is = absurd (cc is)
-  calm_on _ same is = ap (λ (s : LinkState). s.faults) same
+  all : Walked (tells_lists device) session jobs results (known_at old) told.taken (known_at new) (link_at tells old)
+      (link_at tells new)
+  all = walked (tells_lists device) session jobs results (known_at old) told.taken (known_at new) (link_at tells old)
+      (link_at tells new) told.each
 
-  pub failed_on : TellsOf served.Link → Rose 0 new.faults
-  failed_on f = rose_since 0 old.faults new.faults (omega arith) f.rose
+  abbrev before_all : List Job
+  before_all = (hand_at old).taken
+
+  session_is : session ≡ began.number
+  session_is = own ∙ keeps.number ∙ w.number
+
+  either : (s : Stop) → new.stop ≡ Some s → (old.stop ≡ Some s) ⊎ (first_stop results ≡ Some s)
+  either s is = one_of old.stop (first_stop results) s (sym stops ∙ is)
+
+  pub worked_on : HasWorked tells (tells_lists device) at began new
+  worked_on = record {
+    number = keeps.number ∙ w.number;
+    size = keeps.size ∙ w.size;
+    faults = from.0;
+    since = from.1;
+    none_put = cc (took, w.none_put);
+    last = rw (took, lasts, w.last) (sym (latest_of_both before_all jobs));
+    answers = λ y. rw (took, ← session_is) (added_on (tells_lists device) session before_all jobs (known_at old)
+        (known_at new) began.size y w.size keeps (rw session_is (w.answers y)));
+    replies = λ y. rw took (all.sent before_all (sym keeps.size) all_since y
+        (replies_stay told.goes y before_all (link_at tells old).sent (w.replies y)));
+    link = all.link.hears at w.link;
+    cause = λ is. ⊎_elim (λ earlier. all.link.fails (w.cause earlier)) (λ now. all.link.failed now)
+        (either stop.Link is);
+    calm = λ is. let both = none_of old.stop (first_stop results)
+        (sym stops ∙ is) in all.link.calm both.1 ∙ w.calm both.0;
+    no_clock = λ is. ⊎_elim (λ earlier. w.no_clock earlier) (λ now. never_clock results now) (either stop.Clock is);
+  }

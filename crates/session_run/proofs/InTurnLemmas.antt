@@ -1,8 +1,12 @@
--- Lists one of which is for another in turn.
-use Rattle.std.proofs.Common.{◌≡◌, inl, inr, Bool, true, false, cond, List, [], ◌∷◌, ◌++◌, refl, sym, ap, subst, ◌∙◌, arith}
-use Rattle.std.specs.Prelude.{All, filter}
-use Rattle.std.specs.List.{Contains}
-use Rattle.std.proofs.lemmas.List.Elements.{All-cons, All-head, All-nil, All-tail, All-weaker, Contains-append_right}
+-- Lists one of which is for another in turn, and what passes to an inbox took that others pushed.
+use Rattle.std.proofs.Common.{◌≡◌, inl, inr, ◌≤◌, Bool, true, false, cond, List, [], ◌∷◌, ◌++◌, length, refl, sym, ap, subst, ◌∙◌, arith}
+use Rattle.std.specs.Prelude.{All, filter, sum_by}
+use Rattle.std.proofs.lemmas.List.{append-nil}
+use Rattle.std.proofs.lemmas.List.Elements.{All-cons, All-head, All-nil, All-tail}
+use Rattle.std.proofs.lemmas.List.Sums.{sum_by-cons}
+use Rattle.job_inbox.specs.Hands.{AreSettled}
+use Rattle.job_inbox.specs.declared.hand.Hand.{Hand}
+use Rattle.job_inbox.specs.declared.job.Job.{Job}
 use Rattle.turn_cell.specs.Placed.{IsSublist}
 use Rattle.session_run.specs.History.{InTurn}
 
@@ -27,10 +31,7 @@ module _ {A B : Type 0} where
 
     -- more to be for, behind
     pub in_turn_more : (xs : List A) (ys : List B) (more : List A) → InTurn R xs ys → InTurn R (xs ++ more) ys
-    in_turn_more xs [] more p = tt
-    in_turn_more [] (y ∷ ys) more p = absurd p
-    in_turn_more (x ∷ xs) (y ∷ ys) more (inl t) = inl (t.0, in_turn_more xs ys more t.1)
-    in_turn_more (x ∷ xs) (y ∷ ys) more (inr t) = inr (in_turn_more xs (y ∷ ys) more t)
+    in_turn_more xs ys more p = rw append-nil at (in_turn_both xs ys more [] p tt)
 
     -- and in front
     pub in_turn_before : (rest xs : List A) (ys : List B) → InTurn R xs ys → InTurn R (rest ++ xs) ys
@@ -62,11 +63,6 @@ module _ {A B : Type 0} where
         All-cons P y ys (each x y (All-head Q x xs all) t.0) (in_turn_all Q P each xs ys (All-tail Q x xs all) t.1)
     in_turn_all Q P each (x ∷ xs) (y ∷ ys) all (inr t) = in_turn_all Q P each xs (y ∷ ys) (All-tail Q x xs all) t
 
-pub each_contains : {A : Type 0} (xs : List A) → All (λ x. Contains xs x) xs
-each_contains [] = All-nil (λ x. Contains [] x)
-each_contains (x ∷ xs) = All-cons (λ y. Contains (x ∷ xs) y) x xs (0, omega arith, refl)
-    (All-weaker (λ y. Contains xs y) (λ y. Contains (x ∷ xs) y) (λ y has. Contains-append_right (x ∷ []) xs y has) xs (each_contains xs))
-
 -- what is for what is for others
 pub in_turn_through : {A B C : Type 0} (R : A → B → Type 0) (S : B → C → Type 0) (T : A → C → Type 0)
     → ((a : A) (b : B) (c : C) → R a b → S b c → T a c) → (xs : List A) (ys : List B) (zs : List C)
@@ -97,6 +93,41 @@ module _ {A : Type 0} (p : A → Bool) where
 
   pub filter_none : (xs : List A) → All (λ x. p x ≡ false) xs → filter p xs ≡ []
   filter_none [] none = refl
-  filter_none (x ∷ xs) none =
-      ap (λ (b : Bool). cond b (x ∷ filter p xs) (filter p xs)) (All-head (λ (y : A). p y ≡ false) x xs none)
-      ∙ filter_none xs (All-tail (λ (y : A). p y ≡ false) x xs none)
+  filter_none (x ∷ xs) none = rw (All-head (λ (y : A). p y ≡ false) x xs none)
+      (filter_none xs (All-tail (λ (y : A). p y ≡ false) x xs none))
+
+-- ---- an inbox
+
+module _ {A : Type 0} where
+  sub_length : (xs ys : List A) → IsSublist xs ys → length xs ≤ length ys
+  sub_length [] ys sub = omega arith
+  sub_length (x ∷ xs) [] sub = absurd (cc sub)
+  sub_length (x ∷ xs) (y ∷ ys) (inl t) = let n = sub_length xs ys t.1 in omega (arith, n)
+  sub_length (x ∷ xs) (y ∷ ys) (inr t) = let n = sub_length (x ∷ xs) ys t in omega (arith, n)
+
+  -- a sublist that is no shorter is the whole
+  sub_whole : (xs ys : List A) → IsSublist xs ys → length ys ≤ length xs → xs ≡ ys
+  sub_whole xs [] sub long = sub
+  sub_whole [] (y ∷ ys) sub long = absurd (omega (arith, long))
+  sub_whole (x ∷ xs) (y ∷ ys) (inl t) long = λ i. t.0 i ∷ sub_whole xs ys t.1 (omega (arith, long)) i
+  sub_whole (x ∷ xs) (y ∷ ys) (inr t) long = let n = sub_length (x ∷ xs) ys t in absurd (omega (arith, n, long))
+
+-- how many jobs there are
+ones : (jobs : List Job) → sum_by (λ job. 1) jobs ≡ length jobs
+ones [] = refl
+ones (j ∷ jobs) = let n = ones jobs in sum_by-cons (λ (x : Job). 1) j jobs ∙ omega (arith, n)
+
+-- What was taken from an inbox to which one pass pushed and from which another took is as what was pushed, in turn.
+pub taken_in_turn : {A : Type 0} (R : A → Job → Type 0) (xs : List A) (push pop : Hand) → AreSettled (push ∷ pop ∷ [])
+    → pop.put ≡ [] → InTurn R xs push.put → InTurn R xs pop.taken
+taken_in_turn R xs push pop settled none p =
+    let put = settled.0 in let taken = settled.1 in let left = settled.2 in let s = settled.3 in
+    let first : IsSublist push.put put × IsSublist push.taken taken = s.stand 0 push (omega arith) in
+    let second : IsSublist pop.put put × IsSublist pop.taken taken = s.stand 1 pop (omega arith) in
+    let total : sum_by (λ h. sum_by (λ job. 1) h.put) (push ∷ pop ∷ []) ≡ sum_by (λ job. 1) put = s.puts (λ job. 1) in
+    let nothing : length pop.put ≡ 0 = ap (λ (l : List Job). length l) none in
+    let a = ones push.put in
+    let b = ones pop.put in
+    let c = ones put in
+    let all : push.put ≡ put = sub_whole push.put put first.0 (omega (arith, total, nothing, a, b, c)) in
+    in_turn_sub R xs pop.taken taken (in_turn_front R xs taken left (rw (← s.order, ← all) p)) second.1

@@ -2,7 +2,7 @@
 use Rattle.std.proofs.Common.{◌≡◌, ℕ, ◌==◌, Bool, true, false, if◌then◌else◌, List, [], ◌∷◌, ◌++◌, Option, None, Some, refl, sym, ap, subst, ◌∙◌, append_assoc}
 use Rattle.std.specs.Prelude.{IfSome}
 use Rattle.std.proofs.lemmas.List.{append-nil}
-use Rattle.std.proofs.lemmas.Option.{same_Some}
+use Rattle.std.proofs.lemmas.Option.{IfSome_then, same_Some}
 use Rattle.area_disk.specs.Disk.{Rose}
 use Rattle.gw_base.specs.Owes.{Begins}
 use Rattle.gw_base.specs.declared.history.HistoryEntry.{HistoryEntry}
@@ -45,7 +45,7 @@ answers_front size heard jobs before first last a = record {
   were_heard = a.were_heard;
   answers = λ session. let f = first_of session before first last in
       in_turn_front (AnswersJob size session) (jobs session) (by_session session (placed before first)) f.0
-      (subst (λ (l : List Placed). InTurn (AnswersJob size session) (jobs session) l) f.1 (a.answers session));
+      (rw f.1 at (a.answers session));
   no_more = a.no_more;
 }
 
@@ -67,8 +67,11 @@ answers_heard size jobs entries earlier heard all grows a = record {
 
 module _ (size : ℕ) (firm later : List HistoryEntry) (before now before' now' : ℕ) (begins : Begins firm later)
     (rises : Rose before now → Rose before' now') where
+  abbrev Later : ℕ → Datagram → Datagram → Type 0
+  Later session = IsReplyTo session size later before' now'
+
   reply_later : (session : ℕ) (asked sent : Datagram) → IsReplyTo session size firm before now asked sent
-      → IsReplyTo session size later before' now' asked sent
+      → Later session asked sent
   reply_later session asked sent r = record {
     session_is = r.session_is;
     peer = r.peer;
@@ -77,30 +80,11 @@ module _ (size : ℕ) (firm later : List HistoryEntry) (before now before' now' 
 
   pub replies_later : (earlier heard all sent : Option (List Datagram)) → GrowsBy earlier heard all
       → ReplyInTurn size firm before now heard sent → ReplyInTurn size later before' now' all sent
-  replies_later earlier heard all sent grows r session =
-      heard_last earlier heard all grows Of (λ rest xs p. more sent rest xs p) (known heard (r session))
-    where
-      Of : List Datagram → Type 0
-      Of asked = IfSome sent (λ list. InTurn (IsReplyTo session size later before' now') asked (those_of session list))
-
-      more : (out : Option (List Datagram)) (rest xs : List Datagram)
-          → IfSome out (λ list. InTurn (IsReplyTo session size later before' now') xs (those_of session list))
-          → IfSome out (λ list. InTurn (IsReplyTo session size later before' now') (rest ++ xs) (those_of session list))
-      more None rest xs p = tt
-      more (Some list) rest xs p = in_turn_before (IsReplyTo session size later before' now') rest xs (those_of session list) p
-
-      known_in : (asked : List Datagram) (out : Option (List Datagram))
-          → IfSome out (λ list. InTurn (IsReplyTo session size firm before now) asked (those_of session list))
-          → IfSome out (λ list. InTurn (IsReplyTo session size later before' now') asked (those_of session list))
-      known_in asked None p = tt
-      known_in asked (Some list) p = in_turn_weaker (IsReplyTo session size firm before now) (IsReplyTo session size later before' now')
-          (reply_later session) asked (those_of session list) p
-
-      known : (told : Option (List Datagram))
-          → IfSome told (λ asked. IfSome sent (λ list. InTurn (IsReplyTo session size firm before now) asked (those_of session list)))
-          → IfSome told Of
-      known None p = tt
-      known (Some asked) p = known_in asked sent p
+  replies_later earlier heard all sent grows r session = heard_last earlier heard all grows
+      (λ asked. IfSome sent (λ list. InTurn (Later session) asked (those_of session list)))
+      (λ rest xs p. IfSome_then sent p (λ list q. in_turn_before (Later session) rest xs (those_of session list) q))
+      (IfSome_then heard (r session) (λ asked p. IfSome_then sent p (λ list q. in_turn_weaker
+      (IsReplyTo session size firm before now) (Later session) (reply_later session) asked (those_of session list) q)))
 
 module _ {L : Type 0} (tells : paths.Ghosts L) where
   joined_none : (told : Option (List Datagram)) → told ≡ joined told (Some [])

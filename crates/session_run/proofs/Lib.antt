@@ -1,15 +1,10 @@
 pub mod AddedLemmas
 pub mod BegunLemmas
 pub mod DeskLemmas
-pub mod DeskSteps
 pub mod EndLemmas
-pub mod GivenBackLemmas
 pub mod InTurnLemmas
-pub mod InboxLemmas
-pub mod LatestLemmas
 pub mod LawLemmas
-pub mod MadeLemmas
-pub mod NumberLemmas
+pub mod LinksLemmas
 pub mod ReceptionLemmas
 pub mod RepliedLemmas
 pub mod RunLemmas

@@ -1,10 +1,9 @@
 -- What who receives has done behind one more step of its dispatcher.
-use Rattle.std.proofs.Common.{◌≡◌, ◌≢◌, Bool, false, true, inl, ℕ, zero, suc, ◌+◌, ◌-◌, ◌<◌, ◌≤◌, List, [], ◌∷◌, ◌++◌, length, replicate, Option, None, Some, refl, sym, ap, subst, ◌∙◌, arith}
+use Rattle.std.proofs.Common.{◌≡◌, ◌≢◌, Bool, false, true, inl, ℕ, zero, suc, ◌+◌, ◌-◌, ◌<◌, ◌≤◌, List, [], ◌∷◌, ◌++◌, length, length-set, replicate, Option, None, Some, refl, sym, ap, ◌∙◌, arith}
 use Rattle.std.specs.Prelude.{IfSome}
-use Rattle.std.proofs.lemmas.Bool.{true≢false}
+use Rattle.std.proofs.lemmas.List.{length-map}
 use Rattle.gw_base.specs.Faults.{Rose, next_count}
 use Rattle.gw_base.specs.declared.address.Addr.{Addr}
-use Rattle.job_inbox.specs.Inbox.{known_by}
 use Rattle.job_inbox.specs.Rule.{idle}
 use Rattle.job_inbox.specs.declared.hand.Hand.{Hand}
 use Rattle.job_inbox.specs.declared.inbox.Inbox.{Inbox}
@@ -17,12 +16,13 @@ use Rattle.node_session.specs.declared.dispatched.Dispatched.{Dispatched}
 use Rattle.node_session.specs.declared.dispatched.Dispatched.TheVariants as dispatched
 use Rattle.node_session.specs.declared.dispatcher.Dispatcher.{Dispatcher}
 use Rattle.session_run.specs.History.{InTurn, datagram_of}
-use Rattle.session_run.specs.Reception.{ArePushed, CountsTurns, HasDispatched, IsOneFor, PushedOf, TakesTurn, TellsOfClock, link_of, stop_behind, turns_of, was_quiet}
+use Rattle.session_run.specs.Reception.{ArePushed, CountsTurns, HasDispatched, IsOneFor, TakesTurn, TellsOfClock, link_of, stop_behind, turns_of, was_quiet}
 use Rattle.session_run.specs.declared.reception.Reception.{Reception}
 use Rattle.session_run.specs.declared.stop.Stop.{Stop}
 use Rattle.session_run.specs.declared.stop.Stop.TheVariants as stop
 use Rattle.session_run.proofs.DeskLemmas.{rose_since}
 use Rattle.session_run.proofs.InTurnLemmas.{in_turn_both, in_turn_more}
+use Rattle.session_run.proofs.TeamLemmas.{if_some}
 
 -- datagrams of which the link heard one more
 heard_more : (sessions session : ℕ) (d : Datagram) (told : Option (List Datagram)) (put : List Job)
@@ -38,13 +38,10 @@ heard_job sessions session job (Some list) put is p =
     in_turn_both (IsOneFor sessions session) list put (datagram_of job ∷ []) (job ∷ []) p (inl ((is, refl), tt))
 
 module _ (sessions : ℕ) where
-  pushed_idle : (session : ℕ) (told : Option (List Datagram)) → PushedOf sessions session told idle
-  pushed_idle session None = record { jobs = tt; none_taken = refl }
-  pushed_idle session (Some list) = record { jobs = tt; none_taken = refl }
-
   pub all_idle : (session : ℕ) (told : Option (List Datagram)) (n : ℕ) → ArePushed sessions session told (replicate n idle)
   all_idle session told zero = tt
-  all_idle session told (suc n) = (pushed_idle session told, all_idle (suc session) told n)
+  all_idle session told (suc n) =
+      (record { jobs = if_some told (λ list. tt); none_taken = refl }, all_idle (suc session) told n)
 
   all_more : (session : ℕ) (d : Datagram) (told : Option (List Datagram)) (hands : List Hand) → ArePushed sessions session told hands
       → ArePushed sessions session (with_one d told) hands
@@ -70,157 +67,121 @@ module _ (sessions : ℕ) where
     all_set (suc session) job told hands k (omega (arith, is)) all.1,
   )
 
--- as many hands as passes, and as many of these as inboxes
-same_count : (inboxes : List Inbox) (passes : List InboxPass) → AreOfEach inboxes passes → length (known_by passes) ≡ length inboxes
-same_count [] [] own = refl
-same_count (i ∷ inboxes) (p ∷ passes) own = ap suc (same_count inboxes passes own.1)
-same_count _ _ own = absurd own
-
-set_count : (hands : List Hand) (k : ℕ) (job : Job) → length (with_job k job hands) ≡ length hands
-set_count (hand ∷ hands) (suc k) job = ap suc (set_count hands k job)
-set_count _ _ job = refl
-
--- what the passes of a dispatcher pushed of what its link heard
-abbrev HasPushedOf : LinkState → List Hand → Type 0
-HasPushedOf link hands = ArePushed (length hands) 0 link.received hands
-
-heard_one : (d : Datagram) (old new : LinkState) (hands : List Hand)
-    → new.received ≡ with_one d old.received → HasPushedOf old hands → HasPushedOf new hands
-heard_one d old new hands is all =
-    subst (λ told. ArePushed (length hands) 0 told hands) (sym is) (all_more (length hands) 0 d old.received hands all)
-
-same_heard : (old new : LinkState) (hands : List Hand) → new.received ≡ old.received → HasPushedOf old hands → HasPushedOf new hands
-same_heard old new hands is all = subst (λ told. ArePushed (length hands) 0 told hands) (sym is) all
+-- as many passes as inboxes
+pub each_length : (inboxes : List Inbox) (passes : List InboxPass) → AreOfEach inboxes passes
+    → length passes ≡ length inboxes
+each_length [] [] own = refl
+each_length (i ∷ inboxes) (p ∷ passes) own = ap suc (each_length inboxes passes own.1)
+each_length _ _ own = absurd own
 
 module _ (inboxes : List Inbox) (old new : Dispatcher) (link_old link_new : LinkState) (clock_old clock_new : ℕ) where
   abbrev Told : Dispatched → Type 0
   Told = TellsOf inboxes old new link_old link_new clock_old clock_new
 
-  pub pushed_on : AreOfEach inboxes (passes_of old) → (d : Dispatched) → Told d → HasPushedOf link_old (hands_of old)
-      → HasPushedOf link_new (hands_of new)
-  pushed_on own dispatched.Pushed t all =
-      let k = session_for t.job (length inboxes) in
-      let heard : link_new.received ≡ with_one (datagram_of t.job) link_old.received = ap (λ (l : LinkState). l.received) t.made.is in
-      let count : length (hands_of old) ≡ length inboxes = same_count inboxes (passes_of old) own in
-      let same : session_for t.job (length (hands_of old)) ≡ session_for t.job (length inboxes) = ap (λ n. session_for t.job n) count in
-      subst (λ (hs : List Hand). HasPushedOf link_new hs) (sym t.pushed)
-      (subst (λ (n : ℕ). ArePushed n 0 link_new.received (with_job k t.job (hands_of old))) (sym (set_count (hands_of old) k t.job))
-      (subst (λ told. ArePushed (length (hands_of old)) 0 told (with_job k t.job (hands_of old))) (sym heard)
-      (all_set (length (hands_of old)) 0 t.job link_old.received (hands_of old) k (omega (arith, same)) all)))
-  pushed_on own dispatched.Full t all =
-      subst (λ (hs : List Hand). HasPushedOf link_new hs) (sym t.kept)
-      (heard_one (datagram_of t.job) link_old link_new (hands_of old) (ap (λ (l : LinkState). l.received) t.made.is) all)
-  pushed_on own dispatched.Quiet t all =
-      subst (λ (hs : List Hand). HasPushedOf link_new hs) (sym t.1.0)
-      (same_heard link_old link_new (hands_of old) (ap (λ (l : LinkState). l.received) t.0) all)
-  pushed_on own dispatched.Link t all =
-      subst (λ (hs : List Hand). HasPushedOf link_new hs) (sym t.1.0)
-      (same_heard link_old link_new (hands_of old) (ap (λ (l : LinkState). l.received) t.0.rest) all)
-  pushed_on own dispatched.Clock t all =
-      subst (λ (hs : List Hand). HasPushedOf link_new hs) (sym t.2.0)
-      (heard_one t.0.0 link_old link_new (hands_of old) (ap (λ (l : LinkState). l.received) t.0.1) all)
-  pushed_on own dispatched.NoMemory t all =
-      subst (λ (hs : List Hand). HasPushedOf link_new hs) (sym t.1.0)
-      (heard_one t.0.0 link_old link_new (hands_of old) (ap (λ (l : LinkState). l.received) t.0.1) all)
+  -- what its passes pushed of what its link heard
+  abbrev HasPushedOf : LinkState → List Hand → Type 0
+  HasPushedOf link hands = ArePushed (length hands) 0 link.received hands
 
-  -- neither the address nor what was sent changes
-  pub path_on : (d : Dispatched) → Told d → (link_new.address ≡ link_old.address) × (link_new.sent ≡ link_old.sent)
-  path_on dispatched.Quiet t = (ap (λ (l : LinkState). l.address) t.0, ap (λ (l : LinkState). l.sent) t.0)
-  path_on dispatched.Link t = (ap (λ (l : LinkState). l.address) t.0.rest, ap (λ (l : LinkState). l.sent) t.0.rest)
-  path_on dispatched.Clock t = (ap (λ (l : LinkState). l.address) t.0.1, ap (λ (l : LinkState). l.sent) t.0.1)
-  path_on dispatched.NoMemory t = (ap (λ (l : LinkState). l.address) t.0.1, ap (λ (l : LinkState). l.sent) t.0.1)
-  path_on _ t = (ap (λ (l : LinkState). l.address) t.made.is, ap (λ (l : LinkState). l.sent) t.made.is)
+  -- What a step leaves: neither the address nor what was sent changes, a turn was taken unless the link failed, and it
+  -- has failed no more often unless it failed in this step.
+  record Steps (d : Dispatched) : Type 0 where
+    pub path : (link_new.address ≡ link_old.address) × (link_new.sent ≡ link_old.sent)
+    pub most : link_new.turns ≤ link_old.turns + 1
+    pub turns : stop_behind d ≡ None → link_new.turns ≡ next_count link_old.turns
+    pub calm : stop_behind d ≡ None → link_new.faults ≡ link_old.faults
+    pub failed : stop_behind d ≡ Some stop.Link → Rose 0 link_new.faults
 
-  -- a turn was taken unless the link failed
-  pub turn_on : (d : Dispatched) → Told d → (d ≡ dispatched.Link → ⊥) → link_new.turns ≡ next_count link_old.turns
-  turn_on dispatched.Quiet t other = ap (λ (l : LinkState). l.turns) t.0
-  turn_on dispatched.Link t other = absurd (other refl)
-  turn_on dispatched.Clock t other = ap (λ (l : LinkState). l.turns) t.0.1
-  turn_on dispatched.NoMemory t other = ap (λ (l : LinkState). l.turns) t.0.1
-  turn_on _ t other = ap (λ (l : LinkState). l.turns) t.made.is
+  takes_turn : {d : Dispatched} (heard : Option (List Datagram)) → (stop_behind d ≡ Some stop.Link → ⊥)
+      → link_new ≡ record link_old { turns = next_count link_old.turns; received = heard } → Steps d
+  takes_turn heard other is = rw is (record {
+    path = (refl, refl);
+    most = omega arith;
+    turns = λ none. refl;
+    calm = λ none. refl;
+    failed = λ link. absurd (other link);
+  })
 
-  -- one turn at most was taken
-  pub most_on : (d : Dispatched) → Told d → link_new.turns ≤ link_old.turns + 1
-  most_on dispatched.Link t = let same = ap (λ (l : LinkState). l.turns) t.0.rest in omega (arith, same)
-  most_on dispatched.Quiet t = let next = ap (λ (l : LinkState). l.turns) t.0 in omega (arith, next)
-  most_on dispatched.Clock t = let next = ap (λ (l : LinkState). l.turns) t.0.1 in omega (arith, next)
-  most_on dispatched.NoMemory t = let next = ap (λ (l : LinkState). l.turns) t.0.1 in omega (arith, next)
-  most_on _ t = let next = ap (λ (l : LinkState). l.turns) t.made.is in omega (arith, next)
+  steps_on : (d : Dispatched) → Told d → Steps d
+  steps_on dispatched.Pushed t = takes_turn _ (λ is. cc is) t.made.is
+  steps_on dispatched.Full t = takes_turn _ (λ is. cc is) t.made.is
+  steps_on dispatched.Quiet t = takes_turn link_old.received (λ is. cc is) t.0
+  steps_on dispatched.Clock t = takes_turn _ (λ is. cc is) t.0.1
+  steps_on dispatched.NoMemory t = takes_turn _ (λ is. cc is) t.0.1
+  steps_on dispatched.Link t =
+      let same : link_new.turns ≡ link_old.turns = cc (t.0.rest) in
+      record {
+        path = (cc (t.0.rest), cc (t.0.rest));
+        most = omega arith;
+        turns = λ none. cc none;
+        calm = λ none. cc none;
+        failed = λ is. rose_since 0 link_old.faults link_new.faults (omega arith) t.0.rose;
+      }
 
-  -- the link has failed no more often unless it failed in this step
-  pub calm_on : (d : Dispatched) → Told d → (d ≡ dispatched.Link → ⊥) → link_new.faults ≡ link_old.faults
-  calm_on dispatched.Quiet t other = ap (λ (l : LinkState). l.faults) t.0
-  calm_on dispatched.Link t other = absurd (other refl)
-  calm_on dispatched.Clock t other = ap (λ (l : LinkState). l.faults) t.0.1
-  calm_on dispatched.NoMemory t other = ap (λ (l : LinkState). l.faults) t.0.1
-  calm_on _ t other = ap (λ (l : LinkState). l.faults) t.made.is
-
-  pub failed_on : (d : Dispatched) → Told d → d ≡ dispatched.Link → Rose 0 link_new.faults
-  failed_on dispatched.Link t is = rose_since 0 link_old.faults link_new.faults (omega arith) t.0.rose
-  failed_on _ t is = absurd (cc is)
-
-  pub clock_on : (d : Dispatched) → Told d → d ≡ dispatched.Clock → Rose clock_old clock_new
+  clock_on : (d : Dispatched) → Told d → stop_behind d ≡ Some stop.Clock → Rose clock_old clock_new
   clock_on dispatched.Clock t is = t.1
   clock_on _ t is = absurd (cc is)
 
--- ---- a reception
-
-link_stopped : (d : Dispatched) → stop_behind d ≡ Some stop.Link → d ≡ dispatched.Link
-link_stopped dispatched.Link is = refl
-link_stopped _ is = absurd (cc is)
-
-clock_stopped : (d : Dispatched) → stop_behind d ≡ Some stop.Clock → d ≡ dispatched.Clock
-clock_stopped dispatched.Clock is = refl
-clock_stopped _ is = absurd (cc is)
-
-not_link : (d : Dispatched) → stop_behind d ≡ None → d ≡ dispatched.Link → ⊥
-not_link dispatched.Link is same = cc is
-not_link _ is same = cc same
-
-module _ (inboxes : List Inbox) (old new : Dispatcher) (link_old link_new : LinkState) (clock_old clock_new : ℕ) where
-  quiet_on : (d : Dispatched) → TellsOf inboxes old new link_old link_new clock_old clock_new d → was_quiet d ≡ true
+  quiet_on : (d : Dispatched) → Told d → was_quiet d ≡ true
       → link_new ≡ record link_old { turns = next_count link_old.turns }
   quiet_on dispatched.Quiet t is = t.0
-  quiet_on _ t is = absurd (true≢false (sym is))
+  quiet_on _ t is = absurd (cc is)
 
-  heard_on : (d : Dispatched) → TellsOf inboxes old new link_old link_new clock_old clock_new d → was_quiet d ≡ false
-      → stop_behind d ≡ None → HasHeardOne link_old link_new
+  heard_on : (d : Dispatched) → Told d → was_quiet d ≡ false → stop_behind d ≡ None → HasHeardOne link_old link_new
   heard_on dispatched.Pushed t is none = (datagram_of t.job, t.made.is)
   heard_on dispatched.Full t is none = (datagram_of t.job, t.made.is)
-  heard_on dispatched.Quiet t is none = absurd (true≢false is)
+  heard_on dispatched.Quiet t is none = absurd (cc is)
   heard_on _ t is none = absurd (cc none)
+
+  none_pushed : HasHeardOne link_old link_new → hands_of new ≡ hands_of old → HasPushedOf link_old (hands_of old)
+      → HasPushedOf link_new (hands_of new)
+  none_pushed heard kept all =
+      rw (kept, heard.1) (all_more (length (hands_of old)) 0 heard.0 link_old.received (hands_of old) all)
+
+  pushed_on : AreOfEach inboxes (passes_of old) → (d : Dispatched) → Told d → HasPushedOf link_old (hands_of old)
+      → HasPushedOf link_new (hands_of new)
+  pushed_on own dispatched.Pushed t all =
+      let k = session_for t.job (length inboxes) in
+      let count : length (hands_of old) ≡ length inboxes = rw length-map (each_length inboxes (passes_of old) own) in
+      let same : session_for t.job (length (hands_of old)) ≡ session_for t.job (length inboxes) = ap (λ n. session_for t.job n) count in
+      rw (t.made.is, t.pushed, length-set)
+      (all_set (length (hands_of old)) 0 t.job link_old.received (hands_of old) k (omega (arith, same)) all)
+  pushed_on own dispatched.Full t all = none_pushed (datagram_of t.job, t.made.is) t.kept all
+  pushed_on own dispatched.Quiet t all = rw (t.0, t.1.0) all
+  pushed_on own dispatched.Link t all = rw (t.0.rest, t.1.0) all
+  pushed_on own dispatched.Clock t all = none_pushed t.0 t.2.0 all
+  pushed_on own dispatched.NoMemory t all = none_pushed t.0 t.1.0 all
+
+-- ---- a reception
 
 module _ {L : Type 0} (tells : paths.Ghosts L) (inboxes : List Inbox) (old new : Reception L) (d : Dispatched) (clock clock' : ℕ)
     (told : TellsOf inboxes old.dispatcher new.dispatcher (link_of tells old) (link_of tells new) clock clock' d)
     (stops : new.stop ≡ stop_behind d) where
+  steps : Steps inboxes old.dispatcher new.dispatcher (link_of tells old) (link_of tells new) clock clock' d
+  steps = steps_on inboxes old.dispatcher new.dispatcher (link_of tells old) (link_of tells new) clock clock' d told
+
   pub dispatched_on : AreOfEach inboxes (passes_of old.dispatcher) → (at : Addr) → HasDispatched tells at old → HasDispatched tells at new
-  dispatched_on own at h =
-      let path = path_on inboxes old.dispatcher new.dispatcher (link_of tells old) (link_of tells new) clock clock' d told in
-      record {
-        pushed = pushed_on inboxes old.dispatcher new.dispatcher (link_of tells old) (link_of tells new) clock clock' own d told h.pushed;
-        address = path.0 ∙ h.address;
-        unsent = subst (λ sent. IfSome sent (λ list. list ≡ [])) (sym path.1) h.unsent;
-        cause = λ is. failed_on inboxes old.dispatcher new.dispatcher (link_of tells old) (link_of tells new) clock clock' d told
-            (link_stopped d (sym stops ∙ is));
-      }
+  dispatched_on own at h = record {
+    pushed = pushed_on inboxes old.dispatcher new.dispatcher (link_of tells old) (link_of tells new) clock clock' own d told h.pushed;
+    address = steps.path.0 ∙ h.address;
+    unsent = rw steps.path.1 h.unsent;
+    cause = λ is. steps.failed (sym stops ∙ is);
+  }
 
   pub turn_taken : (is_quiet : Bool) → is_quiet ≡ was_quiet d → TakesTurn tells is_quiet old new
   turn_taken is_quiet tells_quiet = record {
-    turns = λ none. turn_on inboxes old.dispatcher new.dispatcher (link_of tells old) (link_of tells new) clock clock' d told
-        (not_link d (sym stops ∙ none));
-    most = most_on inboxes old.dispatcher new.dispatcher (link_of tells old) (link_of tells new) clock clock' d told;
+    turns = λ none. steps.turns (sym stops ∙ none);
+    most = steps.most;
     quiet = λ is. quiet_on inboxes old.dispatcher new.dispatcher (link_of tells old) (link_of tells new) clock clock' d told
         (sym tells_quiet ∙ is);
     heard = λ is none. heard_on inboxes old.dispatcher new.dispatcher (link_of tells old) (link_of tells new) clock clock' d told
         (sym tells_quiet ∙ is) (sym stops ∙ none);
-    calm = λ none. calm_on inboxes old.dispatcher new.dispatcher (link_of tells old) (link_of tells new) clock clock' d
-        told (not_link d (sym stops ∙ none));
+    calm = λ none. steps.calm (sym stops ∙ none);
   }
 
   pub clock_told : (d ≢ dispatched.Clock → clock' ≡ clock) → TellsOfClock clock clock' new.stop
   clock_told stood = (
     λ is. clock_on inboxes old.dispatcher new.dispatcher (link_of tells old) (link_of tells new) clock clock' d told
-        (clock_stopped d (sym stops ∙ is)),
+    (sym stops ∙ is),
     λ other. stood (λ is. other (stops ∙ ap (λ (x : Dispatched). stop_behind x) is)),
   )
 
@@ -232,7 +193,7 @@ never_by_clock stops none is = cc (sym none ∙ is)
 
 -- its count stood before the last of them
 pub clock_then : (stops : Option Stop) (a b c : ℕ) → b ≡ a → TellsOfClock b c stops → TellsOfClock a c stops
-clock_then stops a b c same tells = subst (λ (n : ℕ). TellsOfClock n c stops) same tells
+clock_then stops a b c same tells = rw (← same) tells
 
 -- it stood in all of them
 pub clock_stands : (stops : Option Stop) (a b c : ℕ) → stops ≡ None → b ≡ a → TellsOfClock b c stops → c ≡ a

@@ -1,5 +1,5 @@
 -- Why a session stopped that served several jobs.
-use Rattle.std.proofs.Common.{◌≡◌, ◌≢◌, ◌⊎◌, inl, inr, ℕ, ◌+◌, ◌<◌, List, [], ◌∷◌, ◌++◌, length, take, Option, None, Some, refl, sym, ap, ◌∙◌}
+use Rattle.std.proofs.Common.{◌≡◌, ◌≢◌, ◌⊎◌, inl, inr, ℕ, ◌+◌, ◌<◌, List, [], ◌∷◌, ◌++◌, length, take, Option, None, Some, refl, sym}
 use Rattle.std.specs.Prelude.{slice_index_or}
 use Rattle.std.specs.Option.{option_or}
 use Rattle.std.proofs.lemmas.List.{take_more}
@@ -20,21 +20,18 @@ or_assoc (Some s) b c = refl
 -- one job more
 first_more : (results : List Served) (r : Served) → first_stop (results ++ r ∷ []) ≡ option_or (first_stop results) (stop_of r)
 first_more [] r = sym (or_none (stop_of r))
-first_more (s ∷ results) r =
-    ap (λ (o : Option Stop). option_or (stop_of s) o) (first_more results r) ∙ or_assoc (stop_of s) (first_stop results) (stop_of r)
+first_more (s ∷ results) r = rw (first_more results r) (or_assoc (stop_of s) (first_stop results) (stop_of r))
 
 pub next_stop : (results : List Served) (i : ℕ) (d : Served) (now found after : Option Stop) → i < length results
     → now ≡ first_stop (take i results) → found ≡ stop_of (slice_index_or results i d) → after ≡ option_or now found
     → after ≡ first_stop (take (i + 1) results)
 next_stop results i d now found after within so_far one is =
-    is ∙ (λ k. option_or (so_far k) (one k)) ∙ sym (first_more (take i results) (slice_index_or results i d))
-    ∙ ap (λ (rs : List Served). first_stop rs) (sym (take_more results i d within))
+    rw (is, so_far, one, take_more results i d within) (sym (first_more (take i results) (slice_index_or results i d)))
 
 -- why the session stopped before, or else by these results
 pub stops_by : (before found after : Option Stop) (told results : List Served) → after ≡ option_or before found → found ≡ first_stop told
     → told ≡ results → after ≡ option_or before (first_stop results)
-stops_by before found after told results is by same =
-    is ∙ ap (λ (o : Option Stop). option_or before o) (by ∙ ap (λ (rs : List Served). first_stop rs) same)
+stops_by before found after told results is by same = rw (is, by, same)
 
 -- a session isn't stopped by the clock
 pub never_clock : (results : List Served) → first_stop results ≢ Some stop.Clock

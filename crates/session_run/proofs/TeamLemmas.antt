@@ -1,11 +1,12 @@
--- What a team has done in one round, and in the next.
-use Rattle.std.proofs.Common.{◌≡◌, Bool, ℕ, List, [], ◌∷◌, subst, sym}
-use Rattle.std.specs.Prelude.{slice_index_or}
+-- What holds of all of a team, and what a team has done in one round, and in the next.
+use Rattle.std.proofs.Common.{◌≡◌, Bool, ℕ, List, [], ◌∷◌, ◌++◌, Option, None, Some}
+use Rattle.std.specs.Prelude.{All, IfSome, slice_index_or}
+use Rattle.std.proofs.lemmas.List.Elements.{All-from_recursion}
 use Rattle.cdr_shelf.specs.declared.shelf.Shelf as shelves
+use Rattle.net_link.specs.Datagrams.{Datagram, joined}
 use Rattle.net_link.specs.declared.link.Link as paths
 use Rattle.job_inbox.specs.declared.inbox.Inbox.{Inbox}
 use Rattle.turn_cell.specs.declared.cell.TurnCell.{TurnCell}
-use Rattle.session_run.specs.Desks.{IsDeskOf}
 use Rattle.session_run.specs.Reception.{CountsTurns, IfTurns}
 use Rattle.session_run.specs.Team.{AreDesksOf, ArePairOf, Pair, PairWorksOn, TeamWorksOn}
 use Rattle.session_run.specs.declared.reception.Reception.{Reception}
@@ -13,29 +14,44 @@ use Rattle.session_run.specs.declared.round.Team.{Team}
 use Rattle.session_run.specs.declared.until.Until.{Until}
 use Rattle.session_run.specs.declared.until.Until.TheVariants as until
 
-module _ {F L : Type 0} (files : shelves.Ghosts F) (tells : paths.Ghosts L) (told : Bool) where
-  pub team_then : (a b c : Team F L files) → TeamWorksOn files tells told a b → TeamWorksOn files tells told b c → TeamWorksOn files tells told a c
-  team_then a b c p q = record {
-    one = λ at began w. q.one at began (p.one at began w);
-    two = λ at began w. q.two at began (p.two at began w);
-    three = λ at began w. q.three at began (p.three at began w);
-    four = λ at began w. q.four at began (p.four at began w);
-    writes = λ began first w. q.writes began first (p.writes began first w);
-  }
+pub if_some : {X : Type 0} (o : Option X) {P : X → Type 0} → ((x : X) → P x) → IfSome o P
+if_some None each = tt
+if_some (Some x) each = each x
 
-module _ {L : Type 0} (tells : paths.Ghosts L) (told : Bool) where
-  pub pair_then : (a b c : Pair L) → PairWorksOn tells told a b → PairWorksOn tells told b c → PairWorksOn tells told a c
-  pair_then a b c p q = (λ at began w. q.0 at began (p.0 at began w), λ at began w. q.1 at began (p.1 at began w))
+pub joined_holds : (R : List Datagram → Type 0) (one other : Option (List Datagram)) {P Q : List Datagram → Type 0}
+    → IfSome one P
+    → IfSome other Q → ((xs ys : List Datagram) → P xs → Q ys → R (xs ++ ys)) → IfSome (joined one other) R
+joined_holds R (Some xs) (Some ys) p q both = both xs ys p q
+joined_holds R _ _ p q both = tt
 
-  pub pair_same : (a b c : Pair L) → PairWorksOn tells told a b → c ≡ b → PairWorksOn tells told a c
-  pair_same a b c p is = subst (λ (x : Pair L). PairWorksOn tells told a x) (sym is) p
+module _ {X : Type 0} (P : X → Type 0) {a b c d : X} where
+  pub all_four : P a → P b → P c → P d → All P (a ∷ b ∷ c ∷ d ∷ [])
+  all_four pa pb pc pd = All-from_recursion P (a ∷ b ∷ c ∷ d ∷ []) (pa, (pb, (pc, (pd, tt))))
+
+  pub all_five : {e : X} → P a → P b → P c → P d → P e → All P (a ∷ b ∷ c ∷ d ∷ e ∷ [])
+  all_five {e = e} pa pb pc pd pe = All-from_recursion P (a ∷ b ∷ c ∷ d ∷ e ∷ []) (pa, (pb, (pc, (pd, (pe, tt)))))
+
+pub team_then : {F L : Type 0} {files : shelves.Ghosts F} {tells : paths.Ghosts L} {told : Bool}
+    {a b c : Team F L files}
+    → TeamWorksOn files tells told a b → TeamWorksOn files tells told b c → TeamWorksOn files tells told a c
+team_then p q = record {
+  one = λ at began w. q.one at began (p.one at began w);
+  two = λ at began w. q.two at began (p.two at began w);
+  three = λ at began w. q.three at began (p.three at began w);
+  four = λ at began w. q.four at began (p.four at began w);
+  writes = λ began first w. q.writes began first (p.writes began first w);
+}
+
+pub pair_then : {L : Type 0} {tells : paths.Ghosts L} {told : Bool} {a b c : Pair L} → PairWorksOn tells told a b
+    → PairWorksOn tells told b c → PairWorksOn tells told a c
+pair_then p q = (λ at began w. q.0 at began (p.0 at began w), λ at began w. q.1 at began (p.1 at began w))
 
 -- turns that are counted are counted on
-module _ {L : Type 0} (tells : paths.Ghosts L) where
-  pub counts_then : (ends : Until) (a b c : Reception L) → IfTurns ends (λ n. CountsTurns tells n a → CountsTurns tells n b)
-      → IfTurns ends (λ n. CountsTurns tells n b → CountsTurns tells n c) → IfTurns ends (λ n. CountsTurns tells n a → CountsTurns tells n c)
-  counts_then (until.Turns n) a b c p q = λ x. q (p x)
-  counts_then (until.QuietAfter count all) a b c p q = tt
+pub counts_then : {L : Type 0} (tells : paths.Ghosts L) (ends : Until) (a b c : Reception L)
+    → IfTurns ends (λ n. CountsTurns tells n a → CountsTurns tells n b)
+    → IfTurns ends (λ n. CountsTurns tells n b → CountsTurns tells n c) → IfTurns ends (λ n. CountsTurns tells n a → CountsTurns tells n c)
+counts_then tells (until.Turns n) a b c p q = λ x. q (p x)
+counts_then tells (until.QuietAfter count all) a b c p q = tt
 
 -- what holds of every number of turns
 pub if_turns : (ends : Until) (P : ℕ → Type 0) → ((n : ℕ) → P n) → IfTurns ends P
@@ -43,21 +59,17 @@ if_turns (until.Turns n) P all = all n
 if_turns (until.QuietAfter count all) P p = tt
 
 -- the desks of four sessions, by twos
-module _ {V : Type 0} (cell : TurnCell V) {L : Type 0} where
-  same_pair : (a b one two : Inbox) (pair : Pair L) → one ≡ a → two ≡ b → ArePairOf cell a b pair → ArePairOf cell one two pair
-  same_pair a b one two pair is also own =
-      (subst (λ (i : Inbox). IsDeskOf cell i pair.0) (sym is) own.0, subst (λ (i : Inbox). IsDeskOf cell i pair.1) (sym also) own.1)
-
-  pub by_twos : (list : List Inbox) (first second : Pair L) → AreDesksOf cell list first second → (one two three four a b c d : Inbox)
-      → one ≡ slice_index_or list 0 a → two ≡ slice_index_or list 1 b → three ≡ slice_index_or list 2 c → four ≡ slice_index_or list 3 d
+module _ {V : Type 0} (cell : TurnCell V) {L : Type 0} {one two three four : Inbox} (a b c d : Inbox) where
+  pub by_twos : (list : List Inbox) (first second : Pair L) → AreDesksOf cell list first second
+      → one ≡ slice_index_or list 0 a
+      → two ≡ slice_index_or list 1 b → three ≡ slice_index_or list 2 c → four ≡ slice_index_or list 3 d
       → ArePairOf cell one two first × ArePairOf cell three four second
-  by_twos (w ∷ x ∷ y ∷ z ∷ []) first second own one two three four a b c d p q r s =
-      (same_pair w x one two first p q own.0, same_pair y z three four second r s own.1)
-  by_twos _ first second own one two three four a b c d p q r s = absurd own
+  by_twos (w ∷ x ∷ y ∷ z ∷ []) first second own p q r s = rw (p, q, r, s) own
+  by_twos _ first second own p q r s = absurd own
 
-  pub of_all : (list : List Inbox) (before also first second : Pair L) → AreDesksOf cell list before also → (one two three four a b c d : Inbox)
-      → one ≡ slice_index_or list 0 a → two ≡ slice_index_or list 1 b → three ≡ slice_index_or list 2 c → four ≡ slice_index_or list 3 d
-      → ArePairOf cell one two first × ArePairOf cell three four second → AreDesksOf cell list first second
-  of_all (w ∷ x ∷ y ∷ z ∷ []) before also first second own one two three four a b c d p q r s pairs =
-      (same_pair one two w x first (sym p) (sym q) pairs.0, same_pair three four y z second (sym r) (sym s) pairs.1)
-  of_all _ before also first second own one two three four a b c d p q r s pairs = absurd own
+  pub of_all : (list : List Inbox) (before also first second : Pair L) → AreDesksOf cell list before also
+      → one ≡ slice_index_or list 0 a → two ≡ slice_index_or list 1 b → three ≡ slice_index_or list 2 c
+      → four ≡ slice_index_or list 3 d → ArePairOf cell one two first × ArePairOf cell three four second
+      → AreDesksOf cell list first second
+  of_all (w ∷ x ∷ y ∷ z ∷ []) before also first second own p q r s pairs = rw (p, q, r, s) at pairs
+  of_all _ before also first second own p q r s pairs = absurd own

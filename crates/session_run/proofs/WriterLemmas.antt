@@ -1,6 +1,5 @@
 -- What who writes the files has done behind one more step, and of a history that went on.
-use Rattle.std.proofs.Common.{◌≡◌, ◌≤◌, Bool, List, [], ◌++◌, inl, sym, ap, subst, ◌∙◌, append_assoc, arith}
-use Rattle.std.specs.Prelude.{All, ℕ}
+use Rattle.std.proofs.Common.{◌≡◌, ◌≤◌, Bool, List, [], ◌++◌, inl, ap, ◌∙◌, arith}
 use Rattle.std.proofs.lemmas.List.Elements.{All-append, All-weaker}
 use Rattle.cdr_shelf.specs.declared.shelf.Shelf as shelves
 use Rattle.file_writer.specs.Writer.{settings_in, shelf_of}
@@ -10,14 +9,13 @@ use Rattle.gateway_answer.specs.Items.{items_by, items_of}
 use Rattle.gw_base.specs.Facts.{WhereTold}
 use Rattle.gw_base.specs.Owes as owes
 use Rattle.gw_base.specs.declared.history.HistoryEntry.{HistoryEntry}
-use Rattle.gw_base.specs.declared.item.Item.{Item}
 use Rattle.node_session.specs.Answering.{AddsAnswers, IsAnswerTo}
 use Rattle.node_session.specs.Writing as writing
 use Rattle.node_session.specs.declared.actor.FileActor.{FileActor}
-use Rattle.turn_cell.specs.declared.knowing.KeptTurn.{KeptTurn}
 use Rattle.turn_cell.specs.declared.knowing.Knowledge.{Knowledge}
 use Rattle.session_run.specs.Desks.{Began}
 use Rattle.session_run.specs.Filing.{HasWritten, KeepsWriter}
+use Rattle.session_run.proofs.DeskLemmas.{begins_then}
 
 -- the items of a history begin those of a longer one
 abbrev pub Stays : Type 0
@@ -25,9 +23,6 @@ Stays = (h g : List HistoryEntry) → items_of (h ++ g) ≡ items_of h ++ along 
 
 items_begin : Stays → (h g : List HistoryEntry) → owes.Begins h g → writing.Begins (items_of h) (items_of g)
 items_begin stays h g b = (along items_by h b.0, ap items_of b.1 ∙ stays h b.0)
-
-items_then : (xs ys zs : List Item) → writing.Begins xs ys → writing.Begins ys zs → writing.Begins xs zs
-items_then xs ys zs p q = (p.0 ++ q.0, q.1 ∙ ap (λ (l : List Item). l ++ q.0) p.1 ∙ append_assoc xs p.0 q.0)
 
 -- a writer that took items of a history took items of a longer one, and its files stay the first ones of the files of that
 pub writer_on : Stays → {F : Type 0} (files : shelves.Ghosts F) (told : Bool) (h g : List HistoryEntry) (old new : Writer F files)
@@ -41,21 +36,19 @@ writer_on stays files told h g old new grows k = record {
         items = has.items;
         at = has.at;
         count = has.count;
-        begins = λ y. items_then has.items (items_of h) (items_of g) (has.begins y) (items_begin stays h g (grows y));
+        begins = λ y. begins_then has.items (items_of h) (items_of g) (has.begins y) (items_begin stays h g (grows y));
       };
   files = λ y shown all begins holds.
-      k.files y shown all (items_then (items_of h) (items_of g) all (items_begin stays h g (grows y)) begins) holds;
+      k.files y shown all (begins_then (items_of h) (items_of g) all (items_begin stays h g (grows y)) begins) holds;
 }
 
 -- a turn more that added nothing answers no job
 adds_none : (before after : Knowledge) → writing.KeepsListing before after → AddsAnswers [] before → AddsAnswers [] after
 adds_none before after keeps adds =
-    let size = keeps.number.1 in let number = keeps.number.0 in
-    subst (λ (n : ℕ). All (IsAnswerTo n after.number []) after.turns) (sym size)
-    (subst (λ (n : ℕ). All (IsAnswerTo before.size n []) after.turns) (sym number)
-    (subst (λ (ts : List KeptTurn). All (IsAnswerTo before.size before.number []) ts) (sym keeps.turns)
+    rw (keeps.number.1, keeps.number.0, keeps.turns)
     (All-append (IsAnswerTo before.size before.number []) before.turns keeps.later adds
-    (All-weaker (λ (t : KeptTurn). t.added ≡ []) (IsAnswerTo before.size before.number []) (λ (t : KeptTurn) none. inl none) keeps.later keeps.adds_none))))
+    (All-weaker (λ t. t.added ≡ []) (IsAnswerTo before.size before.number [])
+    (λ t none. inl none) keeps.later keeps.adds_none))
 
 module _ {F : Type 0} (files : shelves.Ghosts F) (told : Bool) (stays : Stays) (old new : FileActor F files)
     (ready : writing.IsWriterOf told (writing.knowledge_of new).known (writing.writer_of new))
@@ -74,7 +67,7 @@ module _ {F : Type 0} (files : shelves.Ghosts F) (told : Bool) (stays : Stays) (
         adds = adds_none (writing.knowledge_of old) (writing.knowledge_of new) turns w.adds;
         keeps = record {
           settings = settings ∙ k.settings;
-          later = (let a = k.later in omega (arith, a, later));
+          later = omega (arith, k.later, later);
           taken = ready;
           files = λ y shown all begins holds. keeps y shown all begins (k.files y shown all begins holds);
         };

@@ -1,21 +1,18 @@
-use Rattle.std.proofs.Common.{◌≡◌, List, [], ◌∷◌, ◌++◌, Option, refl, sym, ap, subst, ◌∙◌, append_assoc}
-use Rattle.std.specs.Prelude.{IfSome}
+use Rattle.std.proofs.Common.{◌≡◌, List, [], ◌∷◌, ◌++◌, refl, sym, ap, ◌∙◌, append_assoc}
 use Rattle.std.proofs.lemmas.List.{append-nil}
 use Rattle.job_inbox.specs.Inbox.{knowledge}
-use Rattle.job_inbox.specs.Rule.{hand, with_taken}
+use Rattle.job_inbox.specs.Rule.{with_taken}
 use Rattle.job_inbox.specs.declared.hand.Hand.{Hand}
 use Rattle.job_inbox.specs.declared.job.Job.{Job}
 use Rattle.node_session.specs.Batches.{jobs_of}
 use Rattle.session_run.specs.Desks.{with_all_taken}
-use Rattle.session_run.proofs.LatestLemmas.{later_none, latest_push}
-use Rattle.session_run.proofs.TakingLemmas.{popped_none}
+use Rattle.session_run.proofs.TakingLemmas.{later_none, latest_push, popped_none}
 use Rattle.session_run.proofs.desks.fill.Goals as goal
 
 -- one job more was taken
 takes_one : (before now after : Hand) (jobs : List Job) (job : Job) → now ≡ with_all_taken jobs before → after ≡ with_taken job now
     → after ≡ with_all_taken (jobs ++ job ∷ []) before
-takes_one before now after jobs job is took =
-    took ∙ ap (λ (h : Hand). with_taken job h) is ∙ ap (λ (js : List Job). hand before.put js) (append_assoc before.taken jobs (job ∷ []))
+takes_one before now after jobs job is took = rw (took, is, append_assoc)
 
 pub loop-init : goal.loop-init
 loop-init g c = record {
@@ -28,8 +25,8 @@ pub loop-preserved : goal.loop-preserved
 loop-preserved g c =
     let job = c.in-Some-job.job in
     let more = c.loop.invariant.taken.0 in
-    let took : knowledge c.pop-job.result.1 ≡ with_taken job (knowledge c.loop.pass) =
-    subst (λ (o : Option Job). IfSome o (λ j. knowledge c.pop-job.result.1 ≡ with_taken j (knowledge c.loop.pass))) c.in-Some-job.is c.pop-job.ensures.some in
+    let took : knowledge c.pop-job.result.1 ≡ with_taken job (knowledge c.loop.pass) = rw c.in-Some-job.is
+    at c.pop-job.ensures.some in
     record {
       own = c.pop-job.ensures.own;
       taken = (

@@ -4,7 +4,7 @@ use Rattle.job_inbox.specs.declared.job.Job.{Job}
 use Rattle.node_session.specs.Batches.{jobs_of, outcomes_of, served_of}
 use Rattle.node_session.specs.Passes.{knowledge_of, session_of}
 use Rattle.session_run.specs.Desks.{first_stop}
-use Rattle.session_run.proofs.DeskSteps.{worked_on}
+use Rattle.session_run.proofs.DeskLemmas.{worked_on}
 use Rattle.session_run.proofs.StopLemmas.{stops_by}
 use Rattle.session_run.proofs.TakingLemmas.{both_served}
 use Rattle.session_run.proofs.desks.go_on.Goals as goal

@@ -1,8 +1,8 @@
-use Rattle.std.proofs.Common.{ℕ, ◌∙◌, sym, subst}
+use Rattle.std.proofs.Common.{◌∙◌}
 use Rattle.job_inbox.specs.Inbox.{knowledge}
 use Rattle.node_session.specs.Batches.{jobs_of, outcomes_of}
 use Rattle.node_session.specs.Passes.{knowledge_of, session_of}
-use Rattle.node_session.specs.Together.{AreTaken, FirstAreTaken}
+use Rattle.node_session.specs.Together.{FirstAreTaken}
 use Rattle.session_run.proofs.TakingLemmas.{first_taken, latest_more, popped_more, whole_taken}
 use Rattle.session_run.proofs.desks.take_next.Goals as goal
 use Rattle.session_run.proofs.desks.take_next.Goals.{then-has_come, else-has_come}
@@ -27,8 +27,7 @@ returns-clause-takes g c = λ first h.
             h.popped filled.taken.2 (w.take.ensures.jobs ∙ filled.taken.1);
         last = latest_more first.last desk.last c.fill-last.result.0 jobs more (jobs_of w.take.new.batch) h.last filled.taken.3
             (w.take.ensures.jobs ∙ filled.taken.1);
-        taken = subst (λ (n : ℕ). AreTaken g.A.Area n (jobs_of w.take.new.batch) (outcomes_of w.take.new.batch) before (knowledge_of w.take.new.self)) h.session
-            (w.take.ensures.taken before (subst (λ (n : ℕ). FirstAreTaken g.A.Area n all (outcomes_of c.fill-last.new.batch) before known) (sym h.session) took));
+        taken = rw (← h.session) (w.take.ensures.taken before (rw h.session took));
         link = h.link;
         stop = h.stop;
       }))

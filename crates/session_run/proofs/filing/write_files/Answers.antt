@@ -1,6 +1,3 @@
-use Rattle.std.proofs.Common.{subst, sym}
-use Rattle.gateway_book.specs.Turning.{tells_lists}
-use Rattle.session_run.specs.Filing.{HasWritten}
 use Rattle.session_run.proofs.filing.write_files.Goals as goal
 use Rattle.session_run.proofs.filing.write_files.Goals.{in-None, in-Some+then-not-has_taken+then-is_last}
 
@@ -18,7 +15,7 @@ pub returns-clause-written : goal.returns-clause-written
 returns-clause-written g c = λ began first w.
     let before = c.loop.invariant.written began first w in
     elim c.match-next.branch [
-      | in-None v ↦ subst (HasWritten g.F.Shelf (tells_lists g.A.Area) began first) (sym v.actor-is) before
-      | in-Some+then-not-has_taken+then-is_last v ↦ subst (HasWritten g.F.Shelf (tells_lists g.A.Area) began first) (sym v.actor-is)
+      | in-None v ↦ rw v.actor-is before
+      | in-Some+then-not-has_taken+then-is_last v ↦ rw v.actor-is
           (v.write_next-has_taken.ensures.written began first before)
     ]

@@ -1,6 +1,6 @@
 use Rattle.std.proofs.Common.{sym, ◌∙◌}
 use Rattle.std.proofs.lemmas.List.{nil_from_length}
-use Rattle.session_run.proofs.GivenBackLemmas.{gave_all, given_none, given_one, may_give}
+use Rattle.session_run.proofs.LinksLemmas.{gave_all, given_none, given_one, may_give}
 use Rattle.session_run.proofs.links.give_back.Goals as goal
 
 pub back-requires : goal.back-requires

@@ -1,4 +1,4 @@
-use Rattle.session_run.proofs.GivenBackLemmas.{AreGivenBack}
+use Rattle.session_run.proofs.LinksLemmas.{AreGivenBack}
 use Rattle.session_run.proofs.links.give_back.Given as goal
 
 -- those that were given back stood behind those that are left

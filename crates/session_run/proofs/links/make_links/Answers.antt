@@ -1,4 +1,4 @@
-use Rattle.session_run.proofs.MadeLemmas.{five_new, made_all}
+use Rattle.session_run.proofs.LinksLemmas.{five_new, made_all}
 use Rattle.session_run.proofs.links.make_links.Goals as goal
 
 pub returns-clause-made : goal.returns-clause-made

@@ -1,6 +1,5 @@
-use Rattle.std.proofs.Common.{ℕ, subst, sym}
-use Rattle.session_run.specs.Reception.{CountsTurns, IfTurns}
-use Rattle.session_run.specs.declared.until.Until.{Until}
+use Rattle.std.proofs.Common.{ℕ}
+use Rattle.session_run.specs.Reception.{CountsTurns}
 use Rattle.session_run.proofs.TeamLemmas.{if_turns}
 use Rattle.session_run.proofs.receiving.receive.Goals as goal
 use Rattle.session_run.proofs.receiving.receive.Goals.{in-Turns, in-QuietAfter}
@@ -10,6 +9,6 @@ returns-clause-turns g c =
     let P : ℕ → Type 0 = λ n. CountsTurns g.L.Link n c.args.reception → CountsTurns g.L.Link n c.match-until.reception in
     elim c.match-until.branch [
       | in-Turns w ↦ if_turns c.args.until.now P
-          (λ n counts. subst (CountsTurns g.L.Link n) (sym w.reception-is) (w.receive_turns-reception.ensures.turns n counts))
-      | in-QuietAfter w ↦ subst (λ (u : Until). IfTurns u P) (sym w.in-QuietAfter.is) tt
+          (λ n counts. rw w.reception-is (w.receive_turns-reception.ensures.turns n counts))
+      | in-QuietAfter w ↦ rw w.in-QuietAfter.is tt
     ]

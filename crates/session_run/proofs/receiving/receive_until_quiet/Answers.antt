@@ -1,5 +1,4 @@
-use Rattle.std.proofs.Common.{None, rules, subst, sym, true, ◌≡◌, ◌∙◌}
-use Rattle.session_run.specs.Reception.{HasDispatched}
+use Rattle.std.proofs.Common.{None, rules, true, ◌≡◌, ◌∙◌}
 use Rattle.session_run.proofs.ReceptionLemmas.{clock_stands, dispatched_with}
 use Rattle.session_run.proofs.receiving.receive_until_quiet.Goals as goal
 use Rattle.session_run.proofs.receiving.receive_until_quiet.Goals.{in-None, in-Some+then-is_stopped, in-Some+else-is_stopped+then-is_some, in-Some+else-is_stopped+else-is_some+then-is_quiet+then-is_last}
@@ -21,9 +20,9 @@ pub returns-clause-dispatched : goal.returns-clause-dispatched
 returns-clause-dispatched g c = λ at h.
     let before = c.loop.invariant.dispatched at h in
     elim c.match-next.branch [
-      | in-None w ↦ subst (HasDispatched g.L.Link at) (sym w.reception-is) before
-      | in-Some+then-is_stopped w ↦ subst (HasDispatched g.L.Link at) (sym w.reception-is) before
-      | in-Some+else-is_stopped+then-is_some w ↦ subst (HasDispatched g.L.Link at) (sym w.reception-is) (w.step-is_quiet.ensures.dispatched at before)
-      | in-Some+else-is_stopped+else-is_some+then-is_quiet+then-is_last w ↦ subst (HasDispatched g.L.Link at) (sym w.reception-is)
+      | in-None w ↦ rw w.reception-is before
+      | in-Some+then-is_stopped w ↦ rw w.reception-is before
+      | in-Some+else-is_stopped+then-is_some w ↦ rw w.reception-is (w.step-is_quiet.ensures.dispatched at before)
+      | in-Some+else-is_stopped+else-is_some+then-is_quiet+then-is_last w ↦ rw w.reception-is
           (dispatched_with g.L.Link at w.step-is_quiet.new.self w.step-is_quiet.new.self.left true (w.step-is_quiet.ensures.dispatched at before))
     ]

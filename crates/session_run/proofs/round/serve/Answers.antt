@@ -1,13 +1,11 @@
 use Rattle.std.proofs.Common.{None, rules, ◌≡◌, ◌∙◌}
-use Rattle.gateway_book.specs.Turning.{tells_lists}
 use Rattle.session_run.proofs.ReceptionLemmas.{clock_stands, clock_then}
 use Rattle.session_run.proofs.TeamLemmas.{counts_then, team_then}
 use Rattle.session_run.proofs.round.serve.Goals as goal
 
 pub returns-then-have_ended-clause-worked : goal.returns-then-have_ended-clause-worked
 returns-then-have_ended-clause-worked g c =
-    team_then g.F.Shelf g.L.Link (tells_lists g.A.Area) c.args.served.1 c.loop.served.1 c.serve_once-served.result.1
-    c.loop.invariant.worked c.serve_once-served.ensures.worked
+    team_then c.loop.invariant.worked c.serve_once-served.ensures.worked
 
 pub returns-then-have_ended-clause-dispatched : goal.returns-then-have_ended-clause-dispatched
 returns-then-have_ended-clause-dispatched g c = λ at h. c.serve_once-served.ensures.dispatched at (c.loop.invariant.dispatched at h)
@@ -28,7 +26,7 @@ loop-preserved g c =
       team = e.own.1;
       runs = runs;
       ready = e.writer;
-      worked = team_then g.F.Shelf g.L.Link (tells_lists g.A.Area) c.args.served.1 c.loop.served.1 c.serve_once-served.result.1 i.worked e.worked;
+      worked = team_then i.worked e.worked;
       dispatched = λ at h. e.dispatched at (i.dispatched at h);
       turns = counts_then g.L.Link c.args.until.now c.args.served.0 c.loop.served.0 c.serve_once-served.result.0 i.turns e.turns;
       clock = clock_stands _ _ _ _ runs i.clock e.cause;

@@ -1,7 +1,8 @@
 use Rattle.std.proofs.Common.{◌∙◌}
 use Rattle.node_session.specs.Receiving.{passes_of}
 use Rattle.node_session.specs.Writing.{pass_of}
-use Rattle.session_run.proofs.EndLemmas.{each_length, passes_of_cell}
+use Rattle.session_run.proofs.EndLemmas.{passes_of_cell}
+use Rattle.session_run.proofs.ReceptionLemmas.{each_length}
 use Rattle.session_run.proofs.running.end.Goals as goal
 
 pub pushes_of-pushes-requires : goal.pushes_of-pushes-requires

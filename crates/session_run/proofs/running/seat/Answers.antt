@@ -1,6 +1,6 @@
 use Rattle.std.proofs.Common.{◌≡◌, List, [], ◌∷◌}
 use Rattle.turn_cell.specs.declared.cell.Pass.{Pass}
-use Rattle.session_run.proofs.NumberLemmas.{last_of_three, last_of_two, numbers, without_last}
+use Rattle.session_run.proofs.BegunLemmas.{last_of_three, last_of_two, numbers, without_last}
 use Rattle.session_run.proofs.running.seat.Goals as goal
 
 pub next_desk-c-requires-clause-number : goal.next_desk-c-requires-clause-number

@@ -1,15 +1,65 @@
--- Links of one address that are given back, one after the other, the last first.
-use Rattle.std.proofs.Common.{◌≡◌, ◌≢◌, ◌⊎◌, ⊎_elim, inl, inr, ℕ, zero, suc, length, ◌<◌, ◌≤◌, List, [], ◌∷◌, ◌++◌, Option, None, Some, refl, sym, ap, subst, ◌∙◌, append_assoc, arith}
+-- Links of one address that are made, and given back, one after the other, the last first.
+use Rattle.std.proofs.Common.{◌≡◌, ◌≢◌, inl, inr, ◌+◌, List, [], ◌∷◌, ◌++◌, length, Option, None, Some, Ok, refl, arith, length-append, ⊎_elim, ℕ, ◌<◌, ◌≤◌, sym, ap, ◌∙◌, append_assoc}
 use Rattle.std.specs.Prelude.{All, IfSome}
+use Rattle.std.proofs.lemmas.List.Elements.{All-contains, All-head, All-push, All-tail, All-weaker, Contains-append_right}
+use Rattle.std.proofs.lemmas.Bool.{cases_eq}
 use Rattle.std.proofs.lemmas.List.{append-nil}
-use Rattle.std.proofs.lemmas.List.Elements.{All-head, All-tail}
 use Rattle.gw_base.specs.Faults.{Rose}
 use Rattle.gw_base.specs.declared.address.Addr.{Addr}
-use Rattle.net_link.specs.Datagrams.{Datagram, LinkState, added, joined}
-use Rattle.net_link.specs.Making.{LinksState, RoseBy, TakesBack}
+use Rattle.net_link.specs.Datagrams.{Datagram, IsNewAt, LinkState, added, joined}
+use Rattle.net_link.specs.Making.{LinksState, Makes, RoseBy, TakesBack}
 use Rattle.net_link.specs.declared.link.Link as paths
-use Rattle.session_run.specs.Links.{GivesBack, received_with, sent_with}
-use Rattle.session_run.specs.Running.{AnyOf, HasFailed}
+use Rattle.session_run.specs.Links.{GivesBack, HasMade, IsIdleAt, received_with, sent_with}
+use Rattle.session_run.specs.Running.{AnyOf, AreNewAt, HasFailed}
+use Rattle.session_run.specs.declared.stop.Stop.{Stop}
+use Rattle.session_run.specs.declared.stop.Stop.TheVariants as stop
+
+module _ {L : Type 0} (tells : paths.Ghosts L) (at : Addr) where
+  abbrev IsNew : L → Type 0
+  IsNew link = IsNewAt at (tells.state link)
+
+  -- a new link of which another was split, and which stands behind the others
+  pub new_pushed : (last after : L) (made all : List L) → tells.state after ≡ tells.state last → IsNewAt at (tells.state last)
+      → All (λ (l : L). IsNewAt at (tells.state l)) made → all ≡ made ++ after ∷ [] → All (λ (l : L). IsNewAt at (tells.state l)) all
+  new_pushed last after made all same new each is = rw is (All-push IsNew made after each (rw same new))
+
+  -- a link that was split of a new one
+  pub new_split : (last link : L) → IsNewAt at (tells.state last) → IsNewAt (tells.state last).address (tells.state link)
+      → IsNewAt at (tells.state link)
+  new_split last link new split = rw new.at at split
+
+  any_last : (P : L → Type 0) (made : List L) (link : L) → P link → AnyOf P (made ++ link ∷ [])
+  any_last P [] link one = inl one
+  any_last P (l ∷ made) link one = inr (any_last P made link one)
+
+  pub made_all : (old new : LinksState) (begun last : L) (made all : List L) (stops : Option Stop) → IsNewAt at (tells.state begun)
+      → Makes L old at (Ok begun) new → ((a : Addr) → IsNewAt a (tells.state begun) → All (λ (l : L). IsNewAt a (tells.state l)) made)
+      → ((a : Addr) → IsNewAt a (tells.state begun) → IsIdleAt a (tells.state last))
+      → (stops ≡ Some stop.Link → (a : Addr) → IsNewAt a (tells.state begun) → Rose 0 (tells.state last).faults)
+      → (stops ≢ Some stop.Clock) → all ≡ made ++ last ∷ [] → HasMade tells at old new all stops
+  made_all old new begun last made all stops is_new makes each idle cause clock is =
+      let known = makes.made begun refl in
+      record {
+        idle = rw is (All-push (λ (l : L). IsIdleAt at (tells.state l)) made last
+            (All-weaker IsNew (λ (l : L). IsIdleAt at (tells.state l))
+            (λ l new. record { address = new.at; turns = new.turns; received = new.received; sent = new.sent })
+            made (each at is_new)) (idle at is_new));
+        keeps = makes.keeps;
+        known = λ some. known.0;
+        later = omega (arith, known.1);
+        cause = λ why. inr (rw is (any_last (HasFailed tells) made last (cause why at is_new)));
+        calm = λ none. known.1;
+        no_clock = clock;
+      }
+
+  pub five_new : (begun last : L) (made all : List L) (stops : Option Stop) → IsNewAt at (tells.state begun)
+      → ((a : Addr) → IsNewAt a (tells.state begun) → All (λ (l : L). IsNewAt a (tells.state l)) made)
+      → (stops ≡ None → (length made ≡ 4) × ((a : Addr) → IsNewAt a (tells.state begun) → IsNewAt a (tells.state last))) → all ≡ made ++ last ∷ [] → stops ≡ None
+      → AreNewAt tells at all
+  five_new begun last made all stops is_new each four is none = rw is (record {
+    count = omega (arith, length-append made (last ∷ []), (four none).0);
+    new = All-push IsNew made last (each at is_new) ((four none).1 at is_new);
+  })
 
 abbrev Told : Type 0
 Told = Option (List Datagram)
@@ -33,21 +83,15 @@ same_told (Some list) = refl
 still_told : (new mid old : Told) → IfSome new (λ list. mid ≡ Some list) → IfSome mid (λ list. old ≡ Some list)
     → IfSome new (λ list. old ≡ Some list)
 still_told None mid old e f = tt
-still_told (Some list) mid old e f = subst (λ (o : Told). IfSome o (λ list. old ≡ Some list)) e f
+still_told (Some list) mid old e f = rw e at f
 
 -- Counts of faults.
-
-le_or : (b c : ℕ) → b ≤ c → (b ≡ c) ⊎ (b < c)
-le_or zero zero h = inl refl
-le_or zero (suc c) h = inr (omega arith)
-le_or (suc b) zero h = absurd (omega (arith, h))
-le_or (suc b) (suc c) h = ⊎_elim (λ (e : b ≡ c). inl (ap (λ (n : ℕ). suc n) e)) (λ (l : b < c). inr (omega (arith, l))) (le_or b c (omega (arith, h)))
 
 -- a count that rose has risen still
 rose_still : (a b c : ℕ) → a ≤ b → b ≤ c → Rose a b → Rose a c
 rose_still a b c up later (inl less) = inl (omega (arith, later, less))
 rose_still a b c up later (inr last) =
-    ⊎_elim (λ (e : b ≡ c). inr (sym e ∙ last)) (λ (l : b < c). inl (omega (arith, up, l))) (le_or b c later)
+    ⊎_elim (λ (e : b ≡ c). inr (sym e ∙ last)) (λ (apart : b ≢ c). inl (omega (arith, up, later, apart))) (cases_eq b c)
 
 -- a count rose by that of a link that failed
 rose_by : (a b f c : ℕ) → a ≤ b → Rose 0 f → RoseBy b f c → Rose a c
@@ -59,18 +103,11 @@ module _ {L : Type 0} (tells : paths.Ghosts L) where
   -- Giving back, one link after the other.
 
   -- of a list, its last one is behind the others, and in front of those that were behind it
-  pub one_behind : (all made rest behind : List L) (link : L) → all ≡ made ++ behind → made ≡ rest ++ link ∷ [] → all ≡ rest ++ link ∷ behind
-  one_behind all made rest behind link e f = e ∙ ap (λ (l : List L). l ++ behind) f ∙ append_assoc rest (link ∷ []) behind
+  one_behind : (all made rest behind : List L) (link : L) → all ≡ made ++ behind → made ≡ rest ++ link ∷ []
+      → all ≡ rest ++ link ∷ behind
+  one_behind all made rest behind link e f = rw (e, f) (append_assoc rest (link ∷ []) behind)
 
-  pub holds_of : (P : L → Type 0) (front : List L) (link : L) (behind : List L) → All P (front ++ link ∷ behind) → P link
-  holds_of P [] link behind all = All-head P link behind all
-  holds_of P (l ∷ front) link behind all = holds_of P front link behind (All-tail P l (front ++ link ∷ behind) all)
-
-  pub some_there : (front : List L) (link : L) (behind : List L) → 0 < length (front ++ link ∷ behind)
-  some_there [] link behind = omega arith
-  some_there (l ∷ front) link behind = omega arith
-
-  pub gives_none : (at : Addr) (s : LinksState) → GivesBack tells at s s []
+  gives_none : (at : Addr) (s : LinksState) → GivesBack tells at s s []
   gives_none at s = record {
     turns = refl;
     received = same_told (s.received at);
@@ -84,13 +121,15 @@ module _ {L : Type 0} (tells : paths.Ghosts L) where
     others_sent = λ a other. same_told (s.sent a);
   }
 
-  pub gives_one : (at : Addr) (old mid new : LinksState) (link : L) (links : List L) → (tells.state link).address ≡ at
+  gives_one : (at : Addr) (old mid new : LinksState) (link : L) (links : List L) → (tells.state link).address ≡ at
       → GivesBack tells at old mid links → TakesBack mid (tells.state link) new → GivesBack tells at old new (link ∷ links)
   gives_one at old mid new link links is_at gave back = record {
-    turns = turns ∙ ap (λ n. added n state.turns) gave.turns;
-    received = told_on (new.received at) (mid.received at) (received_with tells (old.received at) links) state.received received gave.received;
-    sent = told_on (new.sent at) (mid.sent at) (sent_with tells (old.sent at) links) state.sent sent gave.sent;
-    later = let first = gave.later in let then = back.never_falls in omega (arith, first, then);
+    turns = (rw is_at at back.turns) ∙ ap (λ n. added n state.turns) gave.turns;
+    received = told_on (new.received at) (mid.received at) (received_with tells (old.received at) links) state.received
+        (rw is_at at back.received) gave.received;
+    sent = told_on (new.sent at) (mid.sent at) (sent_with tells (old.sent at) links) state.sent
+        (rw is_at at back.sent) gave.sent;
+    later = omega (arith, gave.later, back.never_falls);
     failed = λ any. ⊎_elim
         (λ (own : Rose 0 state.faults). rose_by old.faults mid.faults state.faults new.faults gave.later own back.faults)
         (λ (others : AnyOf (HasFailed tells) links). rose_still old.faults mid.faults new.faults gave.later back.never_falls (gave.failed others))
@@ -111,15 +150,6 @@ module _ {L : Type 0} (tells : paths.Ghosts L) where
       elsewhere : (a : Addr) → a ≢ at → a ≢ state.address
       elsewhere a other e = other (e ∙ is_at)
 
-      turns : new.turns at ≡ added (mid.turns at) state.turns
-      turns = subst (λ (a : Addr). new.turns a ≡ added (mid.turns a) state.turns) is_at back.turns
-
-      received : IfSome (new.received at) (λ list. joined (mid.received at) state.received ≡ Some list)
-      received = subst (λ (a : Addr). IfSome (new.received a) (λ list. joined (mid.received a) state.received ≡ Some list)) is_at back.received
-
-      sent : IfSome (new.sent at) (λ list. joined (mid.sent at) state.sent ≡ Some list)
-      sent = subst (λ (a : Addr). IfSome (new.sent a) (λ list. joined (mid.sent a) state.sent ≡ Some list)) is_at back.sent
-
 module _ {L : Type 0} (tells : paths.Ghosts L) (at : Addr) (old : LinksState) where
   -- So far the last ones of all these links were given back.
   pub record AreGivenBack (now : LinksState) (all made : List L) : Type 0 where
@@ -134,15 +164,16 @@ module _ {L : Type 0} (tells : paths.Ghosts L) (at : Addr) (old : LinksState) wh
   there_of : (now : LinksState) (all made rest : List L) (link : L) → AreGivenBack now all made → made ≡ rest ++ link ∷ []
       → All (λ l. (tells.state l).address ≡ at) all → (tells.state link).address ≡ at
   there_of now all made rest link given last each =
-      holds_of tells (λ (l : L). (tells.state l).address ≡ at) rest link given.behind
-      (subst (λ (ls : List L). All (λ l. (tells.state l).address ≡ at) ls) (one_behind tells all made rest given.behind link given.split last) each)
+      All-contains (λ (l : L). (tells.state l).address ≡ at) (rest ++ link ∷ given.behind) link
+      (rw (one_behind tells all made rest given.behind link given.split last) at each)
+      (Contains-append_right rest (link ∷ given.behind) link (0, omega arith, refl))
 
   pub may_give : (now : LinksState) (all made rest : List L) (link : L) → AreGivenBack now all made → made ≡ rest ++ link ∷ []
       → All (λ l. (tells.state l).address ≡ at) all → now.IsMade (tells.state link).address
   may_give now all made rest link given last each =
-      subst (λ (a : Addr). now.IsMade a) (sym (there_of now all made rest link given last each))
-      (given.known (subst (λ (ls : List L). 0 < length ls) (sym (one_behind tells all made rest given.behind link given.split last))
-      (some_there tells rest link given.behind)))
+      rw (there_of now all made rest link given last each) (given.known
+      (rw (one_behind tells all made rest given.behind link given.split last)
+      (omega (arith, length-append rest (link ∷ given.behind)))))
 
   pub given_one : (now : LinksState) (all made rest : List L) (link : L) (then : LinksState) → AreGivenBack now all made
       → made ≡ rest ++ link ∷ [] → All (λ l. (tells.state l).address ≡ at) all → TakesBack now (tells.state link) then → AreGivenBack then all rest
@@ -154,5 +185,4 @@ module _ {L : Type 0} (tells : paths.Ghosts L) (at : Addr) (old : LinksState) wh
   }
 
   pub gave_all : (now : LinksState) (all made : List L) → made ≡ [] → AreGivenBack now all made → GivesBack tells at old now all
-  gave_all now all made none given = subst (λ (ls : List L). GivesBack tells at old now ls)
-      (sym (given.split ∙ ap (λ (ls : List L). ls ++ given.behind) none)) given.gave
+  gave_all now all made none given = rw (given.split, none) given.gave
