@@ -5,7 +5,7 @@ use Rattle.std.specs.Option.{option_map_or}
 use Rattle.node_core.specs.Log.{LogEntry}
 use Rattle.node_core.specs.Log
 use Rattle.node_core.specs.Ticks.{tick_entries}
-use Rattle.once_core.proofs.StepLemmas.{or_none, refusing_none}
+use Rattle.once_core.proofs.PartLemmas.{or_none, refusing_none}
 use Rattle.once_core.specs.Answers.{delivered, making_close, making_tick, marked}
 use Rattle.once_core.specs.Beginning.{default_rules, first_gateway, times_of, world_of}
 use Rattle.once_core.specs.Gateway.{Gateway, Moved, committing, cut, opened}

@@ -27,7 +27,7 @@ use Rattle.once_core.specs.World.{World, log_at}
 use Rattle.once_core.proofs.EachLemmas.{by_each, each_front}
 use Rattle.once_core.proofs.LifeWorlds.{Lives, world_lives}
 use Rattle.once_core.proofs.StartLemmas.{start_rises}
-use Rattle.once_core.proofs.TurnPlays.{Laws}
+use Rattle.once_core.proofs.WorldPlays.{Laws}
 
 -- where starts rise, that of a path isn't 0
 path_begun : (node : ℕ) (h : List HistoryEntry) → StartsRise h → (o : Opening) → opening_of node h ≡ Some o → 1 ≤ o.counter

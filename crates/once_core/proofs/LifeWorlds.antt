@@ -26,8 +26,7 @@ use Rattle.once_core.proofs.ListLemmas.{in_front, in_none}
 use Rattle.once_core.proofs.NumberLemmas.{values_are, values_before}
 use Rattle.once_core.proofs.StartLemmas.{front_low}
 use Rattle.once_core.proofs.SubmittedLemmas.{turns_forms, forms_at}
-use Rattle.once_core.proofs.TurnPlays.{Laws, turn_made}
-use Rattle.once_core.proofs.WorldPlays.{Made, get_set}
+use Rattle.once_core.proofs.WorldPlays.{Laws, turn_made, Made, get_set}
 use Rattle.std.proofs.lemmas.Option.{same_Some}
 use Rattle.once_core.proofs.CaseLemmas.{map_known, set_known}
 use Rattle.once_core.proofs.PartLemmas.{first_keeps, turn_keeps}

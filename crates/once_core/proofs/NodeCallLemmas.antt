@@ -1,28 +1,34 @@
 -- What is kept of a node moves as its log grows.
-use Rattle.std.proofs.Common.{◌≡◌, ℕ, ◌+◌, ◌≤◌, Bool, true, false, ◌||◌, not, if◌then◌else◌, List, [], ◌∷◌, ◌++◌, Option, Some, None, refl, ap, sym, ◌∙◌, arith, true≢false, nat_lt}
+use Rattle.std.proofs.Common.{◌≡◌, ℕ, ◌+◌, ◌≤◌, Bool, true, false, ◌||◌, not, if◌then◌else◌, List, [], ◌∷◌, ◌++◌, Option, Some, None, refl, ap, sym, ◌∙◌, arith, true≢false, nat_lt, zero, suc, ◌<◌, map, subst, option_map, slice_get}
 use Rattle.std.specs.List.{list_all}
 use Rattle.gtpp_message.specs.Packet.{PacketForm}
 use Rattle.gw_base.specs.declared.address.Addr.{Addr}
 use Rattle.node_core.specs.Hearing.{Dropped, Says, Taken, entries_from, heard_entries, heeds, taken, taken_entries}
-use Rattle.node_core.specs.Log.{LogEntry, Began, Halted, Ticked, NodeSetup, runs}
+use Rattle.node_core.specs.Log.{LogEntry, Began, Halted, Ticked, NodeSetup, runs, peers_of}
 use Rattle.node_core.specs.Moving.{appointing, moved_at_tick, moved_by}
-use Rattle.node_core.specs.Peers.{place_of}
-use Rattle.node_core.specs.Reached.{NodeCall, Submit, Hear, Halt, Start, call_entries, entries_halted, entries_running, most_submissions, submit_entries}
+use Rattle.node_core.specs.Peers.{place_of, address_at}
+use Rattle.node_core.specs.Reached.{NodeCall, Submit, Hear, Halt, Start, call_entries, entries_halted, entries_running, most_submissions, submit_entries, Tick}
 use Rattle.node_core.specs.Submitting.{refusal}
 use Rattle.node_core.specs.Ticks.{due, tick_entries}
 use Rattle.node_core.specs.Value.{CanFollowAll, IsNode, NodeValue, befallen, logged}
 use Rattle.node_core.specs.declared.fault.SubmitFault.{SubmitFault}
 use Rattle.node_core.specs.declared.port.Port.{Port}
-use Rattle.once_core.specs.Addresses.{gateway_address, node_setup}
+use Rattle.once_core.specs.Addresses.{gateway_address, node_setup, addresses_from, gateway_at}
 use Rattle.once_core.specs.Expired.{begins, is_expired_at_node, starts_in}
 use Rattle.once_core.specs.KeptTurn.{started_again}
-use Rattle.once_core.specs.NodeMoves.{answered_by, heard_by, submitted_entries, with_entries}
+use Rattle.once_core.specs.NodeMoves.{answered_by, heard_by, submitted_entries, with_entries, due_messages, message_kept}
 use Rattle.once_core.specs.Standing.{NodeKept, node_kept}
-use Rattle.once_core.specs.World.{Called, answers_of, called, delivered_to_node, draft_of, hearing, node_value, submitting, submitting_form}
+use Rattle.once_core.specs.World.{Called, answers_of, called, delivered_to_node, draft_of, hearing, node_value, submitting, submitting_form, message_of, ticking}
 use Rattle.once_core.specs.declared.message.Message.{Message}
-use Rattle.once_core.proofs.LogLemmas.{starts_again}
+use Rattle.once_core.proofs.LogLemmas.{starts_again, addresses, addresses_stay}
 use Rattle.std.proofs.lemmas.Bool.{not-false, or_parts}
 use Rattle.once_core.proofs.CaseLemmas.{by_bool, by_option, if_both}
+use Rattle.std.proofs.lemmas.Option.{slice_get-map}
+use Rattle.std.specs.Option.{option_map_or}
+use Rattle.node_core.specs.Octets.{gateway_of, outgoing}
+use Rattle.node_core.specs.declared.peer.Peer.{Peer}
+use Rattle.node_core.specs.declared.sending.Sending.{Sending}
+use Rattle.once_core.proofs.RedirectLemmas.{same_byte}
 
 -- what node_core says of logs
 abbrev pub NodeLaw : Type 0
@@ -127,4 +133,50 @@ module _ (law : NodeLaw) (gateways place : ℕ) where
         (plain_heard (value log) m.port (gateway_address m.gateway) m.octets));
     sent = by_bool (λ (b : Bool). (if b then [] else answers_of m (heeds (value log) m.port (gateway_address m.gateway) m.octets)) ≡ (after_hearing m log b).sends)
         (not (runs log) || is_expired_at_node log (value log) m) (λ deaf. refl) (λ hears. refl);
+  }
+
+-- ---- the addresses of a node's gateways are near
+
+abbrev nowhere : Addr
+nowhere = record { ip = 0; port = 0 }
+
+abbrev or_nowhere : Option Addr → Addr
+or_nowhere o = option_map_or (λ (a : Addr). a) o nowhere
+
+near_none : (k : ℕ) → gateway_at (or_nowhere (slice_get [] k)) < 256
+near_none zero = omega arith
+near_none (suc k) = omega arith
+
+near_from : (first count k : ℕ) → first + count ≤ 256 → gateway_at (or_nowhere (slice_get (addresses_from first count) k)) < 256
+near_from first zero k few = near_none k
+near_from first (suc count) zero few = omega (arith, few)
+near_from first (suc count) (suc k) few = near_from (suc first) count k (omega (arith, few))
+
+address_is : (peers : List Peer) (k : ℕ) → address_at peers k ≡ or_nowhere (slice_get (addresses peers) k)
+address_is peers k =
+    by_option (λ (o : Option Peer). option_map_or (λ (p : Peer). p.address) o nowhere ≡ or_nowhere (option_map (λ (p : Peer). p.address) o)) (slice_get peers k) (λ none. refl) (λ p there. refl)
+    ∙ ap or_nowhere (sym (slice_get-map (λ (p : Peer). p.address) peers k))
+
+near : (gateways k : ℕ) (log : List LogEntry) → gateways ≤ 256 → gateway_at (address_at (peers_of (addresses_from 0 gateways) log) k) < 256
+near gateways k log few =
+    let is : address_at (peers_of (addresses_from 0 gateways) log) k ≡ or_nowhere (slice_get (addresses_from 0 gateways) k) =
+    address_is (peers_of (addresses_from 0 gateways) log) k
+    ∙ ap (λ (all : List Addr). or_nowhere (slice_get all k)) (addresses_stay (addresses_from 0 gateways) log) in
+    subst (λ (a : Addr). gateway_at a < 256) (sym is) (near_from 0 gateways k (omega (arith, few)))
+
+module _ (law : NodeLaw) (gateways place : ℕ) (few : gateways ≤ 256) where
+  same_message : (log : List LogEntry) (s : Sending) → message_kept place (starts_in log) (outgoing (node_value gateways place log) s) ≡ message_of place log (outgoing (node_value gateways place log) s)
+  same_message log s =
+      ap (λ (g : ℕ). record (message_of place log (outgoing (node_value gateways place log) s)) { gateway = g })
+      (same_byte (gateway_at (outgoing (node_value gateways place log) s).to) (near gateways (gateway_of s) log few))
+
+  same_messages : (log : List LogEntry) (ss : List Sending) → map (message_kept place (starts_in log)) (map (outgoing (node_value gateways place log)) ss)
+      ≡ map (λ s. message_of place log (outgoing (node_value gateways place log) s)) ss
+  same_messages log [] = refl
+  same_messages log (s ∷ ss) = λ i. same_message log s i ∷ same_messages log ss i
+
+  pub calls_tick : (log : List LogEntry) → runs log ≡ true → CallsKept gateways place (ticking gateways place) (λ n. with_entries (tick_entries n.node) n) (due_messages place) log
+  calls_tick log up = record {
+    node = kept_called law gateways place Tick log up (plain_tick (node_value gateways place log));
+    sent = same_messages log (due (node_value gateways place log));
   }

@@ -5,12 +5,12 @@ use Rattle.std.proofs.lemmas.Bool.{both_ways, eqb-true, not-false, or_parts, con
 use Rattle.std.specs.Option.{option_map_or}
 use Rattle.std.proofs.lemmas.Option.{same_Some}
 use Rattle.gtpp_message.specs.Packet.{PacketForm}
-use Rattle.node_core.specs.Log.{LogEntry, Halted, Submitted, Appointed, runs, Heard, Saying, Path, Redirects, Responds, Other}
-use Rattle.node_core.specs.Moving.{appointing, moved_by}
+use Rattle.node_core.specs.Log.{LogEntry, Halted, Submitted, Appointed, runs, Heard, Saying, Path, Redirects, Responds, Other, Ticked, NodeSetup}
+use Rattle.node_core.specs.Moving.{appointing, moved_by, moved_at_tick}
 use Rattle.node_core.specs.Reached.{NodeCall, call_entries, log_of, most_submissions, submit_entries}
 use Rattle.node_core.specs.Reached as call
 use Rattle.node_core.specs.Submitting.{refusal}
-use Rattle.node_core.specs.Value.{logged, NodeValue}
+use Rattle.node_core.specs.Value.{logged, NodeValue, node_of}
 use Rattle.node_core.specs.declared.fault.SubmitFault.{SubmitFault}
 use Rattle.gtpp_message.specs.Message.{MessageValue, EchoRequest, EchoResponse, NodeAliveResponse, RedirectionRequest, RedirectionResponse, TransferRequest, TransferResponse}
 use Rattle.gtpp_message.specs.Reading.{Message, ReadingValue}
@@ -42,6 +42,7 @@ use Rattle.once_core.specs.Happenings as happens
 use Rattle.once_core.specs.Messages.{about, answering, is_response}
 use Rattle.once_core.specs.declared.message.Message as world
 use Rattle.once_core.proofs.SceneLemmas.{at_same}
+use Rattle.node_core.specs.Ticks.{due, tick_entries}
 
 -- what holds of the log of each node: it is one of a node's calls, its starts are counted, and each packet can be sent
 pub record NodeRightly (gateways place : ℕ) (log : List LogEntry) : Type 0 where
@@ -98,6 +99,18 @@ pub appointed_starts : (o : Option ℕ) (log : List LogEntry) → starts_in (log
 appointed_starts = appointed starts_in (λ gateway log. starts_same (Appointed gateway) log refl)
 
 -- ---- calls
+
+-- the log behind a tick
+abbrev pub behind_tick : NodeSetup → List LogEntry → List LogEntry
+behind_tick setup log = Ticked (due (node_of setup log)) ∷ logged (appointing (moved_at_tick (node_of setup log))) log
+
+pub tick_is : (setup : NodeSetup) (log : List LogEntry) → runs log ≡ true
+    → logged (call_entries (node_of setup log) call.Tick) log ≡ behind_tick setup log
+tick_is setup log running =
+    let node = node_of setup log in
+    ap (λ (b : Bool). logged (if b then tick_entries node else []) log) running
+    ∙ by_option (λ (o : Option ℕ). logged (appointing o ++ Ticked (due node) ∷ []) log ≡ Ticked (due node) ∷ logged (appointing o) log)
+    (moved_at_tick node) (λ e. refl) (λ gateway e. refl)
 
 -- the log after a call
 pub after_call : {gateways place : ℕ} {log : List LogEntry} → NodeRightly gateways place log → (call : NodeCall) → starts_in (log_after gateways place call log) ≤ 255

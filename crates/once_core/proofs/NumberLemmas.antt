@@ -4,10 +4,9 @@ use Rattle.std.specs.Option.{option_map_or}
 use Rattle.std.proofs.lemmas.List.Elements.{Contains-append_cases}
 use Rattle.gtpp_message.specs.Packet.{PacketForm}
 use Rattle.node_core.specs.Drafts.{value_octets}
-use Rattle.node_core.specs.Log.{LogEntry, Began, Halted, Submitted, Appointed, Ticked, Heard, Saying, Responds, forms_of, packets_hearing, packets_of, runs, submitted}
+use Rattle.node_core.specs.Log.{LogEntry, Began, Halted, Submitted, Appointed, Ticked, Heard, Responds, forms_of, packets_of, runs, submitted}
 use Rattle.node_core.specs.Packets.{PacketState, is_done, is_of, packet_after, packet_after_all, packet_hearing, while_open}
 use Rattle.node_core.specs.Value.{logged}
-use Rattle.node_core.specs.declared.port.Port.{Port}
 use Rattle.node_core.specs.declared.sending.Sending.{Sending}
 use Rattle.once_core.specs.Expired.{starts_in}
 use Rattle.once_core.specs.Followed.{Followed, all_followed, followed_before, following, packets_in}
@@ -82,11 +81,15 @@ zipped n _ _ pair is there = absurd is
 
 -- ---- the log
 
-pub record Ever (log : List LogEntry) : Type 0 where
+-- all that was ever submitted, by what is followed now and what the log counts
+pub record AllEver (all forms : List PacketForm) (packets : List PacketState) (count : ℕ) : Type 0 where
   pub before : List PacketForm
-  pub is : forms_ever log ≡ before ++ forms_of log
-  pub numbered : Numbered (length before) (packets_of log) (forms_of log)
-  pub count : submitted log ≡ length before + length (forms_of log)
+  pub is : all ≡ before ++ forms
+  pub numbered : Numbered (length before) packets forms
+  pub count_is : count ≡ length before + length forms
+
+abbrev pub Ever : List LogEntry → Type 0
+Ever log = AllEver (forms_ever log) (forms_of log) (packets_of log) (submitted log)
 
 open_keeps : (f : PacketState → PacketState) → ((p : PacketState) → (f p).number ≡ p.number) → (p : PacketState) → (while_open f p).number ≡ p.number
 open_keeps f same p = if_both (λ (q : PacketState). q.number ≡ p.number) (is_done p.copies) refl (same p)
@@ -95,37 +98,38 @@ pub all_keep : (sendings : List Sending) (p : PacketState) → (packet_after_all
 all_keep [] p = refl
 all_keep (sending ∷ sendings) p = all_keep sendings (packet_after sending p) ∙ if_both (λ (q : PacketState). q.number ≡ p.number) (is_of p.number sending) refl refl
 
-began : (log : List LogEntry) → Ever log → (submitted log ≡ length (forms_ever log) + 0)
-began log is = omega (arith, is.count, ap length is.is, length-append is.before (forms_of log))
-
-heard : (port : Port) (gateway : ℕ) (saying : Saying) (log : List LogEntry) (n : ℕ) → Numbered n (packets_of log) (forms_of log) → Numbered n (packets_hearing port gateway saying (packets_of log)) (forms_of log)
-heard port gateway (Responds cause numbers) log n is =
-    numbered_map (while_open (packet_hearing port gateway cause numbers)) (open_keeps (packet_hearing port gateway cause numbers) (λ p. refl)) n (packets_of log) (forms_of log) is
-heard port gateway _ log n is = is
+-- the packets with other copies bear the same numbers
+renumbered : {all forms : List PacketForm} {packets : List PacketState} {count : ℕ} (h : PacketState → PacketState)
+    → ((p : PacketState) → (h p).number ≡ p.number) → AllEver all forms packets count → AllEver all forms (map h packets) count
+renumbered {forms = forms} {packets = packets} h same e =
+    record { before = e.before; is = e.is; numbered = numbered_map h same (length e.before) packets forms e.numbered; count_is = e.count_is }
 
 pub ever : (log : List LogEntry) → Ever log
-ever [] = record { before = []; is = refl; numbered = tt; count = refl }
+ever [] = record { before = []; is = refl; numbered = tt; count_is = refl }
 ever (Submitted form ∷ log) =
     let rest = ever log in
     record {
       before = rest.before;
       is = ap (λ (fs : List PacketForm). fs ++ form ∷ []) rest.is ∙ append_assoc rest.before (forms_of log) (form ∷ []);
-      numbered = numbered_more (length rest.before) (packets_of log) (forms_of log) (record { number = suc (submitted log); copies = [] }) form rest.numbered (omega (arith, rest.count));
-      count = omega (arith, rest.count, length-append (forms_of log) (form ∷ []));
+      numbered = numbered_more (length rest.before) (packets_of log) (forms_of log)
+          (record { number = suc (submitted log); copies = [] }) form rest.numbered (omega (arith, rest.count_is));
+      count_is = omega (arith, rest.count_is, length-append (forms_of log) (form ∷ []));
     }
-ever (Appointed gateway ∷ log) = let rest = ever log in record { before = rest.before; is = rest.is; numbered = rest.numbered; count = rest.count }
+ever (Appointed gateway ∷ log) = ever log
 ever (Ticked sendings ∷ log) =
+    renumbered (while_open (packet_after_all sendings)) (open_keeps (packet_after_all sendings) (all_keep sendings)) (ever log)
+ever (Heard port gateway (Responds cause numbers) ∷ log) =
+    renumbered (while_open (packet_hearing port gateway cause numbers))
+    (open_keeps (packet_hearing port gateway cause numbers) (λ p. refl)) (ever log)
+ever (Heard port gateway saying ∷ log) = ever log
+ever (_ ∷ log) =
     let rest = ever log in
     record {
-      before = rest.before;
-      is = rest.is;
-      numbered = numbered_map (while_open (packet_after_all sendings)) (open_keeps (packet_after_all sendings) (all_keep sendings)) (length rest.before) (packets_of log) (forms_of log) rest.numbered;
-      count = rest.count;
+      before = forms_ever log;
+      is = sym (append-nil (forms_ever log));
+      numbered = tt;
+      count_is = omega (arith, rest.count_is, ap length rest.is, length-append rest.before (forms_of log));
     }
-ever (Heard port gateway saying ∷ log) =
-    let rest = ever log in
-    record { before = rest.before; is = rest.is; numbered = heard port gateway saying log (length rest.before) rest.numbered; count = rest.count }
-ever (_ ∷ log) = record { before = forms_ever log; is = sym (append-nil (forms_ever log)); numbered = tt; count = began log (ever log) }
 
 -- what a packet sends stands among all that was ever submitted
 module _ (log : List LogEntry) where
@@ -157,27 +161,30 @@ is_following log f is = let there = following_at log f is in record { form = the
 -- an entry more leaves it so
 follows_on : (entry : LogEntry) (log : List LogEntry) (f : Followed) → IsFollowing log f → IsFollowing (entry ∷ log) f
 follows_on Began log f is = record { form = is.form; start = omega (arith, is.start, starts_again log) }
-follows_on Halted log f is = record { form = is.form; start = omega (arith, is.start, starts_same Halted log refl) }
-follows_on (Submitted form) log f is =
-    record { form = get_more (forms_ever log) (form ∷ []) (f.state.number - 1) f.form is.form; start = omega (arith, is.start, starts_same (Submitted form) log refl) }
+follows_on (Submitted form) log f is = record {
+  form = get_more (forms_ever log) (form ∷ []) (f.state.number - 1) f.form is.form;
+  start = omega (arith, is.start, starts_same (Submitted form) log refl);
+}
 follows_on entry log f is = record { form = is.form; start = omega (arith, is.start, starts_same entry log refl) }
+
+followed_here : (log : List LogEntry) (f : Followed) → (Contains (followed_before log) f → IsFollowing log f)
+    → Contains (all_followed log) f → IsFollowing log f
+followed_here log f before is = ⊎_elim before (is_following log f) (Contains-append_cases (followed_before log) (following log) f is)
 
 followed_at : (log : List LogEntry) (f : Followed) → Contains (followed_before log) f → IsFollowing log f
 followed_at [] f is = absurd (in_none f is)
-followed_at (Began ∷ log) f is = follows_on Began log f (⊎_elim (followed_at log f) (is_following log f) (Contains-append_cases (followed_before log) (following log) f is))
-followed_at (Halted ∷ log) f is = follows_on Halted log f (⊎_elim (followed_at log f) (is_following log f) (Contains-append_cases (followed_before log) (following log) f is))
+followed_at (Began ∷ log) f is = follows_on Began log f (followed_here log f (followed_at log f) is)
+followed_at (Halted ∷ log) f is = follows_on Halted log f (followed_here log f (followed_at log f) is)
 followed_at (entry ∷ log) f is = follows_on entry log f (followed_at log f is)
 
-pub all_followed_at : (log : List LogEntry) (f : Followed) → Contains (all_followed log) f → slice_get (forms_ever log) (f.state.number - 1) ≡ Some f.form
-all_followed_at log f is = ⊎_elim (λ old. (followed_at log f old).form) (λ new. (following_at log f new).0) (Contains-append_cases (followed_before log) (following log) f is)
+pub all_followed_at : (log : List LogEntry) (f : Followed) → Contains (all_followed log) f
+    → slice_get (forms_ever log) (f.state.number - 1) ≡ Some f.form
+all_followed_at log f is = (followed_here log f (followed_at log f) is).form
 
 -- of a node that runs, what it followed before is of earlier starts
 pub earlier : (log : List LogEntry) (f : Followed) → runs log ≡ true → Contains (followed_before log) f → f.start < starts_in log
 earlier [] f running is = absurd (in_none f is)
-earlier (Began ∷ log) f running is = ⊎_elim
-    (λ old. omega (arith, (followed_at log f old).start, starts_again log))
-    (λ new. omega (arith, (is_following log f new).start, starts_again log))
-    (Contains-append_cases (followed_before log) (following log) f is)
+earlier (Began ∷ log) f running is = omega (arith, (followed_here log f (followed_at log f) is).start, starts_again log)
 earlier (Halted ∷ log) f running is = absurd (cc)
 earlier (entry ∷ log) f running is = omega (arith, earlier log f running is, starts_same entry log refl)
 

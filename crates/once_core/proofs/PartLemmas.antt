@@ -27,7 +27,6 @@ use Rattle.once_core.specs.Beginning.{first_gateway}
 use Rattle.once_core.proofs.ListLemmas.{get_contains}
 use Rattle.once_core.proofs.StopLemmas.{history_is}
 use Rattle.once_core.specs.Expired.{is_expired, starts_in}
-use Rattle.once_core.proofs.StepLemmas.{refusing_none}
 
 -- ---- the parts
 
@@ -167,16 +166,24 @@ module _ {Q : Gateway → Moved → Type 0} (keep : PartsKeep Q) where
 
 -- ---- turns
 
-behind : (a b : Option WorldKind) → option_or a b ≡ None → b ≡ None
-behind None b e = e
-behind (Some kind) b e = absurd (cc)
+pub or_none : (a b : Option WorldKind) → option_or a b ≡ None → b ≡ None
+or_none None b is = is
+or_none (Some k) b is = absurd (cc is)
+
+pub first_none : (a b : Option WorldKind) → option_or a b ≡ None → a ≡ None
+first_none None b is = refl
+first_none (Some k) b is = absurd (cc is)
+
+pub refusing_none : (b : Bool) (k : WorldKind) → refusing b k ≡ None → b ≡ false
+refusing_none true k is = absurd (cc is)
+refusing_none false k is = refl
 
 pub it_runs : (w : World) (number : ℕ) → option_or (no_node w number) (refusing (not (runs (log_in w number))) Halted) ≡ None → runs (log_in w number) ≡ true
-it_runs w number e = not-false _ (refusing_none _ Halted (behind (no_node w number) _ e))
+it_runs w number e = not-false _ (refusing_none _ Halted (or_none (no_node w number) _ e))
 
 may_start : (w : World) (number : ℕ) → refusal_to_start w number ≡ None → suc (starts_in (log_in w number)) ≤ 255
 may_start w number e =
-    let less = leb-false most_starts (starts_in (log_in w number)) (refusing_none _ Restarts (behind (refusing (runs (log_in w number)) Running) _ (behind (no_node w number) _ e))) in
+    let less = leb-false most_starts (starts_in (log_in w number)) (refusing_none _ Restarts (or_none (refusing (runs (log_in w number)) Running) _ (or_none (no_node w number) _ e))) in
     omega (arith, less)
 
 -- what is to be shown of a turn: of each move of a gateway, with the parts that the rest is made of, and of each call of a node

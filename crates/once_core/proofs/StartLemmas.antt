@@ -26,14 +26,7 @@ one_rises ip k e rises = subst (λ (n : ℕ). start_of ip k ≤ n) (sym (ap star
         by : (b : Bool) → (n.0 == ip) ≡ b → start_of ip k ≤ start_by (if b then Some (record { port = port; counter = counter }) else opening_of ip k)
         by true e = let same : start_of n.0 k ≡ start_of ip k = ap (λ (m : ℕ). start_of m k) (eqb-true n.0 ip e) in omega (arith, rises, same)
         by false e = omega arith
-    by_act act.Start rises = omega arith
-    by_act (act.File n x packet) rises = omega arith
-    by_act (act.Hold n x packet) rises = omega arith
-    by_act (act.Seal n x) rises = omega arith
-    by_act (act.Release n xs) rises = omega arith
-    by_act (act.Cancel n xs) rises = omega arith
-    by_act act.Tick rises = omega arith
-    by_act act.Close rises = omega arith
+    by_act _ rises = omega arith
 
 pub start_rises : (ip : ℕ) (h g : List HistoryEntry) → StartsRise (h ++ g) → start_of ip h ≤ start_of ip (h ++ g)
 start_rises ip h g all =
@@ -54,14 +47,7 @@ no_path_same ip h e isnt = ap start_by (opening_of-append ip h e) ∙ by e.act i
   where
     by : (a : HistoryAct) → IsNoPath a → start_by (opening_after ip (opening_of ip h) a) ≡ start_of ip h
     by (act.Path n port counter) isnt = absurd isnt
-    by act.Start isnt = refl
-    by (act.File n x packet) isnt = refl
-    by (act.Hold n x packet) isnt = refl
-    by (act.Seal n x) isnt = refl
-    by (act.Release n xs) isnt = refl
-    by (act.Cancel n xs) isnt = refl
-    by act.Tick isnt = refl
-    by act.Close isnt = refl
+    by _ isnt = refl
 
 -- behind a Path of its own the node's start is the counter of that
 pub path_starts : (h : List HistoryEntry) (moment : ℕ) (who : Caller) (n : NodeId) (port counter : ℕ)

@@ -1,22 +1,20 @@
 -- A turn of a world that is kept is the turn of the world that it stands for.
-use Rattle.std.proofs.Common.{◌≡◌, ℕ, ◌-◌, ◌≤◌, Bool, true, false, not, if◌then◌else◌, List, [], ◌∷◌, length, Option, Some, None, refl, ap, sym, ◌∙◌, subst, option_map, slice_get}
-use Rattle.std.proofs.lemmas.Bool.{not-false}
+use Rattle.std.proofs.Common.{◌≡◌, ℕ, ◌-◌, ◌≤◌, Bool, true, false, not, if◌then◌else◌, List, [], ◌∷◌, length, Option, Some, None, refl, ap, sym, ◌∙◌, subst, option_map, slice_get, ◌+◌, arith}
 use Rattle.std.specs.Option.{option_map_or, option_or}
 use Rattle.node_core.specs.Log.{LogEntry, Halted, runs}
 use Rattle.node_core.specs.Reached.{Halt, Start}
 use Rattle.node_core.specs.Ticks.{tick_entries}
 use Rattle.once_core.proofs.KeptMoveLemmas.{keeps_committing, keeps_cut, keeps_delivered, keeps_marking_close, keeps_marking_tick, moves_kept, opened_kept, redirects_kept}
-use Rattle.once_core.proofs.KeptTurnLemmas.{gateway_changes, gateway_turns, node_changes, node_turns}
-use Rattle.once_core.proofs.NodeCallLemmas.{NodeLaw, calls_halt, calls_hear, calls_start, calls_submit, nothing}
-use Rattle.once_core.proofs.NodeTickLemmas.{calls_tick}
+use Rattle.once_core.proofs.KeptTurnLemmas.{gateway_changes, gateway_turns, node_changes, node_turns, refusals_same, starts_same}
+use Rattle.once_core.proofs.NodeCallLemmas.{NodeLaw, calls_halt, calls_hear, calls_start, calls_submit, nothing, calls_tick}
 use Rattle.once_core.specs.Answers.{delivered, making_close, making_tick, marked, redirected}
 use Rattle.once_core.specs.Beginning.{default_rules}
 use Rattle.once_core.specs.Expired.{starts_in}
 use Rattle.once_core.specs.Gateway.{committing, cut, opened, still}
-use Rattle.once_core.specs.KeptTurn.{reaching, started_again, turn_kept, with_gateway, with_node}
+use Rattle.once_core.specs.KeptTurn.{reaching, started_again, turn_kept, with_gateway, with_node, HasBegun, refusal_kept, starts_at}
 use Rattle.once_core.specs.NodeMoves.{answered_by, due_messages, heard_by, submitted_entries, with_entries}
 use Rattle.once_core.specs.Redirecting.{redirected_kept}
-use Rattle.once_core.specs.Standing.{quiet, world_kept}
+use Rattle.once_core.specs.Standing.{quiet, world_kept, Stands, WorldKept, gateway_kept}
 use Rattle.once_core.specs.Turn.{at_gateway, at_node, calm, delivering, log_in, no_node, refusal_of, refusal_to_start, refusing, turn, turn_by, unless_refused}
 use Rattle.once_core.specs.World.{World, called, delivered_to_node, draft_of, submitting, ticking}
 use Rattle.once_core.specs.declared.event.Event.{Event}
@@ -25,27 +23,15 @@ use Rattle.once_core.specs.declared.event.WorldKind.{WorldKind}
 use Rattle.once_core.specs.declared.event.WorldKind.TheVariants.{Halted as IsHalted, Running}
 use Rattle.once_core.specs.declared.message.Message.{Message}
 use Rattle.once_core.proofs.CaseLemmas.{by_bool, by_option}
+use Rattle.once_core.proofs.PartLemmas.{first_none, it_runs, or_none, refusing_none}
 use Rattle.once_core.proofs.TurnLemmas.{log_there}
-
--- ---- what an event that isn't refused tells
-
-pub or_none : (a b : Option WorldKind) → option_or a b ≡ None → b ≡ None
-or_none None b is = is
-or_none (Some k) b is = absurd (cc is)
-
-pub first_none : (a b : Option WorldKind) → option_or a b ≡ None → a ≡ None
-first_none None b is = refl
-first_none (Some k) b is = absurd (cc is)
-
-pub refusing_none : (b : Bool) (k : WorldKind) → refusing b k ≡ None → b ≡ false
-refusing_none true k is = absurd (cc is)
-refusing_none false k is = refl
+use Rattle.std.proofs.lemmas.List.{length-map}
+use Rattle.once_core.proofs.ArmLemmas.{turn_stays}
+use Rattle.once_core.specs.Stepping.{IsPlayed, IsRefused, IsSpent}
 
 module _ (law : NodeLaw) (w : World) (few : length w.gateways ≤ 256) where
   runs_where : (number : ℕ) (log : List LogEntry) → slice_get w.nodes (number - 1) ≡ Some log → option_or (no_node w number) (refusing (not (runs (log_in w number))) IsHalted) ≡ None → runs log ≡ true
-  runs_where number log found allowed =
-      ap runs (sym (log_there w (number - 1) log found))
-      ∙ not-false (runs (log_in w number)) (refusing_none (not (runs (log_in w number))) IsHalted (or_none (no_node w number) _ allowed))
+  runs_where number log found allowed = ap runs (sym (log_there w (number - 1) log found)) ∙ it_runs w number allowed
 
   reaches : (m : Message) → reaching (world_kept w) m ≡ world_kept (delivering default_rules quiet w m)
   reaches m = by_bool (λ (b : Bool).
@@ -105,3 +91,40 @@ module _ (law : NodeLaw) (w : World) (few : length w.gateways ≤ 256) where
   turn_is e begun allowed =
       turned e begun allowed
       ∙ ap (λ (o : Option WorldKind). world_kept (unless_refused o w (turn_by default_rules w (calm e) e))) (sym allowed)
+
+module _ (w : World) (e : Event) (old new : WorldKept) (stands : Stands w old) where
+  refusal_is : refusal_kept old e ≡ refusal_of w e
+  refusal_is = ap (λ (k : WorldKept). refusal_kept k e) stands ∙ refusals_same w e
+
+  pub step_refused : (kind : WorldKind) → refusal_kept old e ≡ Some kind → new ≡ old → IsRefused w e kind new
+  step_refused kind refused same = record { refused = sym refusal_is ∙ refused; same = same ∙ stands }
+
+  pub step_spent : refusal_kept old e ≡ None → new.is_spent ≡ true → IsSpent w e new
+  step_spent allowed spent = record { allowed = sym refusal_is ∙ allowed; spent = spent }
+
+  few_gateways : length old.gateways ≤ 8 → length w.gateways ≤ 256
+  few_gateways few =
+      let same : length old.gateways ≡ length w.gateways = ap (λ (k : WorldKept). length k.gateways) stands ∙ length-map w.gateways gateway_kept in
+      omega (arith, same, few)
+
+  begun_in : HasBegun old e → (number : ℕ) → e ≡ event.Start number → 1 ≤ starts_in (log_in w number)
+  begun_in has number is =
+      subst (λ (n : ℕ). 1 ≤ n) (ap (λ (k : WorldKept). starts_at k (number - 1)) stands ∙ starts_same w (number - 1))
+      (subst (HasBegun old) is has)
+
+  pub step_played : NodeLaw → length old.gateways ≤ 8 → HasBegun old e → refusal_kept old e ≡ None → new ≡ turn_kept old e → (first count : ℕ)
+      → first ≡ length old.messages + 1 → count ≡ length new.messages - length old.messages → IsPlayed w e first count new
+  step_played law few begun allowed is first count first_is count_is =
+      let free : refusal_of w e ≡ None = sym refusal_is ∙ allowed in
+      let turned : new ≡ world_kept (turn default_rules w (calm e)) =
+      is ∙ (ap (λ (k : WorldKept). turn_kept k e) stands ∙ turn_is law w (few_gateways few) e (begun_in begun) free) in
+      let sent : length old.messages ≡ length w.messages = ap (λ (k : WorldKept). length k.messages) stands in
+      let grown : length old.messages ≤ length new.messages =
+      subst (λ (k : WorldKept). length old.messages ≤ length k.messages) (sym is) (turn_stays old e) in
+      let all : length (turn default_rules w (calm e)).messages ≡ length new.messages = ap (λ (k : WorldKept). length k.messages) (sym turned) in
+      record {
+        allowed = free;
+        turned = turned;
+        first_is = omega (arith, first_is, sent);
+        count_is = omega (arith, all, count_is, grown, sent);
+      }

@@ -42,16 +42,7 @@ hear_grows gateways m log = if_both (λ (done : Called). GrowsTo (forms_ever log
 
 -- a gateway's move submits nothing
 none_submitted : PartsKeep (λ g moved. Unit {0})
-none_submitted = record {
-  stays = λ g. tt;
-  follows = λ g first next a b. tt;
-  firm = λ g cuts. tt;
-  gone = λ g cuts broken. tt;
-  torn = λ g cuts. tt;
-  notes = λ g note now sound due. tt;
-  cuts = λ g keep. tt;
-  stands = λ g. tt;
-}
+none_submitted = assumption
 
 turn_forms : (rules : Rules) (w : World) (t : Turn) (q : ℕ) → GrowsTo (forms_at w q) (forms_at (turn rules w t) q)
 turn_forms rules w t q = turn_keeps {rules = rules} {w = w} {Q = λ place g moved. Unit {0}} {W = Goes} (record {

@@ -1,6 +1,6 @@
 use Rattle.std.proofs.Common.{◌≡◌, ◌+◌, ◌-◌, ◌≤◌, None, [], ◌∷◌, ap, sym, ◌∙◌, refl, length, arith, rules}
 use Rattle.once_core.proofs.ArmLemmas.{turn_stays}
-use Rattle.once_core.proofs.SteppedLemmas.{step_played, step_refused, step_spent}
+use Rattle.once_core.proofs.StepLemmas.{step_played, step_refused, step_spent}
 use Rattle.once_core.specs.Beginning.{default_rules}
 use Rattle.once_core.specs.KeptTurn.{turn_kept}
 use Rattle.once_core.specs.Standing.{WorldKept}
