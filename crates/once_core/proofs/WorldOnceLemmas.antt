@@ -303,7 +303,7 @@ module _ (laws : Laws) (w : World) (reached : IsReached w) where
       let copy_is : IsCopyOf (packets_in m.start (log_at w m.node)) at.packet at.copy = record { kept = at.kept; among = at.among } in
       let chosen_is : is_chosen at.copy ≡ true = ap (λ (there : Option Command). option_map_or (λ (c : Command). is_release c.order) there false) may.2.sent in
       let choice = choice_of holds (node_ip m.node) rightly at.packet at.copy copy_is chosen_is in
-      let sealed = first_sealed holds (node_ip m.node) rightly at.packet at.copy copy_is choice in
+      let sealed = first_sealed holds (node_ip m.node) rightly copy_is choice in
       let own = followed_as w m.node m.start at.packet at.kept in
       record {
         packet = own.of;
