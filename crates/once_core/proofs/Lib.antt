@@ -24,7 +24,6 @@ pub mod KnownLemmas
 pub mod OnceLemmas
 pub mod StoryLemmas
 pub mod DeedLemmas
-pub mod NodeLemmas
 pub mod CallLemmas
 pub mod MeaningLemmas
 pub mod PartLemmas

@@ -1,5 +1,5 @@
 -- The number of an open copy is read as it is meant, where the gateway's present epoch is that of the node's start.
-use Rattle.std.proofs.Common.{◌↔◌, ◌≡◌, ◌⊎◌, inl, inr, ℕ, ◌+◌, ◌<◌, ◌≤◌, ◌%◌, Bool, false, List, [], Option, Some, None, Contains, refl, sym, ap, subst, ◌∙◌, arith, ⊎_elim, true, length}
+use Rattle.std.proofs.Common.{◌↔◌, ◌≡◌, ◌⊎◌, inl, inr, ℕ, ◌+◌, ◌<◌, ◌≤◌, ◌%◌, Bool, false, List, [], Option, Some, None, Contains, refl, sym, ap, subst, ◌∙◌, arith, ⊎_elim, true, length, ◌≢◌, All, ◌==◌, ne_eqb}
 use Rattle.std.proofs.lemmas.Option.{same_Some, none-some}
 use Rattle.gateway_answer.specs.Fit.{is_fresh}
 use Rattle.gw_base.specs.EntryLaws.{present_state_is}
@@ -19,22 +19,30 @@ use Rattle.once_core.proofs.CountLemmas.{starts_rise}
 use Rattle.once_core.proofs.EachLemmas.{each_front}
 use Rattle.once_core.proofs.EpochLemmas.{present_epoch}
 use Rattle.once_core.proofs.ForwardLemmas.{known_on}
-use Rattle.once_core.proofs.KnownLemmas as knows
+use Rattle.once_core.proofs.KnownLemmas.{done_known, may_send}
 use Rattle.once_core.proofs.TopLemmas.{IsCovered, covers, top_asked}
 use Rattle.once_core.proofs.CaseLemmas.{by_bool}
-use Rattle.std.proofs.lemmas.Bool.{cases_lt}
-use Rattle.node_core.specs.Log.{LogEntry, NodeSetup, packets_of, runs}
-use Rattle.node_core.specs.Peers.{next_number}
+use Rattle.std.proofs.lemmas.Bool.{cases_lt, cond-false}
+use Rattle.node_core.specs.Log.{LogEntry, NodeSetup, packets_of, runs, peers_of}
+use Rattle.node_core.specs.Peers.{next_number, drawn}
 use Rattle.node_core.specs.Reached.{NodeCall, log_of, reached}
-use Rattle.node_core.specs.Roles.{HasOneRole, uses}
+use Rattle.node_core.specs.Roles.{HasOneRole, uses, IsRising, IsSingle, uses_by_copies, uses_by_copy}
 use Rattle.once_core.specs.Deeds.{deeds_of}
 use Rattle.once_core.specs.Expired.{starts_in}
 use Rattle.once_core.specs.Followed.{packets_in}
 use Rattle.once_core.specs.Scenes.{scene_after}
 use Rattle.once_core.proofs.MoveLemmas.{holds_always}
 use Rattle.once_core.proofs.NumberLemmas.{present_packet}
-use Rattle.once_core.proofs.RoleLemmas.{among_copies, among_packets, own_use}
+use Rattle.once_core.proofs.RoleLemmas.{among_copies, among_packets, own_use, packets_sum, copies_sum, sum_none}
 use Rattle.once_core.proofs.SendingPlays.{NodesFollow}
+use Rattle.std.proofs.lemmas.List.Elements.{All-contains}
+use Rattle.node_core.specs.Choosing.{ReleasesChoice}
+use Rattle.node_core.specs.Resting.{AllRestOn, since_start}
+use Rattle.node_core.specs.declared.copy.PacketCopy.{PacketCopy}
+use Rattle.node_core.specs.declared.peer.Peer.{Peer}
+use Rattle.once_core.proofs.DeedLemmas.{all_rest}
+use Rattle.std.proofs.lemmas.List.{length-map}
+use Rattle.once_core.proofs.LogLemmas.{addresses_stay}
 
 -- what the law of numbers says: from 32,768 on the nearest number is the one of the window
 abbrev pub NearestIsTheOne : Type 0
@@ -89,7 +97,7 @@ module _ (law : NearestIsTheOne) (scene : Scene) (holds : SceneHolds scene) (nod
   above_top : (bound : ℕ) → ((number : ℕ) → IsCovered (top_of node h) number → number ≤ bound) → (later : ℕ) → HasCopy packets gateway later → bound < later → HasOpenCopy packets gateway later
   above_top bound least later is above = by_bool (λ (b : Bool). HasOpenCopy packets gateway later) (is_done is.packet.copies)
       (λ e.
-      let known = knows.done_known holds node follows is.packet is.kept e is.copy is.sent in
+      let known = done_known holds node follows is.packet is.kept e is.copy is.sent in
       let here : IsKnown (scene.posts gateway).firm node start later =
       subst (λ (n : ℕ). IsKnown (scene.posts gateway).firm node start n) is.number_is
       (subst (λ (g : ℕ). IsKnown (scene.posts g).firm node start is.copy.number) is.gateway_is known) in
@@ -101,7 +109,7 @@ module _ (law : NearestIsTheOne) (scene : Scene) (holds : SceneHolds scene) (nod
   top_copy t e =
       let asked = top_asked scene.letters gateway node h rests t e in
       by asked.request asked.own asked.asked.port asked.about_is
-      (knows.may_send holds node follows gateway asked.asked.port asked.own asked.request
+      (may_send holds node follows gateway asked.asked.port asked.own asked.request
       (subst (λ (s : ℕ). Contains scene.letters (record { node = node; start = s; gateway = gateway; port = asked.asked.port; number = asked.own; says = Asks asked.request })) present asked.asked.kept))
     where
       of : (number : ℕ) → number ≡ t → AnyHasCopyAt packets gateway number → HasCopy packets gateway t
@@ -201,3 +209,44 @@ module _ (laws : Numbers) (setup : NodeSetup) (calls : List NodeCall) (some : 1 
         read_as_meant laws.nearest_one (scene_after happenings) (holds_always happenings) node (starts_in (log_of setup calls)) values (reached setup calls).packets
         (subst (λ (ds : List Deed). Follows ds (starts_in (log_of setup calls)) values (reached setup calls).packets) (sym deeds) (follows_now node values))
         gateway (next_number (reached setup calls).gateways gateway) near h between.front between.back present number is
+
+-- no number of another gateway is used
+none_apart : (gateway number : ℕ) (packets : List PacketState)
+    → ((packet : PacketState) → Contains packets packet → (copy : PacketCopy) → Contains packet.copies copy → copy.gateway ≢ gateway) → uses gateway number packets ≡ 0
+none_apart gateway number packets apart =
+    packets_sum gateway number packets
+    ∙ sum_none (λ (p : PacketState). uses_by_copies gateway number p.copies) packets (λ packet kept.
+    copies_sum gateway number packet.copies ∙ sum_none (uses_by_copy gateway number) packet.copies (λ copy among.
+    cond-false (copy.gateway == gateway) _ 0 (ne_eqb copy.gateway gateway (apart packet kept copy among))))
+
+module _ (setup : NodeSetup) (calls : List NodeCall) (some : 1 ≤ length setup.gateways) where
+  one_role : ((gateway number : ℕ) → gateway < length setup.gateways → HasOneRole (reached setup calls) gateway number)
+      → All (IsSingle (reached setup calls).gateways) (reached setup calls).packets → (gateway number : ℕ) → uses gateway number (reached setup calls).packets ≤ 1
+  one_role roles singles gateway number = ⊎_elim
+      (λ inside. by_number (roles gateway number inside) (cases_lt number 65536) (cases_lt number (next_number (reached setup calls).gateways gateway)))
+      (λ outside. omega (arith, none_apart gateway number (reached setup calls).packets (λ packet kept copy among same.
+      let peers = peers_of setup.gateways (log_of setup calls) in
+      let single : IsSingle peers packet = All-contains (IsSingle peers) (reached setup calls).packets packet singles kept in
+      let rising : IsRising peers copy = All-contains (IsRising peers) packet.copies copy single.rising among in
+      let many : length peers ≡ length setup.gateways =
+      sym (length-map peers (λ (peer : Peer). peer.address)) ∙ ap length (addresses_stay setup.gateways (log_of setup calls)) in
+      absurd (omega (arith, rising.place, same, outside, many)))))
+      (cases_lt gateway (length setup.gateways))
+    where
+      by_number : HasOneRole (reached setup calls) gateway number → (number < 65536) ⊎ (65536 ≤ number)
+          → (number < next_number (reached setup calls).gateways gateway) ⊎ (next_number (reached setup calls).gateways gateway ≤ number)
+          → uses gateway number (reached setup calls).packets ≤ 1
+      by_number role (inl before) next = omega (arith, role.before before)
+      by_number role (inr drawn_yet) (inl within) = omega (arith, role.drawn drawn_yet within)
+      by_number role (inr drawn_yet) (inr behind) = omega (arith, role.behind behind)
+
+  pub knows : (node : ℕ) (values : ℕ → List ℕ) → ((gateway number : ℕ) → gateway < length setup.gateways → HasOneRole (reached setup calls) gateway number)
+      → All (IsSingle (reached setup calls).gateways) (reached setup calls).packets → All ReleasesChoice (reached setup calls).packets
+      → All (AllRestOn (since_start (log_of setup calls))) (packets_of (log_of setup calls))
+      → Knows (deeds_of node values (log_of setup calls)) (starts_in (log_of setup calls)) (reached setup calls).packets
+  knows node values roles singles choice rests = record {
+    roles = one_role roles singles;
+    plain = λ k d lt. (singles k d lt).plain;
+    choice = choice;
+    rests = all_rest node values (log_of setup calls) rests;
+  }

@@ -1,5 +1,5 @@
 -- What is kept of a node moves as its log grows.
-use Rattle.std.proofs.Common.{◌≡◌, ℕ, ◌+◌, ◌≤◌, Bool, true, false, ◌||◌, not, if◌then◌else◌, List, [], ◌∷◌, ◌++◌, Option, Some, None, refl, ap, sym, ◌∙◌, arith, true≢false, nat_lt, zero, suc, ◌<◌, map, subst, option_map, slice_get}
+use Rattle.std.proofs.Common.{◌≡◌, ℕ, ◌+◌, ◌≤◌, Bool, true, false, ◌||◌, not, if◌then◌else◌, List, [], ◌∷◌, ◌++◌, Option, Some, None, refl, ap, sym, ◌∙◌, arith, true≢false, nat_lt, ◌<◌, map, subst, ⊎_elim}
 use Rattle.std.specs.List.{list_all}
 use Rattle.gtpp_message.specs.Packet.{PacketForm}
 use Rattle.gw_base.specs.declared.address.Addr.{Addr}
@@ -20,10 +20,10 @@ use Rattle.once_core.specs.NodeMoves.{answered_by, heard_by, submitted_entries, 
 use Rattle.once_core.specs.Standing.{NodeKept, node_kept}
 use Rattle.once_core.specs.World.{Called, answers_of, called, delivered_to_node, draft_of, hearing, node_value, submitting, submitting_form, message_of, ticking}
 use Rattle.once_core.specs.declared.message.Message.{Message}
-use Rattle.once_core.proofs.LogLemmas.{starts_again, addresses, addresses_stay}
-use Rattle.std.proofs.lemmas.Bool.{not-false, or_parts}
+use Rattle.once_core.proofs.LogLemmas.{starts_again, gateway_is, size}
+use Rattle.std.proofs.lemmas.Bool.{not-false, or_parts, cases_lt}
 use Rattle.once_core.proofs.CaseLemmas.{by_bool, by_option, if_both}
-use Rattle.std.proofs.lemmas.Option.{slice_get-map}
+use Rattle.std.proofs.lemmas.Option.{slice_get_past}
 use Rattle.std.specs.Option.{option_map_or}
 use Rattle.node_core.specs.Octets.{gateway_of, outgoing}
 use Rattle.node_core.specs.declared.peer.Peer.{Peer}
@@ -137,32 +137,12 @@ module _ (law : NodeLaw) (gateways place : ℕ) where
 
 -- ---- the addresses of a node's gateways are near
 
-abbrev nowhere : Addr
-nowhere = record { ip = 0; port = 0 }
-
-abbrev or_nowhere : Option Addr → Addr
-or_nowhere o = option_map_or (λ (a : Addr). a) o nowhere
-
-near_none : (k : ℕ) → gateway_at (or_nowhere (slice_get [] k)) < 256
-near_none zero = omega arith
-near_none (suc k) = omega arith
-
-near_from : (first count k : ℕ) → first + count ≤ 256 → gateway_at (or_nowhere (slice_get (addresses_from first count) k)) < 256
-near_from first zero k few = near_none k
-near_from first (suc count) zero few = omega (arith, few)
-near_from first (suc count) (suc k) few = near_from (suc first) count k (omega (arith, few))
-
-address_is : (peers : List Peer) (k : ℕ) → address_at peers k ≡ or_nowhere (slice_get (addresses peers) k)
-address_is peers k =
-    by_option (λ (o : Option Peer). option_map_or (λ (p : Peer). p.address) o nowhere ≡ or_nowhere (option_map (λ (p : Peer). p.address) o)) (slice_get peers k) (λ none. refl) (λ p there. refl)
-    ∙ ap or_nowhere (sym (slice_get-map (λ (p : Peer). p.address) peers k))
-
 near : (gateways k : ℕ) (log : List LogEntry) → gateways ≤ 256 → gateway_at (address_at (peers_of (addresses_from 0 gateways) log) k) < 256
-near gateways k log few =
-    let is : address_at (peers_of (addresses_from 0 gateways) log) k ≡ or_nowhere (slice_get (addresses_from 0 gateways) k) =
-    address_is (peers_of (addresses_from 0 gateways) log) k
-    ∙ ap (λ (all : List Addr). or_nowhere (slice_get all k)) (addresses_stay (addresses_from 0 gateways) log) in
-    subst (λ (a : Addr). gateway_at a < 256) (sym is) (near_from 0 gateways k (omega (arith, few)))
+near gateways k log few = ⊎_elim
+    (λ inside. omega (arith, gateway_is gateways log k inside, inside, few))
+    (λ outside. subst (λ (o : Option Peer). gateway_at (option_map_or (λ (p : Peer). p.address) o (record { ip = 0; port = 0 })) < 256)
+    (sym (slice_get_past (peers_of (addresses_from 0 gateways) log) k (omega (arith, size gateways log, outside)))) (omega arith))
+    (cases_lt k gateways)
 
 module _ (law : NodeLaw) (gateways place : ℕ) (few : gateways ≤ 256) where
   same_message : (log : List LogEntry) (s : Sending) → message_kept place (starts_in log) (outgoing (node_value gateways place log) s) ≡ message_of place log (outgoing (node_value gateways place log) s)

@@ -27,23 +27,20 @@ addresses_more count =
 abbrev with_records : PacketForm → List (List ℕ) → PacketForm
 with_records form more = record form { records = form.records ++ more }
 
-all_or_none : (form : PacketForm) (records : List (List ℕ)) → with_all form records
-    ≡ (if takes_all form records then (if is_without_records (with_records form records) then None else Some (with_records form records)) else None)
-all_or_none form [] = ap (λ (rs : List (List ℕ)). let f : PacketForm = record form { records = rs } in if is_without_records f then None else Some f) (sym (append-nil form.records))
-all_or_none form (r ∷ records) = by_test (all_or_none (with_record form r) records) (is_fault_free (addition_fault form r))
-  where
-    same : with_records (with_record form r) records ≡ with_records form (r ∷ records)
-    same = ap (λ (rs : List (List ℕ)). record form { records = rs }) (append_assoc form.records (r ∷ []) records)
+-- the draft, where it has a record
+abbrev with_some : PacketForm → Option PacketForm
+with_some form = if is_without_records form then None else Some form
 
-    by_test : with_all (with_record form r) records
-        ≡ (if takes_all (with_record form r) records then (if is_without_records (with_records (with_record form r) records) then None else Some (with_records (with_record form r) records)) else None)
-        → (b : Bool) → (if b then with_all (with_record form r) records else None)
-        ≡ (if (if b then takes_all (with_record form r) records else false)
-        then (if is_without_records (with_records form (r ∷ records)) then None else Some (with_records form (r ∷ records))) else None)
-    by_test rest true =
-        rest
-        ∙ ap (λ (f : PacketForm). if takes_all (with_record form r) records then (if is_without_records f then None else Some f) else None) same
-    by_test rest false = refl
+all_or_none : (form : PacketForm) (records : List (List ℕ)) → with_all form records
+    ≡ (if takes_all form records then with_some (with_records form records) else None)
+all_or_none form [] = ap (λ (rs : List (List ℕ)). with_some (record form { records = rs })) (sym (append-nil form.records))
+all_or_none form (r ∷ records) = by_bool (λ (b : Bool). (if b then with_all (with_record form r) records else None)
+    ≡ (if (if b then takes_all (with_record form r) records else false) then with_some (with_records form (r ∷ records)) else None))
+    (is_fault_free (addition_fault form r))
+    (λ takes. all_or_none (with_record form r) records
+    ∙ ap (λ (rs : List (List ℕ)). if takes_all (with_record form r) records then with_some (record form { records = rs }) else None)
+    (append_assoc form.records (r ∷ []) records))
+    (λ refuses. refl)
 
 draft_of_form : (form : PacketForm) → with_all (packet_anew form.format form.version) form.records ≡ (if is_draft form then Some form else None)
 draft_of_form form = all_or_none (packet_anew form.format form.version) form.records

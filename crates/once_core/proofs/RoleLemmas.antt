@@ -56,10 +56,10 @@ one_counts w (x ∷ xs) one a b is_a is_b use_a use_b =
 
 -- ---- one user
 
-copies_sum : (gateway number : ℕ) (copies : List PacketCopy) → uses_by_copies gateway number copies ≡ sum_by (uses_by_copy gateway number) copies
+pub copies_sum : (gateway number : ℕ) (copies : List PacketCopy) → uses_by_copies gateway number copies ≡ sum_by (uses_by_copy gateway number) copies
 copies_sum gateway number = is_sum_by (uses_by_copies gateway number) (uses_by_copy gateway number) refl (λ copy copies. refl)
 
-packets_sum : (gateway number : ℕ) (packets : List PacketState) → uses gateway number packets ≡ sum_by (λ (p : PacketState). uses_by_copies gateway number p.copies) packets
+pub packets_sum : (gateway number : ℕ) (packets : List PacketState) → uses gateway number packets ≡ sum_by (λ (p : PacketState). uses_by_copies gateway number p.copies) packets
 packets_sum gateway number = is_sum_by (uses gateway number) (λ (p : PacketState). uses_by_copies gateway number p.copies) refl (λ packet packets. refl)
 
 pub among_copies : (gateway number : ℕ) (copies : List PacketCopy) (copy : PacketCopy) → Contains copies copy → uses_by_copy gateway number copy ≤ uses_by_copies gateway number copies
@@ -72,10 +72,9 @@ pub copies_once : (packets : List PacketState) (packet : PacketState) → ((gate
     → (gateway number : ℕ) → uses_by_copies gateway number packet.copies ≤ 1
 copies_once packets packet once kept gateway number = omega (arith, among_packets gateway number packets packet kept, once gateway number)
 
-sum_none : (w : PacketCopy → ℕ) (copies : List PacketCopy) → ((copy : PacketCopy) → Contains copies copy → w copy ≡ 0) → sum_by w copies ≡ 0
+pub sum_none : {A : Type 0} (w : A → ℕ) (xs : List A) → ((x : A) → Contains xs x → w x ≡ 0) → sum_by w xs ≡ 0
 sum_none w [] none = refl
-sum_none w (first ∷ copies) none =
-    omega (arith, sum_by-cons w first copies, none first (in_head first copies), sum_none w copies (λ copy later. none copy (in_tail first copy copies later)))
+sum_none w (x ∷ xs) none = omega (arith, sum_by-cons w x xs, none x (in_head x xs), sum_none w xs (λ y later. none y (in_tail x y xs later)))
 
 pub sum_one : (w : PacketCopy → ℕ) (copies : List PacketCopy) → ((copy : PacketCopy) → Contains copies copy → w copy ≤ 1)
     → ((a b : PacketCopy) → Contains copies a → Contains copies b → 1 ≤ w a → 1 ≤ w b → a ≡ b)

@@ -1,5 +1,5 @@
 -- The starts of nodes that a gateway knows of only rise.
-use Rattle.std.proofs.Common.{◌≡◌, ℕ, ◌≤◌, ◌==◌, Bool, true, false, if◌then◌else◌, List, [], ◌∷◌, ◌++◌, Option, Some, None, refl, sym, ap, subst, ◌∙◌, arith}
+use Rattle.std.proofs.Common.{◌≡◌, ℕ, ◌≤◌, ◌==◌, Bool, if◌then◌else◌, List, [], ◌∷◌, ◌++◌, Option, Some, None, refl, sym, ap, subst, ◌∙◌, arith}
 use Rattle.std.specs.Prelude.{option_map}
 use Rattle.std.proofs.lemmas.Bool.{eqb-true, eq-eqb}
 use Rattle.gw_base.specs.EntryLaws.{opening_of-append}
@@ -14,6 +14,7 @@ use Rattle.path_mgmt.specs.GatewayPath.{opened_by}
 use Rattle.once_core.specs.Epochs.{RisesBy, StartsRise}
 use Rattle.once_core.specs.Growing.{GrowsTo}
 use Rattle.once_core.proofs.EachLemmas.{by_each_from, each_front}
+use Rattle.once_core.proofs.CaseLemmas.{by_bool, if_both, if_known}
 
 -- ---- with one entry
 
@@ -21,11 +22,9 @@ pub one_rises : (ip : ℕ) (k : List HistoryEntry) (e : HistoryEntry) → RisesB
 one_rises ip k e rises = subst (λ (n : ℕ). start_of ip k ≤ n) (sym (ap start_by (opening_of-append ip k e))) (by_act e.act rises)
   where
     by_act : (a : HistoryAct) → RisesBy k a → start_of ip k ≤ start_by (opening_after ip (opening_of ip k) a)
-    by_act (act.Path n port counter) rises = by (n.0 == ip) refl
-      where
-        by : (b : Bool) → (n.0 == ip) ≡ b → start_of ip k ≤ start_by (if b then Some (record { port = port; counter = counter }) else opening_of ip k)
-        by true e = let same : start_of n.0 k ≡ start_of ip k = ap (λ (m : ℕ). start_of m k) (eqb-true n.0 ip e) in omega (arith, rises, same)
-        by false e = omega arith
+    by_act (act.Path n port counter) rises =
+        if_known (λ (o : Option Opening). start_of ip k ≤ start_by o) (n.0 == ip)
+        (λ e. omega (arith, rises, ap (λ (m : ℕ). start_of m k) (eqb-true n.0 ip e))) (λ e. omega arith)
     by_act _ rises = omega arith
 
 pub start_rises : (ip : ℕ) (h g : List HistoryEntry) → StartsRise (h ++ g) → start_of ip h ≤ start_of ip (h ++ g)
@@ -69,17 +68,11 @@ front_low ip h rest k all goes =
 -- a counter that opens no epoch is the present start
 pub known_start : (opening : Option Opening) (counter : ℕ) → opened_by (option_map (λ o. o.counter) opening) counter ≡ None → start_by opening ≡ counter
 known_start None counter e = absurd (cc)
-known_start (Some o) counter e = by (o.counter == counter) refl e
-  where
-    by : (b : Bool) → (o.counter == counter) ≡ b → (if b then None else Some counter) ≡ None → o.counter ≡ counter
-    by true same e = eqb-true o.counter counter same
-    by false apart e = absurd (cc)
+known_start (Some o) counter e = by_bool (λ (b : Bool). (if b then None else Some counter) ≡ None → o.counter ≡ counter) (o.counter == counter)
+    (λ same none. eqb-true o.counter counter same) (λ apart none. absurd (cc none)) e
 
 -- and one that does is the start of the epoch
 pub opened_start : (opening : Option Opening) (counter path : ℕ) → opened_by (option_map (λ o. o.counter) opening) counter ≡ Some path → counter ≡ path
 opened_start None counter path e = cc
-opened_start (Some o) counter path e = by (o.counter == counter) e
-  where
-    by : (b : Bool) → (if b then None else Some counter) ≡ Some path → counter ≡ path
-    by true e = absurd (cc)
-    by false e = cc
+opened_start (Some o) counter path e = if_both (λ (p : Option ℕ). p ≡ Some path → counter ≡ path) (o.counter == counter)
+    (λ none. absurd (cc none)) (λ some. cc some) e

@@ -4,13 +4,13 @@ use Rattle.std.specs.Option.{option_map_or, option_or}
 use Rattle.node_core.specs.Log.{LogEntry, Halted, runs}
 use Rattle.node_core.specs.Reached.{Halt, Start}
 use Rattle.node_core.specs.Ticks.{tick_entries}
-use Rattle.once_core.proofs.KeptMoveLemmas.{keeps_committing, keeps_cut, keeps_delivered, keeps_marking_close, keeps_marking_tick, moves_kept, opened_kept, redirects_kept}
+use Rattle.once_core.proofs.KeptMoveLemmas.{keeps_committing, keeps_cut, keeps_delivered, keeps_marking_close, keeps_marking_tick, moves_kept, opened_kept, redirects_kept, Keeps}
 use Rattle.once_core.proofs.KeptTurnLemmas.{gateway_changes, gateway_turns, node_changes, node_turns, refusals_same, starts_same}
 use Rattle.once_core.proofs.NodeCallLemmas.{NodeLaw, calls_halt, calls_hear, calls_start, calls_submit, nothing, calls_tick}
 use Rattle.once_core.specs.Answers.{delivered, making_close, making_tick, marked, redirected}
 use Rattle.once_core.specs.Beginning.{default_rules}
 use Rattle.once_core.specs.Expired.{starts_in}
-use Rattle.once_core.specs.Gateway.{committing, cut, opened, still}
+use Rattle.once_core.specs.Gateway.{committing, cut, opened, still, Gateway, Moved}
 use Rattle.once_core.specs.KeptTurn.{reaching, started_again, turn_kept, with_gateway, with_node, HasBegun, refusal_kept, starts_at}
 use Rattle.once_core.specs.NodeMoves.{answered_by, due_messages, heard_by, submitted_entries, with_entries}
 use Rattle.once_core.specs.Redirecting.{redirected_kept}
@@ -33,13 +33,16 @@ module _ (law : NodeLaw) (w : World) (few : length w.gateways ≤ 256) where
   runs_where : (number : ℕ) (log : List LogEntry) → slice_get w.nodes (number - 1) ≡ Some log → option_or (no_node w number) (refusing (not (runs (log_in w number))) IsHalted) ≡ None → runs log ≡ true
   runs_where number log found allowed = ap runs (sym (log_there w (number - 1) log found)) ∙ it_runs w number allowed
 
+  -- a gateway's move that keeps what is kept
+  goes : (place : ℕ) (move : Gateway → Moved) → Keeps move → with_gateway (world_kept w) place move ≡ world_kept (at_gateway w place move)
+  goes place move keeps = gateway_turns w place move move (λ g. moves_kept move keeps g)
+
   reaches : (m : Message) → reaching (world_kept w) m ≡ world_kept (delivering default_rules quiet w m)
   reaches m = by_bool (λ (b : Bool).
       (if b then with_gateway (world_kept w) m.gateway (delivered default_rules w.now quiet m) else with_node (world_kept w) m.node (λ n. heard_by n m) (λ n. answered_by n m))
       ≡ world_kept (if b then at_gateway w m.gateway (delivered default_rules w.now quiet m) else at_node w m.node (delivered_to_node (length w.gateways) m.node m)))
       m.to_gateway
-      (λ to. gateway_turns w m.gateway (delivered default_rules w.now quiet m) (delivered default_rules w.now quiet m)
-      (λ g. moves_kept (delivered default_rules w.now quiet m) (keeps_delivered default_rules w.now quiet m) g))
+      (λ to. goes m.gateway (delivered default_rules w.now quiet m) (keeps_delivered default_rules w.now quiet m))
       (λ from. node_turns w m.node (delivered_to_node (length w.gateways) m.node m) (λ n. heard_by n m) (λ n. answered_by n m)
       (λ log is. calls_hear law (length w.gateways) m.node m log))
 
@@ -58,11 +61,9 @@ module _ (law : NodeLaw) (w : World) (few : length w.gateways ≤ 256) where
       (λ log is. calls_tick law (length w.gateways) (node - 1) few log (runs_where node log is allowed))
   turned (event.Deliver message) begun allowed = by_option (λ (o : Option Message). option_map_or (reaching (world_kept w)) o (world_kept w) ≡ world_kept (option_map_or (delivering default_rules quiet w) o w))
       (slice_get w.messages (message - 1)) (λ none. refl) (λ m there. reaches m)
-  turned (event.Commit gateway) begun allowed =
-      gateway_turns w (gateway - 1) (committing quiet) (committing quiet) (λ g. moves_kept (committing quiet) (keeps_committing quiet) g)
+  turned (event.Commit gateway) begun allowed = goes (gateway - 1) (committing quiet) (keeps_committing quiet)
   turned (event.Cut gateway keep) begun allowed =
-      gateway_changes (world_kept w) (gateway - 1) (cut keep)
-      ∙ gateway_turns w (gateway - 1) (λ g. still (cut keep g)) (λ g. still (cut keep g)) (λ g. moves_kept (λ x. still (cut keep x)) (keeps_cut keep) g)
+      gateway_changes (world_kept w) (gateway - 1) (cut keep) ∙ goes (gateway - 1) (λ g. still (cut keep g)) (keeps_cut keep)
   turned (event.Open gateway) begun allowed =
       gateway_changes (world_kept w) (gateway - 1) (opened default_rules)
       ∙ gateway_turns w (gateway - 1) (λ g. still (opened default_rules g)) (λ g. still (opened default_rules g)) (λ g. opened_kept default_rules g)
@@ -80,11 +81,9 @@ module _ (law : NodeLaw) (w : World) (few : length w.gateways ≤ 256) where
       (λ g. redirects_kept (gateway - 1) cause (option_map (λ number. number - 1) to) g)
   turned (event.Moment now) begun allowed = refl
   turned (event.Mark gateway) begun allowed =
-      gateway_turns w (gateway - 1) (marked default_rules quiet (making_tick default_rules w.now)) (marked default_rules quiet (making_tick default_rules w.now))
-      (λ g. moves_kept (marked default_rules quiet (making_tick default_rules w.now)) (keeps_marking_tick default_rules quiet w.now) g)
+      goes (gateway - 1) (marked default_rules quiet (making_tick default_rules w.now)) (keeps_marking_tick default_rules quiet w.now)
   turned (event.Close gateway) begun allowed =
-      gateway_turns w (gateway - 1) (marked default_rules quiet (making_close w.now)) (marked default_rules quiet (making_close w.now))
-      (λ g. moves_kept (marked default_rules quiet (making_close w.now)) (keeps_marking_close default_rules quiet w.now) g)
+      goes (gateway - 1) (marked default_rules quiet (making_close w.now)) (keeps_marking_close default_rules quiet w.now)
 
   -- the turn of an event that isn't refused
   pub turn_is : (e : Event) → ((number : ℕ) → e ≡ event.Start number → 1 ≤ starts_in (log_in w number)) → refusal_of w e ≡ None → turn_kept (world_kept w) e ≡ world_kept (turn default_rules w (calm e))

@@ -56,6 +56,10 @@ one_named xs x number alone e = ⊎_elim (eqb-true x number) (λ none. absurd (f
     (or_cases (x == number) false (sym (ap (list_any (λ y. y == number)) alone) ∙ e))
 
 module _ (letters : List Letter) (gateway node number : ℕ) where
+  -- a number that isn't fresh is covered
+  abbrev Covers : List HistoryEntry → Type 0
+  Covers h = is_fresh (present_state node number h) ≡ false → IsCovered (top_of node h) number
+
   -- an entry that names a number leaves it covered
   number_named : (b : Bool) (top : Option ℕ) (x : ℕ) → (b && (x == number)) ≡ true → IsCovered (if b then raised top x else top) number
   number_named true top x e = raised_self top x number (eqb-true x number e)
@@ -67,7 +71,7 @@ module _ (letters : List Letter) (gateway node number : ℕ) where
 
   -- the number that a list names was held, and so it was covered
   held_named : (h : List HistoryEntry) (n : NodeId) (xs : List ℕ) (x : ℕ) → xs ≡ x ∷ [] → present_state n.0 x h ≡ Held
-      → (is_fresh (present_state node number h) ≡ false → IsCovered (top_of node h) number)
+      → Covers h
       → ((n.0 == node) && list_any (λ y. y == number) xs) ≡ true → IsCovered (top_of node h) number
   held_named h n xs x alone held covered e =
       let parts = and_parts (n.0 == node) (list_any (λ y. y == number) xs) e in
@@ -75,19 +79,19 @@ module _ (letters : List Letter) (gateway node number : ℕ) where
       ∙ ap (λ (y : ℕ). present_state node y h) (one_named xs x number alone parts.1)) ∙ held))
 
   -- a number that is named, or was known, is covered where the entry raises the greatest one
-  named_covered : (h : List HistoryEntry) (n : NodeId) (x : ℕ) (given : KeyState) → (is_fresh (present_state node number h) ≡ false → IsCovered (top_of node h) number)
+  named_covered : (h : List HistoryEntry) (n : NodeId) (x : ℕ) (given : KeyState) → Covers h
       → is_fresh (if (n.0 == node) && (x == number) then given else present_state node number h) ≡ false → IsCovered (if n.0 == node then raised (top_of node h) x else top_of node h) number
   named_covered h n x given covered = if_known (λ (s : KeyState). is_fresh s ≡ false → IsCovered (if n.0 == node then raised (top_of node h) x else top_of node h) number)
       ((n.0 == node) && (x == number)) (λ named known. number_named (n.0 == node) (top_of node h) x named) (λ isnt known. number_kept (n.0 == node) (top_of node h) x (covered known))
 
   -- and where it names a list of one that was held
   list_covered : (h : List HistoryEntry) (n : NodeId) (xs : List ℕ) (x : ℕ) (given : KeyState) → xs ≡ x ∷ [] → present_state n.0 x h ≡ Held
-      → (is_fresh (present_state node number h) ≡ false → IsCovered (top_of node h) number)
+      → Covers h
       → is_fresh (if (n.0 == node) && list_any (λ y. y == number) xs then given else present_state node number h) ≡ false → IsCovered (top_of node h) number
   list_covered h n xs x given alone held covered = if_known (λ (s : KeyState). is_fresh s ≡ false → IsCovered (top_of node h) number)
       ((n.0 == node) && list_any (λ y. y == number) xs) (λ named known. held_named h n xs x alone held covered named) (λ isnt. covered)
 
-  covered_by : (h : List HistoryEntry) (a : HistoryAct) → RestsBy letters gateway h a → (is_fresh (present_state node number h) ≡ false → IsCovered (top_of node h) number)
+  covered_by : (h : List HistoryEntry) (a : HistoryAct) → RestsBy letters gateway h a → Covers h
       → is_fresh (present_after node number (present_state node number h) a) ≡ false → IsCovered (top_after node (top_of node h) a) number
   covered_by h (act.Path n port counter) rests covered known = by (n.0 == node) known
     where
@@ -101,9 +105,9 @@ module _ (letters : List Letter) (gateway node number : ℕ) where
   covered_by h (act.Cancel n xs) rests covered known = list_covered h n xs rests.number (given_state (act.Cancel n xs)) rests.alone rests.held covered known
   covered_by h _ rests covered known = covered known
 
-  pub covers : (h : List HistoryEntry) → Rests letters gateway h → is_fresh (present_state node number h) ≡ false → IsCovered (top_of node h) number
+  pub covers : (h : List HistoryEntry) → Rests letters gateway h → Covers h
   covers =
-      by_each (λ before e. RestsBy letters gateway before e.act) (λ (h : List HistoryEntry). is_fresh (present_state node number h) ≡ false → IsCovered (top_of node h) number)
+      by_each (λ before e. RestsBy letters gateway before e.act) Covers
       (λ known. absurd (false≢true (sym known)))
       (λ h e all rests covered known.
       subst (λ (top : Option ℕ). IsCovered top number) (sym (top_of-append node h e))

@@ -1,5 +1,5 @@
 -- A world goes on with a gateway's move and with a node's call.
-use Rattle.std.proofs.Common.{◌≡◌, ◌≢◌, ⊎_elim, ℕ, zero, suc, ◌<◌, ◌≤◌, List, [], ◌∷◌, ◌++◌, length, length-set, Option, Some, Contains, slice_get, slice_set, refl, sym, ap, subst, ◌∙◌, arith, ne_eqb, take}
+use Rattle.std.proofs.Common.{◌≡◌, ⊎_elim, ℕ, zero, suc, ◌<◌, ◌≤◌, List, [], ◌∷◌, ◌++◌, length, length-set, Option, Some, Contains, slice_get, slice_set, refl, sym, ap, subst, ◌∙◌, arith, ne_eqb, take}
 use Rattle.std.specs.Option.{option_map_or}
 use Rattle.std.proofs.lemmas.List.Elements.{Contains-append_cases}
 use Rattle.std.proofs.lemmas.Option.{same_Some}
@@ -35,13 +35,6 @@ pub get_set : {A : Type 0} (xs : List A) (p : ℕ) (x y : A) → slice_get xs p 
 get_set [] p x y e = absurd (cc)
 get_set (z ∷ xs) zero x y e = refl
 get_set (z ∷ xs) (suc p) x y e = get_set xs p x y e
-
-pub get_other : {A : Type 0} (xs : List A) (p q : ℕ) (x : A) → q ≢ p → slice_get (slice_set xs p x) q ≡ slice_get xs q
-get_other [] p q x apart = refl
-get_other (z ∷ xs) zero zero x apart = absurd (apart refl)
-get_other (z ∷ xs) zero (suc q) x apart = refl
-get_other (z ∷ xs) (suc p) zero x apart = refl
-get_other (z ∷ xs) (suc p) (suc q) x apart = get_other xs p q x (λ same. apart (ap suc same))
 
 -- ---- worlds that happenings make
 
