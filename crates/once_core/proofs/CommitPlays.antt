@@ -18,9 +18,8 @@ use Rattle.once_core.specs.declared.message.Waiting.{Waiting}
 use Rattle.once_core.proofs.ListLemmas.{filtered, in_flat, in_head, in_map, of_map, passed}
 use Rattle.once_core.proofs.MeaningLemmas.{GatewaySaid, ReadsBack, Said, failing_means, failing_said, said_by_gateway}
 use Rattle.once_core.proofs.PlayLemmas.{Plays, Rightly, Stands, still_plays, followed_plays, idle_plays, none_waits, post_plays, settled_plays, stands_after}
-use Rattle.once_core.proofs.PartLemmas.{PartsKeep, cut_book, torn_book, standing}
+use Rattle.once_core.proofs.PartLemmas.{PartsKeep, cut_book, torn_book, standing, history_is, crash_to_all, crash_to_firm}
 use Rattle.once_core.specs.World.{World}
-use Rattle.once_core.proofs.StopLemmas.{history_is, crash_to_all, crash_to_firm}
 use Rattle.once_core.proofs.CaseLemmas.{by_bool, if_known}
 
 -- ---- answers that wait, by what they mean

@@ -48,12 +48,11 @@ use Rattle.once_core.specs.declared.message.Message as world
 use Rattle.once_core.proofs.MeaningLemmas.{IsAbout, IsWritten, ReadsBack, meaning_is, responds_means, responds_said, role_read_of, type_of, FromNode, NodeSaid, Responds, Said, said_by_gateway, FromGateway}
 use Rattle.once_core.proofs.PlayLemmas.{Plays, Stands, still_plays, idle_plays, followed_plays, stands_after}
 use Rattle.once_core.proofs.ReplyPlays.{answer_plays, quiet_plays}
-use Rattle.once_core.proofs.StopLemmas.{history_is}
+use Rattle.once_core.proofs.PartLemmas.{history_is, noted}
 use Rattle.once_core.proofs.CaseLemmas.{if_both, if_known}
 use Rattle.once_core.proofs.ListLemmas.{in_one, number_of, of_map}
 use Rattle.once_core.proofs.CommitPlays.{noted_rightly, noted_plays}
 use Rattle.once_core.specs.Answers as out
-use Rattle.once_core.proofs.PartLemmas.{noted}
 
 -- ---- a message of path management means nothing here
 

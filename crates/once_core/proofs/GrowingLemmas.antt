@@ -18,8 +18,7 @@ use Rattle.once_core.specs.Turn.{RuledTurn, Turn, at_node, ruled_turns, turn}
 use Rattle.once_core.specs.World.{Called, World, called, delivered_to_node, submitting, ticking}
 use Rattle.once_core.specs.declared.message.Message.{Message}
 use Rattle.once_core.proofs.CaseLemmas.{if_both, map_known, set_known}
-use Rattle.once_core.proofs.PartLemmas.{PartsKeep, turn_keeps}
-use Rattle.once_core.proofs.TurnLemmas.{firm_or, firm_there, turns_hold}
+use Rattle.once_core.proofs.PartLemmas.{PartsKeep, turn_keeps, firm_or, firm_there, turns_hold}
 pub use Rattle.once_core.proofs.PartLemmas.{book_is}
 
 -- ---- lists that go on

@@ -1,13 +1,11 @@
 -- Steps of proofs.
 pub mod CaseLemmas
 pub mod ListLemmas
-pub mod TurnLemmas
 pub mod EachLemmas
 pub mod EpochLemmas
 pub mod FiledLemmas
 pub mod CountLemmas
 pub mod GrowingLemmas
-pub mod StopLemmas
 pub mod StateLemmas
 pub mod AdmittedLemmas
 pub mod TableLemmas
@@ -17,7 +15,6 @@ pub mod FilePlaceLemmas
 pub mod FileRunLemmas
 pub mod ForwardLemmas
 pub mod AnswerLemmas
-pub mod SceneLemmas
 pub mod MoveLemmas
 pub mod RoleLemmas
 pub mod KnownLemmas
@@ -41,9 +38,7 @@ pub mod FollowSentLemmas
 pub mod FollowKnownLemmas
 pub mod WorldPlays
 pub mod FirstPlays
-pub mod SubmittedLemmas
 pub mod WorldOnceLemmas
-pub mod TopLemmas
 pub mod MeantLemmas
 pub mod DueLemmas
 pub mod TimelyLemmas

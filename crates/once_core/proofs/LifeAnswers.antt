@@ -49,10 +49,9 @@ use Rattle.once_core.proofs.ListLemmas.{in_one, of_map}
 use Rattle.once_core.proofs.MeaningLemmas.{FromNode, NodeSaid, ReadsBack, role_read_of}
 use Rattle.once_core.proofs.DeliverPlays.{fresh_start, rises}
 use Rattle.once_core.proofs.StartLemmas.{IsNoPath, known_start, opened_start, path_starts}
-use Rattle.once_core.proofs.StopLemmas.{history_is}
+use Rattle.once_core.proofs.PartLemmas.{history_is, noted}
 use Rattle.gw_base.specs.declared.history.Opening.{Opening}
 use Rattle.once_core.proofs.CaseLemmas.{if_both}
-use Rattle.once_core.proofs.PartLemmas.{noted}
 
 -- ---- what no request is recorded as
 

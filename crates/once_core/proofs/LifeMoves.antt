@@ -26,11 +26,10 @@ use Rattle.once_core.proofs.EachLemmas.{each_front, each_more}
 use Rattle.once_core.proofs.GrowingLemmas.{on, on_on, on_with}
 use Rattle.once_core.proofs.ListLemmas.{filtered, in_none, of_map, passed}
 use Rattle.once_core.proofs.StartLemmas.{IsNoPath, front_low, no_path_rises, no_path_same, one_rises, start_rises}
-use Rattle.once_core.proofs.StopLemmas.{history_is}
+use Rattle.once_core.proofs.PartLemmas.{history_is, PartsKeep, cut_book, noted, standing, torn_book, whole_book}
 use Rattle.std.proofs.lemmas.List.{nil_from_length}
 use Rattle.once_core.specs.Happenings.{Note, Starts, act_noted}
 use Rattle.once_core.proofs.CaseLemmas.{if_both, if_known}
-use Rattle.once_core.proofs.PartLemmas.{PartsKeep, cut_book, noted, standing, torn_book, whole_book}
 
 -- ---- a gateway
 

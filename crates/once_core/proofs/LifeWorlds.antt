@@ -23,16 +23,14 @@ use Rattle.once_core.proofs.LifeAnswers.{redirected_truly, answers_truly, failed
 use Rattle.once_core.proofs.LifeMoves.{Truly, TrulyMoved, none_truly, tells_alive, truly_parts}
 use Rattle.once_core.proofs.LifeNodes.{LifeCalled, LifeIn, halt_life, hear_life, start_life, submit_life, tick_life}
 use Rattle.once_core.proofs.ListLemmas.{in_front, in_none}
-use Rattle.once_core.proofs.NumberLemmas.{values_are, values_before}
+use Rattle.once_core.proofs.NumberLemmas.{values_are, values_before, turns_forms, forms_at}
 use Rattle.once_core.proofs.StartLemmas.{front_low}
-use Rattle.once_core.proofs.SubmittedLemmas.{turns_forms, forms_at}
 use Rattle.once_core.proofs.WorldPlays.{Laws, turn_made, Made, get_set}
 use Rattle.std.proofs.lemmas.Option.{same_Some}
 use Rattle.once_core.proofs.CaseLemmas.{map_known, set_known}
-use Rattle.once_core.proofs.PartLemmas.{first_keeps, turn_keeps}
+use Rattle.once_core.proofs.PartLemmas.{first_keeps, turn_keeps, firm_or, firm_there, log_or, log_there, turns_hold}
 use Rattle.once_core.specs.Growing.{GrowsTo}
 use Rattle.once_core.proofs.MeaningLemmas.{NodeSaid}
-use Rattle.once_core.proofs.TurnLemmas.{firm_or, firm_there, log_or, log_there, turns_hold}
 
 -- the starts that the node at an address made
 abbrev pub starts_at : World → ℕ → ℕ

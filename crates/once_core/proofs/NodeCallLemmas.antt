@@ -1,4 +1,4 @@
--- What is kept of a node moves as its log grows.
+-- What is kept of a node moves as its log grows, and the messages of a tick go to the gateways of the world.
 use Rattle.std.proofs.Common.{◌≡◌, ℕ, ◌+◌, ◌≤◌, Bool, true, false, ◌||◌, not, if◌then◌else◌, List, [], ◌∷◌, ◌++◌, Option, Some, None, refl, ap, sym, ◌∙◌, arith, true≢false, nat_lt, ◌<◌, map, subst, ⊎_elim}
 use Rattle.std.specs.List.{list_all}
 use Rattle.gtpp_message.specs.Packet.{PacketForm}

@@ -41,7 +41,7 @@ use Rattle.once_core.specs.Deeds as did
 use Rattle.once_core.specs.Happenings as happens
 use Rattle.once_core.specs.Messages.{about, answering, is_response}
 use Rattle.once_core.specs.declared.message.Message as world
-use Rattle.once_core.proofs.SceneLemmas.{at_same}
+use Rattle.once_core.proofs.MoveLemmas.{at_same}
 use Rattle.node_core.specs.Ticks.{due, tick_entries}
 
 -- what holds of the log of each node: it is one of a node's calls, its starts are counted, and each packet can be sent

@@ -27,11 +27,10 @@ use Rattle.once_core.specs.Happenings.{Happening, Orders, Request, Scene, Sends}
 use Rattle.once_core.specs.Resting.{IsAsked, IsState, Rests, SceneHolds}
 use Rattle.once_core.specs.Scenes.{scene_after}
 use Rattle.once_core.proofs.CountLemmas.{Counted, IsBacked, brought, counted}
-use Rattle.once_core.proofs.SceneLemmas.{firm_rests}
+use Rattle.once_core.proofs.MoveLemmas.{firm_rests, holds_always}
 use Rattle.once_core.proofs.EpochLemmas.{start_is_one}
 use Rattle.once_core.proofs.FiledLemmas.{one_if, within}
 use Rattle.once_core.proofs.KnownLemmas.{choice_of, is_filed_there, is_released_there, is_sealed, may_send, plain_first, the_copy}
-use Rattle.once_core.proofs.MoveLemmas.{holds_always}
 use Rattle.once_core.proofs.RoleLemmas.{IsCopyOf, copies_once, first_is_plain, own_use, plain_is_first, same_user, sum_has, sum_one}
 use Rattle.once_core.proofs.ListLemmas.{any_at, in_head, in_none, in_tail}
 use Rattle.once_core.proofs.CaseLemmas.{by_bool, by_option}

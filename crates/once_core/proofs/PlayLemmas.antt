@@ -11,7 +11,7 @@ use Rattle.once_core.specs.declared.message.Message.{Message}
 use Rattle.once_core.specs.declared.message.Waiting.{Waiting}
 use Rattle.once_core.proofs.ListLemmas.{in_head, in_map, in_none, in_tail, of_map}
 use Rattle.once_core.proofs.MeaningLemmas.{GatewaySaid, Said}
-use Rattle.once_core.proofs.SceneLemmas.{at_same}
+use Rattle.once_core.proofs.MoveLemmas.{at_same}
 
 -- ---- a gateway of a world
 
@@ -90,18 +90,6 @@ pub record Stands (gateway : ℕ) (scene : Scene) (g : Gateway) : Type 0 where
 pub stands_after : {gateway : ℕ} {scene : Scene} {moved : Moved} (plays : Plays gateway scene moved) → Stands gateway plays.after moved.gateway
 stands_after plays = record { post = plays.post; rightly = plays.rightly }
 
-pub still_plays : {gateway : ℕ} {scene : Scene} {g : Gateway} → Stands gateway scene g → Plays gateway scene (still g)
-still_plays {gateway} {scene} stands = record {
-  later = [];
-  after = scene;
-  is = refl;
-  goes = same_at;
-  post = stands.post;
-  sends = λ m is speaking. in_none m is;
-  said = λ m is. in_none m is;
-  rightly = stands.rightly;
-}
-
 -- happenings that give the gateway this post, and send this
 pub settled_plays : (gateway : ℕ) (scene : Scene) (settled : Settled) (later : List Happening) (moved : Moved) → happened_all scene later ≡ with_settled gateway settled scene
     → settled.post ≡ post_of moved.gateway → ((m : Message) → Contains moved.sends m → speaks m ≡ true → Contains settled.sends (letter_of m))
@@ -142,6 +130,15 @@ idle_plays {gateway} {scene} stands sends said idle =
       rightly = stands.rightly;
     }
 
+-- nothing happens
+pub still_plays : {gateway : ℕ} {scene : Scene} {g : Gateway} → Stands gateway scene g → Plays gateway scene (still g)
+still_plays stands = idle_plays stands [] (λ m is. in_none m is) (λ m is. in_none m is)
+
+-- what holds of the messages of either list
+pub of_both : (xs ys : List Message) (P : Message → Type 0) → ((m : Message) → Contains xs m → P m) → ((m : Message) → Contains ys m → P m)
+    → (m : Message) → Contains (xs ++ ys) m → P m
+of_both xs ys P first second m is = ⊎_elim (first m) (second m) (Contains-append_cases xs ys m is)
+
 pub followed_plays : {gateway : ℕ} {scene : Scene} {first : Moved} (next : Gateway → Moved) (a : Plays gateway scene first)
     → Plays gateway a.after (next first.gateway) → Plays gateway scene (followed first next)
 followed_plays {gateway} {scene} {first} next a b = record {
@@ -150,10 +147,8 @@ followed_plays {gateway} {scene} {first} next a b = record {
   is = happened_more scene a.later b.later ∙ ap (λ (s : Scene). happened_all s b.later) a.is ∙ b.is;
   goes = goes_on_at a.goes b.goes;
   post = b.post;
-  sends = λ m is speaking. ⊎_elim
-      (λ old. b.goes.letters (letter_of m) (a.sends m old speaking))
-      (λ new. b.sends m new speaking)
-      (Contains-append_cases first.sends (next first.gateway).sends m is);
-  said = λ m is. ⊎_elim (a.said m) (b.said m) (Contains-append_cases first.sends (next first.gateway).sends m is);
+  sends = of_both first.sends (next first.gateway).sends (λ m. speaks m ≡ true → Contains b.after.letters (letter_of m))
+      (λ m is speaking. b.goes.letters (letter_of m) (a.sends m is speaking)) b.sends;
+  said = of_both first.sends (next first.gateway).sends Said a.said b.said;
   rightly = b.rightly;
 }

@@ -23,9 +23,6 @@ use Rattle.once_core.specs.declared.message.Message.{Message}
 pub same_byte : (n : ℕ) → n < 256 → n % 256 ≡ n
 same_byte n small = omega (arith, small)
 
-same_word : (n : ℕ) → n < 65536 → n % 65536 ≡ n
-same_word n small = omega (arith, small)
-
 abbrev pub path_at : NodeId → Opening → Addr
 path_at node o = record { ip = node.0; port = o.port }
 
@@ -47,7 +44,7 @@ pub redirects_one : (gateway cause : ℕ) (to : Option ℕ) (g : Gateway) (h : L
     → request gateway place port start number octets ∷ [] ≡ redirecting_one gateway cause to g node
 redirects_one gateway cause to g h node o place port start number octets same kept found places ports starts spelled low is =
     let near : place ≡ node_at (path_at node o) = places ∙ same_byte (node.0 - first_node_ip) (path_is_near node.0 h o kept found) in
-    let word : g.redirects ≡ g.redirects % 65536 = sym (same_word g.redirects low) in
+    let word : g.redirects ≡ g.redirects % 65536 = omega (arith, low) in
     let numbered : octets ≡ redirection (g.redirects % 65536) cause to = spelled ∙ ap (λ n. redirection n cause to) word in
     let begun : start ≡ start_of node.0 (history_of g.book) = starts ∙ ap (start_of node.0) same in
     (λ i. request gateway (near i) (ports i) (begun i) ((is ∙ word) i) (numbered i) ∷ [])

@@ -17,7 +17,7 @@ use Rattle.once_core.specs.declared.message.Waiting.{Waiting}
 use Rattle.once_core.proofs.CommitPlays.{settled_rightly, settled_said}
 use Rattle.once_core.proofs.MeaningLemmas.{GatewaySaid}
 use Rattle.once_core.proofs.PlayLemmas.{Plays, Rightly, same_at, settled_plays}
-use Rattle.once_core.proofs.StopLemmas.{history_is}
+use Rattle.once_core.proofs.PartLemmas.{history_is}
 use Rattle.once_core.proofs.CaseLemmas.{by_bool, if_both, if_known}
 use Rattle.once_core.proofs.ListLemmas.{all_pass, filtered, in_head, in_one, none_pass, of_map, passed}
 

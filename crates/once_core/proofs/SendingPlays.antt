@@ -1,4 +1,5 @@
--- Requests that a node sends, in a scene.
+-- Requests that a node sends, in a scene. What the octets of a node's sending mean is what the node asks with it: a tick of
+-- a node is what happens in a scene.
 use Rattle.std.proofs.Common.{◌≡◌, ⊎_elim, ℕ, ◌≤◌, ◌==◌, Bool, true, false, List, [], ◌∷◌, ◌++◌, length, map, All, Contains, refl, sym, ap, subst, ◌∙◌, append_assoc, append-nil, suc, ◌+◌, ◌-◌, ◌<◌, Option, Some, slice_get, arith, ◌%◌}
 use Rattle.std.specs.List.{flat_map}
 use Rattle.std.proofs.lemmas.List.Elements.{Contains-append_left, Contains-push, All-contains, Contains-append_right}
@@ -15,7 +16,7 @@ use Rattle.once_core.specs.Happenings as happens
 use Rattle.once_core.specs.Happenings.{Deed, Happening, Letter, Scene, Sent, Asks, Orders, Sends, Tests, Request}
 use Rattle.once_core.specs.Scenes.{after_sending, happened_all, is_request, with_deed, with_letter}
 use Rattle.once_core.proofs.ListLemmas.{in_cons, in_head, in_none, in_tail, in_one, of_flat_map, get_contains, in_flat, in_map, of_map}
-use Rattle.once_core.proofs.SceneLemmas.{at_same}
+use Rattle.once_core.proofs.MoveLemmas.{at_same}
 use Rattle.std.specs.Option.{option_map_or}
 use Rattle.byteorder.specs.Endian.{big_bytes}
 use Rattle.gtpp_message.specs.Message.{NodeAliveRequest, TransferRequest, Possible, TransferValue}
@@ -48,9 +49,6 @@ use Rattle.once_core.proofs.NodePlays.{NodeRightly, appointed_starts, NodePlays,
 use Rattle.once_core.proofs.NumberLemmas.{Values, ever, ever_at, numbered_in, present_packet}
 use Rattle.once_core.proofs.NodeTurnLemmas.{addresses_length}
 use Rattle.node_core.specs.declared.copy.PacketCopy.{PacketCopy}
-
-pub of_flat : {A B : Type 0} (f : A → List B) (P : B → Type 0) → ((x : A) (y : B) → Contains (f x) y → P y) → (xs : List A) (y : B) → Contains (flat_map f xs) y → P y
-of_flat f P each xs y is = let there = of_flat_map f xs y is in each there.0 y there.2
 
 -- ---- requests that a node sends
 
@@ -314,8 +312,9 @@ module _ {gateways place : ℕ} {values : ℕ → List ℕ} {scene : Scene} {log
   tick_plays : NodePlays (node_ip place) values scene (ticking gateways place log)
   tick_plays =
       let asked : List Letter = flat_map (asked_by (node_ip place) (starts_in before) values) (due node) in
-      let all = are_sent (node_ip place) asked scene (of_flat (asked_by (node_ip place) (starts_in before) values) (IsOwn (node_ip place))
-      (λ s k there. asks (node_ip place) (starts_in before) values s k there) (due node)) in
+      let all = are_sent (node_ip place) asked scene (λ l is.
+      let there = of_flat_map (asked_by (node_ip place) (starts_in before) values) (due node) l is in
+      asks (node_ip place) (starts_in before) values there.0 l there.2) in
       record {
         later = map sending_of asked;
         after = all.after;

@@ -1,4 +1,4 @@
--- A turn of a world that is kept is the turn of the world that it stands for.
+-- A turn of a world that is kept is the turn of the world that it stands for; and so what a step gives.
 use Rattle.std.proofs.Common.{◌≡◌, ℕ, ◌-◌, ◌≤◌, Bool, true, false, not, if◌then◌else◌, List, [], ◌∷◌, length, Option, Some, None, refl, ap, sym, ◌∙◌, subst, option_map, slice_get, ◌+◌, arith}
 use Rattle.std.specs.Option.{option_map_or, option_or}
 use Rattle.node_core.specs.Log.{LogEntry, Halted, runs}
@@ -23,8 +23,7 @@ use Rattle.once_core.specs.declared.event.WorldKind.{WorldKind}
 use Rattle.once_core.specs.declared.event.WorldKind.TheVariants.{Halted as IsHalted, Running}
 use Rattle.once_core.specs.declared.message.Message.{Message}
 use Rattle.once_core.proofs.CaseLemmas.{by_bool, by_option}
-use Rattle.once_core.proofs.PartLemmas.{first_none, it_runs, or_none, refusing_none}
-use Rattle.once_core.proofs.TurnLemmas.{log_there}
+use Rattle.once_core.proofs.PartLemmas.{first_none, it_runs, or_none, refusing_none, log_there}
 use Rattle.std.proofs.lemmas.List.{length-map}
 use Rattle.once_core.proofs.ArmLemmas.{turn_stays}
 use Rattle.once_core.specs.Stepping.{IsPlayed, IsRefused, IsSpent}

@@ -1,4 +1,4 @@
--- What an answer records is no mark.
+-- Each entry that a gateway of a world records keeps to the table of answers, and each mark is due: no answer is one.
 use Rattle.std.proofs.Common.{◌≡◌, Bool, false, refl, ℕ, ◌-◌, true, List, [], ◌∷◌, ◌++◌, length, take, drop, Option, Some, sym, ap, subst, ◌∙◌, append_assoc, append-nil, take-append-drop}
 use Rattle.gateway_answer.specs.Answer.{Given, answer_by, node_of, Decided, Replies, Silent, Says, decided, failure_answer}
 use Rattle.gateway_answer.specs.EachAnswer.{HoldsOfEach, of_path, of_request}
@@ -30,9 +30,8 @@ use Rattle.once_core.specs.Turn.{RuledTurn, at_node, ruled_turns, turn}
 use Rattle.once_core.specs.World.{Called, World, called, delivered_to_node, submitting, ticking}
 use Rattle.once_core.specs.declared.message.Message.{Message}
 use Rattle.once_core.proofs.EachLemmas.{each_also, each_front, each_more}
-use Rattle.once_core.proofs.StopLemmas.{history_is}
+use Rattle.once_core.proofs.PartLemmas.{history_is, PartsKeep, TurnKeeps, first_keeps, turn_keeps}
 use Rattle.once_core.specs.Happenings.{Note, Starts, act_noted}
-use Rattle.once_core.proofs.PartLemmas.{PartsKeep, TurnKeeps, first_keeps, turn_keeps}
 use Rattle.once_core.specs.Once.{firm_in}
 use Rattle.once_core.proofs.FirstPlays.{gateways_each}
 use Rattle.once_core.proofs.CaseLemmas.{if_both, map_known, set_known}

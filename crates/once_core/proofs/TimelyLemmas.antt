@@ -49,8 +49,7 @@ use Rattle.once_core.proofs.WorldPlays.{Laws, turn_made, Made, get_set}
 use Rattle.once_core.proofs.ListLemmas.{in_map, of_map, get_contains}
 use Rattle.once_core.proofs.NodeTurnLemmas.{addresses_length}
 use Rattle.once_core.proofs.LifeWorlds.{values_in, reached_lives, reached_made}
-use Rattle.once_core.proofs.TurnLemmas.{log_or, log_there, firm_there}
-use Rattle.once_core.proofs.PartLemmas.{it_runs, book_is}
+use Rattle.once_core.proofs.PartLemmas.{log_or, log_there, firm_there, it_runs, book_is, history_is}
 use Rattle.once_core.proofs.CaseLemmas.{by_option, by_bool, if_known, map_known}
 use Rattle.gateway_answer.specs.Value.{BookValue, Fortune, Gone, Refused, Reopening, Whole, history_of, reopened, tried}
 use Rattle.once_core.specs.Answers.{answered, delivered, delivered_broken, delivered_running, failed, if_broken, taken_in}
@@ -61,7 +60,6 @@ use Rattle.once_core.specs.declared.event.WorldKind.TheVariants.{NoMessage}
 use Rattle.once_core.proofs.AliveLemmas.{AllAlive, copies_alive}
 use Rattle.once_core.proofs.GrowingLemmas.{on, on_with}
 use Rattle.once_core.proofs.StartLemmas.{front_low, start_rises}
-use Rattle.once_core.proofs.StopLemmas.{history_is}
 
 -- what the law of requests says
 abbrev pub RequestsSent : Type 0

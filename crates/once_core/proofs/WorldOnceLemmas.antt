@@ -41,7 +41,7 @@ use Rattle.once_core.proofs.OnceLemmas.{first_sealed, is_once}
 use Rattle.once_core.proofs.RoleLemmas.{among_copies, own_use, IsCopyOf}
 use Rattle.once_core.proofs.WorldPlays.{Laws, Made}
 use Rattle.once_core.proofs.NodeTurnLemmas.{addresses_length}
-use Rattle.once_core.proofs.TurnLemmas.{log_or, log_there}
+use Rattle.once_core.proofs.PartLemmas.{log_or, log_there}
 use Rattle.once_core.proofs.EachLemmas.{each_front}
 use Rattle.gateway_answer.specs.Filed.{filed}
 use Rattle.gw_base.specs.declared.cause.TheConstants.{ALREADY_FULFILLED}
@@ -54,9 +54,8 @@ use Rattle.once_core.specs.Resting.{IsState, SceneHolds}
 use Rattle.once_core.specs.Told.{AnswersACopy, IsAnswerFor, IsOfCopy, MeanCopies, NamesChoice, TellStates, WasSubmitted, asking}
 use Rattle.once_core.specs.declared.message.Message.{Message}
 use Rattle.once_core.proofs.CountLemmas.{IsBrought, brought}
-use Rattle.once_core.proofs.SceneLemmas.{firm_rests}
+use Rattle.once_core.proofs.MoveLemmas.{firm_rests, holds_always}
 use Rattle.once_core.proofs.KnownLemmas.{IsAnswered, by_release_answer, by_test_answer, choice_of, filed_by_answer, fulfilled_tells, sealed_by_answer, told_by}
-use Rattle.once_core.proofs.MoveLemmas.{holds_always}
 use Rattle.once_core.proofs.CaseLemmas.{by_option, map_known}
 
 firm_of : (o : Option Gateway) → (option_map_or post_of o (record { firm = []; rest = []; waiting = [] })).firm ≡ option_map_or (λ (g : Gateway). g.book.firm) o []

@@ -189,7 +189,7 @@ pub fn paths_lead_to_nodes()
 
 /// What a crash leaves of a gateway's history, by the clauses of its book the firm entries alone or
 /// these with all those behind them, waiting or torn, is what some stop leaves.
-#[tactic(auto, using(crate::proofs::StopLemmas::crash_to_all, crate::proofs::StopLemmas::crash_to_firm))]
+#[tactic(auto, using(crate::proofs::PartLemmas::crash_to_all, crate::proofs::PartLemmas::crash_to_firm))]
 pub fn each_crash_is_a_stop()
     ensures firm { (g : Gateway) → history_of (cut 0 g).book ≡ g.book.firm }
     ensures whole { (g : Gateway) → history_of (cut (length (g.book.firm ++ g.book.rest)) g).book
@@ -200,7 +200,7 @@ pub fn each_crash_is_a_stop()
 /// records no Start: one that finds the torn entries whole is a stop that keeps all, and one that
 /// finds them gone keeps the firm ones alone. An opening again that fails leaves the same choice,
 /// and so does a stop in between.
-#[tactic(auto, using(crate::proofs::StopLemmas::kept_firm, crate::proofs::StopLemmas::kept_whole, crate::proofs::StopLemmas::torn_dropped, crate::proofs::StopLemmas::torn_kept))]
+#[tactic(auto, using(crate::proofs::PartLemmas::kept_firm, crate::proofs::PartLemmas::kept_whole, crate::proofs::PartLemmas::torn_dropped, crate::proofs::PartLemmas::torn_kept))]
 pub fn a_failed_commit_is_a_stop()
     ensures whole { (g : Gateway) → g.book.is_broken ≡ false →
         HoldSame (reopened (faulted g.book) Whole)
