@@ -1,5 +1,5 @@
 -- What the messages of a world say, and what they mean.
-use Rattle.std.proofs.Common.{◌≡◌, ℕ, ◌%◌, ◌≤◌, true, false, List, [], ◌∷◌, ◌++◌, length, Some, slice_get, refl, sym, ap, subst, ◌∙◌, arith, append-nil}
+use Rattle.std.proofs.Common.{◌≡◌, ℕ, ◌%◌, ◌≤◌, true, false, List, [], ◌∷◌, ◌++◌, length, Some, slice_get, refl, sym, ap, ◌∙◌, arith, append-nil}
 use Rattle.gw_base.specs.declared.cause.TheConstants.{SYSTEM_FAILURE}
 use Rattle.gtpp_message.specs.Message.{MessageValue, TransferValue, EchoResponse, TransferRequest, TransferResponse, Cancel, Release}
 use Rattle.gtpp_message.specs.Reading.{Message, reading}
@@ -26,8 +26,7 @@ pub record IsWritten (octets : List ℕ) (number : ℕ) (message : MessageValue)
 
 pub read_of : ReadsBack → (octets : List ℕ) (number : ℕ) (message : MessageValue) → IsWritten octets number message → reading octets ≡ Message number message
 read_of back octets number message w =
-    subst (λ (o : List ℕ). reading o ≡ Message number message) (sym w.is)
-    (subst (λ (o : List ℕ). reading o ≡ Message number message) (append-nil (written number message)) (back number message [] w.sendable w.short))
+    ap reading (w.is ∙ sym (append-nil (written number message))) ∙ back number message [] w.sendable w.short
 
 pub role_read_of : ReadsBack → RolesRead → (role : Role) (octets : List ℕ) (number : ℕ) (message : MessageValue) → IsWritten octets number message
     → role_reading role octets ≡ for_role role (Message number message)

@@ -2,10 +2,10 @@
 -- greatest number of that epoch, and by what the laws of nodes say of numbers and of what a node knows.
 use Rattle.std.proofs.Common.{◌≡◌, ◌⊎◌, inl, inr, ℕ, max, ◌≤◌, ◌==◌, ◌&&◌, Bool, true, false, if◌then◌else◌, List, [], ◌∷◌, Option, Some, None, refl, sym, ap, subst, ◌∙◌, arith, ⊎_elim, eqb-true, ◌↔◌, ◌+◌, ◌<◌, ◌%◌, Contains, length, ◌≢◌, All, ne_eqb}
 use Rattle.std.specs.List.{list_any}
-use Rattle.std.proofs.lemmas.Bool.{and_parts, cases_lt, false≢true, or_cases, cond-false}
+use Rattle.std.proofs.lemmas.Bool.{and_parts, cases_lt, false≢true, cond-false}
 use Rattle.gateway_answer.specs.Fit.{is_fresh}
 use Rattle.gw_base.specs.EntryLaws.{opening_of-append, present_state-append, top_of-append, present_state_is}
-use Rattle.gw_base.specs.History.{given_state, present_state, top_after, top_of, epoch_of, state_of}
+use Rattle.gw_base.specs.History.{given_state, present_state, top_after, top_of, epoch_of}
 use Rattle.gw_base.specs.Lists.{raised}
 use Rattle.gw_base.specs.Starts.{opening_after, opening_of, start_by, start_of}
 use Rattle.gw_base.specs.View.{present_after}
@@ -19,12 +19,11 @@ use Rattle.once_core.specs.Resting.{IsAsked, Rests, RestsBy, IsKnown, SceneHolds
 use Rattle.once_core.proofs.EachLemmas.{by_each, each_front}
 use Rattle.std.proofs.lemmas.Option.{same_Some, none-some}
 use Rattle.gw_base.specs.declared.key_state.KeyState.{KeyState}
-use Rattle.once_core.proofs.CaseLemmas.{if_known, by_bool}
+use Rattle.once_core.proofs.CaseLemmas.{if_known, by_bool, if_both}
 use Rattle.gw_base.specs.Nearest.{IsNearest, nearest}
 use Rattle.node_core.specs.Nearness.{HasCopy, HasOpenCopy, IsCopyOrBase}
 use Rattle.node_core.specs.Packets.{PacketState, is_done}
 use Rattle.node_core.specs.declared.port.Port.{Port}
-use Rattle.once_core.specs.Epochs.{epoch_with, key_in}
 use Rattle.once_core.specs.Following.{AnyHasCopyAt, Follows, MaySend, Knows}
 use Rattle.once_core.specs.Growing.{GrowsTo, IsBetween}
 use Rattle.once_core.proofs.CountLemmas.{starts_rise}
@@ -51,6 +50,7 @@ use Rattle.node_core.specs.declared.peer.Peer.{Peer}
 use Rattle.once_core.proofs.DeedLemmas.{all_rest}
 use Rattle.std.proofs.lemmas.List.{length-map}
 use Rattle.once_core.proofs.LogLemmas.{addresses_stay}
+use Rattle.std.proofs.lemmas.Bool.Decides.{nat_tests}
 
 -- the greatest number, where there is one, is no less than this
 pub record IsCovered (top : Option ℕ) (number : ℕ) : Type 0 where
@@ -74,18 +74,13 @@ raised_self None x number same = record { greatest = x; is = refl; below = omega
 raised_self (Some t) x number same = record { greatest = max t x; is = refl; below = omega (arith, same) }
 
 raised_is : (top : Option ℕ) (x t : ℕ) → raised top x ≡ Some t → (x ≡ t) ⊎ (top ≡ Some t)
-raised_is None x t e = inl (same_Some x t e)
-raised_is (Some s) x t e = ⊎_elim
-    (λ lt. inl (omega (arith, lt, same_Some (max s x) t e)))
-    (λ le. inr (ap (λ (n : ℕ). Some n) (omega (arith, le, same_Some (max s x) t e))))
-    (cases_lt s x)
+raised_is top x t e = grind arith
 
 -- ---- no number that isn't fresh is above it
 
 -- a list of one number names no other
 one_named : (xs : List ℕ) (x number : ℕ) → xs ≡ x ∷ [] → list_any (λ y. y == number) xs ≡ true → x ≡ number
-one_named xs x number alone e = ⊎_elim (eqb-true x number) (λ none. absurd (false≢true none))
-    (or_cases (x == number) false (sym (ap (list_any (λ y. y == number)) alone) ∙ e))
+one_named xs x number alone e = grind (arith, nat_tests)
 
 module _ (letters : List Letter) (gateway node number : ℕ) where
   -- a number that isn't fresh is covered
@@ -98,8 +93,7 @@ module _ (letters : List Letter) (gateway node number : ℕ) where
   number_named false top x e = absurd (false≢true e)
 
   number_kept : (b : Bool) (top : Option ℕ) (x : ℕ) → IsCovered top number → IsCovered (if b then raised top x else top) number
-  number_kept true top x is = raised_covers top x number is
-  number_kept false top x is = is
+  number_kept b top x is = if_both (λ (o : Option ℕ). IsCovered o number) b (raised_covers top x number is) is
 
   -- the number that a list names was held, and so it was covered
   held_named : (h : List HistoryEntry) (n : NodeId) (xs : List ℕ) (x : ℕ) → xs ≡ x ∷ [] → present_state n.0 x h ≡ Held
@@ -201,18 +195,10 @@ near_some law t number some low high =
     sym ((law t (number % 65536) number (omega arith) (omega (arith, some))).0 (record { congruent = refl; low = low; high = high }))
 
 open_copy : (packets : List PacketState) (gateway number : ℕ) (is : HasCopy packets gateway number) → is_done is.packet.copies ≡ false → HasOpenCopy packets gateway number
-open_copy packets gateway number is open_yet = record {
-  packet = is.packet;
-  copy = is.copy;
-  kept = is.kept;
-  open_yet = open_yet;
-  sent = is.sent;
-  gateway_is = is.gateway_is;
-  number_is = is.number_is;
-}
+open_copy packets gateway number is open_yet = search (is.kept, open_yet, is.sent, is.gateway_is, is.number_is)
 
 copy_of_open : (packets : List PacketState) (gateway number : ℕ) → HasOpenCopy packets gateway number → HasCopy packets gateway number
-copy_of_open packets gateway number is = record { packet = is.packet; copy = is.copy; kept = is.kept; sent = is.sent; gateway_is = is.gateway_is; number_is = is.number_is }
+copy_of_open packets gateway number is = search (is.kept, is.sent, is.gateway_is, is.number_is)
 
 module _ (law : NearestIsTheOne) (scene : Scene) (holds : SceneHolds scene) (node start : ℕ) (values : ℕ → List ℕ) (packets : List PacketState)
     (follows : Follows (scene.deeds node) start values packets) (gateway next : ℕ) (near : AreNear packets gateway next)
@@ -225,10 +211,10 @@ module _ (law : NearestIsTheOne) (scene : Scene) (holds : SceneHolds scene) (nod
   below_top number known =
       let there : IsKnown h node start number =
       subst (λ (k : List HistoryEntry). IsKnown k node start number) (sym front.is) (known_on (scene.posts gateway).firm front.more node start number known) in
-      let epoch_is : there.epoch ≡ epoch_of node h = same_Some there.epoch (epoch_of node h)
-      (sym there.begun ∙ subst (λ (s : ℕ). epoch_with node s h ≡ Some (epoch_of node h)) present (present_epoch node h (starts_rise scene.letters gateway h rests))) in
+      let epoch_is : there.epoch ≡ epoch_of node h =
+      grind (arith, present_epoch node h (starts_rise scene.letters gateway h rests), present, there.begun) in
       covers scene.letters gateway node number h rests
-      (ap is_fresh (sym (ap (λ (epoch : ℕ). state_of (key_in node number epoch) h) epoch_is ∙ present_state_is (record { 0 = node }) number h)) ∙ there.state_is)
+      (grind (arith, epoch_is, present_state_is (record { 0 = node }) number h, there.state_is))
 
   -- a copy above it is of an open packet
   above_top : (bound : ℕ) → ((number : ℕ) → IsCovered (top_of node h) number → number ≤ bound) → (later : ℕ) → HasCopy packets gateway later → bound < later → HasOpenCopy packets gateway later
@@ -290,14 +276,7 @@ pub record Numbers : Type 0 where
 
 module _ (log : List LogEntry) (running : runs log ≡ true) where
   copy_present : (gateway number : ℕ) → AnyHasCopyAt (packets_in (starts_in log) log) gateway number → AnyHasCopyAt (packets_of log) gateway number
-  copy_present gateway number at = record {
-    packet = at.packet;
-    kept = present_packet log at.packet running at.kept;
-    copy = at.copy;
-    among = at.among;
-    gateway_is = at.gateway_is;
-    number_is = at.number_is;
-  }
+  copy_present gateway number at = search (present_packet log at.packet running at.kept, at.among, at.gateway_is, at.number_is)
 
   may_present : (values : ℕ → List ℕ) (letter : Letter) (says : Meaning) → MaySend (packets_in (starts_in log) log) values letter says → MaySend (packets_of log) values letter says
   unfolding copy_present
@@ -322,19 +301,22 @@ module _ (laws : Numbers) (setup : NodeSetup) (calls : List NodeCall) (some : 1 
 
   module _ (gateway : ℕ) (inside : gateway < length setup.gateways) where
     used : (number : ℕ) → HasCopy (reached setup calls).packets gateway number → 1 ≤ uses gateway number (reached setup calls).packets
-    used number is =
-        let one = own_use gateway number is.copy is.gateway_is is.number_is in
-        let two = among_copies gateway number is.packet.copies is.copy is.sent in
-        let three = among_packets gateway number (reached setup calls).packets is.packet is.kept in
-        omega (arith, one, two, three)
+    used number is = omega (
+      arith,
+      own_use gateway number is.copy is.gateway_is is.number_is,
+      among_copies gateway number is.packet.copies is.copy is.sent,
+      among_packets gateway number (reached setup calls).packets is.packet is.kept,
+    )
 
     near : AreNear (reached setup calls).packets gateway (next_number (reached setup calls).gateways gateway)
     near = record {
-      range = λ number is. (
-        ⊎_elim (λ less. let none = (laws.roles setup calls gateway number some inside).before less in let one = used number is in absurd (omega (arith, none, one))) (λ le. le) (cases_lt number 65536),
-        ⊎_elim (λ less. less) (λ le. let none = (laws.roles setup calls gateway number some inside).behind le in let one = used number is in absurd (omega (arith, none, one)))
-            (cases_lt number (next_number (reached setup calls).gateways gateway)),
-      );
+      range = λ number is.
+          let role = laws.roles setup calls gateway number some inside in
+          let one = used number is in
+          let next = next_number (reached setup calls).gateways gateway in (
+            ⊎_elim (λ less. absurd (omega (arith, role.before less, one))) (λ le. le) (cases_lt number 65536),
+            ⊎_elim (λ less. less) (λ le. absurd (omega (arith, role.behind le, one))) (cases_lt number next),
+          );
       open_near = λ number is. laws.open_near setup calls gateway number some inside is;
       settled_near = λ number is later. laws.settled_near setup calls gateway number some inside is later;
     }

@@ -1,9 +1,9 @@
 -- What holds goes on with whatever happens: with messages and deeds alone, and with each move of a gateway.
 use Rattle.std.proofs.Common.{◌≡◌, ◌⊎◌, inl, inr, ⊎_elim, ℕ, ◌==◌, not, Bool, true, false, List, [], ◌∷◌, ◌++◌, Contains, refl, sym, ap, subst, ◌∙◌, eqb-true, eq-eqb, nat_le, nat_lt, length, length-append, filter, take, drop, take-append-drop, slice_get, Option, Some, None, arith, append_assoc}
-use Rattle.std.proofs.lemmas.Bool.{false≢true, cond-true, eqb-true, leb-true, ltb-true}
+use Rattle.std.proofs.lemmas.Bool.{cond-true, eqb-true, leb-true, ltb-true}
 use Rattle.std.proofs.lemmas.List.Elements.{Contains-append_left, Contains-push, Contains-push_cases, Contains-append_cases}
 use Rattle.gw_base.specs.declared.history.HistoryEntry.{HistoryEntry}
-use Rattle.once_core.specs.Happenings.{Answers, Asks, Deed, Else, Heard, Letter, Meaning, Post, Scene, Sent, about, history, Adds, Comes, Firms, Happening, Hears, Keeps, Note, Notes, Opens, Orders, Request, Sends, Starts, WaitingLetter, act_noted, cause_of, given, is_timely, reply}
+use Rattle.once_core.specs.Happenings.{Answers, Asks, Deed, Heard, Letter, Meaning, Post, Scene, Sent, about, history, Adds, Comes, Firms, Happening, Hears, Keeps, Note, Notes, Opens, Request, Sends, WaitingLetter, act_noted, cause_of, given, is_timely, reply}
 use Rattle.once_core.specs.Resting.{IsAnswerTo, IsBorneOut, IsSent, PostHolds, Rests, RestsBy, SceneHolds, Waits, IsKnown, Tells}
 use Rattle.once_core.specs.Scenes.{after_adding, after_hearing, after_sending, at, is_idle, is_request, Settled, after_coming, coming, firming, happened, happened_all, is_answer, keeping, nothing_yet, noting, noting_if, opening, scene_after, waiting_for, with_one, with_post, with_settled}
 use Rattle.once_core.proofs.ForwardLemmas.{Grows, known_on, rests_on, tells_on}
@@ -17,7 +17,6 @@ use Rattle.gw_base.specs.declared.history.HistoryAct.{HistoryAct}
 use Rattle.gw_base.specs.declared.history.HistoryAct.TheVariants as act
 use Rattle.gateway_answer.specs.Answer.{Given}
 use Rattle.gateway_answer.specs.Answered.{act_given, entry_by, with_act}
-use Rattle.node_core.specs.declared.copy.Order.TheVariants as order
 use Rattle.once_core.specs.Happenings as happens
 use Rattle.once_core.proofs.AnswerLemmas.{answer_is_sound}
 use Rattle.once_core.proofs.CountLemmas.{starts_rise}
@@ -109,9 +108,7 @@ sending scene letter true is holds = record {
 }
   where
     asks_only : (says : Meaning) → is_request says ≡ true → IsBorneOut (scene.letters ++ letter ∷ []) (scene.posts letter.gateway).firm letter says
-    asks_only (Asks request) e = tt
-    asks_only (Answers cause) e = absurd (false≢true e)
-    asks_only Else e = tt
+    asks_only says e = grind arith
 
     sent_new : (says : Meaning) → IsSent (at letter.node (scene.deeds letter.node ++ Sent letter ∷ []) scene.deeds) letter says
     sent_new (Asks request) =
@@ -131,13 +128,10 @@ adding scene letter true is holds = record {
 }
   where
     idle : (says : Meaning) → is_idle says ≡ true → IsBorneOut (scene.letters ++ letter ∷ []) (scene.posts letter.gateway).firm letter says
-    idle (Asks request) e = tt
-    idle (Answers cause) e = λ telling. absurd (false≢true (ap not (sym telling) ∙ e))
-    idle Else e = tt
+    idle says e = grind arith
 
     not_asked : (says : Meaning) → is_idle says ≡ true → IsSent scene.deeds letter says
-    not_asked (Asks request) e = absurd (false≢true e)
-    not_asked _ e = tt
+    not_asked says e = grind arith
 
 pub hearing : (scene : Scene) (letter : Letter) (is : Bool) → Contains scene.letters letter → SceneHolds scene → SceneHolds (after_hearing is letter scene)
 hearing scene letter false kept holds = holds
@@ -164,8 +158,7 @@ record Moves (scene : Scene) (gateway : ℕ) (s : Settled) : Type 0 where
   sent : (l : Letter) → Contains s.sends l → (l.gateway ≡ gateway) × (is_answer l.says ≡ true) × IsBorneOut (scene.letters ++ s.sends) s.post.firm l l.says
 
 not_a_request : (deeds : ℕ → List happens.Deed) (l : Letter) (says : Meaning) → is_answer says ≡ true → IsSent deeds l says
-not_a_request deeds l (Asks request) e = absurd (false≢true e)
-not_a_request deeds l _ e = tt
+not_a_request deeds l says e = grind arith
 
 noted : (letters : List Letter) (gateway : ℕ) (post : Post) (now : ℕ) (who : Caller) (a : HistoryAct) → PostHolds letters gateway post
     → RestsBy letters gateway (history post) a → PostHolds letters gateway (noting now who a post)
@@ -195,9 +188,7 @@ kept_back letters gateway keep post holds = record {
 
 -- the answer to where a message came from speaks of the same number
 tells_reply : (h : List HistoryEntry) (letter : Letter) (answer : Given) (request : Request) (cause : ℕ) → Tells h letter request cause → Tells h (reply letter answer) request cause
-tells_reply h letter answer (Sends false packet) cause told = tt
-tells_reply h letter answer (Orders order.Cancel named) cause told = tt
-tells_reply h letter answer _ cause told = told
+tells_reply h letter answer request cause told = grind arith
 
 -- what an act that is recorded leaves of a gateway
 record AsNoted (letters : List Letter) (gateway now : ℕ) (who : Caller) (recorded : Option HistoryAct) (post : Post) : Type 0 where
@@ -354,8 +345,7 @@ module _ {scene : Scene} (holds : SceneHolds scene) where
 -- ---- whatever happens
 
 note_rests : (letters : List Letter) (gateway : ℕ) (h : List HistoryEntry) (note : Note) → RestsBy letters gateway h (act_noted note)
-note_rests letters gateway h Starts = tt
-note_rests letters gateway h _ = tt
+note_rests letters gateway h note = grind arith
 
 pub holds_on : (scene : Scene) (next : Happening) → SceneHolds scene → SceneHolds (happened scene next)
 holds_on scene (happens.Sends letter) holds = sending scene letter (is_request letter.says) refl holds

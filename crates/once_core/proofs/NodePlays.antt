@@ -27,9 +27,9 @@ use Rattle.node_core.specs.Peers.{last_number, place_of}
 use Rattle.once_core.specs.Addresses.{node_ip, node_setup, gateway_address}
 use Rattle.once_core.specs.Deeds.{deeds_of, told_by}
 use Rattle.once_core.specs.Expired.{starts_in, is_expired_at_node, is_taken_for_another}
-use Rattle.once_core.specs.Happenings.{Happening, Letter, Scene, Answers, Hears, Meaning, Deed}
+use Rattle.once_core.specs.Happenings.{Happening, Letter, Scene, Answers, Hears}
 use Rattle.once_core.specs.Meaning.{letter_of, speaks, is_spoken, meaning_in, meaning_of}
-use Rattle.once_core.specs.Scenes.{happened_all, after_hearing, is_answer, with_deed, with_one}
+use Rattle.once_core.specs.Scenes.{happened_all, with_deed}
 use Rattle.once_core.specs.Shown.{forms_ever}
 use Rattle.once_core.specs.World.{Called, called, draft_of, log_after, node_value, submitting, submitting_form, answers_of, delivered_to_node}
 use Rattle.once_core.proofs.FormLemmas.{GoodForm, RecordsSpelled, draft_is_good, submitted_is_draft}
@@ -42,7 +42,7 @@ use Rattle.once_core.specs.Happenings as happens
 use Rattle.once_core.specs.Messages.{about, answering, is_response}
 use Rattle.once_core.specs.declared.message.Message as world
 use Rattle.once_core.proofs.MoveLemmas.{at_same}
-use Rattle.node_core.specs.Ticks.{due, tick_entries}
+use Rattle.node_core.specs.Ticks.{due}
 
 -- what holds of the log of each node: it is one of a node's calls, its starts are counted, and each packet can be sent
 pub record NodeRightly (gateways place : ℕ) (log : List LogEntry) : Type 0 where
@@ -106,11 +106,7 @@ behind_tick setup log = Ticked (due (node_of setup log)) ∷ logged (appointing 
 
 pub tick_is : (setup : NodeSetup) (log : List LogEntry) → runs log ≡ true
     → logged (call_entries (node_of setup log) call.Tick) log ≡ behind_tick setup log
-tick_is setup log running =
-    let node = node_of setup log in
-    ap (λ (b : Bool). logged (if b then tick_entries node else []) log) running
-    ∙ by_option (λ (o : Option ℕ). logged (appointing o ++ Ticked (due node) ∷ []) log ≡ Ticked (due node) ∷ logged (appointing o) log)
-    (moved_at_tick node) (λ e. refl) (λ gateway e. refl)
+tick_is setup log running = grind arith
 
 -- the log after a call
 pub after_call : {gateways place : ℕ} {log : List LogEntry} → NodeRightly gateways place log → (call : NodeCall) → starts_in (log_after gateways place call log) ≤ 255
@@ -200,11 +196,12 @@ module _ (back : ReadsBack) (roles : RolesRead) (m : world.Message) (from : m.to
   hear_rightly =
       if_both (λ (c : Called). NodeRightly gateways m.node c.log) (not (runs log) || is_expired_at_node log value m) stands.rightly
       (after_call stands.rightly (call.Hear m.port (gateway_address m.gateway) m.octets)
-      (hear_either (λ l. starts_in l ≤ 255) stands.rightly.few (λ p saying o.
-      let one = appointed_starts o (Heard m.port p saying ∷ log) in
-      let two = starts_same (Heard m.port p saying) log refl in
-      let few = stands.rightly.few in
-      omega (arith, one, two, few)))
+      (hear_either (λ l. starts_in l ≤ 255) stands.rightly.few (λ p saying o. omega (
+      arith,
+      appointed_starts o (Heard m.port p saying ∷ log),
+      starts_same (Heard m.port p saying) log refl,
+      stands.rightly.few,
+      )))
       (hear_either (λ l. (form : PacketForm) → Contains (forms_ever l) form → GoodForm form) stands.rightly.forms (λ p saying o form is.
       stands.rightly.forms form (subst (λ (fs : List PacketForm). Contains fs form) (appointed forms_ever (λ gateway log. refl) o (Heard m.port p saying ∷ log)) is))))
 
@@ -267,15 +264,12 @@ module _ (back : ReadsBack) (roles : RolesRead) (m : world.Message) (from : m.to
           later = Hears kept.0 ∷ [];
           after = with_deed (node_ip m.node) (happens.Heard (letter_of m)) scene;
           is =
-              ap (λ (o : Option Letter). with_one o (λ letter. after_hearing (is_answer letter.says) letter) scene) kept.1
-              ∙ ap (λ (says : Meaning). after_hearing (is_answer says) (letter_of m) scene) means;
+              grind (arith, kept.1, means);
           posts = λ gateway. refl;
           others = λ other apart. cond-false (other == node_ip m.node) (scene.deeds (node_ip m.node) ++ happens.Heard (letter_of m) ∷ []) (scene.deeds other) apart;
           deeds =
-              at_same (node_ip m.node) (scene.deeds (node_ip m.node) ++ happens.Heard (letter_of m) ∷ []) scene.deeds
-              ∙ ap (λ (ds : List Deed). ds ++ happens.Heard (letter_of m) ∷ []) stands.deeds
-              ∙ ap (λ (l : Letter). deeds_of (node_ip m.node) values log ++ happens.Heard l ∷ []) letter_is
-              ∙ sym (appointed_deeds (node_ip m.node) values (moved_by value m.port m.gateway (Responds cause (number ∷ [])))
+              grind (arith, at_same (node_ip m.node) (scene.deeds (node_ip m.node) ++ happens.Heard (letter_of m) ∷ []) scene.deeds,
+              stands.deeds, letter_is, appointed_deeds (node_ip m.node) values (moved_by value m.port m.gateway (Responds cause (number ∷ [])))
               (Heard m.port m.gateway (Responds cause (number ∷ [])) ∷ log));
           letters = λ l is. is;
           sends = λ k is speaking. in_none k is;

@@ -5,7 +5,7 @@ use Rattle.std.proofs.lemmas.List.Elements.{Contains-append_cases}
 use Rattle.gtpp_message.specs.Packet.{PacketForm}
 use Rattle.node_core.specs.Drafts.{value_octets}
 use Rattle.node_core.specs.Log.{LogEntry, Began, Halted, Submitted, Appointed, Ticked, Heard, Responds, forms_of, packets_of, runs, submitted}
-use Rattle.node_core.specs.Packets.{PacketState, is_done, is_of, packet_after, packet_after_all, packet_hearing, while_open}
+use Rattle.node_core.specs.Packets.{PacketState, packet_after, packet_after_all, packet_hearing, while_open}
 use Rattle.node_core.specs.Value.{logged}
 use Rattle.node_core.specs.declared.sending.Sending.{Sending}
 use Rattle.once_core.specs.Expired.{starts_in, is_expired_at_node}
@@ -100,11 +100,11 @@ abbrev pub Ever : List LogEntry → Type 0
 Ever log = AllEver (forms_ever log) (forms_of log) (packets_of log) (submitted log)
 
 open_keeps : (f : PacketState → PacketState) → ((p : PacketState) → (f p).number ≡ p.number) → (p : PacketState) → (while_open f p).number ≡ p.number
-open_keeps f same p = if_both (λ (q : PacketState). q.number ≡ p.number) (is_done p.copies) refl (same p)
+open_keeps f same p = grind (arith, same p)
 
 pub all_keep : (sendings : List Sending) (p : PacketState) → (packet_after_all sendings p).number ≡ p.number
 all_keep [] p = refl
-all_keep (sending ∷ sendings) p = all_keep sendings (packet_after sending p) ∙ if_both (λ (q : PacketState). q.number ≡ p.number) (is_of p.number sending) refl refl
+all_keep (sending ∷ sendings) p = grind (arith, all_keep sendings (packet_after sending p))
 
 -- the packets with other copies bear the same numbers
 renumbered : {all forms : List PacketForm} {packets : List PacketState} {count : ℕ} (h : PacketState → PacketState)

@@ -4,7 +4,6 @@ use Rattle.std.proofs.lemmas.Bool.{false≢true, lt-ltb, or_cases}
 use Rattle.std.proofs.lemmas.List.Elements.{Contains-get_or}
 use Rattle.std.specs.List.{list_any}
 use Rattle.std.specs.Option.{option_map_or}
-use Rattle.std.proofs.lemmas.Option.{same_Some}
 use Rattle.gateway_answer.specs.Filed.{filed}
 use Rattle.gateway_answer.specs.Once.{times_filed}
 use Rattle.gw_base.specs.History.{state_of}
@@ -13,7 +12,7 @@ use Rattle.gw_base.specs.declared.key_state.KeyState.{KeyState}
 use Rattle.gw_base.specs.declared.key_state.KeyState.TheVariants as state
 use Rattle.node_core.specs.Choosing.{IsChoice}
 use Rattle.node_core.specs.Copies.{is_chosen, is_filed, is_release, is_released}
-use Rattle.node_core.specs.Packets.{PacketState, chosen, is_resolved}
+use Rattle.node_core.specs.Packets.{PacketState, is_resolved}
 use Rattle.node_core.specs.declared.copy.Command.{Command}
 use Rattle.node_core.specs.declared.copy.Order.TheVariants as order
 use Rattle.node_core.specs.declared.copy.PacketCopy.{PacketCopy}
@@ -37,13 +36,10 @@ use Rattle.once_core.proofs.CaseLemmas.{by_bool, by_option}
 
 -- a number has one state
 state_is_one : (h : List HistoryEntry) (node start number : ℕ) (a b : KeyState) → IsState h node start number a → IsState h node start number b → a ≡ b
-state_is_one h node start number a b one other =
-    let epoch = same_Some one.epoch other.epoch (sym one.begun ∙ other.begun) in
-    sym one.state_is ∙ ap (λ (e : ℕ). state_of (key_in node number e) h) epoch ∙ other.state_is
+state_is_one h node start number a b one other = cc
 
 filed_verdict : (v : Verdict) → is_filed v ≡ true → v ≡ verdict.Filed
-filed_verdict verdict.Filed e = refl
-filed_verdict _ e = absurd (false≢true e)
+filed_verdict v e = grind arith
 
 module _ {scene : Scene} (holds : SceneHolds scene) (node : ℕ) {start : ℕ} {values : ℕ → List ℕ} {packets : List PacketState} (follows : Follows (scene.deeds node) start values packets) where
   abbrev firm_of : ℕ → List HistoryEntry
@@ -133,9 +129,7 @@ module _ {scene : Scene} (holds : SceneHolds scene) (node : ℕ) {start : ℕ} {
           at_most_one = by_bool (λ (b : Bool). one_if b ≤ 1) (nat_lt index (record_count (values packet.number))) (λ e. omega arith) (λ e. omega arith)
 
           by : (s : KeyState) → Placed packet copy index s → placed copy index ≤ 1
-          by state.Filed is = omega (arith, is.1, at_most_one)
-          by state.Released is = omega (arith, is.1, at_most_one)
-          by _ none = omega (arith, none)
+          by s is = grind (arith, at_most_one)
 
       -- a copy that is held or cancelled
       withheld : is_withheld (state_with node start copy.number (firm_of copy.gateway)) ≡ true → placed copy index ≡ 0
@@ -146,9 +140,7 @@ module _ {scene : Scene} (holds : SceneHolds scene) (node : ℕ) {start : ℕ} {
           stands
         where
           by : (s : KeyState) → is_withheld s ≡ true → Placed packet copy index s → placed copy index ≡ 0
-          by state.Filed e is = absurd (false≢true e)
-          by state.Released e is = absurd (false≢true e)
-          by _ e none = none
+          by s e is = grind arith
 
     -- what was filed for a copy
     content : (filing : FiledRecord) → IsFiledUnder (firm_of copy.gateway) node start copy.number filing
@@ -194,10 +186,8 @@ module _ {scene : Scene} (holds : SceneHolds scene) (node : ℕ) {start : ℕ} {
         let one = choice_of holds node follows packet a is_a chosen_a in
         let other = choice_of holds node follows packet b is_b chosen_b in
         let whole : one.plain ∷ one.duplicates ≡ other.plain ∷ other.duplicates = sym one.whole ∙ other.whole in
-        let rest : one.duplicates ≡ other.duplicates = cc in
-        let copy = same_Some one.copy other.copy (sym one.choice ∙ ap chosen rest ∙ other.choice) in
-        let gateway : b.gateway ≡ a.gateway = sym other.gateway_is ∙ ap (λ (c : PacketCopy). c.gateway) (sym copy) ∙ one.gateway_is in
-        let number : b.number ≡ a.number = sym other.number_is ∙ ap (λ (c : PacketCopy). c.number) (sym copy) ∙ one.number_is in
+        let gateway : b.gateway ≡ a.gateway = cc in
+        let number : b.number ≡ a.number = cc in
         (same_user a.gateway a.number packets (follows.roles a.gateway a.number) packet packet a b is_a is_b (own_use a.gateway a.number a refl refl)
         (own_use a.gateway a.number b gateway number)).1
 
@@ -209,13 +199,8 @@ module _ {scene : Scene} (holds : SceneHolds scene) (node : ℕ) {start : ℕ} {
       (stands is_a index)
     where
       by : (s t : KeyState) → IsNow a s → Placed packet a index s → IsNow b t → Placed packet b index t → a ≡ b
-      by state.Filed state.Filed at_a in_a at_b in_b = both_plain is_a is_b in_a.0 in_b.0
-      by state.Filed state.Released at_a in_a at_b in_b = absurd (filed_or_released is_a is_b in_a.0 at_a in_b.0)
-      by state.Released state.Filed at_a in_a at_b in_b = absurd (filed_or_released is_b is_a in_b.0 at_b in_a.0)
-      by state.Released state.Released at_a in_a at_b in_b = both_chosen is_a is_b in_a.0 in_b.0
-      by state.Filed _ at_a in_a at_b none = absurd (omega (arith, none, some_b))
-      by state.Released _ at_a in_a at_b none = absurd (omega (arith, none, some_b))
-      by _ t at_a none at_b in_b = absurd (omega (arith, none, some_a))
+      by s t at_a in_a at_b in_b =
+          grind (arith, both_plain is_a is_b, both_chosen is_a is_b, filed_or_released is_a is_b, filed_or_released is_b is_a)
 
   -- ---- a packet
 

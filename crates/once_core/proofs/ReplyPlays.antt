@@ -1,5 +1,5 @@
 -- An answer that waits or is sent is a happening.
-use Rattle.std.proofs.Common.{◌≡◌, ⊎_elim, ℕ, nat_le, not, Bool, true, false, cond, List, [], ◌∷◌, ◌++◌, length, filter, Contains, refl, sym, ap, subst, ◌∙◌, append-nil}
+use Rattle.std.proofs.Common.{◌≡◌, ⊎_elim, ℕ, nat_le, not, Bool, true, false, cond, List, [], ◌∷◌, ◌++◌, length, filter, Contains, refl, sym, ap, subst, ◌∙◌, append-nil, arith}
 use Rattle.std.proofs.lemmas.List.Elements.{Contains-push_cases, filter-append}
 use Rattle.std.proofs.lemmas.Bool.{both_ways}
 use Rattle.std.proofs.lemmas.List.Concat.{flat_map-append}
@@ -18,7 +18,7 @@ use Rattle.once_core.proofs.CommitPlays.{settled_rightly, settled_said}
 use Rattle.once_core.proofs.MeaningLemmas.{GatewaySaid}
 use Rattle.once_core.proofs.PlayLemmas.{Plays, Rightly, same_at, settled_plays}
 use Rattle.once_core.proofs.PartLemmas.{history_is}
-use Rattle.once_core.proofs.CaseLemmas.{by_bool, if_both, if_known}
+use Rattle.once_core.proofs.CaseLemmas.{if_both, if_known}
 use Rattle.once_core.proofs.ListLemmas.{all_pass, filtered, in_head, in_one, none_pass, of_map, passed}
 
 module _ {g : Gateway} (rightly : Rightly g) (m : Message) (sound : g.book.is_broken ≡ false) (from : m.to_gateway ≡ false) (said : GatewaySaid m) where
@@ -46,13 +46,8 @@ module _ {g : Gateway} (rightly : Rightly g) (m : Message) (sound : g.book.is_br
 
   -- what waits then means what waited, and what the answer means where it waits
   left : (b : Bool) → is_reached g.book answer ≡ b → waiting_letters (replying g m).gateway.waiting ≡ waiting_letters g.waiting ++ waiting_letters (cond b [] (answer ∷ []))
-  left b e =
-      ap waiting_letters
-      (filter-append waits g.waiting (answer ∷ [])
-      ∙ ap (λ (ws : List Waiting). ws ++ filter waits (answer ∷ [])) (all_pass waits g.waiting (λ w is. ap not (rightly.fronts w is)))
-      ∙ ap (λ (ws : List Waiting). g.waiting ++ ws) (ap (λ (c : Bool). cond (not c) (answer ∷ []) []) e
-      ∙ by_bool (λ (c : Bool). cond (not c) (answer ∷ []) [] ≡ cond c [] (answer ∷ [])) b (λ t. refl) (λ f. refl)))
-      ∙ flat_map-append (λ (w : Waiting). waiting_if (speaks w.message) w) g.waiting (cond b [] (answer ∷ []))
+  left b e = grind (arith, filter-append waits g.waiting (answer ∷ []), all_pass waits g.waiting (λ w is. ap not (rightly.fronts w is)),
+      flat_map-append (λ (w : Waiting). waiting_if (speaks w.message) w) g.waiting (cond b [] (answer ∷ [])))
 
   module _ (gateway : ℕ) (scene : Scene) where
     -- one that means nothing here: nothing happens
@@ -99,6 +94,4 @@ module _ {g : Gateway} (rightly : Rightly g) (m : Message) (sound : g.book.is_br
         waiting_is same = ap (λ (ws : List did.WaitingLetter). record { firm = g.book.firm; rest = g.book.rest; waiting = ws }) same
 
         the_last : waiting_letters (answer ∷ []) ≡ record { front = length (g.book.firm ++ g.book.rest); letter = letter_of m } ∷ []
-        the_last =
-            ap (λ (b : Bool). waiting_if b answer ++ []) speaking
-            ∙ ap (λ (h : List HistoryEntry). record { front = length h; letter = letter_of m } ∷ []) (history_is g.book sound)
+        the_last = grind (arith, speaking, history_is g.book sound)

@@ -1,37 +1,28 @@
 -- Each request number of a gateway has one role: two copies that use it are one.
-use Rattle.std.proofs.Common.{◌≡◌, ⊎_elim, ℕ, ◌+◌, ◌≤◌, true, false, List, [], ◌∷◌, Option, Some, Contains, sum_by, refl, sym, ap, subst, ◌∙◌, arith, eq-zero-or-pos, ◌==◌, eq-eqb}
-use Rattle.std.proofs.lemmas.Bool.{false≢true, cond-true}
+use Rattle.std.proofs.Common.{◌≡◌, ⊎_elim, ℕ, ◌≤◌, true, false, List, [], ◌∷◌, Some, Contains, sum_by, refl, sym, ap, subst, ◌∙◌, arith, eq-zero-or-pos}
+use Rattle.std.proofs.lemmas.Bool.{false≢true}
 use Rattle.std.proofs.lemmas.List.Elements.{All-contains}
 use Rattle.std.proofs.lemmas.List.Sums.{sum_by-cons, get_or-le-sum_by}
 use Rattle.node_core.specs.Packets.{PacketState}
-use Rattle.node_core.specs.Roles.{IsPlainFirst, use_of, uses, uses_by_command, uses_by_copies, uses_by_copy}
+use Rattle.node_core.specs.Roles.{IsPlainFirst, uses, uses_by_copies, uses_by_copy}
 use Rattle.node_core.specs.declared.copy.Command.{Command}
 use Rattle.node_core.specs.declared.copy.PacketCopy.{PacketCopy}
 use Rattle.once_core.proofs.ListLemmas.{in_cons, in_head, in_none, in_tail}
 use Rattle.std.proofs.lemmas.List.Recursion.{is_sum_by}
+use Rattle.std.proofs.lemmas.Bool.Decides.{nat_tests}
 
 -- ---- how often a copy uses a number
 
-uses_here : (gateway number : ℕ) (copy : PacketCopy) → copy.gateway ≡ gateway → uses_by_copy gateway number copy ≡ use_of number copy.number + uses_by_command number copy.command
-uses_here gateway number copy same = cond-true (copy.gateway == gateway) _ 0 (eq-eqb copy.gateway gateway same)
-
-used : (number other : ℕ) → other ≡ number → use_of number other ≡ 1
-used number other same = cond-true (other == number) 1 0 (eq-eqb other number same)
-
 pub own_use : (gateway number : ℕ) (copy : PacketCopy) → copy.gateway ≡ gateway → copy.number ≡ number → 1 ≤ uses_by_copy gateway number copy
-own_use gateway number copy same is = omega (arith, uses_here gateway number copy same, used number copy.number is)
-
-command_used : (number : ℕ) (command : Command) (there : Option Command) → there ≡ Some command → command.number ≡ number → uses_by_command number there ≡ 1
-command_used number command there e is = ap (uses_by_command number) e ∙ used number command.number is
+own_use gateway number copy same is = grind (arith, nat_tests)
 
 pub command_use : (gateway number : ℕ) (copy : PacketCopy) (command : Command) → copy.gateway ≡ gateway → copy.command ≡ Some command → command.number ≡ number
     → 1 ≤ uses_by_copy gateway number copy
-command_use gateway number copy command same e is = omega (arith, uses_here gateway number copy same, command_used number command copy.command e is)
+command_use gateway number copy command same e is = grind (arith, nat_tests)
 
 both_uses : (gateway number : ℕ) (copy : PacketCopy) (command : Command) → copy.gateway ≡ gateway → copy.number ≡ number → copy.command ≡ Some command → command.number ≡ number
     → 2 ≤ uses_by_copy gateway number copy
-both_uses gateway number copy command same own e is =
-    omega (arith, uses_here gateway number copy same, used number copy.number own, command_used number command copy.command e is)
+both_uses gateway number copy command same own e is = grind (arith, nat_tests)
 
 -- ---- sums over lists
 

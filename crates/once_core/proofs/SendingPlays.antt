@@ -17,13 +17,11 @@ use Rattle.once_core.specs.Happenings.{Deed, Happening, Letter, Scene, Sent, Ask
 use Rattle.once_core.specs.Scenes.{after_sending, happened_all, is_request, with_deed, with_letter}
 use Rattle.once_core.proofs.ListLemmas.{in_cons, in_head, in_none, in_tail, in_one, of_flat_map, get_contains, in_flat, in_map, of_map}
 use Rattle.once_core.proofs.MoveLemmas.{at_same}
-use Rattle.std.specs.Option.{option_map_or}
 use Rattle.byteorder.specs.Endian.{big_bytes}
 use Rattle.gtpp_message.specs.Message.{NodeAliveRequest, TransferRequest, Possible, TransferValue}
 use Rattle.gtpp_message.specs.Packet.{PacketForm, PacketValue, Empty, Full}
 use Rattle.gtpp_message.specs.PacketWriting.{value_of}
 use Rattle.gtpp_message.specs.Writing.{written}
-use Rattle.node_core.specs.Drafts.{packet_of_form}
 use Rattle.node_core.specs.Moving.{appointing, moved_at_tick}
 use Rattle.node_core.specs.Octets.{order_of, outgoing, packet_numbered, transfer_of, wire}
 use Rattle.node_core.specs.Packets.{PacketState}
@@ -208,9 +206,7 @@ module _ {gateways place : ℕ} {values : ℕ → List ℕ} {scene : Scene} {log
         form = found.form;
         good = good;
         numbered =
-            ap (λ (f : Option PacketForm). option_map_or packet_of_form f Empty)
-            (ap (slice_get (forms_of log)) index ∙ ap (λ (fs : List PacketForm). slice_get fs found.place) (sym (appointed forms_of (λ gateway log. refl) to log)) ∙ found.there)
-            ∙ packet_is found.form good.some;
+            grind (arith, index, found.there, appointed forms_of (λ gateway log. refl) to log, packet_is found.form good.some);
         ever_there = all;
       }
 
@@ -244,9 +240,7 @@ module _ {gateways place : ℕ} {values : ℕ → List ℕ} {scene : Scene} {log
       same : letter_of (sent s) ≡ letter
       same =
           let range = asked_in_range values letter request (may values s letter there asked refl) in
-          is ∙ ap (λ (g : ℕ). did.letter_of (node_ip place) (starts_in log) g port number (meaning_of (sent s))) (gateway_is gateways log gateway range)
-          ∙ ap (λ (start : ℕ). did.letter_of (node_ip place) start gateway port number (meaning_of (sent s))) (sym (appointed_starts to log))
-          ∙ ap (did.letter_of (node_ip place) (starts_in before) gateway port number) (meaning_is back (sent s) (wire number) (TransferRequest body) w ∙ means)
+          cc (is, gateway_is gateways log gateway range, appointed_starts to log, meaning_is back (sent s) (wire number) (TransferRequest body) w, means)
 
   -- a copy of a packet, plain or not
   abbrev copy_with : Bool → PacketForm → TransferValue

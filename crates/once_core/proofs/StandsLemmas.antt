@@ -1,5 +1,5 @@
 -- Each record of each packet stands once in the files of all gateways, as it was filed once.
-use Rattle.std.proofs.Common.{◌≡◌, ℕ, ◌<◌, Bool, true, List, [], length, Option, Some, None, Contains, sum_by, refl, ap, subst, ◌∙◌, arith, count_by}
+use Rattle.std.proofs.Common.{◌≡◌, ℕ, ◌<◌, Bool, true, List, [], length, Option, Contains, sum_by, refl, ap, subst, ◌∙◌, arith, count_by}
 use Rattle.std.specs.Option.{option_map_or}
 use Rattle.std.proofs.lemmas.List.Elements.{All-contains}
 use Rattle.file_writer.specs.Places.{FilePlace}
@@ -14,7 +14,7 @@ use Rattle.node_core.specs.Drafts.{value_octets}
 use Rattle.node_core.specs.Packets.{is_resolved}
 use Rattle.node_core.specs.declared.copy.PacketCopy.{PacketCopy}
 use Rattle.once_core.specs.Addresses.{node_ip}
-use Rattle.once_core.specs.Epochs.{epoch_with, key_in, state_with, times_with}
+use Rattle.once_core.specs.Epochs.{key_in, state_with, times_with, epoch_with}
 use Rattle.once_core.specs.FilePlaces.{placed}
 use Rattle.once_core.specs.Followed.{Followed, all_followed}
 use Rattle.once_core.specs.Once.{GivenRecord, IsFiledAs, IsFiledFor, IsFollowed, Once, firm_in}
@@ -39,8 +39,7 @@ abbrev pub Submitted : World → Type 0
 Submitted w = (q : ℕ) (filing : FiledRecord) → Contains (filed (firm_in w q)) filing → WasSubmitted w q filing
 
 count_is : (o : Option PacketForm) → option_map_or (λ form. length form.records) o 0 ≡ length (option_map_or (λ (form : PacketForm). form.records) o [])
-count_is None = refl
-count_is (Some form) = refl
+count_is o = grind arith
 
 module _ (settings : ℕ → Settings) (counts : (q : ℕ) → Counts (settings q)) (there : (q : ℕ) → Stands (settings q)) (w : World) (once : Once w) where
   module _ (given : GivenRecord) (packet : Followed) (is : IsFollowed w given.node packet) where

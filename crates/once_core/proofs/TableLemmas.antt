@@ -40,14 +40,7 @@ abbrev pub NoMark : Given → Type 0
 NoMark given = IfRecords (λ number message a. is_mark a ≡ false) given
 
 none_marks : (from : Addr) → HoldsOfEach NoMark from
-none_marks from = record {
-  responded = λ number cause other. tt;
-  recorded = λ number cause a other isnt. isnt;
-  told = λ event. tt;
-  opened = λ number counter. refl;
-  stray = tt;
-  no_room = tt;
-}
+none_marks from = assumption
 
 pub answers_no_mark : (o : Observed) (from : Addr) (datagram : PreparedValue) (may : HistoryAct → Bool) → NoMark (answer_by o from datagram may)
 answers_no_mark o from (Path event) may = of_path NoMark from (none_marks from) o may event

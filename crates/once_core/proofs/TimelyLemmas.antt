@@ -1,8 +1,8 @@
 -- What a node sends in a tick isn't expired: a gateway to which it sends a request knows its start as the present one,
 -- and no gateway knows of a later one.
-use Rattle.std.proofs.Common.{◌≡◌, ⊎_elim, ℕ, ◌-◌, ◌<◌, ◌≤◌, ◌%◌, ◌==◌, ◌&&◌, not, nat_lt, Bool, true, false, if◌then◌else◌, List, [], ◌∷◌, ◌++◌, length, Option, Some, None, All, Contains, slice_get, refl, sym, ap, subst, ◌∙◌, arith, eq-eqb, eqb-true, le-ltb, zero, suc, nat_le, ◌||◌, take, append-nil, length-take, le-leb, lt-ltb}
+use Rattle.std.proofs.Common.{◌≡◌, ⊎_elim, ℕ, ◌-◌, ◌<◌, ◌≤◌, ◌%◌, ◌&&◌, not, nat_lt, Bool, true, false, if◌then◌else◌, List, [], ◌∷◌, ◌++◌, length, Option, Some, None, All, Contains, slice_get, refl, sym, ap, subst, ◌∙◌, arith, eqb-true, zero, suc, nat_le, ◌||◌, take, append-nil, length-take}
 use Rattle.std.specs.Option.{option_map_or}
-use Rattle.std.proofs.lemmas.Bool.{false≢true, and_right, or_from, and_from, and_left}
+use Rattle.std.proofs.lemmas.Bool.{false≢true}
 use Rattle.std.proofs.lemmas.List.Elements.{All-contains, Contains-append_cases}
 use Rattle.std.proofs.lemmas.Option.{slice_get_within}
 use Rattle.gw_base.specs.History.{top_of}
@@ -26,15 +26,15 @@ use Rattle.node_core.specs.declared.sending.Sending.TheVariants as send
 use Rattle.path_mgmt.specs.NodePath.{is_alive, PathsOfNode}
 use Rattle.once_core.specs.Addresses.{addresses_from, gateway_at, node_ip, node_setup, first_node_ip}
 use Rattle.once_core.specs.Deeds.{deeds_of}
-use Rattle.once_core.specs.Expired.{is_expired, is_expired_request, present_start, starts_in, taken_for}
-use Rattle.once_core.specs.Gateway.{Gateway, Moved, Rules, followed, readying, still, with_book}
+use Rattle.once_core.specs.Expired.{is_expired, present_start, starts_in, taken_for}
+use Rattle.once_core.specs.Gateway.{Gateway, Moved, Rules, readying, still, with_book}
 use Rattle.once_core.specs.Growing.{IsBetween}
 use Rattle.once_core.specs.Happenings.{Post, Scene}
 use Rattle.once_core.specs.Messages.{about, is_request}
 use Rattle.once_core.specs.Scenes.{scene_after}
 use Rattle.once_core.specs.Shown.{post_of}
 use Rattle.once_core.specs.Turn.{calm, node_called, refusal_of, turn_by, unless_refused, Turn, at_gateway, at_node, delivering, gateway_moved, lost_if, refusing, turn}
-use Rattle.once_core.specs.World.{World, log_after, log_at, message_of, node_value, ticking, delivered_to_node}
+use Rattle.once_core.specs.World.{World, log_at, message_of, node_value, ticking, delivered_to_node}
 use Rattle.once_core.specs.Beginning.{default_rules, IsReached}
 use Rattle.once_core.specs.declared.event.Event.TheVariants as event
 use Rattle.once_core.specs.declared.event.WorldKind.{WorldKind}
@@ -52,14 +52,14 @@ use Rattle.once_core.proofs.LifeWorlds.{values_in, reached_lives, reached_made}
 use Rattle.once_core.proofs.PartLemmas.{log_or, log_there, firm_there, it_runs, book_is, history_is}
 use Rattle.once_core.proofs.CaseLemmas.{by_option, by_bool, if_known, map_known}
 use Rattle.gateway_answer.specs.Value.{BookValue, Fortune, Gone, Refused, Reopening, Whole, history_of, reopened, tried}
-use Rattle.once_core.specs.Answers.{answered, delivered, delivered_broken, delivered_running, failed, if_broken, taken_in}
+use Rattle.once_core.specs.Answers.{delivered, taken_in}
 use Rattle.once_core.specs.Epochs.{StartsRise}
-use Rattle.once_core.specs.Once.{firm_in}
 use Rattle.once_core.specs.declared.event.Event.{Event}
 use Rattle.once_core.specs.declared.event.WorldKind.TheVariants.{NoMessage}
 use Rattle.once_core.proofs.AliveLemmas.{AllAlive, copies_alive}
 use Rattle.once_core.proofs.GrowingLemmas.{on, on_with}
 use Rattle.once_core.proofs.StartLemmas.{front_low, start_rises}
+use Rattle.std.proofs.lemmas.Bool.Decides.{nat_tests}
 
 -- what the law of requests says
 abbrev pub RequestsSent : Type 0
@@ -69,10 +69,7 @@ RequestsSent = (setup : NodeSetup) (calls : List NodeCall) → 1 ≤ length setu
 -- ---- what isn't expired
 
 fresh_message : (h : List HistoryEntry) (m : Message) → present_start h m ≡ m.start → taken_for h m ≡ about m → is_expired h m ≡ false
-fresh_message h m present read =
-    or_from (nat_lt m.start (present_start h m)) (is_request m && is_expired_request h m) (le-ltb m.start (present_start h m) (omega (arith, present)))
-    (and_right (is_request m) (is_expired_request h m) (or_from (not (m.start == present_start h m)) (not (taken_for h m == about m))
-    (ap not (eq-eqb m.start (present_start h m) (sym present))) (ap not (eq-eqb (taken_for h m) (about m) read))))
+fresh_message h m present read = grind (arith, nat_tests)
 
 -- ---- a request of a tick is about an open copy
 
@@ -104,9 +101,8 @@ module _ (setup : NodeSetup) (calls : List NodeCall) where
     runs_after = ap runs after_is ∙ appointed runs (λ gateway log. refl) (moved_at_tick node_now) log_now ∙ running
 
     starts_after : starts_in (log_of setup (call.Tick ∷ calls)) ≡ starts_in log_now
-    starts_after =
-        ap starts_in after_is ∙ starts_same (Ticked (due node_now)) (logged (appointing (moved_at_tick node_now)) log_now) refl
-        ∙ appointed_starts (moved_at_tick node_now) log_now
+    starts_after = grind (arith, after_is, appointed_starts (moved_at_tick node_now) log_now,
+        starts_same (Ticked (due node_now)) (logged (appointing (moved_at_tick node_now)) log_now) refl)
 
     -- a tick leaves the gateways alive that were
     open_alive : (gateway number : ℕ) → HasOpenCopy (packets_of behind) gateway number
@@ -157,8 +153,7 @@ module _ (setup : NodeSetup) (calls : List NodeCall) where
 
 -- a message that is no request is expired by its start alone
 low_fresh : (h : List HistoryEntry) (m : Message) → is_request m ≡ false → present_start h m ≤ m.start → is_expired h m ≡ false
-low_fresh h m none low = or_from (nat_lt m.start (present_start h m)) (is_request m && is_expired_request h m)
-    (le-ltb m.start (present_start h m) low) (and_left (is_request m) (is_expired_request h m) none)
+low_fresh h m none low = grind (arith, nat_tests)
 
 -- what stands behind some elements
 behind_all : {A : Type 0} (xs ys : List A) (k : ℕ) (x : A) → length xs ≤ k → slice_get (xs ++ ys) k ≡ Some x → Contains ys x
@@ -172,13 +167,7 @@ history_asked rules f g = if g.book.is_broken then history_of (readying rules f 
 
 -- one that isn't is taken in
 fresh_taken : (rules : Rules) (now : ℕ) (f : Fortune) (m : Message) (g : Gateway) → is_expired (history_asked rules f g) m ≡ false → delivered rules now f m g ≡ taken_in rules now f m g
-fresh_taken rules now f m g fresh = ap (λ (moved : Moved). if g.is_down then still g else moved) (by g.book.is_broken fresh)
-  where
-    by : (b : Bool) → is_expired (if b then history_of (readying rules f g).gateway.book else history_of g.book) m ≡ false
-        → ◌≡◌ {A = Moved} (if b then delivered_broken rules now f m g else delivered_running rules now f m g)
-        (followed (readying rules f g) (if_broken (if b then still else failed m) (answered rules now m)))
-    by true e = ap (λ (c : Bool). followed (readying rules f g) (if_broken still (λ (a : Gateway). if c then still a else answered rules now m a))) e
-    by false e = ap (λ (c : Bool). if c then still g else followed (readying rules f g) (if_broken (failed m) (answered rules now m))) e
+fresh_taken rules now f m g fresh = grind arith
 
 -- that history lies between its firm part and all that it holds
 asked_between : (rules : Rules) (f : Fortune) (g : Gateway) → IsBetween g.book.firm g.book.rest (history_asked rules f g)
@@ -289,10 +278,8 @@ module _ (laws : Laws) (numbers : Numbers) (sent : RequestsSent) (w : World) (re
     deeds_after : (scene_after made_after.happenings).deeds ip
         ≡ deeds_of ip (values_in w place) (log_of setup (call.Tick ∷ rightly.calls))
     deeds_after =
-        ap (λ (s : Scene). s.deeds ip) made_after.is ∙ made_after.shows.deeds place
-        ∙ ap (λ (o : Option (List LogEntry)). deeds_of ip (values_in w place) (log_or o))
-        (get_set w.nodes place (ticking (length w.gateways) place log).log log there)
-        ∙ ap (λ (l : List LogEntry). deeds_of ip (values_in w place) (log_after (length w.gateways) place call.Tick l)) rightly.is
+        grind (arith, made_after.is, made_after.shows.deeds place, rightly.is,
+        get_set w.nodes place (ticking (length w.gateways) place log).log log there)
 
     module _ (m : Message) (g : Gateway) (h : List HistoryEntry) (is : Contains (sends log) m) (here : slice_get w.gateways m.gateway ≡ Some g)
         (between : IsBetween g.book.firm g.book.rest h) where
@@ -314,29 +301,15 @@ module _ (laws : Laws) (numbers : Numbers) (sent : RequestsSent) (w : World) (re
       low_start =
           let truly = (reached_lives laws w reached_so).gateways m.gateway g here in
           let own : ip - first_node_ip ≡ place = omega arith in
-          omega (
-            arith,
-            start_rises ip h between.back.more (subst StartsRise between.back.is truly.rises),
-            ap (start_of ip) between.back.is,
-            truly.low ip,
-            ap (λ (p : ℕ). starts_in (log_at w p)) own,
-            ap starts_in log_is,
-          )
+          grind (arith, start_rises ip h between.back.more (subst StartsRise between.back.is truly.rises), truly.low ip, own, log_is, between.back.is)
 
       -- and one that is alive knows this one as the present one
       alive_present : is_alive (paths_of 1 log) m.gateway ≡ true → start_of ip h ≡ starts_in log
       alive_present alive =
           let lives = reached_lives laws w reached_so in
-          let known = subst (λ (l : List LogEntry). is_alive (paths_of 1 l) m.gateway ≡ true
-          → starts_in l ≤ start_of ip (firm_in w m.gateway)) log_is (lives.alive place m.gateway) alive in
           let rises = subst StartsRise between.back.is (lives.gateways m.gateway g here).rises in
-          omega (
-            arith,
-            known,
-            ap (start_of ip) (firm_there w m.gateway g here),
-            front_low ip g.book.firm between.back.more h rises between.front,
-            low_start,
-          )
+          grind (arith, lives.alive place m.gateway, log_is, firm_there w m.gateway g here,
+          front_low ip g.book.firm between.back.more h rises between.front, low_start)
 
       -- so neither a request is expired there, nor another message
       request_fresh : is_request m ≡ true → is_expired h m ≡ false
@@ -344,10 +317,7 @@ module _ (laws : Laws) (numbers : Numbers) (sent : RequestsSent) (w : World) (re
           let asked = asks m is request in
           let start = alive_present (subst (λ (l : List LogEntry). is_alive (paths_of 1 l) m.gateway ≡ true) (sym rightly.is)
           (open_alive setup rightly.calls running m.gateway asked.number asked.is)) in
-          fresh_message h m (ap (λ (n : ℕ). start_of (node_ip n) h) asked.of_node ∙ start ∙ sym asked.of_start)
-          (ap (λ (n : ℕ). nearest (top_of (node_ip n) h) (about m % 65536)) asked.of_node
-          ∙ ap (λ (n : ℕ). nearest (top_of ip h) (n % 65536)) asked.about_is
-          ∙ read asked.number start asked.is ∙ sym asked.about_is)
+          grind (arith, nat_tests, start, asked.of_node, asked.of_start, asked.about_is, read asked.number start asked.is)
 
       each_fresh : is_expired h m ≡ false
       each_fresh = by_bool (λ (b : Bool). is_expired h m ≡ false) (is_request m) request_fresh (λ none.
@@ -410,8 +380,7 @@ module _ (laws : Laws) (numbers : Numbers) (sent : RequestsSent) (w : World) (re
         fresh = next_fresh ticking_rules t (number - 1) m (omega (arith, within)) ticks is
 
         there : (nat_lt 0 number && nat_le number (length after.messages)) ≡ true
-        there = and_from (nat_lt 0 number) (nat_le number (length after.messages)) (lt-ltb 0 number (omega (arith, within)))
-            (le-leb number (length after.messages) (omega (arith, slice_get_within after.messages (number - 1) m is, within)))
+        there = grind (arith, nat_tests, slice_get_within after.messages (number - 1) m is)
 
         by : (o : Option Gateway) → slice_get after.gateways m.gateway ≡ o
             → option_map_or (λ g. gateway_moved after m.gateway (delivered next_rules after.now next.fortune m g)) o after

@@ -1,8 +1,8 @@
 -- Each world is made by happenings, and so it files each record once, and what its messages tell is certain.
 use Rattle.once_core.proofs.LifeWorlds.{values_in, reached_made, reached_lives}
-use Rattle.std.proofs.Common.{◌≡◌, ℕ, ◌-◌, ◌≤◌, ◌==◌, List, [], ◌∷◌, length, filter, map, Option, Some, None, Contains, slice_get, refl, sym, ap, subst, ◌∙◌, arith, option_map, eq-eqb, ◌⊎◌, ◌&&◌, true, false, ⊎_elim}
+use Rattle.std.proofs.Common.{◌≡◌, ℕ, ◌-◌, ◌≤◌, ◌==◌, List, [], ◌∷◌, length, filter, map, Option, Some, None, Contains, slice_get, refl, sym, ap, subst, ◌∙◌, arith, option_map, eq-eqb, ◌⊎◌, true, false, ⊎_elim}
 use Rattle.std.specs.Option.{option_map_or}
-use Rattle.std.proofs.lemmas.Bool.{and_parts, and_from, cases_lt, eq-eqb, eqb-true}
+use Rattle.std.proofs.lemmas.Bool.{and_parts, cases_lt, eq-eqb, eqb-true}
 use Rattle.std.proofs.lemmas.List.Elements.{All-contains}
 use Rattle.std.proofs.lemmas.Option.{same_Some}
 use Rattle.gtpp_message.specs.Packet.{PacketForm}
@@ -57,10 +57,10 @@ use Rattle.once_core.proofs.CountLemmas.{IsBrought, brought}
 use Rattle.once_core.proofs.MoveLemmas.{firm_rests, holds_always}
 use Rattle.once_core.proofs.KnownLemmas.{IsAnswered, by_release_answer, by_test_answer, choice_of, filed_by_answer, fulfilled_tells, sealed_by_answer, told_by}
 use Rattle.once_core.proofs.CaseLemmas.{by_option, map_known}
+use Rattle.std.proofs.lemmas.Bool.Decides.{nat_tests}
 
 firm_of : (o : Option Gateway) → (option_map_or post_of o (record { firm = []; rest = []; waiting = [] })).firm ≡ option_map_or (λ (g : Gateway). g.book.firm) o []
-firm_of None = refl
-firm_of (Some g) = refl
+firm_of o = grind arith
 
 -- ---- the packets of one start
 
@@ -80,12 +80,6 @@ followed_as w node start packet is =
       start_is = eqb-true there.0.start start (passed (λ (p : Followed). p.start == start) (all_followed (log_at w node)) there.0 there.1);
       state_is = there.2;
     }
-
-same_as : (key : PacketKey) (node number : ℕ) → key.node.0 ≡ node → key.number ≡ number → same_key key (key_in node number key.epoch) ≡ true
-same_as key node number node_is number_is =
-    and_from ((key.node.0 == node) && (key.epoch == key.epoch)) (key.number == number)
-    (and_from (key.node.0 == node) (key.epoch == key.epoch) (eq-eqb key.node.0 node node_is) (eq-eqb key.epoch key.epoch refl))
-    (eq-eqb key.number number number_is)
 
 -- ---- each world
 
@@ -162,9 +156,7 @@ module _ (laws : Laws) (w : World) (reached : IsReached w) where
         (get_contains (forms_ever (log_at w node)) (packet.state.number - 1) packet.form form_there))
 
     records_are : records_within (value_octets packet.form) ≡ packet.form.records
-    records_are =
-        ap records_within (value_octets_are packet.form good.some)
-        ∙ ap (λ (o : Option PacketForm). option_map_or (λ form. form.records) o []) good.read
+    records_are = grind (arith, value_octets_are packet.form good.some, good.read)
 
     under : (copy : PacketCopy) (filing : FiledRecord) (of : IsFiledFor (firm_in w copy.gateway) node packet copy filing)
         → IsFiledUnder (firm_in w copy.gateway) (node_ip node) packet.start copy.number filing
@@ -204,8 +196,8 @@ module _ (laws : Laws) (w : World) (reached : IsReached w) where
       let key : key_in (node_ip one.node) a.copy.number a.is.epoch ≡ key_in (node_ip other.node) b.copy.number b.is.epoch = sym key_a.0 ∙ key_b.0 in
       let ip : node_ip one.node ≡ node_ip other.node = ap (λ (k : PacketKey). k.node.0) key in
       let node : one.node ≡ other.node = omega (arith, ip) in
-      let number : a.copy.number ≡ b.copy.number = ap (λ (k : PacketKey). k.number) key in
-      let epoch : a.is.epoch ≡ b.is.epoch = ap (λ (k : PacketKey). k.epoch) key in
+      let number : a.copy.number ≡ b.copy.number = cc in
+      let epoch : a.is.epoch ≡ b.is.epoch = cc in
       let begun : epoch_with (node_ip one.node) b.packet.start (firm_in w gateway) ≡ Some a.is.epoch =
       ap (λ (n : ℕ). epoch_with n b.packet.start (firm_in w gateway)) ip ∙ b.is.begun ∙ ap (λ (n : ℕ). Some n) (sym epoch) in
       let start : b.packet.start ≡ a.packet.start = start_is_one (node_ip one.node) b.packet.start a.packet.start a.is.epoch (firm_in w gateway) begun a.is.begun in
@@ -332,7 +324,7 @@ module _ (laws : Laws) (w : World) (reached : IsReached w) where
       of : IsBrought made.scene.letters place filing.key (made.scene.posts place).firm filing
       of = brought made.scene.letters place filing.key (made.scene.posts place).firm (firm_rests made.scene.letters place (made.scene.posts place) (holds.posts place)) filing
           (subst (λ (h : List HistoryEntry). Contains (filed h) filing) (sym (firm_at place)) kept)
-          (same_as filing.key filing.key.node.0 filing.key.number refl refl)
+          (grind (arith, nat_tests))
 
       letter : Letter
       letter = record { node = filing.key.node.0; start = of.backed.start; gateway = place; port = of.backed.asked.port; number = filing.key.number; says = Asks (Sends of.plain of.octets) }
@@ -350,13 +342,9 @@ module _ (laws : Laws) (w : World) (reached : IsReached w) where
           record {
             copy_is = subst (λ (p : PacketState). Contains p.copies at.copy) (sym own.state_is) at.among;
             epoch = filing.key.epoch;
-            begun = ap (λ (n : ℕ). epoch_with n own.of.start (firm_in w at.copy.gateway)) (sym same)
-                ∙ ap (λ (s : ℕ). epoch_with filing.key.node.0 s (firm_in w at.copy.gateway)) own.start_is
-                ∙ ap (λ (q : ℕ). epoch_with filing.key.node.0 of.backed.start (firm_in w q)) at.gateway_is
-                ∙ ap (epoch_with filing.key.node.0 of.backed.start) (sym (firm_at place)) ∙ of.backed.begun;
+            begun = grind (arith, same, own.start_is, at.gateway_is, firm_at place, of.backed.begun);
             kept = subst (λ (q : ℕ). Contains (filed (firm_in w q)) filing) (sym at.gateway_is) kept;
-            key_is = and_from (same_key filing.key (key_in (node_ip node) at.copy.number filing.key.epoch)) (filing.index == filing.index)
-                (same_as filing.key (node_ip node) at.copy.number same (sym at.number_is)) (eq-eqb filing.index filing.index refl);
+            key_is = grind (arith, nat_tests, same, at.number_is);
           } in
           record {
             node = node;
