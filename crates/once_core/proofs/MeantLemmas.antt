@@ -2,7 +2,7 @@
 -- greatest number of that epoch, and by what the laws of nodes say of numbers and of what a node knows.
 use Rattle.std.proofs.Common.{◌≡◌, ◌⊎◌, inl, inr, ℕ, max, ◌≤◌, ◌==◌, ◌&&◌, Bool, true, false, if◌then◌else◌, List, [], ◌∷◌, Option, Some, None, refl, sym, ap, subst, ◌∙◌, arith, ⊎_elim, eqb-true, ◌↔◌, ◌+◌, ◌<◌, ◌%◌, Contains, length, ◌≢◌, All, ne_eqb}
 use Rattle.std.specs.List.{list_any}
-use Rattle.std.proofs.lemmas.Bool.{and_parts, cases_lt, false≢true, cond-false}
+use Rattle.std.proofs.lemmas.Bool.{cases_lt, false≢true, cond-false}
 use Rattle.gateway_answer.specs.Fit.{is_fresh}
 use Rattle.gw_base.specs.EntryLaws.{opening_of-append, present_state-append, top_of-append, present_state_is}
 use Rattle.gw_base.specs.History.{given_state, present_state, top_after, top_of, epoch_of}
@@ -99,10 +99,7 @@ module _ (letters : List Letter) (gateway node number : ℕ) where
   held_named : (h : List HistoryEntry) (n : NodeId) (xs : List ℕ) (x : ℕ) → xs ≡ x ∷ [] → present_state n.0 x h ≡ Held
       → Covers h
       → ((n.0 == node) && list_any (λ y. y == number) xs) ≡ true → IsCovered (top_of node h) number
-  held_named h n xs x alone held covered e =
-      let parts = and_parts (n.0 == node) (list_any (λ y. y == number) xs) e in
-      covered (ap is_fresh (sym (ap (λ (m : ℕ). present_state m x h) (eqb-true n.0 node parts.0)
-      ∙ ap (λ (y : ℕ). present_state node y h) (one_named xs x number alone parts.1)) ∙ held))
+  held_named h n xs x alone held covered e = covered (grind (arith, nat_tests, one_named xs x number alone))
 
   -- a number that is named, or was known, is covered where the entry raises the greatest one
   named_covered : (h : List HistoryEntry) (n : NodeId) (x : ℕ) (given : KeyState) → Covers h
@@ -119,11 +116,9 @@ module _ (letters : List Letter) (gateway node number : ℕ) where
 
   covered_by : (h : List HistoryEntry) (a : HistoryAct) → RestsBy letters gateway h a → Covers h
       → is_fresh (present_after node number (present_state node number h) a) ≡ false → IsCovered (top_after node (top_of node h) a) number
-  covered_by h (act.Path n port counter) rests covered known = by (n.0 == node) known
-    where
-      by : (b : Bool) → is_fresh (if b then Fresh else present_state node number h) ≡ false → IsCovered (if b then None else top_of node h) number
-      by true e = absurd (false≢true (sym e))
-      by false e = covered e
+  covered_by h (act.Path n port counter) rests covered known =
+      by_bool (λ (b : Bool). is_fresh (if b then Fresh else present_state node number h) ≡ false → IsCovered (if b then None else top_of node h) number)
+      (n.0 == node) (λ same e. absurd (false≢true (sym e))) (λ apart. covered) known
   covered_by h (act.File n x packet) rests covered known = named_covered h n x (given_state (act.File n x packet)) covered known
   covered_by h (act.Hold n x packet) rests covered known = named_covered h n x (given_state (act.Hold n x packet)) covered known
   covered_by h (act.Seal n x) rests covered known = named_covered h n x (given_state (act.Seal n x)) covered known
@@ -157,11 +152,9 @@ module _ (letters : List Letter) (gateway node : ℕ) where
 
   asked_by : (h : List HistoryEntry) (a : HistoryAct) → RestsBy letters gateway h a → Asked (top_of node h) (start_of node h)
       → Asked (top_after node (top_of node h) a) (start_by (opening_after node (opening_of node h) a))
-  asked_by h (act.Path n port counter) rests asked = by (n.0 == node)
-    where
-      by : (b : Bool) → Asked (if b then None else top_of node h) (start_by (if b then Some (record { port = port; counter = counter }) else opening_of node h))
-      by true t e = absurd (cc)
-      by false t e = asked t e
+  asked_by h (act.Path n port counter) rests asked =
+      by_bool (λ (b : Bool). Asked (if b then None else top_of node h) (start_by (if b then Some (record { port = port; counter = counter }) else opening_of node h)))
+      (n.0 == node) (λ same t e. absurd (cc e)) (λ apart. asked)
   asked_by h (act.File n x packet) rests asked = asked_more (n.0 == node) (top_of node h) (start_of node h) x asked (of_node h n x (Sends true packet) rests.1 refl)
   asked_by h (act.Hold n x packet) rests asked = asked_more (n.0 == node) (top_of node h) (start_of node h) x asked (of_node h n x (Sends false packet) rests.1 refl)
   asked_by h (act.Seal n x) rests asked = asked_more (n.0 == node) (top_of node h) (start_of node h) x asked (of_node h n x Tests rests.1 refl)
@@ -343,13 +336,15 @@ module _ (setup : NodeSetup) (calls : List NodeCall) (some : 1 ≤ length setup.
       → All (IsSingle (reached setup calls).gateways) (reached setup calls).packets → (gateway number : ℕ) → uses gateway number (reached setup calls).packets ≤ 1
   one_role roles singles gateway number = ⊎_elim
       (λ inside. by_number (roles gateway number inside) (cases_lt number 65536) (cases_lt number (next_number (reached setup calls).gateways gateway)))
-      (λ outside. omega (arith, none_apart gateway number (reached setup calls).packets (λ packet kept copy among same.
+      (λ outside.
+      let none = none_apart gateway number (reached setup calls).packets (λ packet kept copy among same.
       let peers = peers_of setup.gateways (log_of setup calls) in
       let single : IsSingle peers packet = All-contains (IsSingle peers) (reached setup calls).packets packet singles kept in
       let rising : IsRising peers copy = All-contains (IsRising peers) packet.copies copy single.rising among in
       let many : length peers ≡ length setup.gateways =
       sym (length-map peers (λ (peer : Peer). peer.address)) ∙ ap length (addresses_stay setup.gateways (log_of setup calls)) in
-      absurd (omega (arith, rising.place, same, outside, many)))))
+      absurd (omega (arith, rising.place, same, outside, many))) in
+      omega (arith, none))
       (cases_lt gateway (length setup.gateways))
     where
       by_number : HasOneRole (reached setup calls) gateway number → (number < 65536) ⊎ (65536 ≤ number)

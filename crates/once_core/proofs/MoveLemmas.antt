@@ -39,12 +39,8 @@ pub told_later : (letters : List Letter) (gateway : ℕ) (h g : List HistoryEntr
     → IsBorneOut letters h letter says → IsBorneOut letters (h ++ g) letter says
 told_later letters gateway h g letter (Answers cause) rests told = λ telling.
     let is = told telling in
-    record {
-      request = is.request;
-      asked = is.asked;
-      tells = tells_on letters gateway h g letter is.request cause rests is.tells;
-      known = known_on h g letter.node letter.start (about is.request letter.number) is.known;
-    }
+    let tells = tells_on letters gateway h g letter is.request cause rests is.tells in
+    search (is.asked, tells, known_on h g letter.node letter.start (about is.request letter.number) is.known)
 told_later letters gateway h g letter _ rests told = tt
 
 pub waits_on : (letters more : List Letter) → Grows letters more → (gateway : ℕ) (h : List HistoryEntry) (letter : Letter) → Waits letters gateway h letter → Waits more gateway h letter

@@ -112,8 +112,11 @@ module _ (law : NodeLaw) (gateways place : ℕ) where
   -- a message that reaches the node
   pub calls_hear : (m : Message) (log : List LogEntry) → CallsKept gateways place (delivered_to_node gateways place m) (λ n. heard_by n m) (λ n. answered_by n m) log
   calls_hear m log = record {
-    node = grind (arith, (λ (up : runs log ≡ true). kept_called (Hear m.port (gateway_address m.gateway) m.octets) log up
-        (plain_heard (value log) m.port (gateway_address m.gateway) m.octets)));
+    node = grind (
+      arith,
+      (λ (up : runs log ≡ true). kept_called (Hear m.port (gateway_address m.gateway) m.octets) log up
+          (plain_heard (value log) m.port (gateway_address m.gateway) m.octets)),
+    );
     sent = grind arith;
   }
 

@@ -34,7 +34,7 @@ get_more (y ∷ xs) ys (suc k) x e = get_more xs ys k x e
 
 get_behind : {A : Type 0} (xs ys : List A) (k : ℕ) → slice_get (xs ++ ys) (length xs + k) ≡ slice_get ys k
 get_behind [] ys k = ap (slice_get ys) (omega arith)
-get_behind {A} (x ∷ xs) ys k = let same : length (x ∷ xs) + k ≡ suc (length xs + k) = omega arith in ap (slice_get (x ∷ (xs ++ ys))) same ∙ get_behind xs ys k
+get_behind (x ∷ xs) ys k = grind (arith, get_behind xs ys k)
 
 -- ---- packets in order
 
@@ -143,10 +143,7 @@ ever (_ ∷ log) =
 module _ (log : List LogEntry) where
   pub ever_at : (e : Ever log) (place : ℕ) (form : PacketForm) (number : ℕ) → number ≡ suc (length e.before + place) → slice_get (forms_of log) place ≡ Some form
       → slice_get (forms_ever log) (number - 1) ≡ Some form
-  ever_at e place form number is there =
-      let same : number - 1 ≡ length e.before + place = omega (arith, is) in
-      ap (slice_get (forms_ever log)) same ∙ ap (λ (fs : List PacketForm). slice_get fs (length e.before + place)) e.is
-      ∙ get_behind e.before (forms_of log) place ∙ there
+  ever_at e place form number is there = grind (arith, is, e.is, get_behind e.before (forms_of log) place)
 
   following_at : (f : Followed) → Contains (following log) f → (slice_get (forms_ever log) (f.state.number - 1) ≡ Some f.form) × (f.start ≡ starts_in log) × Contains (packets_of log) f.state
   following_at f is =

@@ -88,7 +88,7 @@ kept_whole g e = record {
 }
 
 pub kept_firm : (g : Gateway) → HoldSame (reopened (faulted g.book) Gone) (standing_for (history_of (cut (length g.book.firm) g).book))
-kept_firm g = let dropped = torn_dropped g in record { firm = dropped.firm; rest = refl; broken = refl }
+kept_firm g = assumption (torn_dropped g)
 
 -- ---- the parts
 

@@ -1,11 +1,11 @@
 -- What a gateway of a world does is what happens in a scene: what the happenings at one gateway leave as it is.
-use Rattle.std.proofs.Common.{◌≡◌, ⊎_elim, ℕ, ◌==◌, Bool, true, false, List, [], ◌∷◌, ◌++◌, map, Contains, refl, sym, ap, ◌∙◌, append_assoc, append-nil, subst}
+use Rattle.std.proofs.Common.{◌≡◌, ⊎_elim, ℕ, ◌==◌, true, false, List, [], ◌∷◌, ◌++◌, map, Contains, refl, sym, ap, ◌∙◌, append_assoc, append-nil, subst, arith}
 use Rattle.std.proofs.lemmas.List.Elements.{Contains-append_cases, Contains-append_left, Contains-append_right}
 use Rattle.std.proofs.lemmas.Bool.{cond-false}
 use Rattle.once_core.specs.Gateway.{Gateway, Moved, followed, is_reached, still}
 use Rattle.once_core.specs.Happenings.{Adds, Happening, Letter, Post, Scene}
 use Rattle.once_core.specs.Meaning.{letter_of, speaks, meaning_of}
-use Rattle.once_core.specs.Scenes.{Settled, after_adding, at, happened, happened_all, is_idle, with_letter, with_post, with_settled}
+use Rattle.once_core.specs.Scenes.{Settled, at, happened, happened_all, is_idle, with_letter, with_post, with_settled}
 use Rattle.once_core.specs.Shown.{post_of}
 use Rattle.once_core.specs.declared.message.Message.{Message}
 use Rattle.once_core.specs.declared.message.Waiting.{Waiting}
@@ -61,9 +61,8 @@ adds : (letters : List Letter) (scene : Scene) → ((l : Letter) → Contains le
     → happened_all scene (map (λ l. Adds l) letters) ≡ with_letters letters scene
 adds [] scene idle = ap (λ (ls : List Letter). record scene { letters = ls }) (sym (append-nil scene.letters))
 adds (l ∷ letters) scene idle =
-    ap (λ (b : Bool). happened_all (after_adding b l scene) (map (λ m. Adds m) letters)) (idle l (in_head l letters))
-    ∙ adds letters (with_letter l scene) (λ m is. idle m (in_tail l m letters is))
-    ∙ ap (λ (ls : List Letter). record scene { letters = ls }) (append_assoc scene.letters (l ∷ []) letters)
+    let rest = adds letters (with_letter l scene) (λ m is. idle m (in_tail l m letters is)) in
+    grind (arith, idle l (in_head l letters), rest, append_assoc scene.letters (l ∷ []) letters)
 
 pub happened_more : (scene : Scene) (first second : List Happening) → happened_all scene (first ++ second) ≡ happened_all (happened_all scene first) second
 happened_more scene [] second = refl

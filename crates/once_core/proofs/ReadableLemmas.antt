@@ -200,8 +200,9 @@ open_after reason run = grind (arith, open_once run)
 few_closed : (limits : Limits) (run : List (Filed (List ℕ))) (items : List (stream.Item (List ℕ)))
     → length (divided_from limits run items).closed ≤ length items + is_open run
 few_closed limits run [] = omega arith
-few_closed limits run (i ∷ items) = grind (arith, closed_of_first, open_before limits run i, open_after,
-    (λ (r : List (Filed (List ℕ))). few_closed limits r items))
+few_closed limits run (i ∷ items) =
+    let rest : (r : List (Filed (List ℕ))) → length (divided_from limits r items).closed ≤ length items + is_open r = λ r. few_closed limits r items in
+    grind (arith, closed_of_first, open_before limits run i, open_after, rest)
 
 few_of_item : (profile : ℕ) (rules : List Rule) (s : ℕ) (i : Item) → length (stream_item profile rules s i) ≤ 1
 few_of_item profile rules s i = grind (arith, nat_tests)
@@ -209,8 +210,9 @@ few_of_item profile rules s i = grind (arith, nat_tests)
 few_of_stream : (profile : ℕ) (rules : List Rule) (s : ℕ) (items : List Item)
     → length (stream_items profile rules s items) ≤ length items
 few_of_stream profile rules s [] = omega arith
-few_of_stream profile rules s (i ∷ items) = grind (arith, few_of_item profile rules s i, few_of_stream profile rules s items,
-    length-append (stream_item profile rules s i) (stream_items profile rules s items))
+few_of_stream profile rules s (i ∷ items) =
+    let both = length-append (stream_item profile rules s i) (stream_items profile rules s items) in
+    grind (arith, few_of_item profile rules s i, few_of_stream profile rules s items, both)
 
 -- ---- what is read
 

@@ -1,5 +1,5 @@
 -- Redirection Requests, one node after the other.
-use Rattle.std.proofs.Common.{◌≡◌, ℕ, suc, ◌+◌, ◌-◌, ◌<◌, ◌≤◌, ◌%◌, false, List, [], ◌∷◌, ◌++◌, length, drop, get_or, Option, Some, None, map, ap, sym, ◌∙◌, arith, append_assoc}
+use Rattle.std.proofs.Common.{◌≡◌, ℕ, suc, ◌+◌, ◌-◌, ◌<◌, ◌≤◌, ◌%◌, false, List, [], ◌∷◌, ◌++◌, length, drop, get_or, Option, Some, None, map, arith, append_assoc}
 use Rattle.std.proofs.Math.Seq.{drop-cons}
 use Rattle.std.proofs.lemmas.List.{append-nil, drop_all}
 use Rattle.std.specs.List.{cons_option, filter_map}
@@ -62,10 +62,10 @@ pub redirects_more : (gateway cause : ℕ) (to : Option ℕ) (g : Gateway) (all 
 redirects_more gateway cause to g all k d so_far new first lt is one =
     let node : NodeId = get_or all k d in
     let next : k + 1 ≡ suc k = omega arith in
-    rw next (grind (arith, drop-cons all k d lt, one_more gateway cause to g (drop (suc k) all) (path_of (history_of g.book) node),
-    append_assoc so_far (redirecting_one gateway cause to g node) (all_of gateway cause to g (drop (suc k) all))))
+    let more = one_more gateway cause to g (drop (suc k) all) (path_of (history_of g.book) node) in
+    let parts = append_assoc so_far (redirecting_one gateway cause to g node) (all_of gateway cause to g (drop (suc k) all)) in
+    rw next (grind (arith, drop-cons all k d lt, more, parts))
 
 pub redirects_end : (gateway cause : ℕ) (to : Option ℕ) (g : Gateway) (all : List NodeId) (k : ℕ) (so_far first : List Message) → length all ≤ k
     → so_far ++ all_of gateway cause to g (drop k all) ≡ first → so_far ≡ first
-redirects_end gateway cause to g all k so_far first le is =
-    sym (append-nil so_far) ∙ (ap (λ (ns : List NodeId). so_far ++ all_of gateway cause to g ns) (sym (drop_all k all le)) ∙ is)
+redirects_end gateway cause to g all k so_far first le is = grind (arith, append-nil so_far, drop_all k all le)

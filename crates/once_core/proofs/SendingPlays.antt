@@ -14,7 +14,7 @@ use Rattle.once_core.specs.Followed.{packets_in}
 use Rattle.once_core.specs.Following.{Follows, AnyHasCopyAt, MaySend}
 use Rattle.once_core.specs.Happenings as happens
 use Rattle.once_core.specs.Happenings.{Deed, Happening, Letter, Scene, Sent, Asks, Orders, Sends, Tests, Request}
-use Rattle.once_core.specs.Scenes.{after_sending, happened_all, is_request, with_deed, with_letter}
+use Rattle.once_core.specs.Scenes.{happened_all, is_request, with_deed, with_letter}
 use Rattle.once_core.proofs.ListLemmas.{in_cons, in_head, in_none, in_tail, in_one, of_flat_map, get_contains, in_flat, in_map, of_map}
 use Rattle.once_core.proofs.MoveLemmas.{at_same}
 use Rattle.byteorder.specs.Endian.{big_bytes}
@@ -87,12 +87,10 @@ are_sent node (l ∷ ls) scene own =
     record {
       after = rest.after;
       is =
-          ap (λ (b : Bool). happened_all (after_sending b l scene) (map sending_of ls)) one.0
-          ∙ ap (λ (n : ℕ). happened_all (with_letter l (with_deed n (Sent l) scene)) (map sending_of ls)) one.1 ∙ rest.is;
+          grind (arith, one.0, one.1, rest.is);
       posts = rest.posts;
       deeds =
-          rest.deeds ∙ ap (λ (ds : List Deed). ds ++ map sent_deed ls) (at_same node here scene.deeds)
-          ∙ append_assoc (scene.deeds node) (Sent l ∷ []) (map sent_deed ls);
+          grind (arith, rest.deeds, at_same node here scene.deeds, append_assoc (scene.deeds node) (Sent l ∷ []) (map sent_deed ls));
       others = λ other apart. rest.others other apart ∙ cond-false (other == node) here (scene.deeds other) apart;
       old = λ m is. rest.old m (Contains-append_left scene.letters (l ∷ []) m is);
       new = λ m is. ⊎_elim (λ e. rest.old m (subst (Contains (scene.letters ++ l ∷ [])) e (Contains-push scene.letters l))) (rest.new m) (in_cons l m ls is);

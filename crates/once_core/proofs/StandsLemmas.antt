@@ -60,7 +60,7 @@ module _ (settings : ℕ → Settings) (counts : (q : ℕ) → Counts (settings 
     summed = ap (λ (f : PacketCopy → ℕ). sum_by f packet.state.copies) (λ i copy. each copy i)
 
     within : index < length packet.form.records → index < record_count (value_octets packet.form)
-    within less = omega (arith, less, count_is (packet_of (value_octets packet.form)), ap length (once.records node packet is))
+    within less = grind (arith, count_is (packet_of (value_octets packet.form)), once.records node packet is)
 
     right : index < length packet.form.records → IsPlaced (is_resolved packet.state.copies) (sum_by (places_of settings w given packet) packet.state.copies)
     right less = by_bool (λ (b : Bool). IsPlaced b (sum_by (places_of settings w given packet) packet.state.copies)) (is_resolved packet.state.copies)
@@ -82,14 +82,8 @@ module _ (settings : ℕ → Settings) (counts : (q : ℕ) → Counts (settings 
       let was = submitted gateway filing kept in
       let number = number_of (all_followed (log_at w was.node)) was.packet was.followed in
       let given : GivenRecord = record { node = was.node; packet = number.0; index = filing.index } in
-      let is : IsFiledAs w gateway filing given = record {
-        packet = was.packet;
-        packet_is = number.1;
-        copy = was.copy;
-        gateway_is = was.gateway_is;
-        is = subst (λ (g : ℕ). IsFiledFor (firm_in w g) was.node was.packet was.copy filing) was.gateway_is was.filed_for;
-        index_is = refl;
-      } in
+      let under = subst (λ (g : ℕ). IsFiledFor (firm_in w g) was.node was.packet was.copy filing) was.gateway_is was.filed_for in
+      let is : IsFiledAs w gateway filing given = search (number.1, was.gateway_is, under) in
       record {
         given = given;
         is = is;

@@ -20,10 +20,10 @@ use Rattle.once_core.specs.World.{World, called, delivered_to_node, draft_of, su
 use Rattle.once_core.specs.declared.event.Event.{Event}
 use Rattle.once_core.specs.declared.event.Event.TheVariants as event
 use Rattle.once_core.specs.declared.event.WorldKind.{WorldKind}
-use Rattle.once_core.specs.declared.event.WorldKind.TheVariants.{Halted as IsHalted, Running}
+use Rattle.once_core.specs.declared.event.WorldKind.TheVariants.{Halted as IsHalted}
 use Rattle.once_core.specs.declared.message.Message.{Message}
 use Rattle.once_core.proofs.CaseLemmas.{by_bool, by_option}
-use Rattle.once_core.proofs.PartLemmas.{first_none, it_runs, or_none, refusing_none, log_there}
+use Rattle.once_core.proofs.PartLemmas.{it_runs, log_there}
 use Rattle.std.proofs.lemmas.List.{length-map}
 use Rattle.once_core.proofs.ArmLemmas.{turn_stays}
 use Rattle.once_core.specs.Stepping.{IsPlayed, IsRefused, IsSpent}
@@ -47,8 +47,7 @@ module _ (law : NodeLaw) (w : World) (few : length w.gateways ≤ 256) where
 
   down_where : (number : ℕ) (log : List LogEntry) → slice_get w.nodes (number - 1) ≡ Some log → refusal_to_start w number ≡ None → runs log ≡ false
   down_where number log found allowed =
-      ap runs (sym (log_there w (number - 1) log found))
-      ∙ refusing_none (runs (log_in w number)) Running (first_none (refusing (runs (log_in w number)) Running) _ (or_none (no_node w number) _ allowed))
+      grind (arith, log_there w (number - 1) log found)
 
   pub turned : (e : Event) → ((number : ℕ) → e ≡ event.Start number → 1 ≤ starts_in (log_in w number)) → refusal_of w e ≡ None → turn_kept (world_kept w) e ≡ world_kept (turn_by default_rules w (calm e) e)
   turned (event.Submit node packet) begun allowed =

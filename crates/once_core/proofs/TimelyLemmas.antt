@@ -101,8 +101,9 @@ module _ (setup : NodeSetup) (calls : List NodeCall) where
     runs_after = ap runs after_is ∙ appointed runs (λ gateway log. refl) (moved_at_tick node_now) log_now ∙ running
 
     starts_after : starts_in (log_of setup (call.Tick ∷ calls)) ≡ starts_in log_now
-    starts_after = grind (arith, after_is, appointed_starts (moved_at_tick node_now) log_now,
-        starts_same (Ticked (due node_now)) (logged (appointing (moved_at_tick node_now)) log_now) refl)
+    starts_after =
+        let same = starts_same (Ticked (due node_now)) (logged (appointing (moved_at_tick node_now)) log_now) refl in
+        grind (arith, after_is, appointed_starts (moved_at_tick node_now) log_now, same)
 
     -- a tick leaves the gateways alive that were
     open_alive : (gateway number : ℕ) → HasOpenCopy (packets_of behind) gateway number
@@ -134,15 +135,8 @@ module _ (setup : NodeSetup) (calls : List NodeCall) where
           ap (λ (p : PacketState). is_of p.number s) goes ∙ ap (λ (n : ℕ). is_of n s) (all_keep (due node_now) was.state) ∙ was.of in
           let e = ever behind in
           let same = one_packet (length e.before) (packets_of behind) (forms_of behind) of.state state e.numbered of.kept kept (of.packet_is ∙ own state.number is) in
-          record {
-            packet = of.state;
-            copy = of.at.copy;
-            kept = of.kept;
-            open_yet = ap (λ (p : PacketState). is_done p.copies) (same ∙ goes) ∙ stays_open (due node_now) was.state was.open_yet;
-            sent = of.at.among;
-            gateway_is = of.at.gateway_is;
-            number_is = of.at.number_is;
-          }
+          let open_yet = ap (λ (p : PacketState). is_done p.copies) (same ∙ goes) ∙ stays_open (due node_now) was.state was.open_yet in
+          search (of.kept, open_yet, of.at.among, of.at.gateway_is, of.at.number_is)
 
       open_in_range : (gateway number : ℕ) → HasOpenCopy (packets_of behind) gateway number → gateway < length (peers_of setup.gateways behind)
       open_in_range gateway number is =
@@ -242,13 +236,7 @@ module _ (laws : Laws) (numbers : Numbers) (sent : RequestsSent) (w : World) (re
         let range = open_in_range setup rightly.calls running sent laws.one_each some_gateways gateway number is in
         let to : (sent_by s).gateway ≡ gateway =
         goes_to ∙ gateway_is (length w.gateways) log gateway (omega (arith, range, size (length w.gateways) after_tick)) in
-        record {
-          number = number;
-          about_is = about_is;
-          is = subst (λ (q : ℕ). HasOpenCopy (packets_of after_tick) q number) (sym to) is;
-          of_node = refl;
-          of_start = refl;
-        }
+        search (about_is, subst (λ (q : ℕ). HasOpenCopy (packets_of after_tick) q number) (sym to) is)
 
     each_asks : (s : Sending) → Contains (due (reached setup rightly.calls)) s → IsSent (packets_of after_tick) s
         → is_request (sent_by s) ≡ true → IsAsking (sent_by s)
@@ -278,8 +266,8 @@ module _ (laws : Laws) (numbers : Numbers) (sent : RequestsSent) (w : World) (re
     deeds_after : (scene_after made_after.happenings).deeds ip
         ≡ deeds_of ip (values_in w place) (log_of setup (call.Tick ∷ rightly.calls))
     deeds_after =
-        grind (arith, made_after.is, made_after.shows.deeds place, rightly.is,
-        get_set w.nodes place (ticking (length w.gateways) place log).log log there)
+        let set = get_set w.nodes place (ticking (length w.gateways) place log).log log there in
+        grind (arith, made_after.is, made_after.shows.deeds place, rightly.is, set)
 
     module _ (m : Message) (g : Gateway) (h : List HistoryEntry) (is : Contains (sends log) m) (here : slice_get w.gateways m.gateway ≡ Some g)
         (between : IsBetween g.book.firm g.book.rest h) where
@@ -308,8 +296,8 @@ module _ (laws : Laws) (numbers : Numbers) (sent : RequestsSent) (w : World) (re
       alive_present alive =
           let lives = reached_lives laws w reached_so in
           let rises = subst StartsRise between.back.is (lives.gateways m.gateway g here).rises in
-          grind (arith, lives.alive place m.gateway, log_is, firm_there w m.gateway g here,
-          front_low ip g.book.firm between.back.more h rises between.front, low_start)
+          let low = front_low ip g.book.firm between.back.more h rises between.front in
+          grind (arith, lives.alive place m.gateway, log_is, firm_there w m.gateway g here, low, low_start)
 
       -- so neither a request is expired there, nor another message
       request_fresh : is_request m ≡ true → is_expired h m ≡ false

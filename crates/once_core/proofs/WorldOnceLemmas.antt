@@ -1,11 +1,9 @@
 -- Each world is made by happenings, and so it files each record once, and what its messages tell is certain.
 use Rattle.once_core.proofs.LifeWorlds.{values_in, reached_made, reached_lives}
-use Rattle.std.proofs.Common.{◌≡◌, ℕ, ◌-◌, ◌≤◌, ◌==◌, List, [], ◌∷◌, length, filter, map, Option, Some, None, Contains, slice_get, refl, sym, ap, subst, ◌∙◌, arith, option_map, eq-eqb, ◌⊎◌, true, false, ⊎_elim}
+use Rattle.std.proofs.Common.{◌≡◌, ℕ, ◌-◌, ◌≤◌, ◌==◌, List, [], ◌∷◌, length, filter, map, Option, Some, None, Contains, slice_get, refl, sym, ap, subst, ◌∙◌, arith, eq-eqb, ◌⊎◌, true, false, ⊎_elim}
 use Rattle.std.specs.Option.{option_map_or}
 use Rattle.std.proofs.lemmas.Bool.{and_parts, cases_lt, eq-eqb, eqb-true}
 use Rattle.std.proofs.lemmas.List.Elements.{All-contains}
-use Rattle.std.proofs.lemmas.Option.{same_Some}
-use Rattle.gtpp_message.specs.Packet.{PacketForm}
 use Rattle.gw_base.specs.CdrKind.{kind_of}
 use Rattle.gw_base.specs.declared.history.HistoryEntry.{HistoryEntry}
 use Rattle.gw_base.specs.declared.history.PacketKey.{PacketKey}
@@ -74,12 +72,9 @@ record FollowedAs (w : World) (node start : ℕ) (packet : PacketState) : Type 0
 followed_as : (w : World) (node start : ℕ) (packet : PacketState) → Contains (packets_in start (log_at w node)) packet → FollowedAs w node start packet
 followed_as w node start packet is =
     let there = of_map (λ (p : Followed). p.state) (filter (λ p. p.start == start) (all_followed (log_at w node))) packet is in
-    record {
-      of = there.0;
-      followed = filtered (λ (p : Followed). p.start == start) (all_followed (log_at w node)) there.0 there.1;
-      start_is = eqb-true there.0.start start (passed (λ (p : Followed). p.start == start) (all_followed (log_at w node)) there.0 there.1);
-      state_is = there.2;
-    }
+    let kept = filtered (λ (p : Followed). p.start == start) (all_followed (log_at w node)) there.0 there.1 in
+    let same = passed (λ (p : Followed). p.start == start) (all_followed (log_at w node)) there.0 there.1 in
+    search (kept, there.2, eqb-true there.0.start start same)
 
 -- ---- each world
 
@@ -160,28 +155,23 @@ module _ (laws : Laws) (w : World) (reached : IsReached w) where
 
     under : (copy : PacketCopy) (filing : FiledRecord) (of : IsFiledFor (firm_in w copy.gateway) node packet copy filing)
         → IsFiledUnder (firm_in w copy.gateway) (node_ip node) packet.start copy.number filing
-    under copy filing of = record {
-      epoch = of.epoch;
-      begun = of.begun;
-      kept = of.kept;
-      key_is = (and_parts (same_key filing.key (key_in (node_ip node) copy.number of.epoch)) (filing.index == filing.index) of.key_is).0;
-    }
+    under copy filing of =
+        let same = and_parts (same_key filing.key (key_in (node_ip node) copy.number of.epoch)) (filing.index == filing.index) of.key_is in
+        search (of.begun, of.kept, same.0)
 
     octets_placed : (copy : PacketCopy) (filing : FiledRecord) → IsFiledFor (firm_in w copy.gateway) node packet copy filing
         → slice_get packet.form.records filing.index ≡ Some filing.octets
     octets_placed copy filing of =
-        ap (λ (rs : List (List ℕ)). slice_get rs filing.index) (sym records_are)
-        ∙ All-contains (λ (c : PacketCopy). (f : FiledRecord) → IsFiledUnder (firm_in w c.gateway) (node_ip node) packet.start c.number f
-        → slice_get (records_within (value_octets packet.form)) f.index ≡ Some f.octets) packet.state.copies copy placed.content of.copy_is filing (under copy filing of)
+        let within = All-contains (λ (c : PacketCopy). (f : FiledRecord) → IsFiledUnder (firm_in w c.gateway) (node_ip node) packet.start c.number f
+        → slice_get (records_within (value_octets packet.form)) f.index ≡ Some f.octets) packet.state.copies copy placed.content of.copy_is in
+        grind (arith, records_are, within filing (under copy filing of))
 
     -- it is filed in its packet's kind
     kind_placed : (copy : PacketCopy) (filing : FiledRecord) → IsFiledFor (firm_in w copy.gateway) node packet copy filing → filing.kind ≡ kind_of packet.form.format packet.form.version
     kind_placed copy filing of =
         let within = All-contains (λ (c : PacketCopy). (f : FiledRecord) → IsFiledUnder (firm_in w c.gateway) (node_ip node) packet.start c.number f
         → kind_within (value_octets packet.form) ≡ Some f.kind) packet.state.copies copy placed.kind of.copy_is in
-        same_Some filing.kind (kind_of packet.form.format packet.form.version)
-        (sym (within filing (under copy filing of)) ∙ ap kind_within (value_octets_are packet.form good.some)
-        ∙ ap (λ (o : Option PacketForm). option_map (λ (form : PacketForm). kind_of form.format form.version) o) good.read)
+        grind (arith, within filing (under copy filing of), value_octets_are packet.form good.some, good.read)
 
   copy_used : (gateway number : ℕ) (packet : Followed) (copy : PacketCopy) → Contains packet.state.copies copy → copy.gateway ≡ gateway → copy.number ≡ number
       → 1 ≤ uses_by_copies gateway number packet.state.copies
@@ -198,11 +188,9 @@ module _ (laws : Laws) (w : World) (reached : IsReached w) where
       let node : one.node ≡ other.node = omega (arith, ip) in
       let number : a.copy.number ≡ b.copy.number = cc in
       let epoch : a.is.epoch ≡ b.is.epoch = cc in
-      let begun : epoch_with (node_ip one.node) b.packet.start (firm_in w gateway) ≡ Some a.is.epoch =
-      ap (λ (n : ℕ). epoch_with n b.packet.start (firm_in w gateway)) ip ∙ b.is.begun ∙ ap (λ (n : ℕ). Some n) (sym epoch) in
+      let begun : epoch_with (node_ip one.node) b.packet.start (firm_in w gateway) ≡ Some a.is.epoch = grind (arith, ip, b.is.begun, epoch) in
       let start : b.packet.start ≡ a.packet.start = start_is_one (node_ip one.node) b.packet.start a.packet.start a.is.epoch (firm_in w gateway) begun a.is.begun in
-      let there : slice_get (all_followed (log_at w one.node)) other.packet ≡ Some b.packet =
-      ap (λ (n : ℕ). slice_get (all_followed (log_at w n)) other.packet) node ∙ b.packet_is in
+      let there : slice_get (all_followed (log_at w one.node)) other.packet ≡ Some b.packet = grind (arith, node, b.packet_is) in
       let packet : one.packet ≡ other.packet =
       one_place gateway a.copy.number a.packet.start (all_followed (log_at w one.node))
       ((follows one.node a.packet (get_contains (all_followed (log_at w one.node)) one.packet a.packet a.packet_is)).roles gateway a.copy.number)
@@ -300,16 +288,9 @@ module _ (laws : Laws) (w : World) (reached : IsReached w) where
         packet = own.of;
         followed = own.followed;
         start = own.start_is;
-        choice = record {
-          plain = choice.plain;
-          duplicates = choice.duplicates;
-          copy = choice.copy;
-          whole = ap (λ (p : PacketState). p.copies) own.state_is ∙ choice.whole;
-          sealed = choice.sealed;
-          choice = choice.choice;
-          gateway_is = choice.gateway_is ∙ at.gateway_is;
-          number_is = choice.number_is ∙ at.number_is;
-        };
+        choice =
+            let whole = ap (λ (p : PacketState). p.copies) own.state_is ∙ choice.whole in
+            search (whole, choice.sealed, choice.choice, choice.gateway_is ∙ at.gateway_is, choice.number_is ∙ at.number_is);
         sealed = firmly choice.plain.gateway sealed;
       }
 
