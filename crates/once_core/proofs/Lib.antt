@@ -7,10 +7,8 @@ pub mod FiledLemmas
 pub mod CountLemmas
 pub mod GrowingLemmas
 pub mod StateLemmas
-pub mod AdmittedLemmas
 pub mod TableLemmas
 pub mod ApartLemmas
-pub mod FileCountLemmas
 pub mod FilePlaceLemmas
 pub mod FileRunLemmas
 pub mod ForwardLemmas
@@ -35,7 +33,6 @@ pub mod NodePlays
 pub mod SendingPlays
 pub mod FollowLemmas
 pub mod FollowSentLemmas
-pub mod FollowKnownLemmas
 pub mod WorldPlays
 pub mod FirstPlays
 pub mod WorldOnceLemmas
@@ -54,10 +51,7 @@ pub mod StepLemmas
 pub mod ArmLemmas
 pub mod StartLemmas
 pub mod LifeMoves
-pub mod LifeAnswers
-pub mod AliveLemmas
 pub mod LifeNodes
 pub mod LifeWorlds
-pub mod LeadingLemmas
 pub mod StandsLemmas
 pub mod ReadableLemmas

@@ -39,7 +39,7 @@ use Rattle.once_core.specs.Beginning.{default_rules, IsReached}
 use Rattle.once_core.specs.declared.event.Event.TheVariants as event
 use Rattle.once_core.specs.declared.event.WorldKind.{WorldKind}
 use Rattle.once_core.specs.declared.message.Message.{Message}
-use Rattle.once_core.proofs.DueLemmas.{IsOfOpen, all_of_open, is_probe, one_packet, probes_are, stays_open}
+use Rattle.once_core.proofs.DueLemmas.{IsOfOpen, all_of_open, is_probe, one_packet, probes_are, stays_open, AllAlive, copies_alive}
 use Rattle.once_core.proofs.LogLemmas.{gateway_is, size, starts_same}
 use Rattle.once_core.proofs.MeantLemmas.{Numbers, meant}
 use Rattle.once_core.proofs.NodePlays.{NodeRightly, appointed_starts, appointed, tick_is, behind_tick}
@@ -56,7 +56,6 @@ use Rattle.once_core.specs.Answers.{delivered, taken_in}
 use Rattle.once_core.specs.Epochs.{StartsRise}
 use Rattle.once_core.specs.declared.event.Event.{Event}
 use Rattle.once_core.specs.declared.event.WorldKind.TheVariants.{NoMessage}
-use Rattle.once_core.proofs.AliveLemmas.{AllAlive, copies_alive}
 use Rattle.once_core.proofs.GrowingLemmas.{on, on_with}
 use Rattle.once_core.proofs.StartLemmas.{front_low, start_rises}
 use Rattle.std.proofs.lemmas.Bool.Decides.{nat_tests}
