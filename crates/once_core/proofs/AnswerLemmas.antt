@@ -1,13 +1,13 @@
 -- What a gateway records for a timely request rests on it, and its answer tells the state.
-use Rattle.std.proofs.Common.{◌≡◌, ℕ, ◌%◌, ◌==◌, ◌&&◌, ◌||◌, Bool, true, false, cond, List, [], ◌∷◌, ◌++◌, Some, None, Contains, refl, sym, subst}
-use Rattle.std.proofs.lemmas.Bool.{and_parts, and_from, or_left, eqb-true, eq-eqb, false≢true, eqb-false}
+use Rattle.std.proofs.Common.{◌≡◌, ℕ, ◌%◌, ◌==◌, ◌&&◌, ◌||◌, Bool, true, false, cond, List, [], ◌∷◌, ◌++◌, Some, None, Contains, refl, subst, arith}
+use Rattle.std.proofs.lemmas.Bool.{and_parts, eqb-true, false≢true}
 use Rattle.std.proofs.lemmas.Option.{none-some, same_Some}
 use Rattle.gw_base.specs.History.{names, present_state, top_of, given_state}
 use Rattle.gw_base.specs.Lists.{once}
 use Rattle.gw_base.specs.Nearest.{nearest}
 use Rattle.gw_base.specs.Starts.{start_of}
 use Rattle.gw_base.specs.declared.address.NodeId.{NodeId}
-use Rattle.gw_base.specs.declared.cause.TheConstants.{ACCEPTED, ALREADY_FULFILLED, DUPLICATE_ALREADY_FULFILLED, NO_RESOURCES, NOT_FULFILLED, NUMBERS_INCORRECT}
+use Rattle.gw_base.specs.declared.cause.TheConstants.{ACCEPTED, ALREADY_FULFILLED, DUPLICATE_ALREADY_FULFILLED, NO_RESOURCES, NUMBERS_INCORRECT}
 use Rattle.gw_base.specs.declared.history.Caller.{Caller}
 use Rattle.gw_base.specs.declared.history.HistoryAct.{HistoryAct}
 use Rattle.gw_base.specs.declared.history.HistoryAct.TheVariants as act
@@ -22,13 +22,13 @@ use Rattle.node_core.specs.declared.copy.Order.TheVariants as order
 use Rattle.transfer_cmd.specs.Lists.{is_held, verdict_cause, verdict_of}
 use Rattle.transfer_cmd.specs.Table.{answer_cause, state_given}
 use Rattle.transfer_cmd.specs.declared.decision.Ask.TheVariants as ask
-use Rattle.transfer_cmd.specs.declared.decision.Ask.{Ask}
 use Rattle.once_core.specs.Epochs.{StartsRise}
 use Rattle.once_core.specs.Happenings.{Asks, Letter, Orders, Request, Sends, Tests, about, cause_of, given, is_timely, node_at}
 use Rattle.once_core.specs.Resting.{IsAsked, IsKnown, IsState, RestsBy, Tells}
 use Rattle.once_core.specs.Scenes.{is_telling}
 use Rattle.once_core.proofs.ForwardLemmas.{known_given_now, known_now, state_given_now, state_now}
 use Rattle.once_core.proofs.CaseLemmas.{if_both}
+use Rattle.std.proofs.lemmas.Bool.Decides.{nat_tests}
 
 -- what an answer records rests on the request, and what it says tells the state behind it
 pub record IsSound (letters : List Letter) (h : List HistoryEntry) (letter : Letter) (request : Request) (answer : Given) : Type 0 where
@@ -53,7 +53,7 @@ module _ (letters : List Letter) (h : List HistoryEntry) (letter : Letter) (may 
   silent request cause s is used told = record {
     rests = λ a e. absurd (none-some a e);
     tells = λ now who. told;
-    known = λ telling now who. subst (λ (t : ℕ). IsKnown h letter.node t (about request letter.number)) (sym present)
+    known = λ telling now who. rw present
         (known_now h letter.node (about request letter.number) s rise is (used telling));
   }
 
@@ -65,26 +65,24 @@ module _ (letters : List Letter) (h : List HistoryEntry) (letter : Letter) (may 
       (record {
         rests = λ c e. subst (RestsBy letters letter.gateway h) (same_Some a c e) rests;
         tells = told;
-        known = λ telling now who. subst (λ (t : ℕ). IsKnown (h ++ entry_by h now who a ∷ []) letter.node t (about request letter.number)) (sym present)
+        known = λ telling now who. rw present
             (known_given_now h (entry_by h now who a) letter.node (about request letter.number) rise named);
       })
       (silent request NO_RESOURCES (state (about request letter.number)) refl (λ telling. absurd (false≢true telling)) without)
 
   -- the state now, and after an entry that names a number
   now_is : (n : ℕ) (s : KeyState) → state n ≡ s → IsState h letter.node letter.start n s
-  now_is n s is = subst (λ (t : ℕ). IsState h letter.node t n s) (sym present) (state_now h letter.node n s rise is)
+  now_is n s is = rw present (state_now h letter.node n s rise is)
 
   then_is : (now : ℕ) (who : Caller) (a : HistoryAct) (n : ℕ) → names letter.node n a ≡ true
       → IsState (h ++ entry_by h now who a ∷ []) letter.node letter.start n (given_state a)
-  then_is now who a n named =
-      let e = entry_by h now who a in
-      subst (λ (t : ℕ). IsState (h ++ e ∷ []) letter.node t n (given_state a)) (sym present) (state_given_now h e letter.node n rise named)
+  then_is now who a n named = rw present (state_given_now h (entry_by h now who a) letter.node n rise named)
 
   named : ((letter.node == letter.node) && (letter.number == letter.number)) ≡ true
-  named = and_from (letter.node == letter.node) (letter.number == letter.number) (eq-eqb letter.node letter.node refl) (eq-eqb letter.number letter.number refl)
+  named = grind (arith, nat_tests)
 
   names_one : (n : ℕ) → ((letter.node == letter.node) && ((n == n) || false)) ≡ true
-  names_one n = and_from (letter.node == letter.node) ((n == n) || false) (eq-eqb letter.node letter.node refl) (or_left (n == n) false (eq-eqb n n refl))
+  names_one n = grind (arith, nat_tests)
 
   -- the request is among the messages
   asked : (request : Request) → letter.says ≡ Asks request → IsAsked letters letter.node (start_of letter.node h) letter.gateway letter.number request
@@ -94,33 +92,28 @@ module _ (letters : List Letter) (h : List HistoryEntry) (letter : Letter) (may 
       (tabled may number (answer_cause ask.Send s) (recorded_as ask.Send node letter.number packet (state_given ask.Send s)))
   send_table packet Fresh is says = recorded (Sends true packet) (act.File node letter.number packet) (is, asked (Sends true packet) says) named
       (λ now who filing. then_is now who (act.File node letter.number packet) letter.number named) (λ filing. absurd (false≢true filing))
-  send_table packet Filed is says = silent (Sends true packet) ALREADY_FULFILLED Filed is (λ t. refl) (λ filing. now_is letter.number Filed is)
-  send_table packet Sealed is says = silent (Sends true packet) NOT_FULFILLED Sealed is (λ t. refl) (λ filing. absurd (false≢true filing))
-  send_table packet s is says = silent (Sends true packet) DUPLICATE_ALREADY_FULFILLED s is (λ t. refl) (λ filing. absurd (false≢true filing))
+  send_table packet s is says = silent (Sends true packet) (answer_cause ask.Send s) s is (λ t. refl)
+      (λ filing. search (now_is letter.number s is, false≢true))
 
   possible_table : (packet : List ℕ) (s : KeyState) → state letter.number ≡ s → letter.says ≡ Asks (Sends false packet) → IsSound letters h letter (Sends false packet)
       (tabled may number (answer_cause ask.Possible s) (recorded_as ask.Possible node letter.number packet (state_given ask.Possible s)))
   possible_table packet Fresh is says =
       recorded (Sends false packet) (act.Hold node letter.number packet) (is, asked (Sends false packet) says) named (λ now who. tt) tt
-  possible_table packet Filed is says = silent (Sends false packet) ALREADY_FULFILLED Filed is (λ t. refl) tt
-  possible_table packet Sealed is says = silent (Sends false packet) NOT_FULFILLED Sealed is (λ t. refl) tt
-  possible_table packet s is says = silent (Sends false packet) DUPLICATE_ALREADY_FULFILLED s is (λ t. refl) tt
+  possible_table packet s is says = silent (Sends false packet) (answer_cause ask.Possible s) s is (λ t. refl) tt
 
   test_table : (s : KeyState) → state letter.number ≡ s → letter.says ≡ Asks Tests → IsSound letters h letter Tests
       (tabled may number (answer_cause ask.Empty s) (recorded_as ask.Empty node letter.number [] (state_given ask.Empty s)))
   test_table Fresh is says = recorded Tests (act.Seal node letter.number) (is, asked Tests says) named
-      (λ now who. (λ c. absurd (eqb-false ACCEPTED ALREADY_FULFILLED refl c), λ c. then_is now who (act.Seal node letter.number) letter.number named))
-      (λ c. absurd (eqb-false NO_RESOURCES ALREADY_FULFILLED refl c), λ c. absurd (eqb-false NO_RESOURCES ACCEPTED refl c))
-  test_table Filed is says =
-      silent Tests ALREADY_FULFILLED Filed is (λ t. refl) (λ c. now_is letter.number Filed is, λ c. absurd (eqb-false ALREADY_FULFILLED ACCEPTED refl c))
-  test_table Sealed is says = silent Tests ACCEPTED Sealed is (λ t. refl) (λ c. absurd (eqb-false ACCEPTED ALREADY_FULFILLED refl c), λ c. now_is letter.number Sealed is)
+      (λ now who. (λ c. absurd (omega arith), λ c. then_is now who (act.Seal node letter.number) letter.number named))
+      (λ c. absurd (omega arith), λ c. absurd (omega arith))
+  test_table Filed is says = silent Tests ALREADY_FULFILLED Filed is (λ t. refl)
+      (λ c. now_is letter.number Filed is, λ c. absurd (omega arith))
+  test_table Sealed is says = silent Tests ACCEPTED Sealed is (λ t. refl)
+      (λ c. absurd (omega arith), λ c. now_is letter.number Sealed is)
   test_table s is says = silent Tests DUPLICATE_ALREADY_FULFILLED s is (λ t. refl)
-      (λ c. absurd (eqb-false DUPLICATE_ALREADY_FULFILLED ALREADY_FULFILLED refl c), λ c. absurd (eqb-false DUPLICATE_ALREADY_FULFILLED ACCEPTED refl c))
+      (λ c. absurd (omega arith), λ c. absurd (omega arith))
 
-  -- the answer by the number for which that of a request is taken
-  abbrev by_ask : Ask → List ℕ → ℕ → Given
-  by_ask a packet n = tabled may number (answer_cause a (state n)) (recorded_as a node n packet (state_given a (state n)))
-
+  -- the answer to a release or a cancel of one number
   abbrev by_order : Bool → ℕ → KeyState → Given
   by_order release n s =
       let verdict = verdict_of release (s ∷ []) in
@@ -141,20 +134,17 @@ module _ (letters : List Letter) (h : List HistoryEntry) (letter : Letter) (may 
 
   by_request : (asks : Request) → letter.says ≡ Asks asks → nearest (top_of letter.node h) (about asks letter.number % 65536) ≡ about asks letter.number
       → IsSound letters h letter asks (given h may letter asks)
-  by_request (Sends true packet) says meant = subst (λ (m : ℕ). IsSound letters h letter (Sends true packet) (by_ask ask.Send packet m)) (sym meant)
-      (send_table packet (state letter.number) refl says)
-  by_request (Sends false packet) says meant = subst (λ (m : ℕ). IsSound letters h letter (Sends false packet) (by_ask ask.Possible packet m)) (sym meant)
-      (possible_table packet (state letter.number) refl says)
-  by_request Tests says meant = subst (λ (m : ℕ). IsSound letters h letter Tests (by_ask ask.Empty [] m)) (sym meant) (test_table (state letter.number) refl says)
-  by_request (Orders order.Release n) says meant =
-      subst (λ (m : ℕ). IsSound letters h letter (Orders order.Release n) (by_order true m (state m))) (sym meant) (release_table n (state n) refl says)
-  by_request (Orders order.Cancel n) says meant =
-      subst (λ (m : ℕ). IsSound letters h letter (Orders order.Cancel n) (by_order false m (state m))) (sym meant) (cancel_table n (state n) refl)
+  by_request (Sends true packet) says meant = rw meant (send_table packet (state letter.number) refl says)
+  by_request (Sends false packet) says meant = rw meant (possible_table packet (state letter.number) refl says)
+  by_request Tests says meant = rw meant (test_table (state letter.number) refl says)
+  by_request (Orders order.Release n) says meant = rw meant (release_table n (state n) refl says)
+  by_request (Orders order.Cancel n) says meant = rw meant (cancel_table n (state n) refl)
 
 -- the answer to a timely request
 pub answer_is_sound : (letters : List Letter) (h : List HistoryEntry) (letter : Letter) (request : Request) (may : HistoryAct → Bool) → StartsRise h
     → Contains letters letter → letter.says ≡ Asks request → is_timely h letter request ≡ true → IsSound letters h letter request (given h may letter request)
 answer_is_sound letters h letter request may rise kept says timely =
-    let parts = and_parts (letter.start == start_of letter.node h) (nearest (top_of letter.node h) (about request letter.number % 65536) == about request letter.number) timely in
-    by_request letters h letter may rise kept (eqb-true letter.start (start_of letter.node h) parts.0) request says
-    (eqb-true (nearest (top_of letter.node h) (about request letter.number % 65536)) (about request letter.number) parts.1)
+    let number = about request letter.number in
+    let parts = and_parts (letter.start == start_of letter.node h)
+    (nearest (top_of letter.node h) (number % 65536) == number) timely in
+    by_request letters h letter may rise kept (eqb-true _ _ parts.0) request says (eqb-true _ _ parts.1)

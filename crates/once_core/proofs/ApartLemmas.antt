@@ -1,30 +1,38 @@
 -- No two records that nodes were given have one key: what is filed, and so what stands at a place, counts for one of them.
-use Rattle.std.proofs.Common.{◌≡◌, ℕ, zero, suc, ◌+◌, ◌≤◌, ◌==◌, ◌&&◌, Bool, true, false, cond, List, [], ◌∷◌, filter, map, Some, slice_get, refl, ap, ◌∙◌, arith}
-use Rattle.std.proofs.lemmas.Bool.{and_parts, eq-eqb, eqb-true}
-use Rattle.gateway_answer.specs.Once.{is_record_of, same_key}
+use Rattle.std.proofs.Common.{◌≡◌, ℕ, ◌≤◌, ◌==◌, true, cond, List, filter, map, Some, slice_get, refl, arith, sum_by, take, ◌<◌, ⊎_elim}
+use Rattle.std.proofs.lemmas.Bool.{cases_order}
+use Rattle.gateway_answer.specs.Once.{is_record_of}
 use Rattle.gateway_answer.specs.declared.filing.FiledRecord.{FiledRecord}
 use Rattle.gw_base.specs.declared.history.PacketKey.{PacketKey}
 use Rattle.node_core.specs.Packets.{PacketState}
 use Rattle.node_core.specs.Roles.{uses, uses_by_copies}
 use Rattle.once_core.specs.Followed.{Followed}
-
--- ---- keys
-
-pub equal_keys : (key other : PacketKey) → same_key key other ≡ true → key ≡ other
-equal_keys key other same =
-    let parts = and_parts ((key.node.0 == other.node.0) && (key.epoch == other.epoch)) (key.number == other.number) same in
-    let front = and_parts (key.node.0 == other.node.0) (key.epoch == other.epoch) parts.0 in
-    let node = eqb-true key.node.0 other.node.0 front.0 in
-    let epoch = eqb-true key.epoch other.epoch front.1 in
-    let number = eqb-true key.number other.number parts.1 in
-    λ i. record { node = record { 0 = node i }; epoch = epoch i; number = number i }
+use Rattle.std.proofs.lemmas.Bool.Decides.{nat_tests}
+use Rattle.std.proofs.lemmas.Grind.{common_steps}
+use Rattle.std.proofs.lemmas.List.{get_or-take}
+use Rattle.std.proofs.lemmas.List.Recursion.{is_sum_by}
+use Rattle.std.proofs.lemmas.List.Sums.{get_or-le-sum_by, sum_by_more_le}
+use Rattle.std.proofs.lemmas.Option.{get_or_from_slice_get, slice_get_within}
 
 -- the key and the index of a filed record
 pub key_of : (key : PacketKey) (index : ℕ) (filing : FiledRecord) → is_record_of key index filing ≡ true
     → (filing.key ≡ key) × (filing.index ≡ index)
-key_of key index filing is =
-    let parts = and_parts (same_key filing.key key) (filing.index == index) is in
-    (equal_keys filing.key key parts.0, eqb-true filing.index index parts.1)
+key_of key index filing is = grind (arith, nat_tests)
+
+-- a sum of one at most counts no two places
+two_count : {A : Type 0} (w : A → ℕ) (xs : List A) → sum_by w xs ≤ 1 → (k l : ℕ) (p q : A) → k < l
+    → slice_get xs k ≡ Some p → slice_get xs l ≡ Some q → 1 ≤ w p → 1 ≤ w q → ⊥
+two_count {A} w xs one k l p q less at_k at_l use_p use_q = grind (
+  arith,
+  common_steps,
+  slice_get_within xs l q at_l,
+  slice_get_within xs k p at_k,
+  sum_by_more_le w xs l q,
+  get_or-le-sum_by w (take l xs) k p,
+  get_or-take {A = A},
+  get_or_from_slice_get xs k p p at_k,
+  get_or_from_slice_get xs l q q at_l,
+)
 
 -- ---- packets of one start
 
@@ -35,59 +43,22 @@ module _ (gateway number start : ℕ) where
   abbrev used : Followed → ℕ
   used p = uses_by_copies gateway number p.state.copies
 
-  more : (p : Followed) (xs : List Followed) → p.start ≡ start
-      → uses gateway number (of_start (p ∷ xs)) ≡ used p + uses gateway number (of_start xs)
-  more p xs same =
-      ap (λ (b : Bool). uses gateway number (map (λ (q : Followed). q.state)
-      (cond b (p ∷ filter (λ q. q.start == start) xs) (filter (λ q. q.start == start) xs)))) (eq-eqb p.start start same)
+  abbrev counted : Followed → ℕ
+  counted p = cond (p.start == start) (used p) 0
 
-  no_fewer : (p : Followed) (xs : List Followed) → uses gateway number (of_start xs) ≤ uses gateway number (of_start (p ∷ xs))
-  no_fewer p xs = by (p.start == start)
-    where
-      by : (b : Bool) → uses gateway number (of_start xs)
-          ≤ uses gateway number (map (λ (q : Followed). q.state)
-          (cond b (p ∷ filter (λ q. q.start == start) xs) (filter (λ q. q.start == start) xs)))
-      by true = omega arith
-      by false = omega arith
+  total : (xs : List Followed) → uses gateway number (of_start xs) ≡ sum_by counted xs
+  total = is_sum_by (λ (xs : List Followed). uses gateway number (of_start xs)) counted refl (λ p xs. grind arith)
 
-  among : (xs : List Followed) (k : ℕ) (p : Followed) → slice_get xs k ≡ Some p → p.start ≡ start
-      → used p ≤ uses gateway number (of_start xs)
-  among [] k p e same = absurd (cc)
-  among (q ∷ xs) zero p e same =
-      let first : q ≡ p = cc in
-      let as_first = ap used first in
-      omega (arith, as_first, more q xs (ap (λ (r : Followed). r.start) first ∙ same))
-  among (q ∷ xs) (suc k) p e same = omega (arith, among xs k p e same, no_fewer q xs)
+  counts : (p : Followed) → p.start ≡ start → 1 ≤ used p → 1 ≤ counted p
+  counts p same some = grind (arith, nat_tests)
 
   -- two packets of the start that use a number which has one use stand in one place
   pub one_place : (xs : List Followed) → uses gateway number (of_start xs) ≤ 1 → (k l : ℕ) (p q : Followed)
       → slice_get xs k ≡ Some p → slice_get xs l ≡ Some q → p.start ≡ start → q.start ≡ start → 1 ≤ used p → 1 ≤ used q
       → k ≡ l
-  one_place [] one k l p q at_k at_l same_p same_q use_p use_q = absurd (cc)
-  one_place (r ∷ xs) one zero zero p q at_k at_l same_p same_q use_p use_q = refl
-  one_place (r ∷ xs) one zero (suc l) p q at_k at_l same_p same_q use_p use_q =
-      let first : r ≡ p = cc in
-      let as_first = ap used first in
-      absurd (omega (
-        arith,
-        one,
-        as_first,
-        use_p,
-        use_q,
-        among xs l q at_l same_q,
-        more r xs (ap (λ (x : Followed). x.start) first ∙ same_p),
-      ))
-  one_place (r ∷ xs) one (suc k) zero p q at_k at_l same_p same_q use_p use_q =
-      let first : r ≡ q = cc in
-      let as_first = ap used first in
-      absurd (omega (
-        arith,
-        one,
-        as_first,
-        use_p,
-        use_q,
-        among xs k p at_k same_p,
-        more r xs (ap (λ (x : Followed). x.start) first ∙ same_q),
-      ))
-  one_place (r ∷ xs) one (suc k) (suc l) p q at_k at_l same_p same_q use_p use_q =
-      ap suc (one_place xs (omega (arith, one, no_fewer r xs)) k l p q at_k at_l same_p same_q use_p use_q)
+  one_place xs one k l p q at_k at_l same_p same_q use_p use_q =
+      let once : sum_by counted xs ≤ 1 = omega (arith, one, total xs) in
+      ⊎_elim (λ same. same) (λ apart. absurd (⊎_elim
+      (λ less. two_count counted xs once k l p q less at_k at_l (counts p same_p use_p) (counts q same_q use_q))
+      (λ more. two_count counted xs once l k q p more at_l at_k (counts q same_q use_q) (counts p same_p use_p)) apart))
+      (cases_order k l)

@@ -1,7 +1,7 @@
 -- The parts of a gateway's moves, which are commits, openings again, stops, openings and marks, are happenings.
 pub use Rattle.once_core.proofs.PartLemmas.{noted, whole_book}
 use Rattle.std.proofs.Common.{◌≡◌, ℕ, ◌-◌, nat_le, not, Bool, true, false, List, [], ◌∷◌, ◌++◌, length, map, filter, Contains, refl, sym, ap, subst, ◌∙◌, arith, if◌then◌else◌, take_all}
-use Rattle.std.proofs.lemmas.Bool.{both_ways, cond-false, cond-true, not-true}
+use Rattle.std.proofs.lemmas.Bool.{both_ways, not-true}
 use Rattle.gw_base.specs.declared.history.HistoryEntry.{HistoryEntry}
 use Rattle.gateway_answer.specs.Value.{BookValue, history_of}
 use Rattle.gw_base.specs.declared.history.HistoryAct.{HistoryAct}
@@ -15,13 +15,12 @@ use Rattle.once_core.specs.Scenes.{firming, is_idle, keeping, with_post, happene
 use Rattle.once_core.specs.Shown.{waiting_if, waiting_letters}
 use Rattle.once_core.specs.declared.message.Message.{Message}
 use Rattle.once_core.specs.declared.message.Waiting.{Waiting}
-use Rattle.once_core.proofs.ListLemmas.{filtered, in_flat, in_head, in_map, of_map, passed}
+use Rattle.once_core.proofs.ListLemmas.{filtered, in_flat, in_head, in_map, of_map, passed, each_mapped}
 use Rattle.once_core.proofs.MeaningLemmas.{GatewaySaid, ReadsBack, Said, failing_means, failing_said, said_by_gateway}
 use Rattle.once_core.proofs.PlayLemmas.{Plays, Rightly, Stands, still_plays, followed_plays, idle_plays, none_waits, post_plays, settled_plays, stands_after}
-use Rattle.once_core.proofs.PartLemmas.{PartsKeep, cut_book, torn_book, standing}
+use Rattle.once_core.proofs.PartLemmas.{PartsKeep, cut_book, torn_book, standing, history_is, crash_to_all, crash_to_firm}
 use Rattle.once_core.specs.World.{World}
-use Rattle.once_core.proofs.StopLemmas.{history_is, crash_to_all, crash_to_firm}
-use Rattle.once_core.proofs.CaseLemmas.{by_bool, if_known}
+use Rattle.once_core.proofs.CaseLemmas.{by_bool}
 
 -- ---- answers that wait, by what they mean
 
@@ -32,13 +31,7 @@ module _ (q : ℕ → Bool) where
   -- the answers among those that pass are the answers that pass
   letters_passing : (ws : List Waiting) → waiting_letters (filter (λ w. q w.front) ws) ≡ filter passes (waiting_letters ws)
   letters_passing [] = refl
-  letters_passing (w ∷ ws) =
-      let rest = letters_passing ws in
-      if_known (λ (vs : List Waiting). waiting_letters vs ≡ filter passes (waiting_letters (w ∷ ws))) (q w.front)
-      (λ e. by_bool (λ (b : Bool). waiting_if b w ++ waiting_letters (filter (λ v. q v.front) ws) ≡ filter passes (waiting_if b w ++ waiting_letters ws))
-      (speaks w.message) (λ speaking. ap (λ (ls : List did.WaitingLetter). waiting_if true w ++ ls) rest ∙ sym (cond-true (q w.front) _ _ e)) (λ silent. rest))
-      (λ e. by_bool (λ (b : Bool). waiting_letters (filter (λ v. q v.front) ws) ≡ filter passes (waiting_if b w ++ waiting_letters ws))
-      (speaks w.message) (λ speaking. rest ∙ sym (cond-false (q w.front) _ _ e)) (λ silent. rest))
+  letters_passing (w ∷ ws) = grind (arith, letters_passing ws)
 
 -- an answer among the messages that wait is among the letters
 sent_letters : (ws : List Waiting) (m : Message) → Contains (map (λ w. w.message) ws) m → speaks m ≡ true
@@ -69,10 +62,8 @@ noted_rightly now a is = record { fronts = is.fronts; said = is.said; broken = i
 -- what settling sends was said
 pub settled_said : (g : Gateway) → ((w : Waiting) → Contains g.waiting w → (w.message.to_gateway ≡ false) × GatewaySaid w.message)
     → (m : Message) → Contains (settling g).sends m → Said m
-settled_said g said m is =
-    let there = of_map (λ (w : Waiting). w.message) (filter (is_reached g.book) g.waiting) m is in
-    let is_said = said there.0 (filtered (is_reached g.book) g.waiting there.0 there.1) in
-    subst Said there.2 (said_by_gateway there.0.message is_said.0 is_said.1)
+settled_said g said = each_mapped Said (λ (w : Waiting). w.message) (filter (is_reached g.book) g.waiting) (λ w is.
+    let was = said w (filtered (is_reached g.book) g.waiting w is) in said_by_gateway w.message was.0 was.1)
 
 -- whether the gateway is down, and how often it redirected, is nothing there
 relabelled_plays : {gateway : ℕ} {scene : Scene} {moved : Moved} (is_down : Bool) (redirects : ℕ) → Plays gateway scene moved
@@ -123,13 +114,11 @@ module _ {gateway : ℕ} {scene : Scene} {g : Gateway} (stands : Stands gateway 
       (none_waits refl) in
       followed_plays (λ a. record { gateway = a; sends = map (λ w. failing w.message) asked }) lost
       (idle_plays (stands_after lost) (map (λ w. failing w.message) asked)
-      (λ m is.
-      let there = of_map (λ (w : Waiting). failing w.message) asked m is in
-      let was = stands.rightly.said there.0 (filtered (λ w. is_response w.message) g.waiting there.0 there.1) in
-      subst Said there.2 (said_by_gateway (failing there.0.message) was.0 (failing_said there.0.message)))
-      (λ m is.
-      let there = of_map (λ (w : Waiting). failing w.message) asked m is in
-      subst (λ (k : Message). is_idle (meaning_of k) ≡ true) there.2 (ap is_idle (failing_means back there.0.message))))
+      (each_mapped Said (λ (w : Waiting). failing w.message) asked (λ w is.
+      let was = stands.rightly.said w (filtered (λ w. is_response w.message) g.waiting w is) in
+      said_by_gateway (failing w.message) was.0 (failing_said w.message)))
+      (each_mapped (λ (k : Message). is_idle (meaning_of k) ≡ true) (λ (w : Waiting). failing w.message) asked
+      (λ w is. ap is_idle (failing_means back w.message))))
 
   -- an act is recorded by a happening that notes it
   pub noted_plays : g.book.is_broken ≡ false → (now : ℕ) (a : HistoryAct) (next : Happening)

@@ -1,5 +1,5 @@
 -- What a node knows at the end of a start follows what it did in it.
-use Rattle.std.proofs.Common.{◌≡◌, ⊎_elim, ℕ, ◌==◌, ◌||◌, Bool, true, false, List, [], ◌∷◌, ◌++◌, map, Option, Some, None, IfSome, All, Contains, get_or, refl, sym, ap, subst, ◌∙◌, append_assoc, eq-eqb, eqb-true, flat_map}
+use Rattle.std.proofs.Common.{◌≡◌, ⊎_elim, ℕ, ◌==◌, ◌||◌, Bool, true, false, List, [], ◌∷◌, ◌++◌, map, Option, Some, None, IfSome, All, Contains, get_or, refl, sym, ap, subst, ◌∙◌, append_assoc, eq-eqb, eqb-true, flat_map, inl, inr, append-nil, ◌⊎◌, arith}
 use Rattle.std.proofs.lemmas.Bool.{false≢true, cond-true, or_cases}
 use Rattle.std.proofs.lemmas.List.Elements.{Contains-append_left, Contains-append_right}
 use Rattle.node_core.specs.Copies.{names}
@@ -13,17 +13,31 @@ use Rattle.once_core.specs.Deeds.{asked_by, deeds_of, letter_of, told_by}
 use Rattle.once_core.specs.Expired.{starts_in}
 use Rattle.once_core.specs.Following.{entries_of, heard_in}
 use Rattle.once_core.specs.Happenings as did
-use Rattle.once_core.specs.Happenings.{Answers, Deed, Letter}
+use Rattle.once_core.specs.Happenings.{Answers, Deed}
 use Rattle.once_core.proofs.ListLemmas.{in_cons, in_head, in_none}
 use Rattle.once_core.proofs.LogLemmas.{starts_same}
 
 -- ---- what was heard is among the deeds
 
-heard_append : (start : ℕ) (deeds more : List Deed) → heard_in start (deeds ++ more) ≡ heard_in start deeds ++ heard_in start more
+pub heard_append : (start : ℕ) (deeds more : List Deed)
+    → heard_in start (deeds ++ more) ≡ heard_in start deeds ++ heard_in start more
 heard_append start [] more = refl
 heard_append start (deed ∷ deeds) more =
     ap (λ (es : List LogEntry). entries_of start deed ++ es) (heard_append start deeds more)
     ∙ sym (append_assoc (entries_of start deed) (heard_in start deeds) (heard_in start more))
+
+-- what an entry adds to the deeds of a node that made so many starts
+abbrev pub deeds_by : ℕ → (ℕ → List ℕ) → ℕ → LogEntry → List Deed
+deeds_by node values start (log.Ticked sendings) = map (λ letter. did.Sent letter)
+    (flat_map (asked_by node start values) sendings)
+deeds_by node values start (log.Heard port gateway saying) = map (λ letter. did.Heard letter)
+    (told_by node start port gateway saying)
+deeds_by node values start _ = []
+
+pub deeds_more : (node : ℕ) (values : ℕ → List ℕ) (entry : LogEntry) (entries : List LogEntry)
+    → deeds_of node values (entry ∷ entries) ≡ deeds_of node values entries ++ deeds_by node values
+    (starts_in entries) entry
+deeds_more node values entry entries = grind (arith, append-nil (deeds_of node values entries))
 
 module _ (node : ℕ) (values : ℕ → List ℕ) (port : Port) (gateway cause number : ℕ) where
   -- the response that names this number alone
@@ -45,44 +59,30 @@ module _ (node : ℕ) (values : ℕ → List ℕ) (port : Port) (gateway cause n
   abbrev AmongDeeds : List LogEntry → Type 0
   AmongDeeds entries = Contains (heard_in (starts_in entries) (deeds_of node values entries)) one
 
-  -- what is among the deeds, or among more of them, is so behind an entry that begins no start
-  behind_deeds : (entry : LogEntry) (entries : List LogEntry) (more : List Deed) → starts_in (entry ∷ entries) ≡ starts_in entries
-      → Contains (heard_in (starts_in entries) (deeds_of node values entries) ++ heard_in (starts_in entries) more) one
-      → Contains (heard_in (starts_in (entry ∷ entries)) (deeds_of node values entries ++ more)) one
-  behind_deeds entry entries more same is =
-      subst (λ (s : ℕ). Contains (heard_in s (deeds_of node values entries ++ more)) one) (sym same)
-      (subst (λ (es : List LogEntry). Contains es one) (sym (heard_append (starts_in entries) (deeds_of node values entries) more)) is)
-
-  heard_since : (entries : List LogEntry) (numbers : List ℕ) → Contains (since_start entries) (log.Heard port gateway (Responds cause numbers)) → names numbers number ≡ true → AmongDeeds entries
-  heard_since (log.Submitted form ∷ entries) numbers is named = ⊎_elim
-      (λ e. absurd (cc))
-      (λ later. subst (λ (s : ℕ). Contains (heard_in s (deeds_of node values entries)) one) (sym (starts_same (log.Submitted form) entries refl)) (heard_since entries numbers later named))
-      (in_cons (log.Submitted form) (log.Heard port gateway (Responds cause numbers)) (since_start entries) is)
-  heard_since (log.Appointed place ∷ entries) numbers is named = ⊎_elim
-      (λ e. absurd (cc))
-      (λ later. subst (λ (s : ℕ). Contains (heard_in s (deeds_of node values entries)) one) (sym (starts_same (log.Appointed place) entries refl)) (heard_since entries numbers later named))
-      (in_cons (log.Appointed place) (log.Heard port gateway (Responds cause numbers)) (since_start entries) is)
-  heard_since (log.Ticked sendings ∷ entries) numbers is named = ⊎_elim
-      (λ e. absurd (cc))
-      (λ later.
-      let more = map (λ letter. did.Sent letter) (flat_map (asked_by node (starts_in entries) values) sendings) in
-      behind_deeds (log.Ticked sendings) entries more (starts_same (log.Ticked sendings) entries refl)
-      (Contains-append_left (heard_in (starts_in entries) (deeds_of node values entries)) (heard_in (starts_in entries) more) one (heard_since entries numbers later named)))
-      (in_cons (log.Ticked sendings) (log.Heard port gateway (Responds cause numbers)) (since_start entries) is)
-  heard_since (log.Heard at place saying ∷ entries) numbers is named =
-      let before = heard_in (starts_in entries) (deeds_of node values entries) in
-      let more = map (λ letter. did.Heard letter) (told_by node (starts_in entries) at place saying) in
-      behind_deeds (log.Heard at place saying) entries more (starts_same (log.Heard at place saying) entries refl) (⊎_elim
-      (λ e.
-      let port_is : at ≡ port = cc in
-      let place_is : place ≡ gateway = cc in
-      let saying_is : saying ≡ Responds cause numbers = cc in
-      Contains-append_right before (heard_in (starts_in entries) more) one
-      (subst (λ (ls : List Letter). Contains (heard_in (starts_in entries) (map (λ letter. did.Heard letter) ls)) one) (λ i. told_by node (starts_in entries) (sym port_is i) (sym place_is i) (sym saying_is i))
+  -- the response is among the deeds behind an entry that begins no start, where it was so before, or is that entry
+  heard_more : (entry : LogEntry) (entries : List LogEntry) (numbers : List ℕ)
+      → starts_in (entry ∷ entries) ≡ starts_in entries
+      → names numbers number ≡ true → (entry ≡ log.Heard port gateway (Responds cause numbers)) ⊎ AmongDeeds entries
+      → AmongDeeds (entry ∷ entries)
+  heard_more entry entries numbers same named is =
+      let before = deeds_of node values entries in
+      let more : LogEntry → List Deed = λ e. deeds_by node values (starts_in entries) e in
+      rw (same, deeds_more node values entry entries, heard_append (starts_in entries) before (more entry)) (⊎_elim
+      (λ e. Contains-append_right (heard_in (starts_in entries) before) (heard_in (starts_in entries) (more entry)) one
+      (subst (λ (d : LogEntry). Contains (heard_in (starts_in entries) (more d)) one) (sym e)
       (in_told (starts_in entries) numbers named)))
-      (λ later. Contains-append_left before (heard_in (starts_in entries) more) one (heard_since entries numbers later named))
-      (in_cons (log.Heard at place saying) (log.Heard port gateway (Responds cause numbers)) (since_start entries) is))
-  heard_since _ numbers is named = absurd (in_none (log.Heard port gateway (Responds cause numbers)) is)
+      (Contains-append_left (heard_in (starts_in entries) before) (heard_in (starts_in entries) (more entry)) one) is)
+
+  heard_since : (entries : List LogEntry) (numbers : List ℕ)
+      → Contains (since_start entries) (log.Heard port gateway (Responds cause numbers))
+      → names numbers number ≡ true → AmongDeeds entries
+  heard_since [] numbers is named = in_none _ is
+  heard_since (log.Began ∷ entries) numbers is named = in_none _ is
+  heard_since (log.Halted ∷ entries) numbers is named = in_none _ is
+  heard_since (entry ∷ entries) numbers is named = heard_more entry entries numbers
+      (starts_same entry entries refl) named
+      (⊎_elim inl (λ later. inr (heard_since entries numbers later named))
+      (in_cons entry (log.Heard port gateway (Responds cause numbers)) (since_start entries) is))
 
 -- ---- what is known rests on it
 

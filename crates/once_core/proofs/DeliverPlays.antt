@@ -1,24 +1,20 @@
 -- What a gateway sends is what happens in a scene: its answer to a message that reaches it, what it tells of one where it breaks
 -- on the way, and the requests of a redirection, which tell nodes nothing of a copy.
 pub use Rattle.once_core.proofs.PartLemmas.{ready_history}
-use Rattle.std.proofs.Common.{◌≡◌, ℕ, ◌%◌, ◌==◌, ◌&&◌, not, nat_lt, Bool, true, false, List, [], ◌∷◌, ◌++◌, Option, Some, None, Contains, refl, sym, ap, subst, ◌∙◌, ◌≢◌, ◌≤◌, arith, map, ◌+◌, option_map}
+use Rattle.std.proofs.Common.{◌≡◌, ℕ, ◌%◌, ◌==◌, not, nat_lt, Bool, true, false, List, [], ◌∷◌, ◌++◌, Option, Some, None, Contains, refl, sym, ap, subst, ◌∙◌, ◌≤◌, arith, map, ◌+◌, option_map, IfSome}
 use Rattle.std.specs.Option.{option_map_or}
-use Rattle.std.proofs.lemmas.Bool.{and_from, not-false, or_parts, cond-true, eqb-false, lt-ltb, ltb-false}
-use Rattle.std.proofs.lemmas.Option.{same_Some}
-use Rattle.gw_base.specs.History.{top_of}
-use Rattle.gw_base.specs.Nearest.{nearest}
+use Rattle.std.proofs.lemmas.Bool.{cond-true}
 use Rattle.gw_base.specs.Observed.{Observed, observed}
 use Rattle.gw_base.specs.Starts.{start_of, opening_of, start_by}
 use Rattle.gw_base.specs.declared.address.NodeId.{NodeId}
 use Rattle.gw_base.specs.declared.cause.TheConstants.{CDR_DECODING_ERROR, NO_RESOURCES, SYSTEM_FAILURE}
 use Rattle.gw_base.specs.declared.history.HistoryAct.{HistoryAct}
 use Rattle.gw_base.specs.declared.history.HistoryEntry.{HistoryEntry}
-use Rattle.gtpp_message.specs.Message.{TransferRequest, TransferResponse, TransferValue, Send, Possible, Cancel, Release, MessageValue, EchoRequest, EchoResponse, NodeAliveRequest, RedirectionRequest}
-use Rattle.gtpp_message.specs.Packet.{Empty, Full}
+use Rattle.gtpp_message.specs.Message.{TransferRequest, TransferResponse, TransferValue, Send, MessageValue, EchoRequest, EchoResponse, NodeAliveRequest, RedirectionRequest}
 use Rattle.gtpp_message.specs.Writing.{written}
 use Rattle.gtpp_message.specs.declared.message_types.TheConstants.{TRANSFER_REQUEST}
 use Rattle.gtpp_message.specs.declared.role.Role.TheVariants as role
-use Rattle.gateway_answer.specs.Answer.{Given, answer_by, asked_by, decided, listed, responding, tabled, Decided, failure_answer, opening_epoch, replying}
+use Rattle.gateway_answer.specs.Answer.{Given, answer_by, asked_by, decided, responding, tabled, Decided, failure_answer, opening_epoch, replying}
 use Rattle.gateway_answer.specs.Answered.{entry_by, no_caller}
 use Rattle.gateway_answer.specs.Preparing.{PreparedValue, Refused, Request, framed, prepared_of, sends_values, Path}
 use Rattle.gateway_answer.specs.PreparingLaws.{RolesRead}
@@ -35,12 +31,12 @@ use Rattle.byteorder.specs.Endian.{big_bytes}
 use Rattle.gateway_answer.specs.Told.{paths_of}
 use Rattle.once_core.specs.Addresses.{node_address, node_id, node_ip, port_number, gateway_address}
 use Rattle.once_core.specs.Answers.{acting, answered, failed, failed_by}
-use Rattle.once_core.specs.Expired.{is_expired, is_expired_request, present_start, taken_for}
+use Rattle.once_core.specs.Expired.{is_expired}
 use Rattle.once_core.specs.Gateway.{Gateway, Rules, still}
 use Rattle.once_core.specs.Happenings.{Answers, Comes, Happening, Letter, Meaning, Post, Scene, answer_of, given, history, is_timely, Opens, node_at}
 use Rattle.once_core.specs.Happenings as did
 use Rattle.once_core.specs.Meaning.{is_spoken, letter_of, meaning_of, request_in, speaks, meaning_in}
-use Rattle.once_core.specs.Messages.{about, answering, has_type, is_request}
+use Rattle.once_core.specs.Messages.{about, answering, has_type}
 use Rattle.once_core.specs.Scenes.{Settled, after_coming, coming, happened_all, noting_if, waiting_for, with_one, with_settled, is_idle, opening, with_post}
 use Rattle.once_core.specs.Scenes as scenes
 use Rattle.once_core.specs.Shown.{post_of, waiting_letters}
@@ -48,12 +44,13 @@ use Rattle.once_core.specs.declared.message.Message as world
 use Rattle.once_core.proofs.MeaningLemmas.{IsAbout, IsWritten, ReadsBack, meaning_is, responds_means, responds_said, role_read_of, type_of, FromNode, NodeSaid, Responds, Said, said_by_gateway, FromGateway}
 use Rattle.once_core.proofs.PlayLemmas.{Plays, Stands, still_plays, idle_plays, followed_plays, stands_after}
 use Rattle.once_core.proofs.ReplyPlays.{answer_plays, quiet_plays}
-use Rattle.once_core.proofs.StopLemmas.{history_is}
-use Rattle.once_core.proofs.CaseLemmas.{if_both, if_known}
-use Rattle.once_core.proofs.ListLemmas.{in_one, number_of, of_map}
+use Rattle.once_core.proofs.PartLemmas.{history_is, noted}
+use Rattle.once_core.proofs.CaseLemmas.{if_both}
+use Rattle.once_core.proofs.ListLemmas.{in_one, number_of, each_mapped}
 use Rattle.once_core.proofs.CommitPlays.{noted_rightly, noted_plays}
 use Rattle.once_core.specs.Answers as out
-use Rattle.once_core.proofs.PartLemmas.{noted}
+use Rattle.std.proofs.lemmas.Bool.Decides.{nat_tests}
+use Rattle.once_core.proofs.StartLemmas.{IsNoPath}
 
 -- ---- a message of path management means nothing here
 
@@ -66,24 +63,16 @@ path_fits m number (EchoAsked n) = tt
 path_fits m number _ = tt
 
 path_else : (number : ℕ) (event : PathEvent) → is_spoken (meaning_in number (path_message event None)) ≡ false
-path_else number (EchoAsked n) = refl
-path_else number _ = refl
+path_else number event = grind arith
 
 -- ---- a start that becomes known is greater than the one before
 
 pub fresh_start : (h : List HistoryEntry) (m : world.Message) → is_expired h m ≡ false → start_of (node_ip m.node) h ≤ m.start
-fresh_start h m fresh =
-    ltb-false m.start (present_start h m) (or_parts (nat_lt m.start (present_start h m)) (is_request m && is_expired_request h m) fresh).0
+fresh_start h m fresh = grind (arith, nat_tests)
 
 pub rises : (opening : Option Opening) (counter path : ℕ) → 1 ≤ counter → start_by opening ≤ counter
     → opened_by (option_map (λ o. o.counter) opening) counter ≡ Some path → nat_lt (start_by opening) path ≡ true
-rises None counter path some low e = let same = same_Some counter path e in lt-ltb 0 path (omega (arith, some, same))
-rises (Some o) counter path some low e = if_known (λ (p : Option ℕ). p ≡ Some path → nat_lt o.counter path ≡ true) (o.counter == counter)
-    (λ equal e. absurd (cc))
-    (λ apart e.
-    let same = same_Some counter path e in
-    let differ : o.counter ≢ counter = eqb-false o.counter counter apart in
-    lt-ltb o.counter path (omega (arith, low, differ, same))) e
+rises opening counter path some low e = grind (arith, nat_tests)
 
 -- ---- what is answered
 
@@ -103,35 +92,29 @@ prepared_request back roles octets number body w values =
 
 same_answer : (m : world.Message) (o : Observed) (may : HistoryAct → Bool) (node : NodeId) (number : ℕ) (body : TransferValue) → IsAbout m body
     → asked_by o may node number body ≡ answer_of o may node number (request_in (about m) body)
-same_answer m o may node number (Send Empty) is = refl
-same_answer m o may node number (Send (Full form value)) is = refl
-same_answer m o may node number (Possible Empty) is = refl
-same_answer m o may node number (Possible (Full form value)) is = refl
-same_answer m o may node number (Release numbers) is = ap (listed o may node number true) is
-same_answer m o may node number (Cancel numbers) is = ap (listed o may node number false) is
+same_answer m o may node number body is = grind arith
 
 about_is : (m : world.Message) (body : TransferValue) → IsAbout m body → did.about (request_in (about m) body) m.number ≡ about m
-about_is m (Send Empty) is = sym is
-about_is m (Send (Full form value)) is = sym is
-about_is m (Possible Empty) is = sym is
-about_is m (Possible (Full form value)) is = sym is
-about_is m (Release numbers) is = refl
-about_is m (Cancel numbers) is = refl
+about_is m body is = grind arith
 
--- an answer to a request is a response to it
-record IsResponse (number : ℕ) (answer : Given) : Type 0 where
-  cause : ℕ
-  recorded : Option HistoryAct
-  is : answer ≡ responding number cause recorded
+-- an answer to a request is a response to it, and records no start
+pub record IsResponse (number : ℕ) (answer : Given) : Type 0 where
+  pub cause : ℕ
+  pub recorded : Option HistoryAct
+  pub is : answer ≡ responding number cause recorded
+  pub no_path : IfSome recorded IsNoPath
 
-tabled_responds : (may : HistoryAct → Bool) (number cause : ℕ) (a : Option HistoryAct) → IsResponse number (tabled may number cause a)
-tabled_responds may number cause None = record { cause = cause; recorded = None; is = refl }
-tabled_responds may number cause (Some a) = if_both (IsResponse number) (may a)
-    (record { cause = cause; recorded = Some a; is = refl }) (record { cause = NO_RESOURCES; recorded = None; is = refl })
+tabled_responds : (may : HistoryAct → Bool) (number cause : ℕ) (a : Option HistoryAct) → IfSome a IsNoPath
+    → IsResponse number (tabled may number cause a)
+tabled_responds may number cause None no_path = record { cause = cause; recorded = None; is = refl; no_path = tt }
+tabled_responds may number cause (Some a) no_path = if_both (IsResponse number) (may a)
+    (record { cause = cause; recorded = Some a; is = refl; no_path = no_path })
+    (record { cause = NO_RESOURCES; recorded = None; is = refl; no_path = tt })
 
-asked_responds : (o : Observed) (may : HistoryAct → Bool) (node : NodeId) (number : ℕ) (body : TransferValue) → IsResponse number (asked_by o may node number body)
-asked_responds o may node number (Send packet) = tabled_responds may number _ _
-asked_responds o may node number _ = tabled_responds may number _ _
+pub asked_responds : (o : Observed) (may : HistoryAct → Bool) (node : NodeId) (number : ℕ) (body : TransferValue)
+    → IsResponse number (asked_by o may node number body)
+asked_responds o may node number (Send packet) = tabled_responds may number _ _ (grind arith)
+asked_responds o may node number _ = tabled_responds may number _ _ (grind arith)
 
 -- ---- a request that isn't expired is timely
 
@@ -140,14 +123,7 @@ is_a_request octets number body e = ap (λ (o : Option ℕ). option_map_or (λ k
 
 timely : (m : world.Message) (h : List HistoryEntry) (number : ℕ) (body : TransferValue) → m.octets ≡ written number (TransferRequest body) → IsAbout m body
     → is_expired h m ≡ false → is_timely h (letter_of m) (request_in (about m) body) ≡ true
-timely m h number body e is fresh =
-    let parts = or_parts (nat_lt m.start (present_start h m)) (is_request m && is_expired_request h m) fresh in
-    let both = or_parts (not (m.start == present_start h m)) (not (taken_for h m == about m))
-    (sym (ap (λ (b : Bool). b && is_expired_request h m) (is_a_request m.octets number body e)) ∙ parts.1) in
-    and_from (m.start == start_of (node_ip m.node) h)
-    (nearest (top_of (node_ip m.node) h) (did.about (request_in (about m) body) m.number % 65536) == did.about (request_in (about m) body) m.number)
-    (not-false (m.start == present_start h m) both.0)
-    (ap (λ (n : ℕ). nearest (top_of (node_ip m.node) h) (n % 65536) == n) (about_is m body is) ∙ not-false (taken_for h m == about m) both.1)
+timely m h number body e is fresh = grind (arith, nat_tests, is_a_request m.octets number body e, about_is m body is)
 
 -- ---- it comes to a gateway whose book is sound
 
@@ -215,7 +191,7 @@ module _ (back : ReadsBack) (roles : RolesRead) (rules : Rules) (now : ℕ) (m :
         → acts (answer_by seen (node_address m.node m.port) (framed (for_role role.Gateway (Message number message))) may)
     message_plays number EchoRequest fits other = event_plays (EchoAsked number) (λ n counter e. absurd (cc))
     message_plays number (EchoResponse counter) fits other = event_plays (EchoTold number counter)
-        (λ n told e. ap (λ (v : PathEvent). elim v [ EchoAsked n ↦ 0 | EchoTold n c ↦ c | AliveAsked n ↦ 0 | AliveTold n ↦ 0 ]) (sym e) ∙ fits)
+        (λ n told e. cc (fits, e))
     message_plays number (NodeAliveRequest address) fits other = event_plays (AliveAsked number) (λ n counter e. absurd (cc))
     message_plays number (TransferRequest body) fits other = absurd other
     message_plays number (TransferResponse cause responded) fits other = absurd other
@@ -342,14 +318,18 @@ redirected_plays back gateway cause to {g} {scene} stands =
     record { post = stands.post; rightly = record { fronts = stands.rightly.fronts; said = stands.rightly.said; broken = stands.rightly.broken } } in
     idle_plays again
     (map (out.redirecting gateway cause to g) (paths_of (history_of g.book)))
-    (λ m is.
-    let there = of_map (out.redirecting gateway cause to g) (paths_of (history_of g.book)) m is in
-    subst Said there.2 (said_by_gateway (out.redirecting gateway cause to g there.0) refl
-    (record { path = number; message = RedirectionRequest cause (recommended to); written = asks_written number cause to; fits = tt })))
-    (λ m is.
-    let there = of_map (out.redirecting gateway cause to g) (paths_of (history_of g.book)) m is in
-    subst (λ (k : world.Message). is_idle (meaning_of k) ≡ true) there.2
-    (ap is_idle (meaning_is back (out.redirecting gateway cause to g there.0) number (RedirectionRequest cause (recommended to)) (asks_written number cause to))))
+    (each_mapped Said (out.redirecting gateway cause to g) (paths_of (history_of g.book))
+    (λ path is. said_by_gateway (out.redirecting gateway cause to g path) refl (record {
+      path = number;
+      message = RedirectionRequest cause (recommended to);
+      written = asks_written number cause to;
+      fits = tt;
+    })))
+    (each_mapped (λ (k : world.Message). is_idle (meaning_of k) ≡ true) (out.redirecting gateway cause to g)
+    (paths_of (history_of g.book))
+    (λ path is. ap is_idle (meaning_is back (out.redirecting gateway cause to g path) number
+    (RedirectionRequest cause (recommended to))
+    (asks_written number cause to))))
   where
     number : ℕ
     number = g.redirects % 65536

@@ -1,14 +1,13 @@
--- What is due is of packets that are open, and they stay open.
-use Rattle.std.proofs.Common.{◌≡◌, ⊎_elim, ℕ, suc, ◌==◌, ◌&&◌, ◌||◌, Bool, true, false, List, [], ◌∷◌, ◌++◌, map, Option, Some, None, Contains, refl, sym, ap, ◌∙◌, arith, subst, find, flat_map, eq-eqb}
+-- What is due is of packets that are open, and they stay open. A node sends copies of packets only to gateways that are
+-- alive to it, and these stay alive as long as it has them.
+use Rattle.std.proofs.Common.{◌≡◌, ⊎_elim, ℕ, suc, ◌==◌, Bool, true, false, List, [], ◌∷◌, ◌++◌, map, Option, Some, None, Contains, refl, sym, ap, ◌∙◌, arith, subst, find, flat_map, eq-eqb, ◌⊎◌, slice_index_or, slice_set, replicate}
 use Rattle.std.specs.List.{list_all, list_any}
-use Rattle.std.specs.Option.{option_map_or, option_or}
-use Rattle.std.proofs.lemmas.Bool.{and_right}
-use Rattle.std.proofs.lemmas.List.Elements.{Contains-append_cases}
+use Rattle.std.proofs.lemmas.List.Elements.{Contains-append_cases, Contains-push_cases}
 use Rattle.gtpp_message.specs.Packet.{PacketForm}
-use Rattle.node_core.specs.Copies.{is_answered, is_filed, is_held, is_release, is_released, is_sealed, is_settled, new_copy}
-use Rattle.node_core.specs.Packets.{PacketState, chosen, commanded, copies_after, is_done, is_of, is_resolved, packet_after, packet_after_all}
+use Rattle.node_core.specs.Copies.{is_answered, is_held, is_released, is_settled, new_copy, copy_hearing}
+use Rattle.node_core.specs.Packets.{PacketState, chosen, commanded, copies_after, is_done, is_of, packet_after, packet_after_all, packet_hearing, while_open}
 use Rattle.node_core.specs.Peers.{all_drawn, next_number}
-use Rattle.node_core.specs.Sendings.{again, command_by, command_of, command_unless, copy_to, due_by_copies, due_by_verdict, due_for, due_for_all, probe_of, probes_from, releasing, repeating, settling, settling_beside, settling_by, test_of}
+use Rattle.node_core.specs.Sendings.{again, command_by, command_of, command_unless, copy_to, due_by_copies, due_by_verdict, due_for, due_for_all, probe_of, probes_from, releasing, repeating, settling, settling_beside, settling_by, test_of, probes}
 use Rattle.node_core.specs.declared.copy.Command.{Command}
 use Rattle.node_core.specs.declared.copy.Order.{Order}
 use Rattle.node_core.specs.declared.copy.Order.TheVariants.{Release, Cancel}
@@ -18,10 +17,23 @@ use Rattle.node_core.specs.declared.copy.Verdict.TheVariants.{Unknown, Sealed, H
 use Rattle.node_core.specs.declared.peer.Peer.{Peer}
 use Rattle.node_core.specs.declared.sending.Sending.{Sending}
 use Rattle.node_core.specs.declared.sending.Sending.TheVariants as send
-use Rattle.path_mgmt.specs.NodePath.{PathsOfNode, is_alive}
-use Rattle.once_core.proofs.ListLemmas.{in_cons, in_head, in_none, in_tail, in_one, of_flat_map}
+use Rattle.path_mgmt.specs.NodePath.{PathsOfNode, is_alive, node_after, node_anew}
+use Rattle.once_core.proofs.ListLemmas.{in_cons, in_head, in_none, in_tail, in_one, of_flat_map, each_mapped}
 use Rattle.once_core.proofs.NumberLemmas.{Numbered, numbered_in}
-use Rattle.once_core.proofs.CaseLemmas.{by_bool, by_option, if_both, if_known}
+use Rattle.once_core.proofs.CaseLemmas.{by_bool, if_both, if_known, by_option}
+use Rattle.std.proofs.lemmas.Bool.Decides.{nat_tests}
+use Rattle.std.proofs.lemmas.Bool.{false≢true, cases_eq}
+use Rattle.path_mgmt.specs.declared.event.PathEvent.{PathEvent}
+use Rattle.path_mgmt.specs.declared.event.PathEvent.TheVariants.{AliveTold}
+use Rattle.node_core.specs.Log.{LogEntry, NodeSetup, Began, Halted, Submitted, Appointed, Ticked, Heard, Saying, Path, Responds, packets_of, paths_of, submitted}
+use Rattle.node_core.specs.Moving.{appointing, moved_at_tick}
+use Rattle.node_core.specs.Reached.{NodeCall, call_entries, log_of}
+use Rattle.node_core.specs.Ticks.{due}
+use Rattle.node_core.specs.Value.{NodeValue, befallen, logged, node_of}
+use Rattle.node_core.specs.declared.port.Port.{Port}
+use Rattle.once_core.proofs.CallLemmas.{Adds, adds, begins_anew, halts, hears, nothing, submits, ticks}
+use Rattle.std.proofs.lemmas.List.{get_or-replicate, get_or-set_same, get_or-set_other}
+use Rattle.std.proofs.lemmas.Grind.{common_steps}
 
 -- ---- each sending that is due
 
@@ -106,8 +118,7 @@ each_of number favourite up Q holds = record {
     own = eq-eqb number number refl
 
     by : (command : Option Command) (peers : List Peer) (o : Order) (copy : PacketCopy) → is_of number (command_by command peers number o copy) ≡ true
-    by None peers o copy = own
-    by (Some command) peers o copy = own
+    by command peers o copy = grind (arith, nat_tests)
 
 -- a sending is of an open one of these packets
 pub record IsOfOpen (packets : List PacketState) (s : Sending) : Type 0 where
@@ -138,55 +149,29 @@ probes_are gateway paths (peer ∷ peers) s is = ⊎_elim
 -- the copies are open, one more that is new or a command that is new leaves them so
 more_open : (copies : List PacketCopy) (gateway number : ℕ) (is_plain : Bool) → is_done (copies ++ new_copy gateway number is_plain ∷ []) ≡ false
 more_open [] gateway number is_plain = refl
-more_open (plain ∷ duplicates) gateway number is_plain = and_right (is_resolved (plain ∷ (duplicates ++ new_copy gateway number is_plain ∷ []))) _ (last duplicates)
+more_open (plain ∷ duplicates) gateway number is_plain = grind (arith, last duplicates)
   where
     last : (copies : List PacketCopy) → list_all is_settled (copies ++ new_copy gateway number is_plain ∷ []) ≡ false
     last [] = refl
-    last (copy ∷ copies) = and_right (is_settled copy) _ (last copies)
+    last (copy ∷ copies) = grind (arith, last copies)
 
-module _ (gateway : ℕ) (o : Order) (number : ℕ) where
-  abbrev given : Command
-  given = record { order = o; number = number; is_answered = false }
-
-  abbrev answered_in : Option Command → Bool
-  answered_in there = option_map_or (λ (c : Command). c.is_answered) there false
-
-  abbrev released_in : Option Command → Bool
-  released_in there = option_map_or (λ (c : Command). is_release c.order) there false && answered_in there
-
-  answered_same : (copy : PacketCopy) → is_answered (commanded gateway given copy) ≡ is_answered copy
-  answered_same copy = if_both (λ (c : PacketCopy). is_answered c ≡ is_answered copy) (copy.gateway == gateway)
-      (by_option (λ (there : Option Command). answered_in (option_or there (Some given)) ≡ answered_in there) copy.command (λ none. refl) (λ c e. refl)) refl
-
-  verdict_same : (copy : PacketCopy) → (commanded gateway given copy).verdict ≡ copy.verdict
-  verdict_same copy = if_both (λ (c : PacketCopy). c.verdict ≡ copy.verdict) (copy.gateway == gateway) refl refl
-
-  released_same : (copy : PacketCopy) → is_released (commanded gateway given copy) ≡ is_released copy
-  released_same copy = if_both (λ (c : PacketCopy). is_released c ≡ is_released copy) (copy.gateway == gateway)
-      (by_option (λ (there : Option Command). released_in (option_or there (Some given)) ≡ released_in there) copy.command (λ none. and_right (is_release o) false refl) (λ c e. refl)) refl
-
+module _ (gateway : ℕ) (given : Command) (new : given.is_answered ≡ false) where
   settled_same : (copies : List PacketCopy) → list_all is_settled (map (commanded gateway given) copies) ≡ list_all is_settled copies
   settled_same [] = refl
-  settled_same (copy ∷ copies) =
-      ap (λ (b : Bool). b && list_all is_settled (map (commanded gateway given) copies)) (ap (λ (v : Verdict). is_sealed v || is_answered (commanded gateway given copy)) (verdict_same copy)
-      ∙ ap (λ (b : Bool). is_sealed copy.verdict || b) (answered_same copy))
-      ∙ ap (λ (b : Bool). is_settled copy && b) (settled_same copies)
+  settled_same (copy ∷ copies) = grind (arith, settled_same copies)
 
   any_same : (copies : List PacketCopy) → list_any is_released (map (commanded gateway given) copies) ≡ list_any is_released copies
   any_same [] = refl
-  any_same (copy ∷ copies) =
-      ap (λ (b : Bool). b || list_any is_released (map (commanded gateway given) copies)) (released_same copy) ∙ ap (λ (b : Bool). is_released copy || b) (any_same copies)
+  any_same (copy ∷ copies) = grind (arith, any_same copies)
 
   done_same : (copies : List PacketCopy) → is_done (map (commanded gateway given) copies) ≡ is_done copies
   done_same [] = refl
-  done_same (plain ∷ duplicates) =
-      ap (λ (v : Verdict). (is_filed v || list_any is_released (map (commanded gateway given) duplicates)) && list_all is_settled (map (commanded gateway given) duplicates)) (verdict_same plain)
-      ∙ ap (λ (b : Bool). (is_filed plain.verdict || b) && list_all is_settled (map (commanded gateway given) duplicates)) (any_same duplicates)
-      ∙ ap (λ (b : Bool). is_resolved (plain ∷ duplicates) && b) (settled_same duplicates)
+  done_same (plain ∷ duplicates) = grind (arith, any_same duplicates, settled_same duplicates)
 
 still_open : (s : Sending) (copies : List PacketCopy) → is_done copies ≡ false → is_done (copies_after s copies) ≡ false
 still_open (send.Data packet gateway number is_plain true) copies open_yet = more_open copies gateway number is_plain
-still_open (send.Command packet gateway named number o true) copies open_yet = done_same gateway o number copies ∙ open_yet
+still_open (send.Command packet gateway named number o true) copies open_yet = 
+    done_same gateway (record { order = o; number = number; is_answered = false }) refl copies ∙ open_yet
 still_open _ copies open_yet = open_yet
 
 pub stays_open : (sendings : List Sending) (packet : PacketState) → is_done packet.copies ≡ false → is_done (packet_after_all sendings packet).copies ≡ false
@@ -207,3 +192,153 @@ one_packet n (first ∷ packets) (f ∷ forms) p q is there other same = ⊎_eli
     above : (a b : PacketState) → first ≡ a → Contains packets b → a.number ≡ b.number → ⊥
     above a b e later equal =
         absurd (omega (arith, is.0, (numbered_in (suc n) packets forms b is.1 later).number, ap (λ (x : PacketState). x.number) e, equal))
+
+-- ---- which gateways are alive
+
+-- to a node that was made anew none is
+none_of_all : (count place : ℕ) → slice_index_or (replicate count false) place false ≡ false
+none_of_all count place = grind (arith, common_steps, get_or-replicate)
+
+pub none_alive : (counter gateway : ℕ) → is_alive (node_anew counter) gateway ≡ false
+none_alive counter gateway = none_of_all 256 gateway
+
+-- one that is alive after a gateway told so is that one, or was alive
+pub told_cases : (paths : PathsOfNode) (from number gateway : ℕ) → is_alive (node_after paths from (AliveTold number)) gateway ≡ true → (gateway ≡ from) ⊎ (is_alive paths gateway ≡ true)
+told_cases paths from number gateway is = grind (arith, common_steps, get_or-set_other, cases_eq gateway from)
+
+set_keeps : (flags : List Bool) (place other : ℕ) → slice_index_or flags other false ≡ true → slice_index_or (slice_set flags place true) other false ≡ true
+set_keeps flags place other is = grind (arith, common_steps, get_or-set_other, get_or-set_same, cases_eq other place)
+
+event_keeps : (paths : PathsOfNode) (from : ℕ) (event : PathEvent) (gateway : ℕ) → is_alive paths gateway ≡ true → is_alive (node_after paths from event) gateway ≡ true
+event_keeps paths from (AliveTold number) gateway is = set_keeps paths.alive from gateway is
+event_keeps paths from _ gateway is = is
+
+-- ---- a copy is first sent to a gateway that is alive
+
+module _ (paths : PathsOfNode) where
+  abbrev IsUp : Sending → Type 0
+  IsUp (send.Data packet gateway number is_plain is_new) = is_new ≡ true → is_alive paths gateway ≡ true
+  IsUp _ = Unit {0}
+
+  abbrev AllUp : List Sending → Type 0
+  AllUp sendings = (s : Sending) → Contains sendings s → IsUp s
+
+probe_up : (paths : PathsOfNode) (s : Sending) → is_probe s ≡ true → IsUp paths s
+probe_up paths (send.Probe gateway number) is = tt
+probe_up paths _ isnt = absurd (false≢true isnt)
+
+due_up : (node : NodeValue) → AllUp node.paths (due node)
+due_up node = subst (λ (paths : PathsOfNode). AllUp paths (due node))
+    (by_option (λ (o : Option ℕ). (befallen (appointing o) node).paths ≡ node.paths) (moved_at_tick node) (λ none. refl) (λ gateway is. refl)) (λ s is. ⊎_elim
+    (λ probe. probe_up there.paths s (probes_are 0 there.paths there.gateways s probe))
+    (all_due there.favourite_place up (IsUp there.paths) there.packets (λ p kept open_yet. record {
+      copies = λ peers is_plain alive new. alive;
+      repeats = λ copy new. absurd (false≢true new);
+      tests = λ copy. tt;
+      commands = λ command peers o copy. commands_up command peers p.number o copy;
+    }) (all_drawn (probes there.paths there.gateways) there.gateways) s)
+    (Contains-append_cases (probes there.paths there.gateways) (due_for_all there.favourite_place up (all_drawn (probes there.paths there.gateways) there.gateways) there.packets) s is))
+  where
+    there : NodeValue
+    there = befallen (appointing (moved_at_tick node)) node
+
+    up : Bool
+    up = is_alive there.paths there.favourite_place
+
+    commands_up : (command : Option Command) (peers : List Peer) (number : ℕ) (o : Order) (copy : PacketCopy) → IsUp there.paths (command_by command peers number o copy)
+    commands_up None peers number o copy = tt
+    commands_up (Some command) peers number o copy = tt
+
+-- ---- each copy is at a gateway that is alive
+
+abbrev pub CopiesAlive : PathsOfNode → List PacketCopy → Type 0
+CopiesAlive paths copies = (copy : PacketCopy) → Contains copies copy → is_alive paths copy.gateway ≡ true
+
+abbrev pub AllAlive : PathsOfNode → List PacketState → Type 0
+AllAlive paths packets = (packet : PacketState) → Contains packets packet → CopiesAlive paths packet.copies
+
+-- a change of each packet that leaves its copies so
+map_alive : (paths : PathsOfNode) (f : PacketState → PacketState) → ((p : PacketState) → CopiesAlive paths p.copies → CopiesAlive paths (f p).copies)
+    → (packets : List PacketState) → AllAlive paths packets → AllAlive paths (map f packets)
+map_alive paths f keeps packets all =
+    each_mapped (λ (q : PacketState). CopiesAlive paths q.copies) f packets (λ p kept. keeps p (all p kept))
+
+-- the same where one that is done stays as it is
+open_alive : (paths : PathsOfNode) (f : PacketState → PacketState) → ((p : PacketState) → CopiesAlive paths p.copies → CopiesAlive paths (f p).copies)
+    → (p : PacketState) → CopiesAlive paths p.copies → CopiesAlive paths (while_open f p).copies
+open_alive paths f keeps p all = if_both (λ (q : PacketState). CopiesAlive paths q.copies) (is_done p.copies) all (keeps p all)
+
+-- copies that are changed where they are
+copies_moved : (paths : PathsOfNode) (f : PacketCopy → PacketCopy) → ((copy : PacketCopy) → (f copy).gateway ≡ copy.gateway) → (copies : List PacketCopy) → CopiesAlive paths copies → CopiesAlive paths (map f copies)
+copies_moved paths f stays copies all =
+    each_mapped (λ (c : PacketCopy). is_alive paths c.gateway ≡ true) f copies (λ c among. rw (stays c) (all c among))
+
+-- a sending
+commanded_stays : (gateway : ℕ) (command : Command) (copy : PacketCopy) → (commanded gateway command copy).gateway ≡ copy.gateway
+commanded_stays gateway command copy = if_both (λ (c : PacketCopy). c.gateway ≡ copy.gateway) (copy.gateway == gateway) refl refl
+
+sending_alive : (paths : PathsOfNode) (s : Sending) → IsUp paths s → (copies : List PacketCopy) → CopiesAlive paths copies → CopiesAlive paths (copies_after s copies)
+sending_alive paths (send.Data packet gateway number is_plain true) up copies all = λ c is.
+    ⊎_elim (all c) (λ same. subst (λ (d : PacketCopy). is_alive paths d.gateway ≡ true) same (up refl)) (Contains-push_cases copies (new_copy gateway number is_plain) c is)
+sending_alive paths (send.Command packet gateway named number order true) up copies all =
+    let command : Command = record { order = order; number = number; is_answered = false } in
+    copies_moved paths (commanded gateway command) (commanded_stays gateway command) copies all
+sending_alive paths _ up copies all = all
+
+all_sent_alive : (paths : PathsOfNode) (sendings : List Sending) → AllUp paths sendings → (p : PacketState) → CopiesAlive paths p.copies → CopiesAlive paths (packet_after_all sendings p).copies
+all_sent_alive paths [] up p all = all
+all_sent_alive paths (s ∷ sendings) up p all =
+    all_sent_alive paths sendings (λ t is. up t (in_tail s t sendings is)) (packet_after s p)
+    (if_both (λ (q : PacketState). CopiesAlive paths q.copies) (is_of p.number s) (sending_alive paths s (up s (in_head s sendings)) p.copies all) all)
+
+-- what is heard
+heard_stays : (port : Port) (gateway cause : ℕ) (numbers : List ℕ) (copy : PacketCopy) → (copy_hearing port gateway cause numbers copy).gateway ≡ copy.gateway
+heard_stays port gateway cause numbers copy = if_both (λ (c : PacketCopy). c.gateway ≡ copy.gateway) (copy.gateway == gateway) refl refl
+
+-- ---- logs
+
+module _ (first : ℕ) where
+  abbrev AliveIn : List LogEntry → Type 0
+  AliveIn log = AllAlive (paths_of first log) (packets_of log)
+
+  none_alive_in : (paths : PathsOfNode) → AllAlive paths []
+  none_alive_in paths p is = absurd (in_none p is)
+
+  submitted_alive : (form : PacketForm) (log : List LogEntry) → AliveIn log → AliveIn (Submitted form ∷ log)
+  submitted_alive form log all p is =
+      ⊎_elim (all p) (λ same. subst (λ (q : PacketState). CopiesAlive (paths_of first log) q.copies) same (λ c none. absurd (in_none c none)))
+      (Contains-push_cases (packets_of log) (record { number = suc (submitted log); copies = [] }) p is)
+
+  ticked_alive : (sendings : List Sending) (log : List LogEntry) → AllUp (paths_of first log) sendings → AliveIn log → AliveIn (Ticked sendings ∷ log)
+  ticked_alive sendings log up = map_alive (paths_of first log) (while_open (packet_after_all sendings))
+      (open_alive (paths_of first log) (packet_after_all sendings) (all_sent_alive (paths_of first log) sendings up)) (packets_of log)
+
+  heard_alive : (port : Port) (gateway : ℕ) (saying : Saying) (log : List LogEntry) → AliveIn log → AliveIn (Heard port gateway saying ∷ log)
+  heard_alive port gateway (Path event) log all = λ p is c there. event_keeps (paths_of first log) gateway event c.gateway (all p is c there)
+  heard_alive port gateway (Responds cause numbers) log all = map_alive (paths_of first log) (while_open (packet_hearing port gateway cause numbers))
+      (open_alive (paths_of first log) (packet_hearing port gateway cause numbers)
+      (λ p. copies_moved (paths_of first log) (copy_hearing port gateway cause numbers) (heard_stays port gateway cause numbers) p.copies)) (packets_of log) all
+  heard_alive port gateway _ log all = all
+
+  appointed_alive : (o : Option ℕ) (log : List LogEntry) → AliveIn log → AliveIn (logged (appointing o) log)
+  appointed_alive None log all = all
+  appointed_alive (Some gateway) log all = all
+
+-- each copy of a node's packets is at a gateway that is alive to it
+module _ (setup : NodeSetup) where
+  abbrev Alive : List LogEntry → Type 0
+  Alive log = AliveIn setup.counter log
+
+  -- a call
+  adds_alive : (log entries : List LogEntry) → Adds setup log entries → Alive log → Alive (logged entries log)
+  adds_alive log _ nothing all = all
+  adds_alive log _ begins_anew all = none_alive_in setup.counter (paths_of setup.counter (Began ∷ log))
+  adds_alive log _ halts all = none_alive_in setup.counter (paths_of setup.counter (Halted ∷ log))
+  adds_alive log _ (submits up form) all = submitted_alive setup.counter form log all
+  adds_alive log _ (ticks up None) all = ticked_alive setup.counter (due (node_of setup log)) log (due_up (node_of setup log)) all
+  adds_alive log _ (ticks up (Some gateway)) all = ticked_alive setup.counter (due (node_of setup log)) (Appointed gateway ∷ log) (due_up (node_of setup log)) all
+  adds_alive log _ (hears up port gateway saying to) all = appointed_alive setup.counter to (Heard port gateway saying ∷ log) (heard_alive setup.counter port gateway saying log all)
+
+  pub copies_alive : (calls : List NodeCall) → AllAlive (paths_of setup.counter (log_of setup calls)) (packets_of (log_of setup calls))
+  copies_alive [] = none_alive_in setup.counter (paths_of setup.counter (Began ∷ []))
+  copies_alive (next ∷ calls) = adds_alive (log_of setup calls) (call_entries (node_of setup (log_of setup calls)) next) (adds setup (log_of setup calls) next) (copies_alive calls)

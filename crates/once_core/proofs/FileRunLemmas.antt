@@ -1,6 +1,6 @@
 -- The files with the records as they were filed are the files of the history's items: a division asks nothing of what it
--- carries.
-use Rattle.std.proofs.Common.{◌≡◌, ℕ, ◌+◌, ◌==◌, Bool, cond, List, [], ◌∷◌, ◌++◌, map, filter, Option, Some, None, refl, sym, ap, ◌∙◌, nat_le, length, sum_by, if◌then◌else◌}
+-- carries. And the records of a stream's files are those of the history that go there.
+use Rattle.std.proofs.Common.{◌≡◌, ℕ, ◌+◌, ◌==◌, Bool, List, [], ◌∷◌, ◌++◌, map, filter, Option, Some, None, refl, ap, ◌∙◌, sum_by, arith}
 use Rattle.std.proofs.lemmas.List.{map-append, length-map}
 use Rattle.std.proofs.lemmas.List.Concat.{flat_map-append}
 use Rattle.std.proofs.lemmas.List.Elements.{filter-append}
@@ -9,21 +9,18 @@ use Rattle.std.specs.List.{flat_map}
 use Rattle.std.proofs.lemmas.List.Recursion.{is_sum_by}
 use Rattle.cdr_file.specs.CdrFile.{header_length}
 use Rattle.cdr_file.specs.declared.closure.ClosureReason.{ClosureReason}
-use Rattle.cdr_file.specs.declared.closure.ClosureReason.TheVariants.{SizeLimit, CountLimit}
 use Rattle.file_rotate.specs.Division.{Division, cdr_length, closed_first, divided_from, division_of, ends_after, ends_before, joined, run_length, run_limit_reached, still}
-use Rattle.file_rotate.specs.Items.{Filed, Item, Record, Tick, Close}
+use Rattle.file_rotate.specs.Items.{Filed, Item, Record, Tick, Close, records_of}
 use Rattle.file_rotate.specs.declared.limits.Limits.{Limits}
 use Rattle.file_writer.specs.Places.{runs_of}
-use Rattle.file_writer.specs.Streams.{Settings, record_if, stream_division, stream_item, stream_record}
-use Rattle.gateway_answer.specs.Filed.{along, filed_by_act}
+use Rattle.file_writer.specs.Streams.{Settings, stream_division, stream_item}
+use Rattle.gateway_answer.specs.Filed.{along, filed, filed_by, filed_by_act}
 use Rattle.gateway_answer.specs.Items.{items_by, items_by_act, items_of, part_of}
 use Rattle.gateway_answer.specs.declared.filing.FiledRecord.{FiledRecord}
 use Rattle.gw_base.specs.declared.history.HistoryAct.{HistoryAct}
-use Rattle.gw_base.specs.declared.history.HistoryAct.TheVariants as act
 use Rattle.gw_base.specs.declared.history.HistoryEntry.{HistoryEntry}
 use Rattle.route_filter.specs.Rules.{stream_of}
-use Rattle.once_core.specs.FilePlaces.{filed_item, filed_items, filed_items_by, filed_runs, goes_to}
-use Rattle.once_core.proofs.CaseLemmas.{by_bool}
+use Rattle.once_core.specs.FilePlaces.{as_filed, filed_item, filed_items, filed_items_by, filed_runs, goes_to}
 
 -- ---- what a division carries
 
@@ -46,11 +43,7 @@ module _ {A B : Type 0} (f : A → B) where
 
   limits_same : (limits : Limits) (run : List (Filed A)) → run_limit_reached limits (map carried run) ≡ run_limit_reached limits run
   unfolding run_limit_reached
-  limits_same limits run =
-      ap (λ (n : ℕ). if nat_le limits.size n then Some SizeLimit
-      else if nat_le limits.count (length (map carried run)) then Some CountLimit else None) (run_lengths run)
-      ∙ ap (λ (n : ℕ). if nat_le limits.size (run_length run) then Some SizeLimit
-      else if nat_le limits.count n then Some CountLimit else None) (length-map run carried)
+  limits_same limits run = rw (run_lengths run, length-map run carried)
 
   before_same : (limits : Limits) (run : List (Filed A)) (item : Item A)
       → ends_before limits (map carried run) (carried_item item) ≡ ends_before limits run item
@@ -70,11 +63,7 @@ module _ {A B : Type 0} (f : A → B) where
 
   joined_same : (o : Option ClosureReason) (run : List (Filed A)) (item : Item A)
       → joined o (map carried run) (carried_item item) ≡ map carried (joined o run item)
-  joined_same None run (Record r) = sym (map-append carried run (r ∷ []))
-  joined_same (Some reason) run (Record r) = refl
-  joined_same (Some reason) run (Tick moment) = refl
-  joined_same (Some reason) run (Close moment) = refl
-  joined_same None run _ = sym (map-append carried run [])
+  joined_same o run item = grind (arith, map-append carried run)
 
   first_same : (o : Option ClosureReason) (run : List (Filed A)) (one : Division B) (other : Division A)
       → runs_of one ≡ map (map carried) (runs_of other)
@@ -89,59 +78,91 @@ module _ {A B : Type 0} (f : A → B) where
       let b = ends_before limits run item in
       let mine = joined b run item in
       let a = ends_after limits mine item in
-      let more : List (Filed B) → Division B = λ r. divided_from limits r (map carried_item items) in
-      let by : Option ClosureReason → Option ClosureReason → List (Filed B) → List (List (Filed B)) =
-      λ c d r. runs_of (closed_first c (map carried run) (closed_first d r (more (still d r [])))) in
-      ap (λ (c : Option ClosureReason). by c (ends_after limits (joined c (map carried run) (carried_item item)) (carried_item item)) (joined c (map carried run) (carried_item item)))
-      (before_same limits run item)
-      ∙ ap (λ (r : List (Filed B)). by b (ends_after limits r (carried_item item)) r) (joined_same b run item)
-      ∙ ap (λ (d : Option ClosureReason). by b d (map carried mine)) (after_same limits mine item)
-      ∙ ap (λ (q : List (Filed B)). runs_of (closed_first b (map carried run) (closed_first a (map carried mine) (more q)))) (still_same a mine)
-      ∙ first_same b run (closed_first a (map carried mine) (more (map carried (still a mine [])))) (closed_first a mine (divided_from limits (still a mine []) items))
-      (first_same a mine (more (map carried (still a mine []))) (divided_from limits (still a mine []) items) (divided_same limits (still a mine []) items))
+      let more = divided_from limits (map carried (still a mine [])) (map carried_item items) in
+      let less = divided_from limits (still a mine []) items in
+      rw (before_same limits run item, joined_same b run item, after_same limits mine item, still_same a mine)
+      (first_same b run (closed_first a (map carried mine) more) (closed_first a mine less)
+      (first_same a mine more less (divided_same limits (still a mine []) items)))
+
+-- ---- what entries give, one after the other
+
+along_same : {A B C : Type 0} (F : List HistoryEntry → HistoryEntry → List A)
+    (G : List HistoryEntry → HistoryEntry → List B)
+    (f : List A → List C) (g : List B → List C) → f [] ≡ g [] → ((xs ys : List A) → f (xs ++ ys) ≡ f xs ++ f ys)
+    → ((xs ys : List B) → g (xs ++ ys) ≡ g xs ++ g ys)
+    → ((before : List HistoryEntry) (e : HistoryEntry) → f (F before e) ≡ g (G before e))
+    → (before h : List HistoryEntry) → f (along F before h) ≡ g (along G before h)
+along_same F G f g none fs gs each before [] = none
+along_same F G f g none fs gs each before (e ∷ h) =
+    let later = before ++ e ∷ [] in
+    cc (fs (F before e) (along F later h), gs (G before e)
+    (along G later h), each before e, along_same F G f g none fs gs each later h)
 
 -- ---- the items of a stream
 
 abbrev pub plain : Filed FiledRecord → Filed (List ℕ)
 plain r = carried (λ (x : FiledRecord). x.octets) r
 
-abbrev pub plain_item : Item FiledRecord → Item (List ℕ)
-plain_item i = carried_item (λ (x : FiledRecord). x.octets) i
-
 module _ (settings : Settings) (s : ℕ) where
-  abbrev of_stream : List (Item FiledRecord) → List (Item (List ℕ))
-  of_stream items = map plain_item (filter (goes_to settings s) items)
-
-  records_same : (rs : List FiledRecord) → flat_map (stream_item settings.profile settings.rules s) (map part_of rs) ≡ of_stream (map (filed_item settings.profile) rs)
-  records_same [] = refl
-  records_same (r ∷ rs) =
-      let rest = filter (goes_to settings s) (map (filed_item settings.profile) rs) in
-      by_bool (λ (b : Bool). record_if b (stream_record settings.profile r.kind r.octets r.moment) ++ flat_map (stream_item settings.profile settings.rules s) (map part_of rs)
-      ≡ map plain_item (cond b (filed_item settings.profile r ∷ rest) rest)) (stream_of settings.rules r.tag r.kind.format == s)
-      (λ e. ap (λ (is : List (Item (List ℕ))). Record (stream_record settings.profile r.kind r.octets r.moment) ∷ is) (records_same rs)) (λ e. records_same rs)
-
-  act_same : (before : List HistoryEntry) (moment : ℕ) (a : HistoryAct)
-      → flat_map (stream_item settings.profile settings.rules s) (items_by_act before moment a) ≡ of_stream (filed_items_by settings.profile before moment a)
-  act_same before moment (act.File n x packet) = records_same (filed_by_act before moment (act.File n x packet))
-  act_same before moment (act.Release n xs) = records_same (filed_by_act before moment (act.Release n xs))
-  act_same before moment _ = refl
-
+  -- what entries give to files
   abbrev items_at : List HistoryEntry → HistoryEntry → List (Item FiledRecord)
   items_at before e = filed_items_by settings.profile before e.moment e.act
 
-  history_same : (before h : List HistoryEntry) → flat_map (stream_item settings.profile settings.rules s) (along items_by before h) ≡ of_stream (along items_at before h)
-  history_same before [] = refl
-  history_same before (e ∷ h) =
-      let later : List HistoryEntry = before ++ e ∷ [] in
-      flat_map-append (stream_item settings.profile settings.rules s) (items_by before e) (along items_by later h)
-      ∙ ap (λ (is : List (Item (List ℕ))). is ++ flat_map (stream_item settings.profile settings.rules s) (along items_by later h)) (act_same before e.moment e.act)
-      ∙ ap (λ (is : List (Item (List ℕ))). of_stream (items_at before e) ++ is) (history_same later h)
-      ∙ sym (map-append plain_item (filter (goes_to settings s) (items_at before e)) (filter (goes_to settings s) (along items_at later h)))
-      ∙ ap (λ (is : List (Item FiledRecord)). map plain_item is) (sym (filter-append (goes_to settings s) (items_at before e) (along items_at later h)))
+  abbrev of_stream : List (Item FiledRecord) → List (Item (List ℕ))
+  of_stream items = map (carried_item (λ (x : FiledRecord). x.octets)) (filter (goes_to settings s) items)
 
--- the files of a stream are these, with the octets of their records alone
-pub same_runs : (settings : Settings) (s : ℕ) (h : List HistoryEntry)
-    → runs_of (stream_division settings s (items_of h)) ≡ map (map plain) (filed_runs settings s h)
-same_runs settings s h =
-    ap (λ (items : List (Item (List ℕ))). runs_of (division_of settings.limits items)) (history_same settings s [] h)
-    ∙ divided_same (λ (x : FiledRecord). x.octets) settings.limits [] (filter (goes_to settings s) (filed_items settings.profile h))
+  records_same : (rs : List FiledRecord)
+      → flat_map (stream_item settings.profile settings.rules s) (map part_of rs) ≡ of_stream
+      (map (filed_item settings.profile) rs)
+  records_same [] = refl
+  records_same (r ∷ rs) = grind (arith, records_same rs)
+
+  act_same : (before : List HistoryEntry) (moment : ℕ) (a : HistoryAct)
+      → flat_map (stream_item settings.profile settings.rules s) (items_by_act before moment a) ≡ of_stream (filed_items_by settings.profile before moment a)
+  act_same before moment a = grind (arith, records_same)
+
+  -- the files of a stream are these, with the octets of their records alone
+  pub same_runs : (h : List HistoryEntry)
+      → runs_of (stream_division settings s (items_of h)) ≡ map (map plain) (filed_runs settings s h)
+  same_runs h =
+      ap (λ (items : List (Item (List ℕ))). runs_of (division_of settings.limits items))
+      (along_same items_by items_at (flat_map (stream_item settings.profile settings.rules s)) of_stream refl
+      (flat_map-append (stream_item settings.profile settings.rules s))
+      (λ xs ys. ap (map (carried_item (λ (x : FiledRecord). x.octets))) (filter-append (goes_to settings s) xs ys)
+      ∙ map-append _ _ _)
+      (λ before e. act_same before e.moment e.act) [] h)
+      ∙ divided_same (λ (x : FiledRecord). x.octets) settings.limits [] (filter (goes_to settings s) (filed_items settings.profile h))
+
+  -- ---- the records of a stream
+
+  abbrev pub goes : Filed FiledRecord → Bool
+  goes r = stream_of settings.rules r.payload.tag r.kind.format == s
+
+  records_append : (xs ys : List (Item FiledRecord)) → records_of (xs ++ ys) ≡ records_of xs ++ records_of ys
+  records_append [] ys = refl
+  records_append (i ∷ xs) ys = grind (arith, records_append xs ys)
+
+  records_going : (items : List (Item FiledRecord))
+      → records_of (filter (goes_to settings s) items) ≡ filter goes (records_of items)
+  records_going [] = refl
+  records_going (i ∷ items) = grind (arith, records_going items)
+
+  items_filed : (rs : List FiledRecord)
+      → records_of (map (filed_item settings.profile) rs) ≡ map (as_filed settings.profile) rs
+  items_filed [] = refl
+  items_filed (r ∷ rs) = ap (λ (fs : List (Filed FiledRecord)). as_filed settings.profile r ∷ fs) (items_filed rs)
+
+  act_filed : (before : List HistoryEntry) (moment : ℕ) (a : HistoryAct)
+      → records_of (filed_items_by settings.profile before moment a) ≡ map (as_filed settings.profile)
+      (filed_by_act before moment a)
+  act_filed before moment a = grind (arith, items_filed)
+
+  -- they are those of the history that go there
+  pub stream_records : (h : List HistoryEntry)
+      → records_of (filter (goes_to settings s) (filed_items settings.profile h)) ≡ filter goes
+      (map (as_filed settings.profile) (filed h))
+  stream_records h =
+      records_going (filed_items settings.profile h)
+      ∙ ap (filter goes) (along_same items_at filed_by records_of (map (as_filed settings.profile)) refl records_append
+      (map-append (as_filed settings.profile))
+      (λ before e. act_filed before e.moment e.act) [] h)

@@ -1,5 +1,5 @@
 -- How often a record is filed under a key, by the key's state.
-use Rattle.std.proofs.Common.{◌≡◌, ⊎_elim, ℕ, suc, ◌+◌, ◌-◌, ◌≤◌, ◌==◌, ◌&&◌, nat_lt, slice_get, Contains, Bool, true, false, cond, length, List, [], ◌∷◌, ◌++◌, Option, Some, refl, sym, ap, ◌∙◌, arith, nat_le}
+use Rattle.std.proofs.Common.{◌≡◌, ⊎_elim, ℕ, suc, ◌+◌, ◌-◌, ◌≤◌, ◌==◌, ◌&&◌, nat_lt, slice_get, Contains, Bool, true, false, cond, length, List, [], ◌∷◌, ◌++◌, Option, Some, sym, ap, ◌∙◌, arith, nat_le}
 use Rattle.std.proofs.lemmas.List.Sums.{sum_by-append, sum_by-cons}
 use Rattle.std.specs.Option.{option_map_or}
 use Rattle.std.proofs.lemmas.Bool.Decides.{nat_tests}
@@ -10,7 +10,7 @@ use Rattle.gateway_answer.specs.Once.{is_record_of, same_key, times_filed}
 use Rattle.gateway_answer.specs.declared.filing.FiledRecord.{FiledRecord}
 use Rattle.once_core.specs.FiledOnce.{record_count, records_within}
 use Rattle.once_core.proofs.ListLemmas.{in_cons, in_none}
-use Rattle.once_core.proofs.CaseLemmas.{by_bool, by_option}
+use Rattle.once_core.proofs.CaseLemmas.{by_option}
 
 -- one, where the test passes
 abbrev pub one_if : Bool → ℕ
@@ -24,15 +24,6 @@ within index octets = one_if (nat_lt index (record_count octets))
 abbrev from_on : ℕ → ℕ → ℕ → ℕ
 from_on index j count = cond (nat_le j index) (cond (nat_lt index (j + count)) 1 0) 0
 
-none_on : (index j : ℕ) → 0 ≡ from_on index j 0
-none_on index j = grind (arith, nat_tests)
-
-one_more : (index j count : ℕ) → cond (j == index) 1 0 + from_on index (j + 1) count ≡ from_on index j (suc count)
-one_more index j count = grind (arith, nat_tests)
-
-from_first : (index count : ℕ) → from_on index 0 count ≡ cond (nat_lt index count) 1 0
-from_first index count = grind (arith, nat_tests)
-
 module _ (key : PacketKey) (index : ℕ) where
   pub times-append : (rs more : List FiledRecord) → times_filed key index (rs ++ more) ≡ times_filed key index rs + times_filed key index more
   times-append rs more = sum_by-append (λ (x : FiledRecord). cond (is_record_of key index x) 1 0) rs more
@@ -40,21 +31,27 @@ module _ (key : PacketKey) (index : ℕ) where
   -- what is filed from a record on under a key that is the key, or isn't
   times_from : (k : PacketKey) (same : Bool) → same_key k key ≡ same → (moment format version j : ℕ) (records : List (List ℕ))
       → times_filed key index (records_from k moment format version j records) ≡ cond same (from_on index j (length records)) 0
-  times_from k same e moment format version j [] = by_bool (λ (b : Bool). 0 ≡ cond b (from_on index j 0) 0) same (λ is. none_on index j) (λ isnt. refl)
+  times_from k same e moment format version j [] = grind (arith, nat_tests)
   times_from k same e moment format version j (r ∷ records) =
-      sum_by-cons (λ (x : FiledRecord). cond (is_record_of key index x) 1 0) (filed_record k moment format version (j, r)) (records_from k moment format version (j + 1) records)
-      ∙ ap (λ (b : Bool). cond (b && (j == index)) 1 0 + times_filed key index (records_from k moment format version (j + 1) records)) e
-      ∙ ap (λ (n : ℕ). cond (same && (j == index)) 1 0 + n) (times_from k same e moment format version (j + 1) records)
-      ∙ by_bool (λ (b : Bool). cond (b && (j == index)) 1 0 + cond b (from_on index (j + 1) (length records)) 0 ≡ cond b (from_on index j (suc (length records))) 0) same
-      (λ is. one_more index j (length records)) (λ isnt. refl)
+      let more = records_from k moment format version (j + 1) records in
+      let now = filed_record k moment format version (j, r) in
+      sum_by-cons (λ (x : FiledRecord). one_if (is_record_of key index x)) now more
+      ∙ ap (λ (n : ℕ). one_if (same_key k key && (j == index)) + n)
+      (times_from k same e moment format version (j + 1) records)
+      ∙ one_more k same e j (length records)
+    where
+      one_more : (k : PacketKey) (same : Bool) → same_key k key ≡ same → (j count : ℕ)
+          → one_if (same_key k key && (j == index)) + cond same (from_on index (j + 1) count) 0 ≡ cond same
+          (from_on index j (suc count)) 0
+      one_more k same e j count = grind (arith, nat_tests)
 
   times_under : (k : PacketKey) (same : Bool) → same_key k key ≡ same → (moment : ℕ) (octets : List ℕ)
       → times_filed key index (filed_under k moment octets) ≡ cond same (within index octets) 0
-  times_under k same e moment octets =
-      by_option (λ (o : Option PacketForm). times_filed key index (records_if k moment o) ≡ cond same (one_if (nat_lt index (option_map_or (λ form. length form.records) o 0))) 0)
-      (packet_of octets) (λ none. by_bool (λ (b : Bool). 0 ≡ cond b (one_if (nat_lt index 0)) 0) same (λ is. none_on index 0 ∙ from_first index 0) (λ isnt. refl))
-      (λ form there.
-      times_from k same e moment form.format form.version 0 form.records ∙ ap (λ (n : ℕ). cond same n 0) (from_first index (length form.records)))
+  times_under k same e moment octets = by_option
+      (λ (o : Option PacketForm). times_filed key index (records_if k moment o)
+      ≡ cond same (one_if (nat_lt index (option_map_or (λ form. length form.records) o 0))) 0)
+      (packet_of octets) (λ none. grind (arith, nat_tests))
+      (λ form there. times_from k same e moment form.format form.version 0 form.records ∙ grind (arith, nat_tests))
 
   pub times_of_packet : (k : PacketKey) (moment : ℕ) (octets : List ℕ) → same_key k key ≡ true → times_filed key index (filed_under k moment octets) ≡ within index octets
   times_of_packet k moment octets same = times_under k true same moment octets

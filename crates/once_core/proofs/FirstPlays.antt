@@ -74,8 +74,7 @@ first_scene rules (suc count) =
 
 pub times_each : {A : Type 0} (n : ℕ) (x : A) (k : ℕ) (y : A) → slice_get (times_of n x) k ≡ Some y → x ≡ y
 times_each zero x k y e = absurd (cc)
-times_each (suc n) x zero y e = cc
-times_each (suc n) x (suc k) y e = times_each n x k y e
+times_each (suc n) x k y e = grind (arith, times_each n x)
 
 gateways_within : (rules : ℕ → Rules) (n k : ℕ) → k < n → slice_get (gateways_by rules n) k ≡ Some (first_gateway (rules k))
 gateways_within rules zero k lt = absurd (omega (arith, lt))

@@ -18,7 +18,7 @@ use Rattle.once_core.specs.Following.{AnyHasCopyAt, MaySend}
 use Rattle.once_core.specs.Happenings.{Asks, Letter, Meaning, Orders, Sends, Tests}
 use Rattle.once_core.proofs.ListLemmas.{in_cons, in_head, in_none, in_tail}
 use Rattle.once_core.proofs.LogLemmas.{starts_same}
-use Rattle.once_core.proofs.CaseLemmas.{by_bool, if_both}
+use Rattle.once_core.proofs.CaseLemmas.{by_bool}
 
 -- ---- lists that grow
 
@@ -141,13 +141,8 @@ followed_one start z = record { start = start; state = z.0; form = z.1 }
 -- those of one start are all of the start that is asked for, or none is
 states_as : (start other : ℕ) (zs : List (PacketState × PacketForm))
     → states_at start (map (followed_one other) zs) ≡ (if other == start then map (λ (z : PacketState × PacketForm). z.0) zs else [])
-states_as start other [] = if_both (λ (ps : List PacketState). [] ≡ ps) (other == start) refl refl
-states_as start other (z ∷ zs) =
-    let rest = filter (λ (p : Followed). p.start == start) (map (followed_one other) zs) in
-    by_bool (λ (b : Bool). map (λ (p : Followed). p.state) (if b then followed_one other z ∷ rest else rest)
-    ≡ (if b then z.0 ∷ map (λ (y : PacketState × PacketForm). y.0) zs else [])) (other == start)
-    (λ e. ap (λ (ps : List PacketState). z.0 ∷ ps) (states_as start other zs ∙ cond-true (other == start) _ _ e))
-    (λ e. states_as start other zs ∙ cond-false (other == start) _ _ e)
+states_as start other [] = grind arith
+states_as start other (z ∷ zs) = grind (arith, states_as start other zs)
 
 as_many_heard : (port : Port) (gateway : ℕ) (saying : Saying) (log : List LogEntry) → length (forms_of log) ≡ length (packets_of log) →
     length (forms_of log) ≡ length (packets_of (Heard port gateway saying ∷ log))

@@ -1,14 +1,14 @@
--- Each request in a node's log is of one of the packets of its start.
-use Rattle.std.proofs.Common.{◌≡◌, ⊎_elim, ℕ, Bool, true, if◌then◌else◌, List, [], ◌∷◌, ◌++◌, map, Option, Some, All, Contains, refl, sym, ap, subst, ◌∙◌, None}
-use Rattle.std.proofs.lemmas.List.Elements.{All-contains, Contains-append_cases}
-use Rattle.std.specs.List.{flat_map}
+-- Each request in a node's log is of one of the packets of its start. What a node knows of the packets of a start, also
+-- once it is over, rests on what it heard in it.
+use Rattle.std.proofs.Common.{◌≡◌, ⊎_elim, ℕ, Bool, true, if◌then◌else◌, List, [], ◌∷◌, ◌++◌, map, Option, Some, All, Contains, refl, sym, ap, subst, ◌∙◌, None, ◌==◌, false, get_or, arith, eqb-true, ne_eqb}
+use Rattle.std.proofs.lemmas.List.Elements.{All-contains, Contains-append_cases, Contains-append_left, All-nil}
+use Rattle.std.specs.List.{flat_map, AllByRecursion}
 use Rattle.node_core.specs.declared.copy.Command.{Command}
 use Rattle.node_core.specs.declared.port.Port.TheVariants.{First, Second}
 use Rattle.node_core.specs.declared.sending.Sending.{Sending}
 use Rattle.node_core.specs.declared.sending.Sending.TheVariants as send
-use Rattle.node_core.specs.Growing.{is_within_start}
 use Rattle.node_core.specs.Log as log
-use Rattle.node_core.specs.Log.{LogEntry, NodeSetup, packets_of}
+use Rattle.node_core.specs.Log.{LogEntry, NodeSetup, packets_of, runs}
 use Rattle.node_core.specs.Moving.{appointing, moved_at_tick}
 use Rattle.node_core.specs.Packets.{PacketState}
 use Rattle.node_core.specs.Reached.{NodeCall, Tick, call_entries, log_of, reached}
@@ -17,14 +17,17 @@ use Rattle.node_core.specs.Ticks.{due, tick_entries}
 use Rattle.node_core.specs.Value.{logged, node_of}
 use Rattle.once_core.specs.Deeds.{asked_by, deeds_of, letter_of, told_by}
 use Rattle.once_core.specs.Expired.{starts_in}
-use Rattle.once_core.specs.Followed.{followed_before, packets_in}
-use Rattle.once_core.specs.Following.{AnyHasCopyAt, MaySend}
+use Rattle.once_core.specs.Followed.{followed_before, packets_in, Followed}
+use Rattle.once_core.specs.Following.{AnyHasCopyAt, MaySend, Knows, heard_in}
 use Rattle.once_core.specs.Happenings as did
-use Rattle.once_core.specs.Happenings.{Asks, Letter, Orders, Sends, Tests}
-use Rattle.once_core.proofs.FollowLemmas.{Grows, began_same, halted_same, in_present, may_send_behind, may_send_on, packets_grow, starts_within, states_at, command_now}
-use Rattle.once_core.proofs.ListLemmas.{in_none, in_one, of_flat_map, of_map}
-use Rattle.once_core.proofs.CaseLemmas.{by_option}
+use Rattle.once_core.specs.Happenings.{Asks, Letter, Orders, Sends, Tests, Deed}
+use Rattle.once_core.proofs.FollowLemmas.{Grows, began_same, halted_same, in_present, may_send_behind, may_send_on, packets_grow, starts_within, states_at, command_now, before_within, other_same}
+use Rattle.once_core.proofs.ListLemmas.{in_none, in_one, of_flat_map, of_map, none_pass}
+use Rattle.once_core.proofs.CaseLemmas.{by_option, by_bool}
 use Rattle.once_core.proofs.CallLemmas.{Adds, adds, begins_anew, halts, hears, nothing, submits, ticks}
+use Rattle.once_core.proofs.DeedLemmas.{deeds_by, deeds_more, rests_along, heard_append}
+use Rattle.node_core.specs.Growing.{is_within_start}
+use Rattle.once_core.proofs.NumberLemmas.{earlier}
 
 -- ---- what a tick sends
 
@@ -87,38 +90,35 @@ module _ (grow : Grows) (node : ℕ) (values : ℕ → List ℕ) where
   AllSent before =
       (letter : Letter) → Contains (deeds_of node values before) (did.Sent letter) → MaySend (packets_in letter.start before) values letter letter.says
 
-  sent_on : (entry : LogEntry) (before : List LogEntry) → is_within_start entry ≡ true → AllSent before → (letter : Letter) →
-      Contains (deeds_of node values before) (did.Sent letter) → MaySend (packets_in letter.start (entry ∷ before)) values letter letter.says
-  sent_on entry before is all letter there =
-      may_send_on (packets_in letter.start before) (packets_in letter.start (entry ∷ before)) values letter letter.says
-      (packets_grow grow letter.start entry before is) (all letter there)
-
-  ticked_sent : (sendings : List Sending) (before : List LogEntry) → All (IsSent (packets_of (log.Ticked sendings ∷ before))) sendings → AllSent before →
-      AllSent (log.Ticked sendings ∷ before)
-  ticked_sent sendings before fine all letter there =
-      let asked = flat_map (asked_by node (starts_in before) values) sendings in
-      let packets : List PacketState = packets_of (log.Ticked sendings ∷ before) in ⊎_elim
-      (sent_on (log.Ticked sendings) before refl all letter)
-      (λ new.
-      let of = of_flat_map (asked_by node (starts_in before) values) sendings letter (in_sent asked letter new) in
+  -- what an entry adds
+  more_sent : (entry : LogEntry) (before : List LogEntry) → IsFine entry before → (letter : Letter)
+      → Contains (deeds_by node values (starts_in before) entry) (did.Sent letter)
+      → MaySend (packets_in letter.start (entry ∷ before)) values letter letter.says
+  more_sent (log.Ticked sendings) before fine letter new =
+      let packets : List PacketState = packets_of (log.Ticked sendings ∷ before) in
+      let of = of_flat_map (asked_by node (starts_in before) values) sendings letter
+      (in_sent (flat_map (asked_by node (starts_in before) values) sendings) letter new) in
       let one = one_sent node (starts_in before) values packets of.0 (All-contains (IsSent packets) sendings of.0 fine of.1) letter of.2 in
       subst (λ (ps : List PacketState). MaySend ps values letter letter.says)
       (sym (in_present letter.start (log.Ticked sendings ∷ before) (starts_within (log.Ticked sendings) before refl ∙ sym one.0)))
-      (may_send_behind (states_at letter.start (followed_before before)) packets values letter letter.says one.1))
-      (Contains-append_cases (deeds_of node values before) (map (λ (l : Letter). did.Sent l) asked) (did.Sent letter) there)
+      (may_send_behind (states_at letter.start (followed_before before)) packets values letter letter.says one.1)
+  more_sent (log.Heard port gateway saying) before fine letter new = absurd
+      (none_sent (told_by node (starts_in before) port gateway saying) letter new)
+  more_sent _ before fine letter new = in_none (did.Sent letter) new
 
   fine_sent : (entry : LogEntry) (before : List LogEntry) → IsFine entry before → AllSent before → AllSent (entry ∷ before)
   fine_sent log.Began before fine all letter there =
       subst (λ (ps : List PacketState). MaySend ps values letter letter.says) (sym (began_same letter.start before)) (all letter there)
   fine_sent log.Halted before fine all letter there =
       subst (λ (ps : List PacketState). MaySend ps values letter letter.says) (sym (halted_same letter.start before)) (all letter there)
-  fine_sent (log.Ticked sendings) before fine all letter there = ticked_sent sendings before fine all letter there
-  fine_sent (log.Heard port gateway saying) before fine all letter there = ⊎_elim
-      (sent_on (log.Heard port gateway saying) before refl all letter)
-      (λ new. absurd (none_sent (told_by node (starts_in before) port gateway saying) letter new))
-      (Contains-append_cases (deeds_of node values before)
-      (map (λ (l : Letter). did.Heard l) (told_by node (starts_in before) port gateway saying)) (did.Sent letter) there)
-  fine_sent entry before fine all letter there = sent_on entry before refl all letter there
+  fine_sent entry before fine all letter there = ⊎_elim
+      (λ old. may_send_on (packets_in letter.start before)
+      (packets_in letter.start (entry ∷ before)) values letter letter.says
+      (packets_grow grow letter.start entry before refl) (all letter old))
+      (more_sent entry before fine letter)
+      (Contains-append_cases (deeds_of node values before) (deeds_by node values (starts_in before) entry)
+      (did.Sent letter)
+      (subst (λ (deeds : List Deed). Contains deeds (did.Sent letter)) (deeds_more node values entry before) there))
 
   all_fine_sent : (entries before : List LogEntry) → AreFine entries before → AllSent before → AllSent (logged entries before)
   all_fine_sent [] before fine all = all
@@ -152,3 +152,102 @@ all_sent grow node values setup sent [] letter there = in_none (did.Sent letter)
 all_sent grow node values setup sent (call ∷ calls) letter there =
     all_fine_sent grow node values (call_entries (node_of setup (log_of setup calls)) call) (log_of setup calls) (fine_call setup sent calls call)
     (all_sent grow node values setup sent calls) letter there
+
+-- ---- what was heard stays heard
+
+heard_on : (start : ℕ) (deeds more : List Deed) (entry : LogEntry) → Contains (heard_in start deeds) entry → Contains (heard_in start (deeds ++ more)) entry
+heard_on start deeds more entry is =
+    subst (λ (es : List LogEntry). Contains es entry) (sym (heard_append start deeds more))
+    (Contains-append_left (heard_in start deeds) (heard_in start more) entry is)
+
+knows_on : (deeds more : List Deed) (start : ℕ) (packets : List PacketState) → Knows deeds start packets → Knows (deeds ++ more) start packets
+knows_on deeds more start packets is = record {
+  roles = is.roles;
+  plain = is.plain;
+  choice = is.choice;
+  rests = λ k d lt j c inside.
+      rests_along (heard_in start deeds) (heard_in start (deeds ++ more)) (λ port gateway cause number numbers heard named. (numbers, heard_on start deeds more _ heard, named))
+      (get_or (get_or packets k d).copies j c) (is.rests k d lt j c inside);
+}
+
+-- ---- the packets of the starts before
+
+-- while a node runs those before are of earlier starts
+none_at : (start : ℕ) (before : List LogEntry) → runs before ≡ true → starts_in before ≡ start → states_at start (followed_before before) ≡ []
+none_at start before running at = ap (λ (fs : List Followed). map (λ (f : Followed). f.state) fs) (none_pass (λ (f : Followed). f.start == start) (followed_before before)
+    (λ f kept. ne_eqb f.start start (λ same. absurd (omega (arith, earlier before f running kept, at, same)))))
+
+-- ---- one more call
+
+abbrev AreWithin : List LogEntry → Type 0
+AreWithin entries = AllByRecursion (λ (entry : LogEntry). is_within_start entry ≡ true) entries
+
+module _ (node : ℕ) (values : ℕ → List ℕ) (start : ℕ) where
+  abbrev Known : List LogEntry → Type 0
+  Known before = Knows (deeds_of node values before) start (packets_in start before)
+
+  -- what was known of another start stays known
+  known_other : (entry : LogEntry) (before : List LogEntry) → is_within_start entry ≡ true → (starts_in before == start) ≡ false → Known before → Known (entry ∷ before)
+  known_other entry before is isnt known =
+      let before_it = deeds_of node values before in
+      subst (λ (deeds : List Deed). Knows deeds start (packets_in start (entry ∷ before)))
+      (sym (deeds_more node values entry before))
+      (subst (Knows (before_it ++ deeds_by node values (starts_in before) entry) start)
+      (sym (other_same start entry before is isnt))
+      (knows_on before_it (deeds_by node values (starts_in before) entry) start (packets_in start before) known))
+
+  known_others : (entries before : List LogEntry) → AreWithin entries → (starts_in before == start) ≡ false → Known before → Known (logged entries before)
+  known_others [] before within isnt known = known
+  known_others (entry ∷ entries) before within isnt known =
+      known_others entries (entry ∷ before) within.1 (ap (λ (n : ℕ). n == start) (starts_within entry before within.0) ∙ isnt)
+      (known_other entry before within.0 isnt known)
+
+  starts_all : (entries before : List LogEntry) → AreWithin entries → starts_in (logged entries before) ≡ starts_in before
+  starts_all [] before within = refl
+  starts_all (entry ∷ entries) before within = starts_all entries (entry ∷ before) within.1 ∙ starts_within entry before within.0
+
+  before_all : (entries before : List LogEntry) → AreWithin entries → followed_before (logged entries before) ≡ followed_before before
+  before_all [] before within = refl
+  before_all (entry ∷ entries) before within = before_all entries (entry ∷ before) within.1 ∙ before_within entry before within.0
+
+  -- those of the present start are the node's packets
+  are_present : (entries before : List LogEntry) → runs before ≡ true → AreWithin entries → starts_in before ≡ start →
+      packets_in start (logged entries before) ≡ packets_of (logged entries before)
+  are_present entries before running within at =
+      let none : states_at start (followed_before (logged entries before)) ≡ [] = ap (states_at start) (before_all entries before within) ∙ none_at start before running at in
+      in_present start (logged entries before) (starts_all entries before within ∙ at)
+      ∙ ap (λ (ps : List PacketState). ps ++ packets_of (logged entries before)) none
+
+  -- entries of the present start
+  known_within : (before entries : List LogEntry) → runs before ≡ true → AreWithin entries → Known before →
+      Knows (deeds_of node values (logged entries before)) (starts_in (logged entries before)) (packets_of (logged entries before)) → Known (logged entries before)
+  known_within before entries running within known present = by_bool (λ (b : Bool). Known (logged entries before)) (starts_in before == start)
+      (λ e.
+      let at = eqb-true (starts_in before) start e in
+      subst (Knows (deeds_of node values (logged entries before)) start) (sym (are_present entries before running within at))
+      (subst (λ (n : ℕ). Knows (deeds_of node values (logged entries before)) n (packets_of (logged entries before))) (starts_all entries before within ∙ at) present))
+      (λ e. known_others entries before within e known)
+
+  known_after : {setup : NodeSetup} (before entries : List LogEntry) → Adds setup before entries → Known before →
+      Knows (deeds_of node values (logged entries before)) (starts_in (logged entries before)) (packets_of (logged entries before)) → Known (logged entries before)
+  known_after before _ nothing known present = known
+  known_after before _ begins_anew known present = subst (Knows (deeds_of node values before) start) (sym (began_same start before)) known
+  known_after before _ halts known present = subst (Knows (deeds_of node values before) start) (sym (halted_same start before)) known
+  known_after before _ (submits up form) known present = known_within before (log.Submitted form ∷ []) up (refl, tt) known present
+  known_after before entries (ticks up None) known present = known_within before entries up (refl, tt) known present
+  known_after before entries (ticks up (Some to)) known present = known_within before entries up (refl, (refl, tt)) known present
+  known_after before entries (hears up port gateway saying None) known present = known_within before entries up (refl, tt) known present
+  known_after before entries (hears up port gateway saying (Some to)) known present = known_within before entries up (refl, (refl, tt)) known present
+
+pub all_known : (setup : NodeSetup) (node : ℕ) (values : ℕ → List ℕ) →
+    ((calls : List NodeCall) → Knows (deeds_of node values (log_of setup calls)) (starts_in (log_of setup calls)) (reached setup calls).packets) →
+    (calls : List NodeCall) (start : ℕ) → Knows (deeds_of node values (log_of setup calls)) start (packets_in start (log_of setup calls))
+all_known setup node values present [] start = record {
+  roles = λ gateway number. omega arith;
+  plain = All-nil _;
+  choice = All-nil _;
+  rests = All-nil _;
+}
+all_known setup node values present (call ∷ calls) start =
+    known_after node values start (log_of setup calls) (call_entries (node_of setup (log_of setup calls)) call) (adds setup (log_of setup calls) call)
+    (all_known setup node values present calls start) (present (call ∷ calls))

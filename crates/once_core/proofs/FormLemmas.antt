@@ -1,17 +1,15 @@
 -- What a draft is can be sent, and is read back as it was submitted.
-use Rattle.std.proofs.Common.{◌≡◌, ◌↔◌, ℕ, ◌+◌, ◌*◌, ◌/◌, ◌%◌, ◌≤◌, ◌==◌, ◌&&◌, not, nat_lt, Bool, true, if◌then◌else◌, List, [], ◌∷◌, ◌++◌, length, Option, Some, None, Ok, Err, Result, is_ok, refl, sym, ap, subst, ◌∙◌, arith, append_assoc, append-nil, option_map, flat_map, ltb-false, ne_eqb}
+use Rattle.std.proofs.Common.{◌≡◌, ◌↔◌, ℕ, ◌+◌, ◌*◌, ◌/◌, ◌%◌, ◌≤◌, ◌==◌, not, Bool, true, List, [], ◌∷◌, ◌++◌, length, Some, refl, sym, subst, arith, append_assoc, append-nil, flat_map}
 use Rattle.std.specs.List.{list_all}
 use Rattle.std.proofs.lemmas.Bool.{and_parts, false≢true}
-use Rattle.gw_base.specs.declared.tag.Tag.{Tag}
-use Rattle.ber_frame.specs.Checked.{checked, is_one_value}
-use Rattle.ber_frame.specs.declared.fault.BerFault.{BerFault}
+use Rattle.ber_frame.specs.Checked.{is_one_value}
 use Rattle.gtpp_message.specs.Packet.{PacketForm, Full, SpellRecords, packet_of, records_at}
 use Rattle.gtpp_message.specs.PacketWriting.{record_octets, value_of, with_record}
 use Rattle.gateway_answer.specs.Preparing.{has_values}
-use Rattle.node_core.specs.Drafts.{addition_fault, ber_fault_of, is_without_records, most_datagram_octets, most_records, packet_anew, packet_of_form, packet_of_records, request_length, value_octets, value_octets_of}
+use Rattle.node_core.specs.Drafts.{addition_fault, is_without_records, packet_anew, packet_of_form, value_octets}
 use Rattle.once_core.specs.World.{draft_of, is_draft, is_fault_free, takes_all}
-use Rattle.once_core.proofs.CaseLemmas.{by_bool, if_both, if_known}
-use Rattle.std.proofs.lemmas.Option.{cond_some, option_and_then_some}
+use Rattle.once_core.proofs.CaseLemmas.{if_both, if_known}
+use Rattle.std.proofs.lemmas.Bool.Decides.{nat_tests}
 
 -- what the law of packets says: records are read where octets spell them
 abbrev pub RecordsSpelled : Type 0
@@ -38,26 +36,19 @@ records_spell (first ∷ records) = (
 )
 
 pub value_read : RecordsSpelled → (form : PacketForm) → 1 ≤ length form.records → packet_of (value_of form) ≡ Some form
-value_read law form some =
-    ap (λ (b : Bool). if b then None else option_map (λ (records : List (List ℕ)). record { format = form.format; version = 256 * (form.version / 256) + form.version % 256; records = records }) (records_at (length form.records) (flat_map record_octets form.records)))
-    (ne_eqb (length form.records) 0 (λ none. absurd (omega (arith, some, none))))
-    ∙ ap (λ (o : Option (List (List ℕ))). option_map (λ (records : List (List ℕ)). record { format = form.format; version = 256 * (form.version / 256) + form.version % 256; records = records }) o)
-    ((law (length form.records) form.records (flat_map record_octets form.records)).1 (refl, records_spell form.records))
-    ∙ ap (λ (v : ℕ). Some (record { format = form.format; version = v; records = form.records })) (sym (halves form.version))
+value_read law form some = read
+    ((law (length form.records) form.records (flat_map record_octets form.records)).1
+    (refl, records_spell form.records))
+  where
+    read : records_at (length form.records) (flat_map record_octets form.records) ≡ Some form.records
+        → packet_of (value_of form) ≡ Some form
+    read spelled = grind (arith, nat_tests, halves form.version)
 
 pub value_octets_are : (form : PacketForm) → 1 ≤ length form.records → value_octets form ≡ value_of form
-value_octets_are form some = by form.records some
-  where
-    by : (records : List (List ℕ)) → 1 ≤ length records → value_octets_of records form ≡ value_of form
-    by [] none = absurd (omega (arith, none))
-    by (first ∷ records) some = refl
+value_octets_are form some = grind arith
 
 pub packet_is : (form : PacketForm) → 1 ≤ length form.records → packet_of_form form ≡ Full form (value_of form)
-packet_is form some = by form.records some
-  where
-    by : (records : List (List ℕ)) → 1 ≤ length records → packet_of_records records form ≡ Full form (value_of form)
-    by [] none = absurd (omega (arith, none))
-    by (first ∷ records) some = refl
+packet_is form some = grind arith
 
 -- ---- what a draft takes
 
@@ -66,24 +57,14 @@ record Fits (form : PacketForm) : Type 0 where
   values : has_values form ≡ true
 
 more_values : (records : List (List ℕ)) (r : List ℕ) → list_all is_one_value records ≡ true → is_one_value r ≡ true → list_all is_one_value (records ++ r ∷ []) ≡ true
-more_values [] r all one = ap (λ (b : Bool). b && true) one
-more_values (first ∷ records) r all one =
-    let parts = and_parts (is_one_value first) (list_all is_one_value records) all in
-    ap (λ (b : Bool). b && list_all is_one_value (records ++ r ∷ [])) parts.0 ∙ more_values records r parts.1 one
-
-checked_is : (checked_as : Result Tag BerFault) → is_fault_free (ber_fault_of checked_as) ≡ true → is_ok checked_as ≡ true
-checked_is (Ok tag) free = refl
-checked_is (Err fault) free = absurd (false≢true free)
+more_values [] r all one = grind arith
+more_values (first ∷ records) r all one = grind (arith, more_values records r)
 
 taken : (form : PacketForm) (r : List ℕ) → Fits form → is_fault_free (addition_fault form r) ≡ true → Fits (with_record form r)
-taken form r fits = if_both (λ fault. is_fault_free fault ≡ true → Fits (with_record form r)) (length form.records == most_records) (λ free. absurd (false≢true free))
-    (if_known (λ fault. is_fault_free fault ≡ true → Fits (with_record form r)) (nat_lt most_datagram_octets (request_length (with_record form r))) (λ big free. absurd (false≢true free))
-    (λ fine free. record {
-      short = omega (arith, ltb-false most_datagram_octets (request_length (with_record form r)) fine);
-      values = by_bool (λ (b : Bool). (if b then list_all is_one_value form.records else true) ≡ true → is_fault_free (if b then ber_fault_of (checked r) else None) ≡ true
-          → (if b then list_all is_one_value (form.records ++ r ∷ []) else true) ≡ true) (form.format == 1)
-          (λ is all one. more_values form.records r all (checked_is (checked r) one)) (λ isnt all one. refl) fits.values free;
-    }))
+taken form r fits free = record {
+  short = grind (arith, nat_tests);
+  values = grind (arith, nat_tests, more_values form.records r);
+}
 
 all_taken : (records : List (List ℕ)) (form : PacketForm) → Fits form → takes_all form records ≡ true → Fits (record form { records = form.records ++ records })
 all_taken [] form fits takes = subst (λ (rs : List (List ℕ)). Fits (record form { records = rs })) (sym (append-nil form.records)) fits
@@ -112,5 +93,4 @@ draft_is_good law form draft =
 
 -- what is submitted is a draft
 pub submitted_is_draft : (octets : List ℕ) (form : PacketForm) → draft_of octets ≡ Some form → is_draft form ≡ true
-submitted_is_draft octets form e = option_and_then_some _ (packet_of octets) form e
-    (λ f there same. let parts = cond_some (is_draft f) f form same in subst (λ (g : PacketForm). is_draft g ≡ true) parts.1 parts.0)
+submitted_is_draft octets form e = grind arith

@@ -1,25 +1,31 @@
--- States that end stay, and what an answer tells stays true.
-use Rattle.std.proofs.Common.{◌≡◌, ℕ, ◌==◌, ◌&&◌, Bool, true, false, if◌then◌else◌, List, [], ◌∷◌, ◌++◌, Contains, refl, sym, ap, subst, ◌∙◌, append_assoc, append-nil, eq-eqb}
-use Rattle.std.proofs.lemmas.Bool.{and_parts, and_from, false≢true}
+-- States move as the table of answers says: those that end stay, and what an answer tells stays true.
+use Rattle.std.proofs.Common.{◌≡◌, ℕ, Bool, true, false, List, [], ◌∷◌, ◌++◌, Contains, refl, sym, ap, subst, ◌∙◌, append_assoc, append-nil, arith, ◌==◌, ◌&&◌}
 use Rattle.gw_base.specs.EntryLaws.{present_state_is, state_of-append}
 use Rattle.gw_base.specs.History.{epoch_of, given_state, names, present_state, state_of}
 use Rattle.gw_base.specs.Starts.{start_of}
-use Rattle.gw_base.specs.declared.address.NodeId.{NodeId}
 use Rattle.gw_base.specs.declared.history.HistoryAct.{HistoryAct}
 use Rattle.gw_base.specs.declared.history.HistoryAct.TheVariants as act
 use Rattle.gw_base.specs.declared.history.HistoryEntry.{HistoryEntry}
 use Rattle.gw_base.specs.declared.history.PacketKey.{PacketKey}
 use Rattle.gw_base.specs.declared.key_state.KeyState.{KeyState}
 use Rattle.gw_base.specs.declared.key_state.KeyState.TheVariants.{Fresh, Filed, Sealed, Held, Released}
-use Rattle.gateway_answer.specs.Fit.{is_fresh}
+use Rattle.gateway_answer.specs.Fit.{is_fresh, are_distinct, is_act_lawful, is_list_fit}
 use Rattle.gw_base.specs.ListLaws.{by_last}
 use Rattle.node_core.specs.declared.copy.Order.TheVariants as order
 use Rattle.once_core.specs.Epochs.{StartsRise, key_in}
-use Rattle.once_core.specs.Happenings.{Asks, Letter, Orders, Request, Sends, Tests}
+use Rattle.once_core.specs.Happenings.{Letter, Orders, Request, Sends, Tests}
 use Rattle.once_core.specs.Resting.{IsAsked, IsKnown, IsState, Rests, RestsBy, Tells}
-use Rattle.once_core.proofs.CountLemmas.{IsHere, any_one, is_here, state_here}
 use Rattle.once_core.proofs.EachLemmas.{by_each_from, each_also}
 use Rattle.once_core.proofs.EpochLemmas.{epoch_stays, present_epoch}
+use Rattle.std.proofs.lemmas.Bool.Decides.{nat_tests}
+use Rattle.std.proofs.lemmas.Bool.{and_parts, false≢true}
+use Rattle.std.specs.List.{list_all, list_any}
+use Rattle.gw_base.specs.Observed.{observed}
+use Rattle.gw_base.specs.View.{state_after}
+use Rattle.gw_base.specs.declared.address.NodeId.{NodeId}
+use Rattle.transfer_cmd.specs.Lists.{is_held}
+use Rattle.once_core.specs.Admitted.{AllAdmitted, IsAdmitted, moves_on}
+use Rattle.once_core.proofs.StateLemmas.{moves_further, stays, held_is_released, held_is_cancelled}
 use Rattle.once_core.proofs.CaseLemmas.{if_known}
 
 -- no request changes a state that ends
@@ -28,34 +34,16 @@ is_final Fresh = false
 is_final Held = false
 is_final _ = true
 
+-- the state of a key of the present epoch is that of its number
+pub in_epoch : (key : PacketKey) (h : List HistoryEntry) → epoch_of key.node.0 h ≡ key.epoch
+    → state_of key h ≡ present_state key.node.0 key.number h
+in_epoch key h at = cc (present_state_is key.node key.number h)
+
 module _ (letters : List Letter) (gateway : ℕ) where
   -- a key whose state ends isn't named by an entry that keeps to the table
-  not_named : (key : PacketKey) (h : List HistoryEntry) (n : NodeId) (x : ℕ) (s : KeyState) → is_final s ≡ false → present_state n.0 x h ≡ s
-      → is_final (state_of key h) ≡ true → IsHere letters gateway key h n x → ⊥
-  not_named key h n x s unended state ends is =
-      false≢true (sym unended ∙ ap is_final (sym (state_here letters gateway key h n x is ∙ state)) ∙ ends)
-
-  never_named : (key : PacketKey) (h : List HistoryEntry) (a : HistoryAct) → RestsBy letters gateway h a → is_final (state_of key h) ≡ true
-      → ((epoch_of key.node.0 h == key.epoch) && names key.node.0 key.number a) ≡ true → ⊥
-  never_named key h (act.File n x packet) rests ends e = not_named key h n x Fresh refl rests.0 ends (is_here letters gateway key h n x e)
-  never_named key h (act.Hold n x packet) rests ends e = not_named key h n x Fresh refl rests.0 ends (is_here letters gateway key h n x e)
-  never_named key h (act.Seal n x) rests ends e = not_named key h n x Fresh refl rests.0 ends (is_here letters gateway key h n x e)
-  never_named key h (act.Release n xs) rests ends e =
-      let same = any_one letters gateway key xs rests.names.number rests.names.alone in
-      not_named key h n rests.names.number Held refl rests.names.held ends
-      (is_here letters gateway key h n rests.names.number
-      (ap (λ (b : Bool). (epoch_of key.node.0 h == key.epoch) && ((n.0 == key.node.0) && b)) (sym same) ∙ e))
-  never_named key h (act.Cancel n xs) rests ends e =
-      let same = any_one letters gateway key xs rests.number rests.alone in
-      not_named key h n rests.number Held refl rests.held ends
-      (is_here letters gateway key h n rests.number
-      (ap (λ (b : Bool). (epoch_of key.node.0 h == key.epoch) && ((n.0 == key.node.0) && b)) (sym same) ∙ e))
-  never_named key h _ rests ends e = absurd (false≢true (and_parts (epoch_of key.node.0 h == key.epoch) false e).1)
-
-  end_stays : (key : PacketKey) (h : List HistoryEntry) (e : HistoryEntry) → RestsBy letters gateway h e.act → is_final (state_of key h) ≡ true
-      → state_of key (h ++ e ∷ []) ≡ state_of key h
-  end_stays key h e rests ends = state_of-append key h e ∙ if_known (λ (s : KeyState). s ≡ state_of key h) ((epoch_of key.node.0 h == key.epoch) && names key.node.0 key.number e.act)
-      (λ is. absurd (never_named key h e.act rests ends is)) (λ isnt. refl)
+  end_stays : (key : PacketKey) (h : List HistoryEntry) (e : HistoryEntry) → RestsBy letters gateway h e.act
+      → is_final (state_of key h) ≡ true → state_of key (h ++ e ∷ []) ≡ state_of key h
+  end_stays key h e rests ends = grind (arith, nat_tests, in_epoch key h, state_of-append key h e)
 
   pub state_stays : (h g : List HistoryEntry) (node start number : ℕ) (state : KeyState) → is_final state ≡ true → Rests letters gateway (h ++ g)
       → IsState h node start number state → IsState (h ++ g) node start number state
@@ -81,17 +69,10 @@ module _ (letters : List Letter) (gateway : ℕ) where
 -- ---- a number that is fresh no more stays so
 
 gives_none : (node number : ℕ) (a : HistoryAct) → names node number a ≡ true → is_fresh (given_state a) ≡ false
-gives_none node number act.Start named = absurd (false≢true named)
-gives_none node number (act.Path n port counter) named = absurd (false≢true named)
-gives_none node number act.Tick named = absurd (false≢true named)
-gives_none node number act.Close named = absurd (false≢true named)
-gives_none node number _ named = refl
+gives_none node number a named = grind arith
 
 known_more : (key : PacketKey) (h : List HistoryEntry) (e : HistoryEntry) → is_fresh (state_of key h) ≡ false → is_fresh (state_of key (h ++ e ∷ [])) ≡ false
-known_more key h e known =
-    let here = epoch_of key.node.0 h == key.epoch in
-    let named = names key.node.0 key.number e.act in
-    ap is_fresh (state_of-append key h e) ∙ if_known (λ (s : KeyState). is_fresh s ≡ false) (here && named) (λ is. gives_none key.node.0 key.number e.act (and_parts here named is).1) (λ isnt. known)
+known_more key h e known = grind (arith, gives_none key.node.0 key.number, state_of-append key h e)
 
 pub known_on : (h g : List HistoryEntry) (node start number : ℕ) → IsKnown h node start number → IsKnown (h ++ g) node start number
 known_on h g node start number is = record {
@@ -107,26 +88,20 @@ known_on h g node start number is = record {
 abbrev pub Grows : List Letter → List Letter → Type 0
 Grows letters more = (letter : Letter) → Contains letters letter → Contains more letter
 
-asked_on : (letters more : List Letter) → Grows letters more → (node start gateway number : ℕ) (request : Request)
+asked_on : {letters more : List Letter} → Grows letters more → {node start gateway number : ℕ} {request : Request}
     → IsAsked letters node start gateway number request → IsAsked more node start gateway number request
-asked_on letters more grows node start gateway number request is = record {
-  port = is.port;
-  kept = grows (record { node = node; start = start; gateway = gateway; port = is.port; number = number; says = Asks request }) is.kept;
-}
+asked_on grows is = record { port = is.port; kept = grows _ is.kept }
 
 pub rests_on : (letters more : List Letter) → Grows letters more → (gateway : ℕ) (h : List HistoryEntry) → Rests letters gateway h → Rests more gateway h
 rests_on letters more grows gateway =
     each_also (λ before e. RestsBy letters gateway before e.act) (λ before e. RestsBy more gateway before e.act) (λ h e rests. by_act h e.act rests) []
   where
     by_act : (h : List HistoryEntry) (a : HistoryAct) → RestsBy letters gateway h a → RestsBy more gateway h a
-    by_act h (act.File n x packet) rests = (rests.0, asked_on letters more grows n.0 (start_of n.0 h) gateway x (Sends true packet) rests.1)
-    by_act h (act.Hold n x packet) rests = (rests.0, asked_on letters more grows n.0 (start_of n.0 h) gateway x (Sends false packet) rests.1)
-    by_act h (act.Seal n x) rests = (rests.0, asked_on letters more grows n.0 (start_of n.0 h) gateway x Tests rests.1)
-    by_act h (act.Release n xs) rests = record {
-      names = rests.names;
-      own = rests.own;
-      asked = asked_on letters more grows n.0 (start_of n.0 h) gateway rests.own (Orders order.Release rests.names.number) rests.asked;
-    }
+    by_act h (act.File n x packet) rests = (rests.0, asked_on grows rests.1)
+    by_act h (act.Hold n x packet) rests = (rests.0, asked_on grows rests.1)
+    by_act h (act.Seal n x) rests = (rests.0, asked_on grows rests.1)
+    by_act h (act.Release n xs) rests =
+        record { names = rests.names; own = rests.own; asked = asked_on grows rests.asked }
     by_act h _ rests = rests
 
 -- ---- the present epoch
@@ -144,19 +119,62 @@ pub state_given_now : (h : List HistoryEntry) (e : HistoryEntry) (node number : 
 state_given_now h e node number rise named = record {
   epoch = epoch_of node h;
   begun = epoch_stays node (start_of node h) (epoch_of node h) h (e ∷ []) (present_epoch node h rise);
-  state_is =
-      state_of-append (key_in node number (epoch_of node h)) h e
-      ∙ ap (λ (b : Bool). if b then given_state e.act else state_of (key_in node number (epoch_of node h)) h)
-      (and_from (epoch_of node h == epoch_of node h) (names node number e.act) (eq-eqb (epoch_of node h) (epoch_of node h) refl) named);
+  state_is = grind (arith, nat_tests, state_of-append (key_in node number (epoch_of node h)) h e);
 }
 
 -- a state that isn't fresh is one of a number that is known
-known_of : (h : List HistoryEntry) (node start number : ℕ) (state : KeyState) → is_fresh state ≡ false → IsState h node start number state → IsKnown h node start number
-known_of h node start number state known is = record { epoch = is.epoch; begun = is.begun; state_is = ap is_fresh is.state_is ∙ known }
+known_of : {h : List HistoryEntry} {node start number : ℕ} {state : KeyState} → is_fresh state ≡ false
+    → IsState h node start number state
+    → IsKnown h node start number
+known_of known is = record { epoch = is.epoch; begun = is.begun; state_is = ap is_fresh is.state_is ∙ known }
 
 pub known_now : (h : List HistoryEntry) (node number : ℕ) (state : KeyState) → StartsRise h → present_state node number h ≡ state → is_fresh state ≡ false
     → IsKnown h node (start_of node h) number
-known_now h node number state rise is known = known_of h node (start_of node h) number state known (state_now h node number state rise is)
+known_now h node number state rise is known = known_of known (state_now h node number state rise is)
 
 pub known_given_now : (h : List HistoryEntry) (e : HistoryEntry) (node number : ℕ) → StartsRise h → names node number e.act ≡ true → IsKnown (h ++ e ∷ []) node (start_of node h) number
-known_given_now h e node number rise named = known_of (h ++ e ∷ []) node (start_of node h) number (given_state e.act) (gives_none node number e.act named) (state_given_now h e node number rise named)
+known_given_now h e node number rise named = known_of (gives_none node number e.act named)
+    (state_given_now h e node number rise named)
+
+passes : (q : ℕ → Bool) (m : ℕ) (xs : List ℕ) → list_all q xs ≡ true → list_any (λ y. y == m) xs ≡ true → q m ≡ true
+passes q m [] all any = absurd (false≢true any)
+passes q m (x ∷ xs) all any = grind (arith, nat_tests, passes q m xs)
+
+all_held : (h : List HistoryEntry) (n : NodeId) (xs : List ℕ) → is_list_fit (observed h n) xs ≡ true
+    → list_all (λ y. is_held (present_state n.0 y h)) xs ≡ true
+all_held h n [] fit = refl
+all_held h n (x ∷ xs) fit = (and_parts (list_all (λ y. is_held (present_state n.0 y h)) (x ∷ xs)) (are_distinct (x ∷ xs)) fit).0
+
+all_three : (a b c d : ℕ) (e : Bool) → ((a == b) && ((c == d) && e)) ≡ true → (a ≡ b) × (c ≡ d) × (e ≡ true)
+all_three a b c d e is = grind (arith, nat_tests)
+
+module _ (key : PacketKey) where
+  held_here : (h : List HistoryEntry) (n : NodeId) (xs : List ℕ) → is_list_fit (observed h n) xs ≡ true
+      → ((epoch_of key.node.0 h == key.epoch) && ((n.0 == key.node.0) && list_any (λ x. x == key.number) xs)) ≡ true
+      → is_held (state_of key h) ≡ true
+  held_here h n xs fit e =
+      let at = all_three (epoch_of key.node.0 h) key.epoch n.0 key.node.0 (list_any (λ x. x == key.number) xs) e in
+      ap is_held (in_epoch key h at.0) ∙ ap (λ (m : ℕ). is_held (present_state m key.number h)) (sym at.1)
+      ∙ passes (λ y. is_held (present_state n.0 y h)) key.number xs (all_held h n xs fit) at.2
+
+  act_moves : (h : List HistoryEntry) (a : HistoryAct) → is_act_lawful (observed h) a ≡ true
+      → moves_on (state_of key h) (state_after key (epoch_of key.node.0 h) (state_of key h) a) ≡ true
+  act_moves h (act.File n x packet) fit = grind (arith, nat_tests, in_epoch key h)
+  act_moves h (act.Hold n x packet) fit = grind (arith, nat_tests, in_epoch key h)
+  act_moves h (act.Seal n x) fit = grind (arith, nat_tests, in_epoch key h)
+  act_moves h (act.Release n xs) fit = if_known (λ t. moves_on (state_of key h) t ≡ true)
+      ((epoch_of key.node.0 h == key.epoch) && ((n.0 == key.node.0) && list_any (λ x. x == key.number) xs))
+      (λ e. held_is_released (state_of key h) (held_here h n xs fit e)) (λ isnt. stays (state_of key h))
+  act_moves h (act.Cancel n xs) fit = if_known (λ t. moves_on (state_of key h) t ≡ true)
+      ((epoch_of key.node.0 h == key.epoch) && ((n.0 == key.node.0) && list_any (λ x. x == key.number) xs))
+      (λ e. held_is_cancelled (state_of key h) (held_here h n xs fit e)) (λ isnt. stays (state_of key h))
+  act_moves h a fit = grind arith
+
+  -- the state moves on with what follows a history
+  pub states_move : (h g : List HistoryEntry) → AllAdmitted (h ++ g) → moves_on (state_of key h) (state_of key (h ++ g)) ≡ true
+  states_move h g all =
+      by_each_from IsAdmitted (λ (h' : List HistoryEntry). moves_on (state_of key h) (state_of key h') ≡ true)
+      (λ k e admitted fit so_far.
+      moves_further (state_of key h) (state_of key k) (state_of key (k ++ e ∷ [])) so_far
+      (subst (λ (t : KeyState). moves_on (state_of key k) t ≡ true) (sym (state_of-append key k e)) (act_moves k e.act fit)))
+      h g all (stays (state_of key h))

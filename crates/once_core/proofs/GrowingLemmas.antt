@@ -1,25 +1,20 @@
 -- Firm parts grow in every move of a gateway, and so in every turn.
-use Rattle.std.proofs.Common.{ℕ, List, [], ◌++◌, None, refl, sym, ap, subst, ◌∙◌, append_assoc, append-nil, length, slice_get}
-use Rattle.gateway_answer.specs.Answer.{Decided, Silent, Says, decided, failure_answer}
+use Rattle.std.proofs.Common.{ℕ, List, [], ◌++◌, refl, sym, ap, subst, ◌∙◌, append_assoc, append-nil, length, slice_get, arith, ◌≡◌}
 use Rattle.gateway_answer.specs.Filed.{along, filed, filed_by}
 use Rattle.gateway_answer.specs.FiledLaws.{along-append}
 use Rattle.gateway_answer.specs.Items.{items_by, items_of}
-use Rattle.gateway_answer.specs.Preparing.{prepared_of}
-use Rattle.gateway_answer.specs.Value.{history_of}
 use Rattle.gw_base.specs.declared.history.HistoryEntry.{HistoryEntry}
 use Rattle.node_core.specs.Log.{LogEntry}
 use Rattle.node_core.specs.Reached.{Halt}
 use Rattle.node_core.specs.Reached as call
-use Rattle.once_core.specs.Answers.{acting, answer_at, answered, failed, failed_by}
+use Rattle.once_core.specs.Answers.{answered, failed}
 use Rattle.once_core.specs.Gateway.{Gateway, Moved, Rules}
 use Rattle.once_core.specs.Growing.{GrowsTo}
 use Rattle.once_core.specs.Once.{firm_in}
 use Rattle.once_core.specs.Turn.{RuledTurn, Turn, at_node, ruled_turns, turn}
 use Rattle.once_core.specs.World.{Called, World, called, delivered_to_node, submitting, ticking}
-use Rattle.once_core.specs.declared.message.Message.{Message}
 use Rattle.once_core.proofs.CaseLemmas.{if_both, map_known, set_known}
-use Rattle.once_core.proofs.PartLemmas.{PartsKeep, turn_keeps}
-use Rattle.once_core.proofs.TurnLemmas.{firm_or, firm_there, turns_hold}
+use Rattle.once_core.proofs.PartLemmas.{PartsKeep, turn_keeps, firm_or, firm_there, turns_hold}
 pub use Rattle.once_core.proofs.PartLemmas.{book_is}
 
 -- ---- lists that go on
@@ -54,19 +49,9 @@ parts_grow = record {
   stands = λ g. if_both (λ (h : List HistoryEntry). GrowsTo g.book.firm h) g.book.is_broken (on g.book.firm) (on_with g.book.firm g.book.rest);
 }
 
-answered_grows : (rules : Rules) (now : ℕ) (m : Message) (g : Gateway) → Grown g (answered rules now m g)
-answered_grows rules now m g = by (answer_at rules (history_of g.book) m)
-  where
-    by : (d : Decided) → Grown g (acting now g m d)
-    by (Says octets None) = on g.book.firm
-    by _ = on g.book.firm
-
-failed_grows : (m : Message) (g : Gateway) → Grown g (failed m g)
-failed_grows m g = by (decided (failure_answer (prepared_of m.octets)))
-  where
-    by : (d : Decided) → Grown g (failed_by m g d)
-    by (Silent why) = on g.book.firm
-    by _ = on g.book.firm
+-- one that leaves the firm part does
+same_grows : (g : Gateway) (moved : Moved) → moved.gateway.book.firm ≡ g.book.firm → Grown g moved
+same_grows g moved same = record { more = []; is = same ∙ sym (append-nil g.book.firm) }
 
 -- ---- turns
 
@@ -74,8 +59,8 @@ turn_grows : (rules : Rules) (w : World) (t : Turn) (q : ℕ) → GrowsTo (firm_
 turn_grows rules w t q = turn_keeps {rules = rules} {w = w} {Q = λ place. Grown} {W = λ v. GrowsTo (firm_in w q) (firm_in v q)} (record {
   parts = λ place. parts_grow;
   redirects = λ place cause to g. on g.book.firm;
-  fails = λ m there to. failed_grows m;
-  answers = λ m there to g sound fresh. answered_grows rules w.now m g;
+  fails = λ m there to g. same_grows g (failed m g) (grind arith);
+  answers = λ m there to g sound fresh. same_grows g (answered rules w.now m g) (grind arith);
   moves = λ place move grows. map_known (λ (v : World). GrowsTo (firm_in w q) (firm_in v q)) (slice_get w.gateways place) (λ none. on (firm_in w q))
       (λ g there. set_known w.gateways place (move g).gateway g there (λ k o. GrowsTo (firm_in w k) (firm_or o))
       (subst (λ (h : List HistoryEntry). GrowsTo h (move g).gateway.book.firm) (sym (firm_there w place g there)) (grows g)) (λ k apart. on (firm_in w k)) q);

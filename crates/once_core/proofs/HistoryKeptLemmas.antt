@@ -1,13 +1,12 @@
 -- What holds of the entries of a gateway in a world: it goes on with each act that is kept, and no number is too big.
-use Rattle.std.proofs.Common.{◌≡◌, ℕ, ◌-◌, ◌<◌, Bool, true, false, ◌&&◌, if◌then◌else◌, List, [], ◌∷◌, ◌++◌, Option, Some, None, map, refl, ap, sym, ◌∙◌, arith, append_assoc, max, ◌==◌, take, drop, nat_le, nat_lt, IfOk, Result, Ok, Err, append-nil, take-append-drop}
-use Rattle.std.proofs.lemmas.Bool.{and_parts, eqb-true, lt-ltb, ltb-true, and_from}
+use Rattle.std.proofs.Common.{◌≡◌, ℕ, ◌-◌, ◌<◌, Bool, true, false, List, [], ◌∷◌, ◌++◌, Option, Some, map, refl, ap, sym, ◌∙◌, arith, append_assoc, take, drop, nat_lt, IfOk, Result, Ok, Err, append-nil, take-append-drop}
+use Rattle.std.proofs.lemmas.Bool.{and_parts, lt-ltb, ltb-true}
 use Rattle.std.proofs.lemmas.List.Folds.{list_all-append}
 use Rattle.std.specs.List.{list_all}
-use Rattle.std.specs.Option.{option_map, option_map_or}
+use Rattle.std.specs.Option.{option_map_or}
 use Rattle.gtpp_message.specs.Message.{TransferValue, Cancel, Release}
 use Rattle.gw_base.specs.EntryLaws.{opening_of-append, top_of-append}
 use Rattle.gw_base.specs.History.{top_after, top_of}
-use Rattle.gw_base.specs.Lists.{raised}
 use Rattle.gw_base.specs.Starts.{opening_after, opening_of}
 use Rattle.gw_base.specs.declared.fault.NoMemory.{NoMemory}
 use Rattle.gw_base.specs.declared.history.Opening.{Opening}
@@ -16,29 +15,22 @@ use Rattle.gw_base.specs.Nearest.{nearest}
 use Rattle.gw_base.specs.Observed.{Observed}
 use Rattle.gw_base.specs.declared.address.Addr.{Addr}
 use Rattle.gw_base.specs.declared.address.NodeId.{NodeId}
-use Rattle.gw_base.specs.declared.cause.TheConstants.{ACCEPTED}
 use Rattle.gw_base.specs.declared.history.HistoryAct.{HistoryAct}
-use Rattle.gw_base.specs.declared.history.HistoryAct.TheVariants as act
 use Rattle.gw_base.specs.declared.history.HistoryEntry.{HistoryEntry}
 use Rattle.gw_base.specs.declared.key_state.KeyState.{KeyState}
-use Rattle.gw_base.specs.declared.key_state.KeyState.TheVariants.{Fresh}
-use Rattle.path_mgmt.specs.GatewayPath.{opened_by}
-use Rattle.path_mgmt.specs.declared.event.PathEvent.{PathEvent}
-use Rattle.path_mgmt.specs.declared.event.PathEvent.TheVariants.{EchoTold, AliveTold}
 use Rattle.transfer_cmd.specs.Lists.{verdict_cause, verdict_of}
 use Rattle.transfer_cmd.specs.Table.{answer_cause, state_given}
 use Rattle.transfer_cmd.specs.declared.decision.Ask.{Ask}
 use Rattle.transfer_cmd.specs.declared.decision.Ask.TheVariants as ask
 use Rattle.transfer_cmd.specs.declared.verdict.Verdict.{Verdict}
-use Rattle.transfer_cmd.specs.declared.verdict.Verdict.TheVariants.{Change}
-use Rattle.gateway_answer.specs.Answer.{Decided, Given, answer_within, asked_by, decided, listed, may_record, node_of, opening_epoch, path_given, recording, tabled}
+use Rattle.gateway_answer.specs.Answer.{Decided, Given, answer_within, asked_by, decided, listed, may_record, node_of, tabled}
 use Rattle.gateway_answer.specs.Asked.{changes, held_ones, recorded_as}
-use Rattle.gateway_index.specs.Limits.{has_place, is_in_range, may_hold, numbers_end, least_number, within_limits}
+use Rattle.gateway_index.specs.Limits.{numbers_end}
 use Rattle.gateway_answer.specs.Plain.{IsBounded, answer_view}
-use Rattle.gateway_answer.specs.Preparing.{PreparedValue, Path, Request}
+use Rattle.gateway_answer.specs.Preparing.{PreparedValue, Request}
 use Rattle.once_core.specs.Addresses.{first_node_ip}
 use Rattle.once_core.specs.HistoryKept.{AllKept, is_kept_act, is_kept_answer, is_of_world}
-use Rattle.once_core.proofs.CaseLemmas.{if_both, if_known}
+use Rattle.std.proofs.lemmas.Bool.Decides.{nat_tests}
 
 abbrev kept : HistoryEntry → Bool
 kept e = is_kept_act e.act
@@ -64,24 +56,8 @@ kept_on ok f after step keeps before (e ∷ h) is all =
 abbrev below : Option ℕ → Bool
 below top = option_map_or (λ t. nat_lt t numbers_end) top true
 
-below_raised : (top : Option ℕ) (x : ℕ) → below top ≡ true → nat_lt x numbers_end ≡ true → below (raised top x) ≡ true
-below_raised None x is here = here
-below_raised (Some t) x is here =
-    let a = ltb-true t numbers_end is in let b = ltb-true x numbers_end here in
-    lt-ltb (max t x) numbers_end (omega (arith, a, b))
-
 below_after : (node : ℕ) (top : Option ℕ) (a : HistoryAct) → below top ≡ true → is_kept_act a ≡ true → below (top_after node top a) ≡ true
-below_after node top a is = by a
-  where
-    raises : (n : NodeId) (x : ℕ) → (is_of_world n && nat_lt x numbers_end) ≡ true → below (if n.0 == node then raised top x else top) ≡ true
-    raises n x near = if_both (λ (o : Option ℕ). below o ≡ true) (n.0 == node) (below_raised top x is (and_parts (is_of_world n) (nat_lt x numbers_end) near).1) is
-
-    by : (a : HistoryAct) → is_kept_act a ≡ true → below (top_after node top a) ≡ true
-    by (act.Path n port counter) near = if_both (λ (o : Option ℕ). below o ≡ true) (n.0 == node) refl is
-    by (act.File n x packet) near = raises n x near
-    by (act.Hold n x packet) near = raises n x near
-    by (act.Seal n x) near = raises n x near
-    by _ near = is
+below_after node top a is near = grind (arith, nat_tests)
 
 pub kept_is_bounded : (h : List HistoryEntry) → AllKept h → IsBounded h
 kept_is_bounded h all = λ node x is.
@@ -93,32 +69,20 @@ abbrev Keeps : Given → Type 0
 Keeps given = is_kept_answer (decided given) ≡ true
 
 module _ (o : Observed) (room : HistoryAct → Bool) (number : ℕ) where
-  recorded : (a : HistoryAct) (cause : ℕ) → (within_limits o a ≡ true → is_kept_act a ≡ true) → Keeps (recording (may_record o room) number cause a)
-  recorded a cause keeps = if_known Keeps (within_limits o a && room a) (λ e. keeps (and_parts (within_limits o a) (room a) e).0) (λ e. refl)
-
-  numbered : (n : NodeId) (x : ℕ) → is_of_world n ≡ true → (has_place o && is_in_range x) ≡ true → (is_of_world n && nat_lt x numbers_end) ≡ true
-  numbered n x near e =
-      and_from (is_of_world n) (nat_lt x numbers_end) near
-      (and_parts (nat_le least_number x) (nat_lt x numbers_end) (and_parts (has_place o) (is_in_range x) e).1).1
-
   by_table : (node : NodeId) (meant : ℕ) (packet : List ℕ) (asked : Ask) (state : KeyState) → is_of_world node ≡ true
       → Keeps (tabled (may_record o room) number (answer_cause asked state) (recorded_as asked node meant packet (state_given asked state)))
-  by_table node meant packet ask.Send Fresh near = recorded (act.File node meant packet) ACCEPTED (numbered node meant near)
-  by_table node meant packet ask.Possible Fresh near = recorded (act.Hold node meant packet) ACCEPTED
-      (λ e. numbered node meant near (and_parts (has_place o && is_in_range meant) (may_hold o) e).0)
-  by_table node meant packet ask.Empty Fresh near = recorded (act.Seal node meant) ACCEPTED (numbered node meant near)
-  by_table node meant packet ask.Send _ near = refl
-  by_table node meant packet ask.Possible _ near = refl
-  by_table node meant packet ask.Empty _ near = refl
-
-  by_verdict : (node : NodeId) (release : Bool) (held : List ℕ) (verdict : Verdict) → Keeps (tabled (may_record o room) number (verdict_cause verdict) (changes verdict release node held))
-  by_verdict node true held Change = recorded (act.Release node held) ACCEPTED (λ e. refl)
-  by_verdict node false held Change = recorded (act.Cancel node held) ACCEPTED (λ e. refl)
-  by_verdict node release held _ = refl
+  by_table node meant packet ask.Send state near = grind (arith, nat_tests)
+  by_table node meant packet ask.Possible state near = grind (arith, nat_tests)
+  by_table node meant packet ask.Empty state near = grind (arith, nat_tests)
 
   by_list : (node : NodeId) (release : Bool) (numbers : List ℕ) → Keeps (listed o (may_record o room) node number release numbers)
   by_list node release numbers =
-      by_verdict node release (held_ones o (map (nearest o.top) numbers)) (verdict_of release (map o.state (map (nearest o.top) numbers)))
+      by_verdict (held_ones o (map (nearest o.top) numbers))
+      (verdict_of release (map o.state (map (nearest o.top) numbers)))
+    where
+      by_verdict : (held : List ℕ) (verdict : Verdict)
+          → Keeps (tabled (may_record o room) number (verdict_cause verdict) (changes verdict release node held))
+      by_verdict held verdict = grind (arith, nat_tests)
 
   by_request : (node : NodeId) (body : TransferValue) → is_of_world node ≡ true → Keeps (asked_by o (may_record o room) node number body)
   by_request node (Cancel numbers) near = by_list node false numbers
@@ -128,17 +92,8 @@ module _ (o : Observed) (room : HistoryAct → Bool) (number : ℕ) where
 -- an answer to a node of the world records what is kept
 pub answers_keep : (o : Observed) (from : Addr) (datagram : PreparedValue) (room : HistoryAct → Bool) → is_of_world (node_of from) ≡ true
     → is_kept_answer (decided (answer_within o from datagram room)) ≡ true
-answers_keep o from (Path event) room near = by_path event
-  where
-    by_opening : (number : ℕ) (changed : Option ℕ) → Keeps (opening_epoch (may_record o room) from (Some (AliveTold number)) changed)
-    by_opening number None = refl
-    by_opening number (Some counter) = if_both Keeps (may_record o room (act.Path (node_of from) from.port counter)) near refl
-
-    by_path : (event : PathEvent) → Keeps (path_given o (may_record o room) from event)
-    by_path (EchoTold number counter) = by_opening number (opened_by (option_map (λ path. path.counter) o.opening) counter)
-    by_path _ = refl
 answers_keep o from (Request number body) room near = by_request o room number (node_of from) body near
-answers_keep o from _ room near = refl
+answers_keep o from datagram room near = grind (arith, nat_tests)
 
 -- ---- the nodes of the paths
 
@@ -146,9 +101,7 @@ abbrev near_if : ℕ → Option Opening → Bool
 near_if node o = option_map_or (λ (opening : Opening). nat_lt (node - first_node_ip) 256) o true
 
 near_after : (node : ℕ) (o : Option Opening) (a : HistoryAct) → near_if node o ≡ true → is_kept_act a ≡ true → near_if node (opening_after node o a) ≡ true
-near_after node o (act.Path n port counter) is near = if_known (λ (x : Option Opening). near_if node x ≡ true) (n.0 == node)
-    (λ e. ap (λ (ip : ℕ). nat_lt (ip - first_node_ip) 256) (sym (eqb-true n.0 node e)) ∙ near) (λ e. is)
-near_after node o _ is near = is
+near_after node o a is near = grind (arith, nat_tests)
 
 -- a node with a path is one of the world
 pub path_is_near : (node : ℕ) (h : List HistoryEntry) (opening : Opening) → AllKept h → opening_of node h ≡ Some opening → node - first_node_ip < 256

@@ -1,11 +1,11 @@
 -- What a node knows is so in the firm parts of the gateways' histories.
-use Rattle.std.proofs.Common.{◌≡◌, ◌⊎◌, inl, inr, ⊎_elim, ℕ, ◌==◌, ◌&&◌, ◌||◌, Bool, true, false, List, [], ◌∷◌, Option, Some, None, IfSome, Contains, refl, sym, ap, subst, ◌∙◌, eqb-true}
-use Rattle.std.proofs.lemmas.Bool.{false≢true, and_parts, or_cases, or_left, or_right}
-use Rattle.std.proofs.lemmas.List.Elements.{All-contains, Contains-append_cases}
+use Rattle.std.proofs.Common.{◌≡◌, ◌⊎◌, ⊎_elim, ℕ, ◌==◌, ◌&&◌, ◌||◌, Bool, true, false, List, [], ◌∷◌, Option, Some, None, IfSome, Contains, refl, sym, ap, subst, ◌∙◌, eqb-true, arith, flat_map, ◌++◌}
+use Rattle.std.proofs.lemmas.Bool.{false≢true, and_parts, or_cases}
+use Rattle.std.proofs.lemmas.List.Elements.{All-contains}
 use Rattle.std.specs.Option.{option_map_or}
 use Rattle.std.specs.List.{list_all, list_any}
 use Rattle.std.proofs.lemmas.List.Sums.{AllPass-from_list_all}
-use Rattle.gw_base.specs.declared.cause.TheConstants.{ACCEPTED, ALREADY_FULFILLED, DUPLICATE_ALREADY_FULFILLED}
+use Rattle.gw_base.specs.declared.cause.TheConstants.{ACCEPTED, ALREADY_FULFILLED}
 use Rattle.gw_base.specs.declared.history.HistoryEntry.{HistoryEntry}
 use Rattle.gw_base.specs.declared.key_state.KeyState.TheVariants as state
 use Rattle.node_core.specs.Choosing.{IsChoice, ReleasesChoice}
@@ -28,8 +28,9 @@ use Rattle.once_core.specs.Happenings.{Answers, Asks, Deed, Heard, Letter, Meani
 use Rattle.once_core.specs.Resting.{IsKnown, IsState, SceneHolds, Tells}
 use Rattle.once_core.specs.Scenes.{is_telling}
 use Rattle.once_core.proofs.RoleLemmas.{IsCopyOf, command_use, not_both, own_use, same_user}
-use Rattle.once_core.proofs.ListLemmas.{any_at, in_head, in_none, in_tail, in_one, in_cons}
-use Rattle.once_core.proofs.CaseLemmas.{if_both, if_known}
+use Rattle.once_core.proofs.ListLemmas.{any_at, in_head, in_none, in_tail, in_one, in_cons, of_flat_map}
+use Rattle.once_core.proofs.CaseLemmas.{if_known}
+use Rattle.std.proofs.lemmas.Bool.Decides.{nat_tests}
 
 -- ---- what was heard is a message
 
@@ -38,98 +39,90 @@ pub record WasHeard (deeds : List Deed) (start : ℕ) (port : Port) (gateway cau
   pub node : ℕ
   pub kept : Contains deeds (Heard (record { node = node; start = start; gateway = gateway; port = port; number = number; says = Answers cause }))
 
-by_letter : (deeds : List Deed) (start : ℕ) (letter : Letter) (port : Port) (gateway cause number : ℕ) (numbers : List ℕ) → Contains deeds (Heard letter) → letter.start ≡ start
-    → names numbers number ≡ true → (says : Meaning) → letter.says ≡ says
-    → Contains (entries_by letter says) (log.Heard port gateway (Responds cause numbers)) → WasHeard deeds start port gateway cause number
-by_letter deeds start letter port gateway cause number numbers kept of_start named (Answers said) says is =
-    let same = in_one (log.Heard letter.port letter.gateway (Responds said (letter.number ∷ []))) (log.Heard port gateway (Responds cause numbers)) is in
-    let port_is : letter.port ≡ port = cc same in
-    let gateway_is : letter.gateway ≡ gateway = cc same in
-    let cause_is : said ≡ cause = cc same in
-    let numbers_are : letter.number ∷ [] ≡ numbers = cc same in
-    let one : names (letter.number ∷ []) number ≡ true = ap (λ (ns : List ℕ). names ns number) numbers_are ∙ named in
-    let number_is : letter.number ≡ number = ⊎_elim (eqb-true letter.number number) (λ none. absurd (false≢true none)) (or_cases (letter.number == number) false one) in
-    let says_is : letter.says ≡ Answers cause = says ∙ ap Answers cause_is in
-    record {
-      node = letter.node;
-      kept = subst (λ (l : Letter). Contains deeds (Heard l))
-          (λ i. record { node = letter.node; start = of_start i; gateway = gateway_is i; port = port_is i; number = number_is i; says = says_is i }) kept;
-    }
-by_letter deeds start letter port gateway cause number numbers kept of_start named _ says is = absurd (in_none (log.Heard port gateway (Responds cause numbers)) is)
+heard_flat : (start : ℕ) (deeds : List Deed) → heard_in start deeds ≡ flat_map (entries_of start) deeds
+heard_flat start [] = refl
+heard_flat start (deed ∷ deeds) = ap (λ (es : List LogEntry). entries_of start deed ++ es) (heard_flat start deeds)
 
-heard_one : (deeds : List Deed) (start : ℕ) (letter : Letter) (port : Port) (gateway cause number : ℕ) (numbers : List ℕ) → Contains deeds (Heard letter)
-    → names numbers number ≡ true → Contains (entries_of start (Heard letter)) (log.Heard port gateway (Responds cause numbers)) → WasHeard deeds start port gateway cause number
-heard_one deeds start letter port gateway cause number numbers kept named is =
-    if_known (λ (entries : List LogEntry). Contains entries (log.Heard port gateway (Responds cause numbers)) → WasHeard deeds start port gateway cause number) (letter.start == start)
-    (λ e. by_letter deeds start letter port gateway cause number numbers kept (eqb-true letter.start start e) named letter.says refl)
-    (λ e none. absurd (in_none (log.Heard port gateway (Responds cause numbers)) none)) is
+was_heard : (deeds : List Deed) (start : ℕ) (port : Port) (gateway cause number : ℕ) (numbers : List ℕ)
+    → names numbers number ≡ true
+    → Contains (heard_in start deeds) (log.Heard port gateway (Responds cause numbers))
+    → WasHeard deeds start port gateway cause number
+was_heard deeds start port gateway cause number numbers named is = by there.0 there.1 there.2
+  where
+    response : LogEntry
+    response = log.Heard port gateway (Responds cause numbers)
 
-heard_among : (all deeds : List Deed) (start : ℕ) (port : Port) (gateway cause number : ℕ) (numbers : List ℕ) → ((deed : Deed) → Contains deeds deed → Contains all deed)
-    → names numbers number ≡ true → Contains (heard_in start deeds) (log.Heard port gateway (Responds cause numbers)) → WasHeard all start port gateway cause number
-heard_among all [] start port gateway cause number numbers within named is = absurd (in_none (log.Heard port gateway (Responds cause numbers)) is)
-heard_among all (Sent letter ∷ deeds) start port gateway cause number numbers within named is =
-    heard_among all deeds start port gateway cause number numbers (λ deed later. within deed (in_tail (Sent letter) deed deeds later)) named is
-heard_among all (Heard letter ∷ deeds) start port gateway cause number numbers within named is = ⊎_elim
-    (λ here. heard_one all start letter port gateway cause number numbers (within (Heard letter) (in_head (Heard letter) deeds)) named here)
-    (λ later. heard_among all deeds start port gateway cause number numbers (λ deed there. within deed (in_tail (Heard letter) deed deeds there)) named later)
-    (Contains-append_cases (entries_of start (Heard letter)) (heard_in start deeds) (log.Heard port gateway (Responds cause numbers)) is)
+    there : (deed : Deed) × Contains deeds deed × Contains (entries_of start deed) response
+    there = of_flat_map (entries_of start) deeds response
+        (subst (λ (es : List LogEntry). Contains es response) (heard_flat start deeds) is)
+
+    by_letter : (letter : Letter) → Contains deeds (Heard letter) → letter.start ≡ start → (says : Meaning)
+        → letter.says ≡ says
+        → Contains (entries_by letter says) response → WasHeard deeds start port gateway cause number
+    by_letter letter kept of_start (Answers said) says is =
+        let same = in_one (log.Heard letter.port letter.gateway (Responds said (letter.number ∷ []))) response is in
+        let port_is : letter.port ≡ port = cc same in
+        let gateway_is : letter.gateway ≡ gateway = cc same in
+        let cause_is : said ≡ cause = cc same in
+        let numbers_are : letter.number ∷ [] ≡ numbers = cc same in
+        let one : names (letter.number ∷ []) number ≡ true = ap (λ (ns : List ℕ). names ns number) numbers_are ∙ named in
+        let number_is : letter.number ≡ number = only letter.number one in
+        let says_is : letter.says ≡ Answers cause = says ∙ ap Answers cause_is in
+        record {
+          node = letter.node;
+          kept = subst (λ (l : Letter). Contains deeds (Heard l)) (λ i. record {
+            node = letter.node;
+            start = of_start i;
+            gateway = gateway_is i;
+            port = port_is i;
+            number = number_is i;
+            says = says_is i;
+          }) kept;
+        }
+      where
+        only : (n : ℕ) → names (n ∷ []) number ≡ true → n ≡ number
+        only n one = grind (arith, nat_tests)
+    by_letter letter kept of_start _ says is = in_none response is
+
+    by : (deed : Deed) → Contains deeds deed → Contains (entries_of start deed) response
+        → WasHeard deeds start port gateway cause number
+    by (Sent letter) kept is = in_none response is
+    by (Heard letter) kept is =
+        if_known (λ (es : List LogEntry). Contains es response → WasHeard deeds start port gateway cause number)
+        (letter.start == start)
+        (λ e. by_letter letter kept (eqb-true letter.start start e) letter.says refl) (λ e. in_none response) is
 
 -- ---- verdicts by port and cause
 
 sealed_by : (port : Port) (cause : ℕ) → told port true cause ≡ verdict.Sealed → (port ≡ Second) × (cause ≡ ACCEPTED)
-sealed_by First cause e = absurd (if_both (λ v. v ≡ verdict.Sealed → ⊥) (is_filing cause) (λ same. absurd (cc)) (λ same. absurd (cc)) e)
-sealed_by Second cause e = if_both (λ v. v ≡ verdict.Sealed → (Second ≡ Second) × (cause ≡ ACCEPTED)) (cause == ALREADY_FULFILLED) (λ same. absurd (cc))
-    (if_known (λ v. v ≡ verdict.Sealed → (Second ≡ Second) × (cause ≡ ACCEPTED)) (cause == ACCEPTED) (λ is same. (refl, eqb-true cause ACCEPTED is)) (λ isnt same. absurd (cc))) e
+sealed_by port cause e = grind (arith, nat_tests)
 
-filed_by : (port : Port) (cause : ℕ) → told port true cause ≡ verdict.Filed → ((port ≡ First) × (is_filing cause ≡ true)) ⊎ ((port ≡ Second) × (cause ≡ ALREADY_FULFILLED))
-filed_by First cause e = if_known (λ v. v ≡ verdict.Filed → ((First ≡ First) × (is_filing cause ≡ true)) ⊎ ((First ≡ Second) × (cause ≡ ALREADY_FULFILLED)))
-    (is_filing cause) (λ is same. inl (refl, is)) (λ isnt same. absurd (cc)) e
-filed_by Second cause e = if_known (λ v. v ≡ verdict.Filed → ((Second ≡ First) × (is_filing cause ≡ true)) ⊎ ((Second ≡ Second) × (cause ≡ ALREADY_FULFILLED)))
-    (cause == ALREADY_FULFILLED) (λ is same. inr (refl, eqb-true cause ALREADY_FULFILLED is))
-    (λ isnt. if_both (λ v. v ≡ verdict.Filed → ((Second ≡ First) × (is_filing cause ≡ true)) ⊎ ((Second ≡ Second) × (cause ≡ ALREADY_FULFILLED)))
-    (cause == ACCEPTED) (λ same. absurd (cc)) (λ same. absurd (cc))) e
-
-telling : (cause : ℕ) → ((cause == ACCEPTED) ≡ true) ⊎ (((cause == ALREADY_FULFILLED) ≡ true) ⊎ ((cause == DUPLICATE_ALREADY_FULFILLED) ≡ true)) → is_telling cause ≡ true
-telling cause (inl is) = or_left ((cause == ACCEPTED) || (cause == ALREADY_FULFILLED)) _ (or_left (cause == ACCEPTED) _ is)
-telling cause (inr (inl is)) = or_left ((cause == ACCEPTED) || (cause == ALREADY_FULFILLED)) _ (or_right (cause == ACCEPTED) _ is)
-telling cause (inr (inr is)) = or_right ((cause == ACCEPTED) || (cause == ALREADY_FULFILLED)) _ is
+filed_by : (port : Port) (cause : ℕ) → told port true cause ≡ verdict.Filed
+    → ((port ≡ First) × (is_filing cause ≡ true)) ⊎ ((port ≡ Second) × (cause ≡ ALREADY_FULFILLED))
+filed_by port cause e = grind (arith, nat_tests)
 
 pub filing_tells : (cause : ℕ) → is_filing cause ≡ true → is_telling cause ≡ true
-filing_tells cause e = ⊎_elim (λ is. telling cause (inl is)) (λ is. telling cause (inr (inl is))) (or_cases (cause == ACCEPTED) (cause == ALREADY_FULFILLED) e)
+filing_tells cause e = grind arith
 
 pub fulfilled_tells : (cause : ℕ) → is_fulfilled cause ≡ true → is_telling cause ≡ true
-fulfilled_tells cause e =
-    ⊎_elim (λ is. telling cause (inl is)) (λ is. telling cause (inr (inr is))) (or_cases (cause == ACCEPTED) (cause == DUPLICATE_ALREADY_FULFILLED) e)
+fulfilled_tells cause e = grind arith
+
+-- a verdict is told by a cause that tells
+told_telling : (port : Port) (is_plain : Bool) (cause : ℕ) → is_unknown (told port is_plain cause) ≡ false
+    → is_telling cause ≡ true
+told_telling port is_plain cause e = grind arith
 
 not_first : Second ≡ First → ⊥
 not_first e = absurd (cc)
 
 release_is : (o : Order) → is_release o ≡ true → o ≡ order.Release
-release_is order.Release e = refl
-release_is order.Cancel e = absurd (false≢true e)
-
--- a verdict is told by a cause that tells
-abbrev IfKnown : ℕ → Verdict → Type 0
-IfKnown cause v = is_unknown v ≡ false → is_telling cause ≡ true
-
-unknown_not : {P : Type 0} → is_unknown verdict.Unknown ≡ false → P
-unknown_not e = absurd (false≢true (sym e))
-
-told_telling : (port : Port) (is_plain : Bool) (cause : ℕ) → IfKnown cause (told port is_plain cause)
-told_telling First true cause = if_known (IfKnown cause) (is_filing cause) (λ is e. filing_tells cause is) (λ isnt. unknown_not)
-told_telling First false cause = if_known (IfKnown cause) (is_fulfilled cause) (λ is e. fulfilled_tells cause is) (λ isnt. unknown_not)
-told_telling Second true cause = if_known (IfKnown cause) (cause == ALREADY_FULFILLED) (λ is e. telling cause (inr (inl is)))
-    (λ isnt. if_known (IfKnown cause) (cause == ACCEPTED) (λ is e. telling cause (inl is)) (λ neither. unknown_not))
-told_telling Second false cause = if_known (IfKnown cause) (cause == DUPLICATE_ALREADY_FULFILLED) (λ is e. telling cause (inr (inr is)))
-    (λ isnt. if_known (IfKnown cause) (cause == ACCEPTED) (λ is e. telling cause (inl is)) (λ neither. unknown_not))
+release_is o e = grind arith
 
 sealed_is_known : (v : Verdict) → says_sealed v ≡ true → is_unknown v ≡ false
-sealed_is_known verdict.Unknown e = absurd (false≢true e)
-sealed_is_known _ e = refl
+sealed_is_known v e = grind arith
 
 filed_is_known : (v : Verdict) → is_filed v ≡ true → is_unknown v ≡ false
-filed_is_known verdict.Unknown e = absurd (false≢true e)
-filed_is_known _ e = refl
+filed_is_known v e = grind arith
 
 module _ {scene : Scene} (holds : SceneHolds scene) (node : ℕ) {start : ℕ} {values : ℕ → List ℕ} {packets : List PacketState} (follows : Follows (scene.deeds node) start values packets) where
   abbrev pub firm : ℕ → List HistoryEntry
@@ -161,7 +154,7 @@ module _ {scene : Scene} (holds : SceneHolds scene) (node : ℕ) {start : ℕ} {
   pub answered : (gateway : ℕ) (port : Port) (number cause : ℕ) (numbers : List ℕ) → Contains (heard_in start (scene.deeds node)) (log.Heard port gateway (Responds cause numbers))
       → names numbers number ≡ true → is_telling cause ≡ true → IsAnswered gateway port number cause
   answered gateway port number cause numbers heard named telling =
-      let was = heard_among (scene.deeds node) (scene.deeds node) start port gateway cause number numbers (λ deed there. there) named heard in
+      let was = was_heard (scene.deeds node) start port gateway cause number numbers named heard in
       let there = holds.heard node (record { node = was.node; start = start; gateway = gateway; port = port; number = number; says = Answers cause }) was.kept in
       told_by gateway port number cause
       (subst (λ (n : ℕ). Contains scene.letters (record { node = n; start = start; gateway = gateway; port = port; number = number; says = Answers cause })) there.0 there.1)
@@ -356,7 +349,7 @@ module _ {scene : Scene} (holds : SceneHolds scene) (node : ℕ) {start : ℕ} {
           let one = any_at is_released duplicates any in
           let chosen = (and_parts (is_chosen one.0) (is_answered one.0) one.2).0 in
           let choice = choice_of packet one.0 (whole one.0 (in_tail plain one.0 duplicates one.1)) chosen in
-          let first : choice.plain ≡ plain = ap (λ (cs : List PacketCopy). elim cs [ [] ↦ plain | c ∷ rest ↦ c ]) (sym choice.whole ∙ e) in
+          let first : choice.plain ≡ plain = cc (choice.whole, e) in
           ap (λ (c : PacketCopy). is_unknown c.verdict) (sym first) ∙ ap is_unknown choice.sealed)
           (or_cases (is_filed plain.verdict) (list_any is_released duplicates) parts.0))))
           (λ later. settled_known packet copy (whole copy (in_tail plain copy duplicates later)) (All-contains (λ (c : PacketCopy). is_settled c ≡ true) duplicates copy (AllPass-from_list_all is_settled duplicates parts.1) later))

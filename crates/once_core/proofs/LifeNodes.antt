@@ -1,10 +1,10 @@
 -- A gateway is alive to a node only where the node's start is firm: what a node's calls leave of that.
-use Rattle.std.proofs.Common.{◌≡◌, ⊎_elim, ℕ, ◌≤◌, ◌==◌, ◌&&◌, ◌||◌, not, Bool, true, false, if◌then◌else◌, List, [], ◌∷◌, ◌++◌, map, Option, Some, None, Contains, refl, sym, ap, subst, ◌∙◌, arith, eqb-true}
+use Rattle.std.proofs.Common.{◌≡◌, ⊎_elim, ℕ, ◌≤◌, ◌==◌, ◌&&◌, ◌||◌, not, Bool, true, false, List, [], ◌∷◌, ◌++◌, map, Option, Some, None, Contains, refl, sym, ap, subst, ◌∙◌, arith}
 use Rattle.std.specs.Option.{option_map_or}
 use Rattle.std.proofs.lemmas.Bool.{false≢true, not-false, or_parts}
 use Rattle.gtpp_message.specs.Message.{MessageValue, EchoRequest, EchoResponse, NodeAliveResponse, RedirectionRequest, RedirectionResponse, TransferRequest, TransferResponse}
 use Rattle.gtpp_message.specs.Packet.{PacketForm}
-use Rattle.gtpp_message.specs.Reading.{Message, ReadingValue}
+use Rattle.gtpp_message.specs.Reading.{Message}
 use Rattle.gtpp_message.specs.Role.{for_role}
 use Rattle.gtpp_message.specs.Writing.{written}
 use Rattle.gtpp_message.specs.declared.message_types.TheConstants.{NODE_ALIVE_RESPONSE}
@@ -14,7 +14,7 @@ use Rattle.gw_base.specs.Nearest.{nearest}
 use Rattle.gw_base.specs.declared.cause.TheConstants.{ACCEPTED}
 use Rattle.path_mgmt.specs.NodePath.{is_alive, node_anew}
 use Rattle.path_mgmt.specs.declared.event.PathEvent.TheVariants.{EchoAsked, EchoTold, AliveTold}
-use Rattle.node_core.specs.Hearing.{Says, Taken, entries_from, heard_entries, heeding, heeds, heeds_from, taken_entries, taken_of}
+use Rattle.node_core.specs.Hearing.{Says, Taken, entries_from, heeding, heeds_from, taken_entries, taken_of}
 use Rattle.node_core.specs.Log.{LogEntry, Began, Halted, Submitted, Appointed, Ticked, Heard, Saying, Path, Redirects, Responds, Other, paths_of, runs}
 use Rattle.node_core.specs.Moving.{appointing, moved_at_tick, moved_by}
 use Rattle.node_core.specs.Octets.{outgoing}
@@ -28,13 +28,14 @@ use Rattle.once_core.specs.Expired.{is_expired_at_node, is_taken_for_another, st
 use Rattle.once_core.specs.Messages.{answering, is_response}
 use Rattle.once_core.specs.World.{Called, answers_of, called, delivered_to_node, draft_of, message_of, node_value, submitting, submitting_form, ticking}
 use Rattle.once_core.specs.declared.message.Message as world
-use Rattle.once_core.proofs.AliveLemmas.{none_alive, told_cases}
+use Rattle.once_core.proofs.DueLemmas.{none_alive, told_cases}
 use Rattle.once_core.proofs.LifeMoves.{tells_alive}
 use Rattle.once_core.proofs.ListLemmas.{in_none, in_one, of_map}
 use Rattle.once_core.proofs.LogLemmas.{place_is, starts_again, starts_same}
 use Rattle.once_core.proofs.MeaningLemmas.{FromGateway, GatewaySaid, IsWritten, ReadsBack, role_read_of, type_of}
 use Rattle.once_core.proofs.NodePlays.{NodeRightly, appointed_starts, either, appointed}
-use Rattle.once_core.proofs.CaseLemmas.{if_both}
+use Rattle.once_core.proofs.CaseLemmas.{if_both, by_option, if_known}
+use Rattle.std.proofs.lemmas.Bool.Decides.{nat_tests}
 
 -- Where a gateway is alive to the node of this log, the node's starts are at most those that the gateway knows firmly.
 abbrev pub LifeIn : (ℕ → ℕ) → List LogEntry → Type 0
@@ -76,14 +77,13 @@ module _ (known : ℕ → ℕ) (place : ℕ) (log : List LogEntry) (life : LifeI
   start_life gateways = if_both Leaves (runs log) same_life (quiet_life (Began ∷ log) (omega (arith, starts_again log)) (anew_life (Began ∷ log) _ refl))
 
   pub submit_life : (gateways : ℕ) → NodeRightly gateways place log → (octets : List ℕ) → LifeCalled known place log (submitting gateways place octets log)
-  submit_life gateways rightly octets = by (draft_of octets)
-    where
-      by : (o : Option PacketForm) → LifeCalled known place log (submitting_form gateways place o log)
-      by None = same_life
-      by (Some form) =
-          let same = starts_same (Submitted form) log refl in
-          either gateways place log rightly (λ l. LifeCalled known place log (record { log = l; sends = [] })) form same_life
-          (quiet_life (Submitted form ∷ log) (omega (arith, same)) (entry_life (Submitted form) same refl))
+  submit_life gateways rightly octets = by_option
+      (λ (o : Option PacketForm). LifeCalled known place log (submitting_form gateways place o log)) (draft_of octets)
+      (λ none. same_life)
+      (λ form there.
+      let same = starts_same (Submitted form) log refl in
+      either gateways place log rightly (λ l. LifeCalled known place log (record { log = l; sends = [] })) form same_life
+      (quiet_life (Submitted form ∷ log) (omega (arith, same)) (entry_life (Submitted form) same refl)))
 
   module _ (gateways : ℕ) where
     abbrev node : NodeValue
@@ -178,23 +178,20 @@ module _ (known : ℕ → ℕ) (gateways : ℕ) (m : world.Message) (log : List 
     message_life _ w fits = nothing_life
 
   pub hear_life : LifeCalled known m.node log (delivered_to_node gateways m.node m log)
-  hear_life = by (runs log) refl (is_expired_at_node log value m) refl
+  hear_life = if_known (LifeCalled known m.node log) (not value.is_running || is_expired_at_node log value m)
+      (λ deaf. nothing_life)
+      (λ hears.
+      let up = or_parts (not (runs log)) (is_expired_at_node log value m) hears in
+      rw (not-false (runs log) up.0) (heard (on_time (is_response m && is_taken_for_another value m) up.1)
+      (place_of value.gateways (gateway_address m.gateway).ip) refl))
     where
+      on_time : (c : Bool) → (not (m.start == starts_in log) || c) ≡ false → m.start ≡ starts_in log
+      on_time c isnt = grind (arith, nat_tests)
+
       heard : (start : m.start ≡ starts_in log) → (o : Option ℕ) → place_of value.gateways (gateway_address m.gateway).ip ≡ o
           → LifeCalled known m.node log (record { log = logged (entries_from value m.port o m.octets) log; sends = answers_of m (heeds_from value m.port o m.octets) })
       heard start None e = nothing_life
       heard start (Some p) e =
-          subst (λ (q : ℕ). LifeCalled known m.node log (record { log = logged (entries_from value m.port (Some q) m.octets) log; sends = answers_of m (heeds_from value m.port (Some q) m.octets) }))
-          (sym (place_is gateways log m.gateway p e))
-          (subst (λ (r : ReadingValue). LifeCalled known m.node log (taking start (taken_of value.paths.counter (last_number value.gateways m.gateway) r)))
-          (sym (role_read_of back roles role.Node m.octets said.path said.message said.written)) (message_life start said.message said.written said.fits))
-
-      by : (running : Bool) → runs log ≡ running → (late : Bool) → is_expired_at_node log value m ≡ late
-          → LifeCalled known m.node log (if not running || late then record { log = log; sends = [] } else record {
-            log = logged (if running then heard_entries value m.port (gateway_address m.gateway) m.octets else []) log;
-            sends = answers_of m (heeds value m.port (gateway_address m.gateway) m.octets);
-          })
-      by true e false isnt =
-          let both = or_parts (not (m.start == starts_in log)) (is_response m && is_taken_for_another value m) isnt in
-          heard (eqb-true m.start (starts_in log) (not-false (m.start == starts_in log) both.0)) (place_of value.gateways (gateway_address m.gateway).ip) refl
-      by _ e _ isnt = nothing_life
+          rw (place_is gateways log m.gateway p e, role_read_of back roles role.Node m.octets said.path said.message
+          said.written)
+          (message_life start said.message said.written said.fits)

@@ -1,14 +1,14 @@
 -- A gateway tells a node that it is alive only once the node's start is firm, and knows of no start that wasn't made: in
--- each world.
-use Rattle.std.proofs.Common.{◌≡◌, ⊎_elim, ℕ, ◌-◌, ◌≤◌, true, false, List, [], ◌∷◌, length, take, Some, Contains, slice_get, refl, sym, ap, subst, ◌∙◌, arith}
+-- each world. So the paths that a gateway knows lead to nodes of the world.
+use Rattle.std.proofs.Common.{◌≡◌, ⊎_elim, ℕ, ◌-◌, ◌≤◌, true, false, List, [], ◌∷◌, length, take, Some, Contains, slice_get, refl, sym, ap, subst, ◌∙◌, arith, ◌<◌, Bool, if◌then◌else◌, ◌++◌, All, Option}
 use Rattle.std.proofs.lemmas.Bool.{false≢true}
-use Rattle.std.proofs.lemmas.List.Elements.{Contains-append_cases}
-use Rattle.gw_base.specs.Starts.{start_of}
+use Rattle.std.proofs.lemmas.List.Elements.{Contains-append_cases, All-cons, All-nil}
+use Rattle.gw_base.specs.Starts.{start_of, opening_after, opening_of, start_by}
 use Rattle.gw_base.specs.declared.history.HistoryEntry.{HistoryEntry}
 use Rattle.node_core.specs.Log.{LogEntry, Began, counter_of}
 use Rattle.node_core.specs.Reached as call
 use Rattle.path_mgmt.specs.NodePath.{is_alive, node_anew}
-use Rattle.once_core.specs.Addresses.{first_node_ip, node_ip}
+use Rattle.once_core.specs.Addresses.{first_node_ip, node_ip, node_at}
 use Rattle.once_core.specs.Beginning.{first_world, times_of, IsReached}
 use Rattle.once_core.specs.Expired.{starts_in}
 use Rattle.once_core.specs.Gateway.{Gateway, Moved, Rules}
@@ -17,23 +17,32 @@ use Rattle.once_core.specs.Shown.{values_of}
 use Rattle.once_core.specs.Turn.{RuledTurn, Turn, at_gateway, at_node, gateway_moved, node_called, ruled_turns, turn}
 use Rattle.once_core.specs.World.{Called, World, called, delivered_to_node, log_at, submitting, ticking}
 use Rattle.once_core.specs.declared.message.Message.{Message}
-use Rattle.once_core.proofs.AliveLemmas.{none_alive}
+use Rattle.once_core.proofs.DueLemmas.{none_alive}
 use Rattle.once_core.proofs.FirstPlays.{first_made, gateways_each, times_each}
-use Rattle.once_core.proofs.LifeAnswers.{redirected_truly, answers_truly, failed_truly}
-use Rattle.once_core.proofs.LifeMoves.{Truly, TrulyMoved, none_truly, tells_alive, truly_parts}
+use Rattle.once_core.proofs.LifeMoves.{redirected_truly, answers_truly, failed_truly, Truly, TrulyMoved, none_truly, tells_alive, truly_parts}
 use Rattle.once_core.proofs.LifeNodes.{LifeCalled, LifeIn, halt_life, hear_life, start_life, submit_life, tick_life}
 use Rattle.once_core.proofs.ListLemmas.{in_front, in_none}
-use Rattle.once_core.proofs.NumberLemmas.{values_are, values_before}
-use Rattle.once_core.proofs.StartLemmas.{front_low}
-use Rattle.once_core.proofs.SubmittedLemmas.{turns_forms, forms_at}
-use Rattle.once_core.proofs.TurnPlays.{Laws, turn_made}
-use Rattle.once_core.proofs.WorldPlays.{Made, get_set}
-use Rattle.std.proofs.lemmas.Option.{same_Some}
-use Rattle.once_core.proofs.CaseLemmas.{map_known, set_known}
-use Rattle.once_core.proofs.PartLemmas.{first_keeps, turn_keeps}
+use Rattle.once_core.proofs.NumberLemmas.{values_are, values_before, turns_forms, forms_at}
+use Rattle.once_core.proofs.StartLemmas.{front_low, start_rises}
+use Rattle.once_core.proofs.WorldPlays.{Laws, turn_made, Made, get_set}
+use Rattle.std.proofs.lemmas.Option.{same_Some, slice_get_within, none-some}
+use Rattle.once_core.proofs.CaseLemmas.{map_known, set_known, by_option}
+use Rattle.once_core.proofs.PartLemmas.{first_keeps, turn_keeps, firm_or, firm_there, log_or, log_there, turns_hold}
 use Rattle.once_core.specs.Growing.{GrowsTo}
 use Rattle.once_core.proofs.MeaningLemmas.{NodeSaid}
-use Rattle.once_core.proofs.TurnLemmas.{firm_or, firm_there, log_or, log_there, turns_hold}
+use Rattle.std.specs.List.{cons_option, filter_map}
+use Rattle.std.specs.Option.{option_map}
+use Rattle.gateway_answer.specs.Told.{path_of, paths_of}
+use Rattle.gateway_answer.specs.Value.{history_of}
+use Rattle.gw_base.specs.EntryLaws.{opening_of-append}
+use Rattle.gw_base.specs.Known.{known_nodes}
+use Rattle.gw_base.specs.declared.address.Addr.{Addr}
+use Rattle.gw_base.specs.declared.address.NodeId.{NodeId}
+use Rattle.gw_base.specs.declared.history.HistoryAct.{HistoryAct}
+use Rattle.gw_base.specs.declared.history.Opening.{Opening}
+use Rattle.once_core.specs.Epochs.{RisesBy, StartsRise}
+use Rattle.once_core.proofs.EachLemmas.{by_each, each_front}
+use Rattle.std.proofs.lemmas.Bool.Decides.{nat_tests}
 
 -- the starts that the node at an address made
 abbrev pub starts_at : World → ℕ → ℕ
@@ -203,3 +212,54 @@ reached_made laws w is = subst (λ (v : World). Made (values_in v) v) is.is (wor
 
 pub reached_lives : Laws → (w : World) → IsReached w → Lives w
 reached_lives laws w is = subst Lives is.is (world_lives laws is.rules is.gateways is.nodes is.all is.some)
+
+-- where starts rise, that of a path isn't 0
+path_begun : (node : ℕ) (h : List HistoryEntry) → StartsRise h → (o : Opening) → opening_of node h ≡ Some o → 1 ≤ o.counter
+path_begun node = by_each (λ before e. RisesBy before e.act) (λ h. (o : Opening) → opening_of node h ≡ Some o → 1 ≤ o.counter)
+    (λ o is. absurd (cc)) (λ h e all rises so_far o is. by h e.act rises o (so_far o) (sym (opening_of-append node h e) ∙ is))
+  where
+    by : (h : List HistoryEntry) (a : HistoryAct) → RisesBy h a → (o : Opening) → (opening_of node h ≡ Some o → 1 ≤ o.counter)
+        → opening_after node (opening_of node h) a ≡ Some o → 1 ≤ o.counter
+    by h a rises o so_far is = grind (arith, nat_tests)
+
+-- a log that isn't there has no start
+is_there : (w : World) (place : ℕ) → 1 ≤ starts_in (log_at w place) → place < length w.nodes
+is_there w place some = grind (arith, slice_get_within w.nodes place)
+
+module _ (w : World) (lives : Lives w) (place : ℕ) (g : Gateway) (there : slice_get w.gateways place ≡ Some g) where
+  rises : (b : Bool) → StartsRise (if b then g.book.firm else g.book.firm ++ g.book.rest)
+  rises true = each_front (λ before e. RisesBy before e.act) [] g.book.firm g.book.rest (lives.gateways place g there).rises
+  rises false = (lives.gateways place g there).rises
+
+  low : (ip : ℕ) (b : Bool) → start_of ip (if b then g.book.firm else g.book.firm ++ g.book.rest) ≤ start_of ip (g.book.firm ++ g.book.rest)
+  low ip true = start_rises ip g.book.firm g.book.rest (lives.gateways place g there).rises
+  low ip false = omega arith
+
+  path_leads : (n : NodeId) (path : Addr) → path_of (history_of g.book) n ≡ Some path → node_at path < length w.nodes
+  path_leads n path is = by_option
+      (λ (o : Option Opening). option_map
+      (λ (opening : Opening). record { ip = n.0; port = opening.port }) o ≡ Some path → node_at path < length w.nodes)
+      (opening_of n.0 (history_of g.book)) (λ none isnt. absurd (none-some path isnt))
+      (λ o e at.
+      let ip : n.0 ≡ path.ip = ap (λ (a : Addr). a.ip) (same_Some _ path at) in
+      let begun = path_begun n.0 (history_of g.book) (rises g.book.is_broken) o e in
+      let made = (lives.gateways place g there).low n.0 in
+      omega (arith, ip, is_there w (n.0 - first_node_ip)
+      (omega (arith, begun, ap start_by e, low n.0 g.book.is_broken, made)))) is
+
+filtered_all : {A B : Type 0} (P : B → Type 0) (f : A → Option B) → ((x : A) (y : B) → f x ≡ Some y → P y) → (xs : List A) → All P (filter_map f xs)
+filtered_all P f holds [] = All-nil P
+filtered_all {B} P f holds (x ∷ xs) = by_option (λ (o : Option B). All P (cons_option o (filter_map f xs))) (f x)
+    (λ none. filtered_all P f holds xs)
+    (λ y is. All-cons P y (filter_map f xs) (holds x y is) (filtered_all P f holds xs))
+
+-- the paths that a gateway knows are of nodes of the world
+abbrev pub PathsLead : World → Type 0
+PathsLead w = (place : ℕ) (g : Gateway) → slice_get w.gateways place ≡ Some g →
+    All (λ path. node_at path < length w.nodes) (paths_of (history_of g.book))
+
+pub paths_lead : Laws → (rules : ℕ → Rules) (gateways nodes : ℕ) (all : List RuledTurn) → 1 ≤ gateways → PathsLead (ruled_turns (first_world rules gateways nodes) all)
+paths_lead laws rules gateways nodes all some place g there =
+    let w = ruled_turns (first_world rules gateways nodes) all in
+    filtered_all (λ (path : Addr). node_at path < length w.nodes) (path_of (history_of g.book))
+    (path_leads w (world_lives laws rules gateways nodes all some) place g there) (known_nodes (history_of g.book))

@@ -1,5 +1,5 @@
 -- Elements of lists.
-use Rattle.std.proofs.Common.{Bool, Contains, List, Some, [], ap, arith, false, filter, inl, inr, length, map, refl, slice_get, slice_index_or, subst, suc, zero, sym, take, true, ℕ, ⊎_elim, ◌<◌, ◌∙◌, ◌∷◌, ◌≡◌, ◌⊎◌}
+use Rattle.std.proofs.Common.{Bool, Contains, List, Some, [], ap, arith, false, filter, inl, inr, length, map, refl, slice_get, subst, suc, zero, sym, take, true, ℕ, ⊎_elim, ◌∙◌, ◌∷◌, ◌≡◌, ◌⊎◌}
 use Rattle.std.proofs.lemmas.List.Elements.{All-contains, All-contains_itself, All-filter, All-take, Contains-append_cases, Contains-append_left, Contains-append_right, filter_passes}
 use Rattle.std.proofs.lemmas.Bool.{both_ways, cond-false, cond-true}
 use Rattle.std.specs.List.{flat_map, list_any}
@@ -15,11 +15,8 @@ pub in_tail : {A : Type 0} (x y : A) (xs : List A) → Contains xs y → Contain
 in_tail x y xs is = (suc is.0, omega (arith, is.1), is.2)
 
 pub in_cons : {A : Type 0} (x y : A) (xs : List A) → Contains (x ∷ xs) y → (x ≡ y) ⊎ Contains xs y
-in_cons x y xs is = by is.0 is.1 is.2
-  where
-    by : (k : ℕ) → k < length (x ∷ xs) → slice_index_or (x ∷ xs) k y ≡ y → (x ≡ y) ⊎ Contains xs y
-    by zero lt e = inl e
-    by (suc k) lt e = inr (k, omega (arith, lt), e)
+in_cons x y xs (zero, lt, e) = inl e
+in_cons x y xs (suc k, lt, e) = inr (k, omega (arith, lt), e)
 
 pub in_none : {A P : Type 0} (y : A) → Contains [] y → P
 in_none y is = absurd (omega (arith, is.1))
@@ -74,6 +71,11 @@ of_map f (x ∷ xs) y is = ⊎_elim
     (λ e. (x, in_head x xs, e))
     (λ later. let there = of_map f xs y later in (there.0, in_tail x there.0 xs there.1, there.2))
     (in_cons (f x) y (map f xs) is)
+
+-- what holds of each element's image holds of each image
+pub each_mapped : {A B : Type 0} (P : B → Type 0) (f : A → B) (xs : List A) → ((x : A) → Contains xs x → P (f x))
+    → (y : B) → Contains (map f xs) y → P y
+each_mapped P f xs holds y is = let there = of_map f xs y is in subst P there.2 (holds there.0 there.1)
 
 pub in_flat : {A B : Type 0} (f : A → List B) (xs : List A) (x : A) (y : B) → Contains xs x → Contains (f x) y → Contains (flat_map f xs) y
 in_flat f [] x y is there = in_none x is

@@ -1,14 +1,12 @@
 -- The log of a node of a world: its starts, and where its gateways are.
-use Rattle.std.proofs.Common.{◌≡◌, ℕ, zero, suc, min, ◌+◌, ◌-◌, ◌%◌, ◌<◌, ◌≤◌, Bool, true, false, if◌then◌else◌, List, [], ◌∷◌, length, map, Option, Some, None, slice_get, slice_set, get_or, refl, sym, ap, ◌∙◌, arith, option_map, eqb-true}
+use Rattle.std.proofs.Common.{◌≡◌, ℕ, zero, suc, min, ◌+◌, ◌-◌, ◌%◌, ◌<◌, ◌≤◌, true, false, List, [], ◌∷◌, length, map, Option, Some, slice_get, slice_set, get_or, refl, sym, ap, ◌∙◌, arith, option_map, eqb-true}
 use Rattle.std.specs.Option.{option_map_or}
 use Rattle.std.proofs.lemmas.List.{length-map}
 use Rattle.std.proofs.lemmas.List.Quantifiers.{position-Some}
-use Rattle.std.proofs.lemmas.List.Sums.{sum_by-cons}
 use Rattle.std.proofs.lemmas.Option.{slice_get-get_or, slice_get-map, same_Some}
 use Rattle.gw_base.specs.declared.address.Addr.{Addr}
 use Rattle.path_mgmt.specs.NodePath.{PathsOfNode}
-use Rattle.path_mgmt.specs.declared.event.PathEvent.TheVariants.{EchoAsked}
-use Rattle.node_core.specs.Log.{LogEntry, Began, Submitted, Appointed, Ticked, Heard, Saying, Path, counter_of, has_entries, paths_hearing, paths_of, peers_of, restarted}
+use Rattle.node_core.specs.Log.{LogEntry, Began, Submitted, Appointed, Ticked, Heard, Saying, counter_of, has_entries, paths_hearing, paths_of, peers_of}
 use Rattle.node_core.specs.Peers.{address_at, all_drawn, at_place, drawn, end_of_numbers, has_ip, number_drawn, peer_anew, place_of}
 use Rattle.node_core.specs.Value.{logged}
 use Rattle.node_core.specs.declared.peer.Peer.{Peer}
@@ -17,7 +15,8 @@ use Rattle.node_core.specs.declared.sending.Sending.TheVariants as send
 use Rattle.once_core.specs.Addresses.{addresses_from, first_gateway_ip, gateway_address, gateway_at}
 use Rattle.once_core.specs.Expired.{begins, starts_in}
 use Rattle.once_core.proofs.NodeTurnLemmas.{addresses_length}
-use Rattle.once_core.proofs.CaseLemmas.{if_both, map_known}
+use Rattle.once_core.proofs.CaseLemmas.{map_known}
+use Rattle.std.proofs.lemmas.Grind.{common_steps}
 
 -- ---- starts
 
@@ -27,48 +26,35 @@ pub record Counts (log : List LogEntry) : Type 0 where
   pub one : 1 ≤ starts_in log
   pub counter : starts_in log ≤ 255 → counter_of 1 log ≡ starts_in log
 
-starts_more : (entry : LogEntry) (log : List LogEntry) (b : Bool) → begins entry ≡ b → starts_in (entry ∷ log) ≡ (if b then 1 else 0) + starts_in log
-starts_more entry log b e = sum_by-cons (λ d. if begins d then 1 else 0) entry log ∙ ap (λ (c : Bool). (if c then 1 else 0) + starts_in log) e
+pub starts_same : (entry : LogEntry) (log : List LogEntry) → begins entry ≡ false → starts_in (entry ∷ log) ≡ starts_in log
+starts_same entry log isnt = grind (arith, common_steps)
 
-module _ (log : List LogEntry) (is : Counts log) where
-  same_counts : (entry : LogEntry) → begins entry ≡ false → counter_of 1 (entry ∷ log) ≡ counter_of 1 log → Counts (entry ∷ log)
-  same_counts entry isnt same =
-      let starts = starts_more entry log false isnt in
-      let one = is.one in
-      record {
-        some = refl;
-        one = omega (arith, one, starts);
-        counter = λ few. let before = is.counter (omega (arith, few, starts)) in omega (arith, same, before, starts);
-      }
+pub starts_again : (log : List LogEntry) → starts_in (Began ∷ log) ≡ suc (starts_in log)
+starts_again log = grind (arith, common_steps)
 
-  began_counts : Counts (Began ∷ log)
-  began_counts =
-      let starts = starts_more Began log true refl in
-      let again : counter_of 1 (Began ∷ log) ≡ (counter_of 1 log + 1) % 256 = ap (λ (b : Bool). restarted b (counter_of 1 log)) is.some in
-      record {
-        some = refl;
-        one = omega (arith, starts);
-        counter = λ few. let before = is.counter (omega (arith, few, starts)) in omega (arith, again, before, starts, few);
-      }
+again : (log : List LogEntry) → has_entries log ≡ true → counter_of 1 log ≡ starts_in log
+    → starts_in (Began ∷ log) ≤ 255
+    → counter_of 1 (Began ∷ log) ≡ starts_in (Began ∷ log)
+again log some before few = grind (arith, common_steps)
 
-  counts_more : (entry : LogEntry) → Counts (entry ∷ log)
-  counts_more Began = began_counts
-  counts_more entry = same_counts entry refl refl
+counts_more : (log : List LogEntry) → Counts log → (entry : LogEntry) → Counts (entry ∷ log)
+counts_more log is Began = record {
+  some = refl;
+  one = omega (arith, starts_again log);
+  counter = λ few. again log is.some (is.counter (omega (arith, few, starts_again log))) few;
+}
+counts_more log is entry = record {
+  some = refl;
+  one = omega (arith, is.one, starts_same entry log refl);
+  counter = λ few. is.counter (omega (arith, few, starts_same entry log refl)) ∙ sym (starts_same entry log refl);
+}
 
 pub counts_logged : (entries log : List LogEntry) → Counts log → Counts (logged entries log)
 counts_logged [] log is = is
 counts_logged (entry ∷ entries) log is = counts_logged entries (entry ∷ log) (counts_more log is entry)
 
-pub starts_same : (entry : LogEntry) (log : List LogEntry) → begins entry ≡ false → starts_in (entry ∷ log) ≡ starts_in log
-starts_same entry log isnt = let more = starts_more entry log false isnt in omega (arith, more)
-
-pub starts_again : (log : List LogEntry) → starts_in (Began ∷ log) ≡ suc (starts_in log)
-starts_again log = let more = starts_more Began log true refl in omega (arith, more)
-
 hearing_keeps : (gateway : ℕ) (saying : Saying) (paths : PathsOfNode) → (paths_hearing gateway saying paths).counter ≡ paths.counter
-hearing_keeps gateway (Path (EchoAsked number)) paths = refl
-hearing_keeps gateway (Path _) paths = refl
-hearing_keeps gateway _ paths = refl
+hearing_keeps gateway saying paths = grind arith
 
 pub counter_is : (first : ℕ) (log : List LogEntry) → (paths_of first log).counter ≡ counter_of first log
 counter_is first (Submitted form ∷ log) = counter_is first log
@@ -92,17 +78,15 @@ place_keeps f keeps gateway peers = map_known (λ (ps : List Peer). addresses ps
     (λ p there. set_keeps gateway peers p (f p) there (keeps p))
 
 drawn_keeps : (sending : Sending) (peers : List Peer) → addresses (drawn sending peers) ≡ addresses peers
-drawn_keeps sending peers = by sending
+drawn_keeps sending peers = grind (arith, draws, probes)
   where
-    draws : (is_new : Bool) (gateway number : ℕ) → addresses (if is_new then number_drawn gateway number peers else peers) ≡ addresses peers
-    draws is_new gateway number = if_both (λ (ps : List Peer). addresses ps ≡ addresses peers) is_new
-        (place_keeps (λ peer. record peer { next = min (suc number) end_of_numbers }) (λ peer. refl) gateway peers) refl
+    draws : (gateway number : ℕ) → addresses (number_drawn gateway number peers) ≡ addresses peers
+    draws gateway number = place_keeps (λ peer. record peer { next = min (suc number) end_of_numbers })
+        (λ peer. refl) gateway peers
 
-    by : (sending : Sending) → addresses (drawn sending peers) ≡ addresses peers
-    by (send.Probe gateway number) = place_keeps (λ peer. record peer { path = (number + 1) % 65536 }) (λ peer. refl) gateway peers
-    by (send.Data packet gateway number is_plain is_new) = draws is_new gateway number
-    by (send.Test packet gateway number) = refl
-    by (send.Command packet gateway named number order is_new) = draws is_new gateway number
+    probes : (gateway number : ℕ) → addresses (drawn (send.Probe gateway number) peers) ≡ addresses peers
+    probes gateway number = place_keeps (λ peer. record peer { path = (number + 1) % 65536 })
+        (λ peer. refl) gateway peers
 
 all_keep : (sendings : List Sending) (peers : List Peer) → addresses (all_drawn sendings peers) ≡ addresses peers
 all_keep [] peers = refl
@@ -119,12 +103,12 @@ addresses_stay gateways (Ticked sendings ∷ log) = all_keep sendings (peers_of 
 addresses_stay gateways (Heard port gateway saying ∷ log) = addresses_stay gateways log
 addresses_stay gateways _ = anew gateways
 
-at_some : (from count place : ℕ) → place < count → slice_get (addresses_from from count) place ≡ Some (gateway_address (from + place))
-at_some from zero place lt = absurd (omega (arith, lt))
-at_some from (suc count) zero lt = let same : from ≡ from + 0 = omega arith in ap (λ (n : ℕ). Some (gateway_address n)) same
-at_some from (suc count) (suc place) lt =
-    let same : suc from + place ≡ from + suc place = omega arith in
-    at_some (suc from) count place (omega (arith, lt)) ∙ ap (λ (n : ℕ). Some (gateway_address n)) same
+at_some : (from count place number : ℕ) → place < count → number ≡ from + place
+    → slice_get (addresses_from from count) place ≡ Some (gateway_address number)
+at_some from zero place number lt e = absurd (omega (arith, lt))
+at_some from (suc count) zero number lt e = ap (λ (n : ℕ). Some (gateway_address n)) (omega (arith, e))
+at_some from (suc count) (suc place) number lt e = at_some (suc from) count place number (omega (arith, lt))
+    (omega (arith, e))
 
 module _ (gateways : ℕ) (log : List LogEntry) where
   abbrev pub peers : List Peer
@@ -133,16 +117,11 @@ module _ (gateways : ℕ) (log : List LogEntry) where
   there : (place : ℕ) → place < gateways → option_map (λ (peer : Peer). peer.address) (slice_get peers place) ≡ Some (gateway_address place)
   there place lt =
       sym (slice_get-map (λ (peer : Peer). peer.address) peers place)
-      ∙ ap (λ (all : List Addr). slice_get all place) (addresses_stay (addresses_from 0 gateways) log) ∙ at_some 0 gateways place lt
-      ∙ (let same : 0 + place ≡ place = omega arith in ap (λ (n : ℕ). Some (gateway_address n)) same)
+      ∙ ap (λ (all : List Addr). slice_get all place) (addresses_stay (addresses_from 0 gateways) log)
+      ∙ at_some 0 gateways place place lt (omega arith)
 
   pub address_is : (place : ℕ) → place < gateways → address_at peers place ≡ gateway_address place
-  address_is place lt = by (slice_get peers place) (there place lt)
-    where
-      by : (o : Option Peer) → option_map (λ (peer : Peer). peer.address) o ≡ Some (gateway_address place)
-          → option_map_or (λ (peer : Peer). peer.address) o (record { ip = 0; port = 0 }) ≡ gateway_address place
-      by None e = absurd (cc)
-      by (Some peer) e = same_Some peer.address (gateway_address place) e
+  address_is place lt = grind (arith, there place lt)
 
   -- the gateway at an address is the one that the address is of
   pub gateway_is : (place : ℕ) → place < gateways → gateway_at (address_at peers place) ≡ place

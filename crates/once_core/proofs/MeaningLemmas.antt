@@ -1,5 +1,5 @@
 -- What the messages of a world say, and what they mean.
-use Rattle.std.proofs.Common.{◌≡◌, ℕ, ◌%◌, ◌≤◌, true, false, List, [], ◌∷◌, ◌++◌, length, Some, slice_get, refl, sym, ap, subst, ◌∙◌, arith, append-nil}
+use Rattle.std.proofs.Common.{◌≡◌, ℕ, ◌%◌, ◌≤◌, true, false, List, [], ◌∷◌, ◌++◌, length, Some, slice_get, refl, sym, ap, ◌∙◌, arith, append-nil}
 use Rattle.gw_base.specs.declared.cause.TheConstants.{SYSTEM_FAILURE}
 use Rattle.gtpp_message.specs.Message.{MessageValue, TransferValue, EchoResponse, TransferRequest, TransferResponse, Cancel, Release}
 use Rattle.gtpp_message.specs.Reading.{Message, reading}
@@ -26,8 +26,7 @@ pub record IsWritten (octets : List ℕ) (number : ℕ) (message : MessageValue)
 
 pub read_of : ReadsBack → (octets : List ℕ) (number : ℕ) (message : MessageValue) → IsWritten octets number message → reading octets ≡ Message number message
 read_of back octets number message w =
-    subst (λ (o : List ℕ). reading o ≡ Message number message) (sym w.is)
-    (subst (λ (o : List ℕ). reading o ≡ Message number message) (append-nil (written number message)) (back number message [] w.sendable w.short))
+    ap reading (w.is ∙ sym (append-nil (written number message))) ∙ back number message [] w.sendable w.short
 
 pub role_read_of : ReadsBack → RolesRead → (role : Role) (octets : List ℕ) (number : ℕ) (message : MessageValue) → IsWritten octets number message
     → role_reading role octets ≡ for_role role (Message number message)
@@ -88,9 +87,6 @@ said_by_gateway m e said = record { node = λ is. absurd (cc); gateway = λ isnt
 
 -- ---- responses
 
-response_short : (cause number : ℕ) → length (body_octets (TransferResponse cause (number ∷ []))) ≤ 65535
-response_short cause number = omega arith
-
 -- the response of this cause to the request that a message was
 pub record Responds (m : sent.Message) (cause : ℕ) : Type 0 where
   pub octets : m.octets ≡ written (m.number % 65536) (TransferResponse cause (m.number % 65536 ∷ []))
@@ -99,7 +95,7 @@ pub responds_said : (m : sent.Message) (cause : ℕ) → Responds m cause → Ga
 responds_said m cause is = record {
   path = m.number % 65536;
   message = TransferResponse cause (m.number % 65536 ∷ []);
-  written = record { is = is.octets; sendable = tt; short = response_short cause (m.number % 65536) };
+  written = record { is = is.octets; sendable = tt; short = omega arith };
   fits = (refl, refl);
 }
 

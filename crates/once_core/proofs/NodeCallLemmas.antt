@@ -1,28 +1,33 @@
--- What is kept of a node moves as its log grows.
-use Rattle.std.proofs.Common.{◌≡◌, ℕ, ◌+◌, ◌≤◌, Bool, true, false, ◌||◌, not, if◌then◌else◌, List, [], ◌∷◌, ◌++◌, Option, Some, None, refl, ap, sym, ◌∙◌, arith, true≢false, nat_lt}
+-- What is kept of a node moves as its log grows, and the messages of a tick go to the gateways of the world.
+use Rattle.std.proofs.Common.{◌≡◌, ℕ, ◌+◌, ◌≤◌, Bool, true, false, not, if◌then◌else◌, List, [], ◌∷◌, Option, refl, ap, sym, ◌∙◌, arith, true≢false, ◌<◌, map, subst, ⊎_elim}
 use Rattle.std.specs.List.{list_all}
 use Rattle.gtpp_message.specs.Packet.{PacketForm}
 use Rattle.gw_base.specs.declared.address.Addr.{Addr}
-use Rattle.node_core.specs.Hearing.{Dropped, Says, Taken, entries_from, heard_entries, heeds, taken, taken_entries}
-use Rattle.node_core.specs.Log.{LogEntry, Began, Halted, Ticked, NodeSetup, runs}
-use Rattle.node_core.specs.Moving.{appointing, moved_at_tick, moved_by}
-use Rattle.node_core.specs.Peers.{place_of}
-use Rattle.node_core.specs.Reached.{NodeCall, Submit, Hear, Halt, Start, call_entries, entries_halted, entries_running, most_submissions, submit_entries}
+use Rattle.node_core.specs.Hearing.{heard_entries}
+use Rattle.node_core.specs.Log.{LogEntry, Began, Halted, NodeSetup, runs, peers_of}
+use Rattle.node_core.specs.Peers.{address_at}
+use Rattle.node_core.specs.Reached.{NodeCall, Submit, Hear, Halt, Start, call_entries, entries_halted, entries_running, submit_entries, Tick}
 use Rattle.node_core.specs.Submitting.{refusal}
 use Rattle.node_core.specs.Ticks.{due, tick_entries}
 use Rattle.node_core.specs.Value.{CanFollowAll, IsNode, NodeValue, befallen, logged}
 use Rattle.node_core.specs.declared.fault.SubmitFault.{SubmitFault}
 use Rattle.node_core.specs.declared.port.Port.{Port}
-use Rattle.once_core.specs.Addresses.{gateway_address, node_setup}
-use Rattle.once_core.specs.Expired.{begins, is_expired_at_node, starts_in}
+use Rattle.once_core.specs.Addresses.{gateway_address, node_setup, addresses_from, gateway_at}
+use Rattle.once_core.specs.Expired.{begins, starts_in}
 use Rattle.once_core.specs.KeptTurn.{started_again}
-use Rattle.once_core.specs.NodeMoves.{answered_by, heard_by, submitted_entries, with_entries}
+use Rattle.once_core.specs.NodeMoves.{answered_by, heard_by, submitted_entries, with_entries, due_messages, message_kept}
 use Rattle.once_core.specs.Standing.{NodeKept, node_kept}
-use Rattle.once_core.specs.World.{Called, answers_of, called, delivered_to_node, draft_of, hearing, node_value, submitting, submitting_form}
+use Rattle.once_core.specs.World.{Called, called, delivered_to_node, draft_of, node_value, submitting, submitting_form, message_of, ticking}
 use Rattle.once_core.specs.declared.message.Message.{Message}
-use Rattle.once_core.proofs.LogLemmas.{starts_again}
-use Rattle.std.proofs.lemmas.Bool.{not-false, or_parts}
-use Rattle.once_core.proofs.CaseLemmas.{by_bool, by_option, if_both}
+use Rattle.once_core.proofs.LogLemmas.{starts_again, gateway_is, size}
+use Rattle.std.proofs.lemmas.Bool.{cases_lt}
+use Rattle.once_core.proofs.CaseLemmas.{by_option}
+use Rattle.std.proofs.lemmas.Option.{slice_get_past}
+use Rattle.std.specs.Option.{option_map_or}
+use Rattle.node_core.specs.Octets.{gateway_of, outgoing}
+use Rattle.node_core.specs.declared.peer.Peer.{Peer}
+use Rattle.node_core.specs.declared.sending.Sending.{Sending}
+use Rattle.once_core.proofs.RedirectLemmas.{same_byte}
 
 -- what node_core says of logs
 abbrev pub NodeLaw : Type 0
@@ -44,24 +49,14 @@ starts_stay [] log p = refl
 starts_stay (Began ∷ es) log p = absurd (true≢false (sym p))
 starts_stay (entry ∷ es) log p = starts_stay es (entry ∷ log) p
 
-plain_appointing : (gateway : Option ℕ) → are_plain (appointing gateway) ≡ true
-plain_appointing None = refl
-plain_appointing (Some gateway) = refl
-
 pub plain_tick : (node : NodeValue) → are_plain (tick_entries node) ≡ true
-plain_tick node = by_option (λ (to : Option ℕ). are_plain (appointing to ++ Ticked (due node) ∷ []) ≡ true) (moved_at_tick node) (λ none. refl) (λ gateway is. refl)
+plain_tick node = grind arith
 
 plain_heard : (node : NodeValue) (port : Port) (from : Addr) (octets : List ℕ) → are_plain (heard_entries node port from octets) ≡ true
-plain_heard node port from octets = by_option (λ (place : Option ℕ). are_plain (entries_from node port place octets) ≡ true) (place_of node.gateways from.ip)
-    (λ none. refl) (λ gateway is. by_taken gateway (taken node gateway octets))
-  where
-    by_taken : (gateway : ℕ) (t : Taken) → are_plain (taken_entries node port gateway t) ≡ true
-    by_taken gateway (Dropped why) = refl
-    by_taken gateway (Says saying reply) = plain_appointing (moved_by node port gateway saying)
+plain_heard node port from octets = grind arith
 
 plain_submitted : (node : NodeValue) (fault : Option SubmitFault) (form : PacketForm) → are_plain (submit_entries node fault form) ≡ true
-plain_submitted node None form = if_both (λ (entries : List LogEntry). are_plain entries ≡ true) (nat_lt node.submissions most_submissions) refl refl
-plain_submitted node (Some fault) form = refl
+plain_submitted node fault form = grind arith
 
 -- ---- calls
 
@@ -112,19 +107,41 @@ module _ (law : NodeLaw) (gateways place : ℕ) where
           let node : befallen (Began ∷ []) (value whole) ≡ value (Began ∷ whole) = law (node_setup gateways place) (Began ∷ []) whole (value whole) (refl, tt) refl in
           let starts : starts_in whole + 1 ≡ starts_in (Began ∷ whole) = omega (arith, starts_again whole) in
           let grown : started_again (node_kept gateways place whole) ≡ node_kept gateways place (Began ∷ whole) = λ i. record { node = node i; starts = starts i } in
-          grown ∙ ap (λ (es : List LogEntry). node_kept gateways place (logged es whole))
-          (sym (ap (λ b. if b then entries_running (value whole) Start else entries_halted Start) down))
-
-  abbrev after_hearing : Message → List LogEntry → Bool → Called
-  after_hearing m log b = if b then record { log = log; sends = [] } else hearing gateways place m log
+          grind (arith, grown, down)
 
   -- a message that reaches the node
   pub calls_hear : (m : Message) (log : List LogEntry) → CallsKept gateways place (delivered_to_node gateways place m) (λ n. heard_by n m) (λ n. answered_by n m) log
   calls_hear m log = record {
-    node = by_bool (λ (b : Bool). (if b then node_kept gateways place log else with_entries (heard_entries (value log) m.port (gateway_address m.gateway) m.octets) (node_kept gateways place log))
-        ≡ node_kept gateways place (after_hearing m log b).log) (not (runs log) || is_expired_at_node log (value log) m) (λ deaf. refl)
-        (λ hears. kept_called (Hear m.port (gateway_address m.gateway) m.octets) log (not-false (runs log) (or_parts (not (runs log)) (is_expired_at_node log (value log) m) hears).0)
-        (plain_heard (value log) m.port (gateway_address m.gateway) m.octets));
-    sent = by_bool (λ (b : Bool). (if b then [] else answers_of m (heeds (value log) m.port (gateway_address m.gateway) m.octets)) ≡ (after_hearing m log b).sends)
-        (not (runs log) || is_expired_at_node log (value log) m) (λ deaf. refl) (λ hears. refl);
+    node = grind (
+      arith,
+      (λ (up : runs log ≡ true). kept_called (Hear m.port (gateway_address m.gateway) m.octets) log up
+          (plain_heard (value log) m.port (gateway_address m.gateway) m.octets)),
+    );
+    sent = grind arith;
+  }
+
+-- ---- the addresses of a node's gateways are near
+
+near : (gateways k : ℕ) (log : List LogEntry) → gateways ≤ 256 → gateway_at (address_at (peers_of (addresses_from 0 gateways) log) k) < 256
+near gateways k log few = ⊎_elim
+    (λ inside. omega (arith, gateway_is gateways log k inside, inside, few))
+    (λ outside. subst (λ (o : Option Peer). gateway_at (option_map_or (λ (p : Peer). p.address) o (record { ip = 0; port = 0 })) < 256)
+    (sym (slice_get_past (peers_of (addresses_from 0 gateways) log) k (omega (arith, size gateways log, outside)))) (omega arith))
+    (cases_lt k gateways)
+
+module _ (law : NodeLaw) (gateways place : ℕ) (few : gateways ≤ 256) where
+  same_message : (log : List LogEntry) (s : Sending) → message_kept place (starts_in log) (outgoing (node_value gateways place log) s) ≡ message_of place log (outgoing (node_value gateways place log) s)
+  same_message log s =
+      ap (λ (g : ℕ). record (message_of place log (outgoing (node_value gateways place log) s)) { gateway = g })
+      (same_byte (gateway_at (outgoing (node_value gateways place log) s).to) (near gateways (gateway_of s) log few))
+
+  same_messages : (log : List LogEntry) (ss : List Sending) → map (message_kept place (starts_in log)) (map (outgoing (node_value gateways place log)) ss)
+      ≡ map (λ s. message_of place log (outgoing (node_value gateways place log) s)) ss
+  same_messages log [] = refl
+  same_messages log (s ∷ ss) = λ i. same_message log s i ∷ same_messages log ss i
+
+  pub calls_tick : (log : List LogEntry) → runs log ≡ true → CallsKept gateways place (ticking gateways place) (λ n. with_entries (tick_entries n.node) n) (due_messages place) log
+  calls_tick log up = record {
+    node = kept_called law gateways place Tick log up (plain_tick (node_value gateways place log));
+    sent = same_messages log (due (node_value gateways place log));
   }

@@ -1,16 +1,16 @@
 -- What a node of a world does is what happens in a scene: what it hears; what is submitted, a halt and a start are nothing there.
-use Rattle.std.proofs.Common.{◌≡◌, ⊎_elim, ℕ, suc, ◌≤◌, ◌==◌, nat_lt, true, false, List, [], ◌∷◌, Option, Some, None, Contains, refl, sym, ap, subst, ◌∙◌, arith, ◌%◌, ◌&&◌, ◌||◌, not, Bool, if◌then◌else◌, ◌++◌, map, append-nil}
+use Rattle.std.proofs.Common.{◌≡◌, ⊎_elim, ℕ, suc, ◌≤◌, ◌==◌, nat_lt, true, false, List, [], ◌∷◌, Option, Some, None, Contains, refl, sym, ap, subst, ◌∙◌, arith, ◌%◌, ◌||◌, not, Bool, if◌then◌else◌, ◌++◌, map, append-nil}
 use Rattle.std.proofs.lemmas.List.Elements.{Contains-push_cases}
-use Rattle.std.proofs.lemmas.Bool.{both_ways, eqb-true, not-false, or_parts, cond-false}
+use Rattle.std.proofs.lemmas.Bool.{both_ways, cond-false}
 use Rattle.std.specs.Option.{option_map_or}
 use Rattle.std.proofs.lemmas.Option.{same_Some}
 use Rattle.gtpp_message.specs.Packet.{PacketForm}
-use Rattle.node_core.specs.Log.{LogEntry, Halted, Submitted, Appointed, runs, Heard, Saying, Path, Redirects, Responds, Other}
-use Rattle.node_core.specs.Moving.{appointing, moved_by}
+use Rattle.node_core.specs.Log.{LogEntry, Halted, Submitted, Appointed, runs, Heard, Saying, Path, Redirects, Responds, Other, Ticked, NodeSetup}
+use Rattle.node_core.specs.Moving.{appointing, moved_by, moved_at_tick}
 use Rattle.node_core.specs.Reached.{NodeCall, call_entries, log_of, most_submissions, submit_entries}
 use Rattle.node_core.specs.Reached as call
 use Rattle.node_core.specs.Submitting.{refusal}
-use Rattle.node_core.specs.Value.{logged, NodeValue}
+use Rattle.node_core.specs.Value.{logged, NodeValue, node_of}
 use Rattle.node_core.specs.declared.fault.SubmitFault.{SubmitFault}
 use Rattle.gtpp_message.specs.Message.{MessageValue, EchoRequest, EchoResponse, NodeAliveResponse, RedirectionRequest, RedirectionResponse, TransferRequest, TransferResponse}
 use Rattle.gtpp_message.specs.Reading.{Message, ReadingValue}
@@ -26,10 +26,10 @@ use Rattle.node_core.specs.Hearing.{Dropped, Says, Taken, entries_from, heard_en
 use Rattle.node_core.specs.Peers.{last_number, place_of}
 use Rattle.once_core.specs.Addresses.{node_ip, node_setup, gateway_address}
 use Rattle.once_core.specs.Deeds.{deeds_of, told_by}
-use Rattle.once_core.specs.Expired.{starts_in, is_expired_at_node, is_taken_for_another}
-use Rattle.once_core.specs.Happenings.{Happening, Letter, Scene, Answers, Hears, Meaning, Deed}
+use Rattle.once_core.specs.Expired.{starts_in, is_expired_at_node}
+use Rattle.once_core.specs.Happenings.{Happening, Letter, Scene, Answers, Hears}
 use Rattle.once_core.specs.Meaning.{letter_of, speaks, is_spoken, meaning_in, meaning_of}
-use Rattle.once_core.specs.Scenes.{happened_all, after_hearing, is_answer, with_deed, with_one}
+use Rattle.once_core.specs.Scenes.{happened_all, with_deed}
 use Rattle.once_core.specs.Shown.{forms_ever}
 use Rattle.once_core.specs.World.{Called, called, draft_of, log_after, node_value, submitting, submitting_form, answers_of, delivered_to_node}
 use Rattle.once_core.proofs.FormLemmas.{GoodForm, RecordsSpelled, draft_is_good, submitted_is_draft}
@@ -41,7 +41,9 @@ use Rattle.once_core.specs.Deeds as did
 use Rattle.once_core.specs.Happenings as happens
 use Rattle.once_core.specs.Messages.{about, answering, is_response}
 use Rattle.once_core.specs.declared.message.Message as world
-use Rattle.once_core.proofs.SceneLemmas.{at_same}
+use Rattle.once_core.proofs.MoveLemmas.{at_same}
+use Rattle.node_core.specs.Ticks.{due}
+use Rattle.std.proofs.lemmas.Bool.Decides.{nat_tests}
 
 -- what holds of the log of each node: it is one of a node's calls, its starts are counted, and each packet can be sent
 pub record NodeRightly (gateways place : ℕ) (log : List LogEntry) : Type 0 where
@@ -98,6 +100,14 @@ pub appointed_starts : (o : Option ℕ) (log : List LogEntry) → starts_in (log
 appointed_starts = appointed starts_in (λ gateway log. starts_same (Appointed gateway) log refl)
 
 -- ---- calls
+
+-- the log behind a tick
+abbrev pub behind_tick : NodeSetup → List LogEntry → List LogEntry
+behind_tick setup log = Ticked (due (node_of setup log)) ∷ logged (appointing (moved_at_tick (node_of setup log))) log
+
+pub tick_is : (setup : NodeSetup) (log : List LogEntry) → runs log ≡ true
+    → logged (call_entries (node_of setup log) call.Tick) log ≡ behind_tick setup log
+tick_is setup log running = grind arith
 
 -- the log after a call
 pub after_call : {gateways place : ℕ} {log : List LogEntry} → NodeRightly gateways place log → (call : NodeCall) → starts_in (log_after gateways place call log) ≤ 255
@@ -188,10 +198,7 @@ module _ (back : ReadsBack) (roles : RolesRead) (m : world.Message) (from : m.to
       if_both (λ (c : Called). NodeRightly gateways m.node c.log) (not (runs log) || is_expired_at_node log value m) stands.rightly
       (after_call stands.rightly (call.Hear m.port (gateway_address m.gateway) m.octets)
       (hear_either (λ l. starts_in l ≤ 255) stands.rightly.few (λ p saying o.
-      let one = appointed_starts o (Heard m.port p saying ∷ log) in
-      let two = starts_same (Heard m.port p saying) log refl in
-      let few = stands.rightly.few in
-      omega (arith, one, two, few)))
+      omega (arith, appointed_starts o (Heard m.port p saying ∷ log), starts_same (Heard m.port p saying) log refl, stands.rightly.few)))
       (hear_either (λ l. (form : PacketForm) → Contains (forms_ever l) form → GoodForm form) stands.rightly.forms (λ p saying o form is.
       stands.rightly.forms form (subst (λ (fs : List PacketForm). Contains fs form) (appointed forms_ever (λ gateway log. refl) o (Heard m.port p saying ∷ log)) is))))
 
@@ -254,16 +261,14 @@ module _ (back : ReadsBack) (roles : RolesRead) (m : world.Message) (from : m.to
           later = Hears kept.0 ∷ [];
           after = with_deed (node_ip m.node) (happens.Heard (letter_of m)) scene;
           is =
-              ap (λ (o : Option Letter). with_one o (λ letter. after_hearing (is_answer letter.says) letter) scene) kept.1
-              ∙ ap (λ (says : Meaning). after_hearing (is_answer says) (letter_of m) scene) means;
+              grind (arith, kept.1, means);
           posts = λ gateway. refl;
           others = λ other apart. cond-false (other == node_ip m.node) (scene.deeds (node_ip m.node) ++ happens.Heard (letter_of m) ∷ []) (scene.deeds other) apart;
           deeds =
-              at_same (node_ip m.node) (scene.deeds (node_ip m.node) ++ happens.Heard (letter_of m) ∷ []) scene.deeds
-              ∙ ap (λ (ds : List Deed). ds ++ happens.Heard (letter_of m) ∷ []) stands.deeds
-              ∙ ap (λ (l : Letter). deeds_of (node_ip m.node) values log ++ happens.Heard l ∷ []) letter_is
-              ∙ sym (appointed_deeds (node_ip m.node) values (moved_by value m.port m.gateway (Responds cause (number ∷ [])))
-              (Heard m.port m.gateway (Responds cause (number ∷ [])) ∷ log));
+              let here = at_same (node_ip m.node) (scene.deeds (node_ip m.node) ++ happens.Heard (letter_of m) ∷ []) scene.deeds in
+              let saying = Responds cause (number ∷ []) in
+              let same = appointed_deeds (node_ip m.node) values (moved_by value m.port m.gateway saying) (Heard m.port m.gateway saying ∷ log) in
+              grind (arith, here, stands.deeds, letter_is, same);
           letters = λ l is. is;
           sends = λ k is speaking. in_none k is;
           said = λ k is. in_none k is;
@@ -293,20 +298,19 @@ module _ (back : ReadsBack) (roles : RolesRead) (m : world.Message) (from : m.to
 
   hear_plays : Plays (delivered_to_node gateways m.node m log)
   hear_plays = if_known Plays (not (runs log) || is_expired_at_node log value m) (λ deaf. nothing_plays) (λ isnt.
-      let parts = or_parts (not (runs log)) (is_expired_at_node log value m) isnt in
-      let both = or_parts (not (m.start == starts_in log)) (is_response m && is_taken_for_another value m) parts.1 in
-      let read_as = nearest (Some (last_number value.gateways m.gateway)) (m.number % 65536) in
-      let near : is_response m ≡ true → read_as ≡ m.number = λ response.
-      eqb-true read_as m.number (not-false (read_as == m.number) (sym (ap (λ (b : Bool). b && is_taken_for_another value m) response) ∙ both.1)) in
+      let up : runs log ≡ true = grind (arith, isnt) in
+      let begun : m.start ≡ starts_in log = grind (arith, nat_tests, isnt) in
+      let near : is_response m ≡ true → nearest (Some (last_number value.gateways m.gateway)) (m.number % 65536) ≡ m.number =
+      grind (arith, nat_tests, isnt) in
       subst (λ (b : Bool). Plays (record {
         log = logged (if b then heard_entries value m.port (gateway_address m.gateway) m.octets else []) log;
         sends = answers_of m (heeds value m.port (gateway_address m.gateway) m.octets);
-      })) (sym (not-false (runs log) parts.0))
+      })) (sym up)
       (by_option (λ (o : Option ℕ). Plays (heard_from o)) (place_of value.gateways (gateway_address m.gateway).ip) (λ e. nothing_plays) (λ p e.
       subst (λ (q : ℕ). Plays (heard_from (Some q))) (sym (place_is gateways log m.gateway p e))
       (subst (λ (r : ReadingValue). Plays (taking (taken_of value.paths.counter (last_number value.gateways m.gateway) r)))
       (sym (role_read_of back roles role.Node m.octets said.path said.message said.written))
-      (message_plays (eqb-true m.start (starts_in log) (not-false (m.start == starts_in log) both.0)) said.message said.written said.fits near)))))
+      (message_plays begun said.message said.written said.fits near)))))
 
   pub hear_turns : NodePlays (node_ip m.node) values scene (delivered_to_node gateways m.node m log) × NodeRightly gateways m.node (delivered_to_node gateways m.node m log).log
   hear_turns = (hear_plays, hear_rightly)

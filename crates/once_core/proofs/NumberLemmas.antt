@@ -1,22 +1,29 @@
--- The packets of a node bear the numbers by which they were submitted.
-use Rattle.std.proofs.Common.{◌≡◌, ⊎_elim, ℕ, zero, suc, ◌+◌, ◌-◌, ◌<◌, ◌≤◌, ◌==◌, true, List, [], ◌∷◌, ◌++◌, length, length-append, map, filter, zip, Option, Some, Contains, slice_get, refl, sym, ap, subst, ◌∙◌, arith, append_assoc, append-nil, eqb-true}
+-- The packets of a node bear the numbers by which they were submitted, and what was submitted stays in each turn.
+use Rattle.std.proofs.Common.{◌≡◌, ⊎_elim, ℕ, zero, suc, ◌+◌, ◌-◌, ◌<◌, ◌≤◌, ◌==◌, true, List, [], ◌∷◌, ◌++◌, length, length-append, map, filter, zip, Option, Some, Contains, slice_get, refl, sym, ap, subst, ◌∙◌, arith, append_assoc, append-nil, eqb-true, ◌||◌, not, None}
 use Rattle.std.specs.Option.{option_map_or}
 use Rattle.std.proofs.lemmas.List.Elements.{Contains-append_cases}
 use Rattle.gtpp_message.specs.Packet.{PacketForm}
 use Rattle.node_core.specs.Drafts.{value_octets}
-use Rattle.node_core.specs.Log.{LogEntry, Began, Halted, Submitted, Appointed, Ticked, Heard, Saying, Responds, forms_of, packets_hearing, packets_of, runs, submitted}
-use Rattle.node_core.specs.Packets.{PacketState, is_done, is_of, packet_after, packet_after_all, packet_hearing, while_open}
+use Rattle.node_core.specs.Log.{LogEntry, Began, Halted, Submitted, Appointed, Ticked, Heard, Responds, forms_of, packets_of, runs, submitted}
+use Rattle.node_core.specs.Packets.{PacketState, packet_after, packet_after_all, packet_hearing, while_open}
 use Rattle.node_core.specs.Value.{logged}
-use Rattle.node_core.specs.declared.port.Port.{Port}
 use Rattle.node_core.specs.declared.sending.Sending.{Sending}
-use Rattle.once_core.specs.Expired.{starts_in}
+use Rattle.once_core.specs.Expired.{starts_in, is_expired_at_node}
 use Rattle.once_core.specs.Followed.{Followed, all_followed, followed_before, following, packets_in}
 use Rattle.once_core.specs.Growing.{GrowsTo}
 use Rattle.once_core.specs.Shown.{forms_ever, values_of}
 use Rattle.once_core.proofs.GrowingLemmas.{on, on_on, on_with}
 use Rattle.once_core.proofs.ListLemmas.{filtered, in_cons, in_head, in_none, in_tail, of_map, passed}
 use Rattle.once_core.proofs.LogLemmas.{starts_again, starts_same}
-use Rattle.once_core.proofs.CaseLemmas.{if_both}
+use Rattle.once_core.proofs.CaseLemmas.{if_both, map_known, set_known}
+use Rattle.node_core.specs.Reached.{NodeCall, call_entries}
+use Rattle.node_core.specs.Reached as call
+use Rattle.once_core.specs.Addresses.{gateway_address}
+use Rattle.once_core.specs.Gateway.{Rules}
+use Rattle.once_core.specs.Turn.{RuledTurn, Turn, at_node, ruled_turns, turn}
+use Rattle.once_core.specs.World.{Called, World, called, delivered_to_node, draft_of, log_at, node_value, submitting, submitting_form, ticking}
+use Rattle.once_core.specs.declared.message.Message.{Message}
+use Rattle.once_core.proofs.PartLemmas.{PartsKeep, turn_keeps, log_or, log_there, turns_hold}
 
 -- ---- lists
 
@@ -27,7 +34,7 @@ get_more (y ∷ xs) ys (suc k) x e = get_more xs ys k x e
 
 get_behind : {A : Type 0} (xs ys : List A) (k : ℕ) → slice_get (xs ++ ys) (length xs + k) ≡ slice_get ys k
 get_behind [] ys k = ap (slice_get ys) (omega arith)
-get_behind {A} (x ∷ xs) ys k = let same : length (x ∷ xs) + k ≡ suc (length xs + k) = omega arith in ap (slice_get (x ∷ (xs ++ ys))) same ∙ get_behind xs ys k
+get_behind (x ∷ xs) ys k = grind (arith, get_behind xs ys k)
 
 -- ---- packets in order
 
@@ -82,59 +89,61 @@ zipped n _ _ pair is there = absurd is
 
 -- ---- the log
 
-pub record Ever (log : List LogEntry) : Type 0 where
+-- all that was ever submitted, by what is followed now and what the log counts
+pub record AllEver (all forms : List PacketForm) (packets : List PacketState) (count : ℕ) : Type 0 where
   pub before : List PacketForm
-  pub is : forms_ever log ≡ before ++ forms_of log
-  pub numbered : Numbered (length before) (packets_of log) (forms_of log)
-  pub count : submitted log ≡ length before + length (forms_of log)
+  pub is : all ≡ before ++ forms
+  pub numbered : Numbered (length before) packets forms
+  pub count_is : count ≡ length before + length forms
+
+abbrev pub Ever : List LogEntry → Type 0
+Ever log = AllEver (forms_ever log) (forms_of log) (packets_of log) (submitted log)
 
 open_keeps : (f : PacketState → PacketState) → ((p : PacketState) → (f p).number ≡ p.number) → (p : PacketState) → (while_open f p).number ≡ p.number
-open_keeps f same p = if_both (λ (q : PacketState). q.number ≡ p.number) (is_done p.copies) refl (same p)
+open_keeps f same p = grind (arith, same p)
 
 pub all_keep : (sendings : List Sending) (p : PacketState) → (packet_after_all sendings p).number ≡ p.number
 all_keep [] p = refl
-all_keep (sending ∷ sendings) p = all_keep sendings (packet_after sending p) ∙ if_both (λ (q : PacketState). q.number ≡ p.number) (is_of p.number sending) refl refl
+all_keep (sending ∷ sendings) p = grind (arith, all_keep sendings (packet_after sending p))
 
-began : (log : List LogEntry) → Ever log → (submitted log ≡ length (forms_ever log) + 0)
-began log is = omega (arith, is.count, ap length is.is, length-append is.before (forms_of log))
-
-heard : (port : Port) (gateway : ℕ) (saying : Saying) (log : List LogEntry) (n : ℕ) → Numbered n (packets_of log) (forms_of log) → Numbered n (packets_hearing port gateway saying (packets_of log)) (forms_of log)
-heard port gateway (Responds cause numbers) log n is =
-    numbered_map (while_open (packet_hearing port gateway cause numbers)) (open_keeps (packet_hearing port gateway cause numbers) (λ p. refl)) n (packets_of log) (forms_of log) is
-heard port gateway _ log n is = is
+-- the packets with other copies bear the same numbers
+renumbered : {all forms : List PacketForm} {packets : List PacketState} {count : ℕ} (h : PacketState → PacketState)
+    → ((p : PacketState) → (h p).number ≡ p.number) → AllEver all forms packets count → AllEver all forms (map h packets) count
+renumbered {forms = forms} {packets = packets} h same e =
+    record { before = e.before; is = e.is; numbered = numbered_map h same (length e.before) packets forms e.numbered; count_is = e.count_is }
 
 pub ever : (log : List LogEntry) → Ever log
-ever [] = record { before = []; is = refl; numbered = tt; count = refl }
+ever [] = record { before = []; is = refl; numbered = tt; count_is = refl }
 ever (Submitted form ∷ log) =
     let rest = ever log in
     record {
       before = rest.before;
       is = ap (λ (fs : List PacketForm). fs ++ form ∷ []) rest.is ∙ append_assoc rest.before (forms_of log) (form ∷ []);
-      numbered = numbered_more (length rest.before) (packets_of log) (forms_of log) (record { number = suc (submitted log); copies = [] }) form rest.numbered (omega (arith, rest.count));
-      count = omega (arith, rest.count, length-append (forms_of log) (form ∷ []));
+      numbered = numbered_more (length rest.before) (packets_of log) (forms_of log)
+          (record { number = suc (submitted log); copies = [] }) form rest.numbered (omega (arith, rest.count_is));
+      count_is = omega (arith, rest.count_is, length-append (forms_of log) (form ∷ []));
     }
-ever (Appointed gateway ∷ log) = let rest = ever log in record { before = rest.before; is = rest.is; numbered = rest.numbered; count = rest.count }
+ever (Appointed gateway ∷ log) = ever log
 ever (Ticked sendings ∷ log) =
+    renumbered (while_open (packet_after_all sendings)) (open_keeps (packet_after_all sendings) (all_keep sendings)) (ever log)
+ever (Heard port gateway (Responds cause numbers) ∷ log) =
+    renumbered (while_open (packet_hearing port gateway cause numbers))
+    (open_keeps (packet_hearing port gateway cause numbers) (λ p. refl)) (ever log)
+ever (Heard port gateway saying ∷ log) = ever log
+ever (_ ∷ log) =
     let rest = ever log in
     record {
-      before = rest.before;
-      is = rest.is;
-      numbered = numbered_map (while_open (packet_after_all sendings)) (open_keeps (packet_after_all sendings) (all_keep sendings)) (length rest.before) (packets_of log) (forms_of log) rest.numbered;
-      count = rest.count;
+      before = forms_ever log;
+      is = sym (append-nil (forms_ever log));
+      numbered = tt;
+      count_is = omega (arith, rest.count_is, ap length rest.is, length-append rest.before (forms_of log));
     }
-ever (Heard port gateway saying ∷ log) =
-    let rest = ever log in
-    record { before = rest.before; is = rest.is; numbered = heard port gateway saying log (length rest.before) rest.numbered; count = rest.count }
-ever (_ ∷ log) = record { before = forms_ever log; is = sym (append-nil (forms_ever log)); numbered = tt; count = began log (ever log) }
 
 -- what a packet sends stands among all that was ever submitted
 module _ (log : List LogEntry) where
   pub ever_at : (e : Ever log) (place : ℕ) (form : PacketForm) (number : ℕ) → number ≡ suc (length e.before + place) → slice_get (forms_of log) place ≡ Some form
       → slice_get (forms_ever log) (number - 1) ≡ Some form
-  ever_at e place form number is there =
-      let same : number - 1 ≡ length e.before + place = omega (arith, is) in
-      ap (slice_get (forms_ever log)) same ∙ ap (λ (fs : List PacketForm). slice_get fs (length e.before + place)) e.is
-      ∙ get_behind e.before (forms_of log) place ∙ there
+  ever_at e place form number is there = grind (arith, is, e.is, get_behind e.before (forms_of log) place)
 
   following_at : (f : Followed) → Contains (following log) f → (slice_get (forms_ever log) (f.state.number - 1) ≡ Some f.form) × (f.start ≡ starts_in log) × Contains (packets_of log) f.state
   following_at f is =
@@ -157,27 +166,30 @@ is_following log f is = let there = following_at log f is in record { form = the
 -- an entry more leaves it so
 follows_on : (entry : LogEntry) (log : List LogEntry) (f : Followed) → IsFollowing log f → IsFollowing (entry ∷ log) f
 follows_on Began log f is = record { form = is.form; start = omega (arith, is.start, starts_again log) }
-follows_on Halted log f is = record { form = is.form; start = omega (arith, is.start, starts_same Halted log refl) }
-follows_on (Submitted form) log f is =
-    record { form = get_more (forms_ever log) (form ∷ []) (f.state.number - 1) f.form is.form; start = omega (arith, is.start, starts_same (Submitted form) log refl) }
+follows_on (Submitted form) log f is = record {
+  form = get_more (forms_ever log) (form ∷ []) (f.state.number - 1) f.form is.form;
+  start = omega (arith, is.start, starts_same (Submitted form) log refl);
+}
 follows_on entry log f is = record { form = is.form; start = omega (arith, is.start, starts_same entry log refl) }
+
+followed_here : (log : List LogEntry) (f : Followed) → (Contains (followed_before log) f → IsFollowing log f)
+    → Contains (all_followed log) f → IsFollowing log f
+followed_here log f before is = ⊎_elim before (is_following log f) (Contains-append_cases (followed_before log) (following log) f is)
 
 followed_at : (log : List LogEntry) (f : Followed) → Contains (followed_before log) f → IsFollowing log f
 followed_at [] f is = absurd (in_none f is)
-followed_at (Began ∷ log) f is = follows_on Began log f (⊎_elim (followed_at log f) (is_following log f) (Contains-append_cases (followed_before log) (following log) f is))
-followed_at (Halted ∷ log) f is = follows_on Halted log f (⊎_elim (followed_at log f) (is_following log f) (Contains-append_cases (followed_before log) (following log) f is))
+followed_at (Began ∷ log) f is = follows_on Began log f (followed_here log f (followed_at log f) is)
+followed_at (Halted ∷ log) f is = follows_on Halted log f (followed_here log f (followed_at log f) is)
 followed_at (entry ∷ log) f is = follows_on entry log f (followed_at log f is)
 
-pub all_followed_at : (log : List LogEntry) (f : Followed) → Contains (all_followed log) f → slice_get (forms_ever log) (f.state.number - 1) ≡ Some f.form
-all_followed_at log f is = ⊎_elim (λ old. (followed_at log f old).form) (λ new. (following_at log f new).0) (Contains-append_cases (followed_before log) (following log) f is)
+pub all_followed_at : (log : List LogEntry) (f : Followed) → Contains (all_followed log) f
+    → slice_get (forms_ever log) (f.state.number - 1) ≡ Some f.form
+all_followed_at log f is = (followed_here log f (followed_at log f) is).form
 
 -- of a node that runs, what it followed before is of earlier starts
 pub earlier : (log : List LogEntry) (f : Followed) → runs log ≡ true → Contains (followed_before log) f → f.start < starts_in log
 earlier [] f running is = absurd (in_none f is)
-earlier (Began ∷ log) f running is = ⊎_elim
-    (λ old. omega (arith, (followed_at log f old).start, starts_again log))
-    (λ new. omega (arith, (is_following log f new).start, starts_again log))
-    (Contains-append_cases (followed_before log) (following log) f is)
+earlier (Began ∷ log) f running is = omega (arith, (followed_here log f (followed_at log f) is).start, starts_again log)
 earlier (Halted ∷ log) f running is = absurd (cc)
 earlier (entry ∷ log) f running is = omega (arith, earlier log f running is, starts_same entry log refl)
 
@@ -212,3 +224,57 @@ pub values_before : (values : ℕ → List ℕ) (forms more : List PacketForm) �
 values_before values forms more goes are = record {
   each = λ number form there. are.each number form (subst (λ (fs : List PacketForm). slice_get fs (number - 1) ≡ Some form) (sym goes.is) (get_more forms goes.more (number - 1) form there));
 }
+
+-- what was submitted to the node in this place
+abbrev pub forms_at : World → ℕ → List PacketForm
+forms_at w q = forms_ever (log_at w q)
+
+-- a call goes on with the log
+abbrev Calls : (List LogEntry → Called) → Type 0
+Calls call = (log : List LogEntry) → GrowsTo (forms_ever log) (forms_ever (call log).log)
+
+call_grows : (gateways node : ℕ) (c : NodeCall) → Calls (called gateways node c)
+call_grows gateways node c log = forms_grow (call_entries (node_value gateways node log) c) log
+
+submit_grows : (gateways node : ℕ) (octets : List ℕ) → Calls (submitting gateways node octets)
+submit_grows gateways node octets log = by (draft_of octets)
+  where
+    by : (o : Option PacketForm) → GrowsTo (forms_ever log) (forms_ever (submitting_form gateways node o log).log)
+    by None = on (forms_ever log)
+    by (Some form) = call_grows gateways node (call.Submit form) log
+
+hear_grows : (gateways : ℕ) (m : Message) → Calls (delivered_to_node gateways m.node m)
+hear_grows gateways m log = if_both (λ (done : Called). GrowsTo (forms_ever log) (forms_ever done.log)) (not (runs log) || is_expired_at_node log (node_value gateways m.node log) m)
+    (on (forms_ever log)) (call_grows gateways m.node (call.Hear m.port (gateway_address m.gateway) m.octets) log)
+
+-- a gateway's move submits nothing
+none_submitted : PartsKeep (λ g moved. Unit {0})
+none_submitted = assumption
+
+turn_forms : (rules : Rules) (w : World) (t : Turn) (q : ℕ) → GrowsTo (forms_at w q) (forms_at (turn rules w t) q)
+turn_forms rules w t q = turn_keeps {rules = rules} {w = w} {Q = λ place g moved. Unit {0}} {W = Goes} (record {
+  parts = λ place. none_submitted;
+  redirects = λ place cause to g. tt;
+  fails = λ m there to g. tt;
+  answers = λ m there to g sound fresh. tt;
+  moves = λ place move any. map_known Goes (slice_get w.gateways place) (λ none. on (forms_at w q)) (λ g there. on (forms_at w q));
+  submits = λ place packet. goes place (submitting (length w.gateways) place packet) (submit_grows (length w.gateways) place packet);
+  ticks = λ place running. goes place (ticking (length w.gateways) place) (call_grows (length w.gateways) place call.Tick);
+  halts = λ place. goes place (called (length w.gateways) place call.Halt) (call_grows (length w.gateways) place call.Halt);
+  starts = λ place fewer. goes place (called (length w.gateways) place call.Start) (call_grows (length w.gateways) place call.Start);
+  hears = λ m there from. goes m.node (delivered_to_node (length w.gateways) m.node m) (hear_grows (length w.gateways) m);
+  same = on (forms_at w q);
+  lost = λ v count grows. grows;
+  later = λ now. on (forms_at w q);
+}) t
+  where
+    Goes : World → Type 0
+    Goes v = GrowsTo (forms_at w q) (forms_at v q)
+
+    goes : (place : ℕ) (call : List LogEntry → Called) → Calls call → Goes (at_node w place call)
+    goes place call grows = map_known Goes (slice_get w.nodes place) (λ none. on (forms_at w q))
+        (λ log there. set_known w.nodes place (call log).log log there (λ k o. GrowsTo (forms_at w k) (forms_ever (log_or o)))
+        (subst (λ (l : List LogEntry). GrowsTo (forms_ever l) (forms_ever (call log).log)) (sym (log_there w place log there)) (grows log)) (λ k apart. on (forms_at w k)) q)
+
+pub turns_forms : (w : World) (later : List RuledTurn) (q : ℕ) → GrowsTo (forms_at w q) (forms_at (ruled_turns w later) q)
+turns_forms w later q = turns_hold (λ (v : World). GrowsTo (forms_at w q) (forms_at v q)) w later (λ v t after is grows. on_on _ _ _ grows (turn_forms t.rules v t.turn q)) (on (forms_at w q))

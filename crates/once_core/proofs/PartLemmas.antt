@@ -1,33 +1,94 @@
--- What the parts of a gateway's moves keep, each move keeps; and what the moves and the calls of nodes keep, each turn keeps.
-use Rattle.std.proofs.Common.{Bool, Contains, List, None, Option, Some, [], ap, append-nil, arith, false, length, not, refl, slice_get, subst, suc, sym, take, true, true≢false, ℕ, ◌&&◌, ◌++◌, ◌-◌, ◌||◌, ◌∙◌, ◌≡◌, ◌≤◌, option_map}
-use Rattle.std.proofs.lemmas.Bool.{and_parts, false≢true, leb-false, not-false, both_ways}
+-- Gateways and nodes in their places, and what a failed commit or a stop leaves. What the parts of a gateway's moves keep,
+-- each move keeps; and what the moves and the calls of nodes keep, each turn keeps, and so all turns.
+use Rattle.std.proofs.Common.{◌≡◌, ℕ, List, [], ◌∷◌, Option, Some, slice_get, refl, ap, ◌-◌, ◌≤◌, Bool, false, if◌then◌else◌, ◌++◌, length, take, sym, ◌∙◌, append-nil, length-append, take_all, arith, Contains, None, not, subst, suc, true, ◌&&◌, ◌||◌, option_map}
 use Rattle.std.specs.Option.{option_map_or, option_or}
-use Rattle.gateway_answer.specs.Value.{BookValue, Fortune, Gone, Refused, Reopening, committed, faulted, history_of, recorded, reopened, standing_for, Whole}
-use Rattle.gw_base.specs.declared.history.HistoryAct.{HistoryAct}
 use Rattle.gw_base.specs.declared.history.HistoryEntry.{HistoryEntry}
+use Rattle.node_core.specs.Log.{LogEntry, runs}
+use Rattle.once_core.specs.Gateway.{Gateway, cut, Moved, Rules, committing, followed, giving_up, opened, opened_holding, readying, settling, still, with_book}
+use Rattle.once_core.specs.Once.{firm_in}
+use Rattle.once_core.specs.Turn.{RuledTurn, ruled_turns, turn, Turn, at_gateway, at_node, delivering, log_in, lost_if, no_node, refusal_of, refusal_to_start, refusing, turn_by, unless_refused}
+use Rattle.once_core.specs.World.{World, log_at, called, delivered_to_node, submitting, ticking}
+use Rattle.gateway_answer.specs.Value.{BookValue, Gone, Whole, faulted, history_of, reopened, standing_for, Fortune, Refused, Reopening, committed, recorded}
+use Rattle.once_core.specs.Growing.{HoldSame}
+use Rattle.std.proofs.lemmas.Bool.{false≢true}
+use Rattle.gw_base.specs.declared.history.HistoryAct.{HistoryAct}
 use Rattle.gw_base.specs.declared.history.HistoryAct.TheVariants as act
 use Rattle.node_core.specs.Reached as call
-use Rattle.gw_base.specs.History.{is_close_due, moment_after}
-use Rattle.gw_base.specs.TickDue.{is_long_ago, is_tick_due, last_tick}
+use Rattle.gw_base.specs.History.{is_close_due}
+use Rattle.gw_base.specs.TickDue.{is_tick_due}
 use Rattle.gateway_answer.specs.Marks.{is_mark}
 use Rattle.gateway_answer.specs.Answered.{no_caller}
-use Rattle.node_core.specs.Log.{runs}
-use Rattle.once_core.specs.declared.event.WorldKind.TheVariants.{Halted, Restarts, Running}
+use Rattle.once_core.specs.declared.event.WorldKind.TheVariants.{Halted}
 use Rattle.once_core.specs.Happenings.{Closes, Note, Starts, Ticks, act_noted}
 use Rattle.once_core.specs.declared.event.Event.{Event}
-use Rattle.once_core.specs.Gateway.{Gateway, Moved, Rules, committing, cut, followed, giving_up, opened, opened_holding, readying, settling, still, with_book}
 use Rattle.once_core.specs.declared.message.Message.{Message}
-use Rattle.once_core.specs.Turn.{Turn, at_gateway, at_node, delivering, log_in, lost_if, most_starts, no_node, refusal_of, refusal_to_start, refusing, turn, turn_by, unless_refused}
-use Rattle.once_core.specs.World.{World, called, delivered_to_node, log_at, submitting, ticking}
 use Rattle.once_core.specs.declared.event.WorldKind.{WorldKind}
 use Rattle.once_core.specs.Answers.{answered, closing, delivered, failed, if_broken, making_tick, marked, redirected, unless_expired}
 use Rattle.once_core.proofs.CaseLemmas.{by_bool, by_option, if_both, if_known, map_known}
 use Rattle.once_core.specs.declared.event.Event.TheVariants as event
 use Rattle.once_core.specs.Beginning.{first_gateway}
 use Rattle.once_core.proofs.ListLemmas.{get_contains}
-use Rattle.once_core.proofs.StopLemmas.{history_is}
 use Rattle.once_core.specs.Expired.{is_expired, starts_in}
-use Rattle.once_core.proofs.StepLemmas.{refusing_none}
+use Rattle.std.proofs.lemmas.Bool.Decides.{nat_tests}
+
+-- the log that is there, or none, and so the firm part of a gateway's history
+abbrev pub log_or : Option (List LogEntry) → List LogEntry
+log_or o = option_map_or (λ log. log) o []
+
+abbrev pub firm_or : Option Gateway → List HistoryEntry
+firm_or o = option_map_or (λ (g : Gateway). g.book.firm) o []
+
+pub log_there : (w : World) (place : ℕ) (log : List LogEntry) → slice_get w.nodes place ≡ Some log → log_at w place ≡ log
+log_there w place log there = ap log_or there
+
+pub firm_there : (w : World) (place : ℕ) (g : Gateway) → slice_get w.gateways place ≡ Some g → firm_in w place ≡ g.book.firm
+firm_there w place g there = ap firm_or there
+
+pub turns_hold : (P : World → Type 0) (w : World) (later : List RuledTurn)
+    → ((v : World) (t : RuledTurn) (after : List RuledTurn) → ruled_turns v (t ∷ after) ≡ ruled_turns w later → P v → P (turn t.rules v t.turn)) → P w → P (ruled_turns w later)
+turns_hold P w [] step holds = holds
+turns_hold P w (t ∷ later) step holds = turns_hold P (turn t.rules w t.turn) later step (step w t later refl holds)
+
+pub history_is : (v : BookValue) → v.is_broken ≡ false → history_of v ≡ v.firm ++ v.rest
+history_is v e = ap (λ (b : Bool). if b then v.firm else v.firm ++ v.rest) e
+
+all_left : (xs ys : List HistoryEntry) → take (length (xs ++ ys) - length xs) ys ≡ ys
+all_left xs ys = take_all (length (xs ++ ys) - length xs) ys (omega (arith, length-append xs ys))
+
+none_left : (keep : ℕ) (xs ys : List HistoryEntry) → keep ≤ length xs → take (keep - length xs) ys ≡ []
+none_left keep xs ys le = ap (λ (n : ℕ). take n ys) {y = 0} (omega (arith, le))
+
+-- what a crash leaves
+
+pub crash_to_firm : (g : Gateway) → history_of (cut 0 g).book ≡ g.book.firm
+crash_to_firm g = ap (λ (xs : List HistoryEntry). g.book.firm ++ xs) (none_left 0 g.book.firm g.book.rest (omega arith)) ∙ append-nil g.book.firm
+
+pub crash_to_all : (g : Gateway) → history_of (cut (length (g.book.firm ++ g.book.rest)) g).book ≡ g.book.firm ++ g.book.rest
+crash_to_all g = ap (λ (xs : List HistoryEntry). g.book.firm ++ xs) (all_left g.book.firm g.book.rest)
+
+-- what is found whole is what a stop leaves that keeps all; and what is found gone, what one leaves that keeps the firm
+-- part alone
+
+pub torn_kept : (g : Gateway) → HoldSame (reopened g.book Whole) (standing_for (history_of (cut (length (g.book.firm ++ g.book.rest)) g).book))
+torn_kept g = record { firm = sym (crash_to_all g); rest = refl; broken = refl }
+
+pub torn_dropped : (g : Gateway) → HoldSame (reopened g.book Gone) (standing_for (history_of (cut (length g.book.firm) g).book))
+torn_dropped g = record {
+  firm = sym (append-nil g.book.firm) ∙ ap (λ (xs : List HistoryEntry). g.book.firm ++ xs) (sym (none_left (length g.book.firm) g.book.firm g.book.rest (omega arith)));
+  rest = refl;
+  broken = refl;
+}
+
+pub kept_whole : (g : Gateway) → g.book.is_broken ≡ false
+    → HoldSame (reopened (faulted g.book) Whole) (standing_for (history_of (cut (length (history_of g.book)) g).book))
+kept_whole g e = record {
+  firm = sym (crash_to_all g) ∙ ap (λ (h : List HistoryEntry). history_of (cut (length h) g).book) (sym (history_is g.book e));
+  rest = refl;
+  broken = refl;
+}
+
+pub kept_firm : (g : Gateway) → HoldSame (reopened (faulted g.book) Gone) (standing_for (history_of (cut (length g.book.firm) g).book))
+kept_firm g = assumption (torn_dropped g)
 
 -- ---- the parts
 
@@ -71,21 +132,11 @@ abbrev LeavesWhole : List HistoryEntry → Moved → Type 0
 LeavesWhole h moved = moved.gateway.book.is_broken ≡ false → history_of moved.gateway.book ≡ h
 
 pub ready_history : (rules : Rules) (f : Fortune) (g : Gateway) → g.book.is_broken ≡ false → LeavesWhole (history_of g.book) (readying rules f g)
-ready_history rules f g sound =
-    if_both (LeavesWhole (history_of g.book)) (g.book.is_broken || rules.is_full g.book)
-    (if_known (λ (v : BookValue). LeavesWhole (history_of g.book) (with_book v g)) g.book.is_broken
-    (λ broken. absurd (both_ways g.book.is_broken sound broken))
-    (λ e. if_both (λ (v : BookValue). LeavesWhole (history_of g.book) (with_book v g)) f.fails
-    (λ whole. absurd (true≢false whole))
-    (λ whole. ap history_of (book_is (committed g.book) g) ∙ history_is (committed g.book) sound
-    ∙ append-nil (g.book.firm ++ g.book.rest) ∙ sym (history_is g.book sound))))
-    (λ whole. refl)
+ready_history rules f g sound = grind (arith, append-nil (g.book.firm ++ g.book.rest))
 
 -- a Tick is due only where a Close is
 tick_due : (open_time now : ℕ) (h : List HistoryEntry) (room : Bool) → (is_tick_due open_time now h && room) ≡ true → is_close_due h ≡ true
-tick_due open_time now h room is =
-    (and_parts (is_close_due h) (option_map_or (λ moment. is_long_ago open_time (moment_after h now) moment) (last_tick h) true)
-    (and_parts (is_tick_due open_time now h) room is).0).0
+tick_due open_time now h room is = grind arith
 
 -- ---- the moves
 
@@ -167,17 +218,20 @@ module _ {Q : Gateway → Moved → Type 0} (keep : PartsKeep Q) where
 
 -- ---- turns
 
-behind : (a b : Option WorldKind) → option_or a b ≡ None → b ≡ None
-behind None b e = e
-behind (Some kind) b e = absurd (cc)
+pub or_none : (a b : Option WorldKind) → option_or a b ≡ None → b ≡ None
+or_none a b is = grind arith
+
+pub first_none : (a b : Option WorldKind) → option_or a b ≡ None → a ≡ None
+first_none a b is = grind arith
+
+pub refusing_none : (b : Bool) (k : WorldKind) → refusing b k ≡ None → b ≡ false
+refusing_none b k is = grind arith
 
 pub it_runs : (w : World) (number : ℕ) → option_or (no_node w number) (refusing (not (runs (log_in w number))) Halted) ≡ None → runs (log_in w number) ≡ true
-it_runs w number e = not-false _ (refusing_none _ Halted (behind (no_node w number) _ e))
+it_runs w number e = grind arith
 
 may_start : (w : World) (number : ℕ) → refusal_to_start w number ≡ None → suc (starts_in (log_in w number)) ≤ 255
-may_start w number e =
-    let less = leb-false most_starts (starts_in (log_in w number)) (refusing_none _ Restarts (behind (refusing (runs (log_in w number)) Running) _ (behind (no_node w number) _ e))) in
-    omega (arith, less)
+may_start w number e = grind (arith, nat_tests)
 
 -- what is to be shown of a turn: of each move of a gateway, with the parts that the rest is made of, and of each call of a node
 pub record TurnKeeps (rules : Rules) (w : World) (Q : ℕ → Gateway → Moved → Type 0) (W : World → Type 0) : Type 0 where

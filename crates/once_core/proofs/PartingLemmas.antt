@@ -1,25 +1,17 @@
 -- One answer more, parted.
-use Rattle.std.proofs.Common.{◌≡◌, ◌∙◌, refl, ap, ℕ, Bool, true, false, List, [], ◌∷◌, ◌++◌, filter, if◌then◌else◌, map, nat_le, not}
+use Rattle.std.proofs.Common.{◌≡◌, ℕ, Bool, List, [], ◌∷◌, ◌++◌, filter, if◌then◌else◌, map, nat_le, not, arith}
 use Rattle.std.proofs.lemmas.List.{map-append}
 use Rattle.std.proofs.lemmas.List.Elements.{filter-append}
-use Rattle.once_core.specs.declared.message.Message.{Message}
 use Rattle.once_core.specs.declared.message.Waiting.{Waiting}
 
 abbrev is_due : ℕ → Waiting → Bool
 is_due firm w = nat_le w.front firm
 
-one_due : (w : Waiting) (b : Bool) → map (λ (x : Waiting). x.message) (if b then w ∷ [] else []) ≡ (if b then w.message ∷ [] else [])
-one_due w true = refl
-one_due w false = refl
-
 pub due_more : (firm : ℕ) (ws : List Waiting) (w : Waiting) →
     map (λ (x : Waiting). x.message) (filter (λ x. nat_le x.front firm) (ws ++ w ∷ []))
     ≡ map (λ (x : Waiting). x.message) (filter (λ x. nat_le x.front firm) ws) ++ (if nat_le w.front firm then w.message ∷ [] else [])
 due_more firm ws w =
-    let due : List Message = map (λ (x : Waiting). x.message) (filter (is_due firm) ws) in
-    ap (λ (xs : List Waiting). map (λ (x : Waiting). x.message) xs) (filter-append (is_due firm) ws (w ∷ []))
-    ∙ map-append (λ (x : Waiting). x.message) (filter (is_due firm) ws) (filter (is_due firm) (w ∷ []))
-    ∙ ap (λ (ms : List Message). due ++ ms) (one_due w (is_due firm w))
+    grind (arith, filter-append (is_due firm) ws (w ∷ []), map-append (λ (x : Waiting). x.message) (filter (is_due firm) ws) (filter (is_due firm) (w ∷ [])))
 
 pub later_more : (firm : ℕ) (ws : List Waiting) (w : Waiting) →
     filter (λ x. not (nat_le x.front firm)) (ws ++ w ∷ [])

@@ -1,17 +1,17 @@
 -- What a gateway of a world does is what happens in a scene: what the happenings at one gateway leave as it is.
-use Rattle.std.proofs.Common.{◌≡◌, ⊎_elim, ℕ, ◌==◌, Bool, true, false, List, [], ◌∷◌, ◌++◌, map, Contains, refl, sym, ap, ◌∙◌, append_assoc, append-nil, subst}
+use Rattle.std.proofs.Common.{◌≡◌, ⊎_elim, ℕ, ◌==◌, true, false, List, [], ◌∷◌, ◌++◌, map, Contains, refl, sym, ap, ◌∙◌, append_assoc, append-nil, subst, arith}
 use Rattle.std.proofs.lemmas.List.Elements.{Contains-append_cases, Contains-append_left, Contains-append_right}
 use Rattle.std.proofs.lemmas.Bool.{cond-false}
 use Rattle.once_core.specs.Gateway.{Gateway, Moved, followed, is_reached, still}
 use Rattle.once_core.specs.Happenings.{Adds, Happening, Letter, Post, Scene}
 use Rattle.once_core.specs.Meaning.{letter_of, speaks, meaning_of}
-use Rattle.once_core.specs.Scenes.{Settled, after_adding, at, happened, happened_all, is_idle, with_letter, with_post, with_settled}
+use Rattle.once_core.specs.Scenes.{Settled, at, happened, happened_all, is_idle, with_letter, with_post, with_settled}
 use Rattle.once_core.specs.Shown.{post_of}
 use Rattle.once_core.specs.declared.message.Message.{Message}
 use Rattle.once_core.specs.declared.message.Waiting.{Waiting}
 use Rattle.once_core.proofs.ListLemmas.{in_head, in_map, in_none, in_tail, of_map}
 use Rattle.once_core.proofs.MeaningLemmas.{GatewaySaid, Said}
-use Rattle.once_core.proofs.SceneLemmas.{at_same}
+use Rattle.once_core.proofs.MoveLemmas.{at_same}
 
 -- ---- a gateway of a world
 
@@ -61,9 +61,8 @@ adds : (letters : List Letter) (scene : Scene) → ((l : Letter) → Contains le
     → happened_all scene (map (λ l. Adds l) letters) ≡ with_letters letters scene
 adds [] scene idle = ap (λ (ls : List Letter). record scene { letters = ls }) (sym (append-nil scene.letters))
 adds (l ∷ letters) scene idle =
-    ap (λ (b : Bool). happened_all (after_adding b l scene) (map (λ m. Adds m) letters)) (idle l (in_head l letters))
-    ∙ adds letters (with_letter l scene) (λ m is. idle m (in_tail l m letters is))
-    ∙ ap (λ (ls : List Letter). record scene { letters = ls }) (append_assoc scene.letters (l ∷ []) letters)
+    let rest = adds letters (with_letter l scene) (λ m is. idle m (in_tail l m letters is)) in
+    grind (arith, idle l (in_head l letters), rest, append_assoc scene.letters (l ∷ []) letters)
 
 pub happened_more : (scene : Scene) (first second : List Happening) → happened_all scene (first ++ second) ≡ happened_all (happened_all scene first) second
 happened_more scene [] second = refl
@@ -89,18 +88,6 @@ pub record Stands (gateway : ℕ) (scene : Scene) (g : Gateway) : Type 0 where
 
 pub stands_after : {gateway : ℕ} {scene : Scene} {moved : Moved} (plays : Plays gateway scene moved) → Stands gateway plays.after moved.gateway
 stands_after plays = record { post = plays.post; rightly = plays.rightly }
-
-pub still_plays : {gateway : ℕ} {scene : Scene} {g : Gateway} → Stands gateway scene g → Plays gateway scene (still g)
-still_plays {gateway} {scene} stands = record {
-  later = [];
-  after = scene;
-  is = refl;
-  goes = same_at;
-  post = stands.post;
-  sends = λ m is speaking. in_none m is;
-  said = λ m is. in_none m is;
-  rightly = stands.rightly;
-}
 
 -- happenings that give the gateway this post, and send this
 pub settled_plays : (gateway : ℕ) (scene : Scene) (settled : Settled) (later : List Happening) (moved : Moved) → happened_all scene later ≡ with_settled gateway settled scene
@@ -142,6 +129,15 @@ idle_plays {gateway} {scene} stands sends said idle =
       rightly = stands.rightly;
     }
 
+-- nothing happens
+pub still_plays : {gateway : ℕ} {scene : Scene} {g : Gateway} → Stands gateway scene g → Plays gateway scene (still g)
+still_plays stands = idle_plays stands [] (λ m is. in_none m is) (λ m is. in_none m is)
+
+-- what holds of the messages of either list
+pub of_both : (xs ys : List Message) (P : Message → Type 0) → ((m : Message) → Contains xs m → P m) → ((m : Message) → Contains ys m → P m)
+    → (m : Message) → Contains (xs ++ ys) m → P m
+of_both xs ys P first second m is = ⊎_elim (first m) (second m) (Contains-append_cases xs ys m is)
+
 pub followed_plays : {gateway : ℕ} {scene : Scene} {first : Moved} (next : Gateway → Moved) (a : Plays gateway scene first)
     → Plays gateway a.after (next first.gateway) → Plays gateway scene (followed first next)
 followed_plays {gateway} {scene} {first} next a b = record {
@@ -150,10 +146,8 @@ followed_plays {gateway} {scene} {first} next a b = record {
   is = happened_more scene a.later b.later ∙ ap (λ (s : Scene). happened_all s b.later) a.is ∙ b.is;
   goes = goes_on_at a.goes b.goes;
   post = b.post;
-  sends = λ m is speaking. ⊎_elim
-      (λ old. b.goes.letters (letter_of m) (a.sends m old speaking))
-      (λ new. b.sends m new speaking)
-      (Contains-append_cases first.sends (next first.gateway).sends m is);
-  said = λ m is. ⊎_elim (a.said m) (b.said m) (Contains-append_cases first.sends (next first.gateway).sends m is);
+  sends = of_both first.sends (next first.gateway).sends (λ m. speaks m ≡ true → Contains b.after.letters (letter_of m))
+      (λ m is speaking. b.goes.letters (letter_of m) (a.sends m is speaking)) b.sends;
+  said = of_both first.sends (next first.gateway).sends Said a.said b.said;
   rightly = b.rightly;
 }

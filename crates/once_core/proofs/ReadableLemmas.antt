@@ -1,5 +1,5 @@
 -- The records of a history's items are such as the files are read with.
-use Rattle.std.proofs.Common.{◌≡◌, ℕ, zero, suc, ◌+◌, ◌-◌, ◌^◌, ◌<◌, ◌≤◌, ◌≢◌, ◌==◌, ◌/◌, ◌%◌, nat_lt, Bool, All, List, [], ◌∷◌, ◌++◌, length, length-append, length-take, map, drop, filter, Option, Some, None, option_map, refl, sym, subst, arith, ℤ, Contains, not, ⊎_elim, ltb-false}
+use Rattle.std.proofs.Common.{◌≡◌, ℕ, zero, suc, ◌+◌, ◌-◌, ◌^◌, ◌<◌, ◌≤◌, ◌≢◌, ◌==◌, ◌/◌, ◌%◌, nat_lt, All, List, [], ◌∷◌, ◌++◌, length, length-append, length-take, map, drop, filter, Option, Some, None, option_map, refl, sym, subst, arith, ℤ, Contains, not, ⊎_elim}
 use Rattle.std.proofs.lemmas.List.{map-append}
 use Rattle.std.proofs.lemmas.List.Elements.{All-append, All-cons, All-contains, All-drop, All-filter, All-head, All-nil, All-push, All-same, All-tail, All-weaker}
 use Rattle.std.specs.List.{last_or}
@@ -9,7 +9,7 @@ use Rattle.cdr_file.specs.declared.closure.ClosureReason.{ClosureReason}
 use Rattle.cdr_shelf.specs.Files.{SealedFile}
 use Rattle.entry_codec.specs.Room.{capacity_of}
 use Rattle.entry_codec.specs.Spelling.{AreBelow, HasSpelling, IsAct}
-use Rattle.file_rotate.specs.Division.{Division, closed_first, divided_from, ends_after, ends_before, joined, still}
+use Rattle.file_rotate.specs.Division.{Division, closed_first, divided_from, ends_before, still}
 use Rattle.file_rotate.specs.Items.{AreLimits, Filed}
 use Rattle.file_rotate.specs.Items as stream
 use Rattle.file_rotate.specs.declared.limits.Limits.{Limits}
@@ -17,7 +17,7 @@ use Rattle.file_writer.specs.AllStreams.{IsFit}
 use Rattle.file_writer.specs.Files.{AreFilesOf, stream_files}
 use Rattle.file_writer.specs.Places.{FilePlace, record_at}
 use Rattle.file_writer.specs.Reading.{IsStamped, ReadsAt}
-use Rattle.file_writer.specs.Streams.{Settings, closed_of, record_if, stream_count, stream_item, stream_items, stream_record}
+use Rattle.file_writer.specs.Streams.{Settings, closed_of, stream_count, stream_item, stream_items}
 use Rattle.gate_journal.specs.Format.{most_octets}
 use Rattle.gateway_answer.specs.Filed.{along, filed_under, held_packet, packet_of_hold, present_key, records_from, records_if, released_by, released_records}
 use Rattle.gateway_answer.specs.Items.{items_by, items_by_act, items_of, part_of}
@@ -36,13 +36,14 @@ use Rattle.gw_base.specs.declared.history.PacketKey.{PacketKey}
 use Rattle.gw_base.specs.declared.item.Item.{Item}
 use Rattle.gw_base.specs.declared.item.Item.TheVariants as item
 use Rattle.jiff_core.specs.Calendar.{IsWithin}
-use Rattle.route_filter.specs.Rules.{last_stream, stream_of}
+use Rattle.route_filter.specs.Rules.{last_stream}
 use Rattle.route_filter.specs.declared.rule.Rule.{Rule}
 use Rattle.once_core.specs.FilePlaces.{placed, streams_of}
 use Rattle.once_core.proofs.FilePlaceLemmas.{stream_there}
 use Rattle.once_core.proofs.ListLemmas.{filtered, in_cons, in_head, in_tail, of_map}
 use Rattle.std.proofs.lemmas.Option.{option_and_then_some, same_Some}
-use Rattle.once_core.proofs.CaseLemmas.{by_bool, by_option, if_both, if_known, map_known}
+use Rattle.once_core.proofs.CaseLemmas.{by_option, if_both, map_known}
+use Rattle.std.proofs.lemmas.Bool.Decides.{nat_tests}
 
 -- ---- records of packets
 
@@ -96,10 +97,10 @@ abbrev IsSound : Item → Type 0
 IsSound i = IsFit i × IsTimely i
 
 release_fits : (digit : ℕ) → release_of digit < 8
-release_fits digit = if_known (λ (n : ℕ). n < 8) (nat_lt 9 digit) (λ e. omega arith) (λ e. omega (arith, ltb-false 9 digit e))
+release_fits digit = grind (arith, nat_tests)
 
 others_none : (digit : ℕ) → release_of digit ≢ 7 → extension_of digit ≡ 0
-others_none digit = if_known (λ (n : ℕ). n ≢ 7 → digit - 10 ≡ 0) (nat_lt 9 digit) (λ e apart. absurd (apart refl)) (λ e apart. omega (arith, ltb-false 9 digit e))
+others_none digit = grind (arith, nat_tests)
 
 kind_fits : (format version : ℕ) → IsCdrKind (kind_of format version)
 kind_fits format version = record {
@@ -130,8 +131,7 @@ last_holds P o [] first all x e = first x e
 last_holds P o (y ∷ xs) first all x e = last_holds P (Some y) xs (λ z same. subst P (same_Some y z same) (All-head P y xs all)) (All-tail P y xs all) x e
 
 hold_small : (a : HistoryAct) (packet : List ℕ) → IsAct a → packet_of_hold a ≡ Some packet → AreBelow 256 packet
-hold_small (act.Hold n x held) packet is e = subst (AreBelow 256) (same_Some held packet e) is.2
-hold_small _ packet is e = absurd (cc)
+hold_small a packet is e = grind arith
 
 held_small : (node number : ℕ) (h : List HistoryEntry) (packet : List ℕ) → All HasSpelling h
     → held_packet node number h ≡ Some packet → AreBelow 256 packet
@@ -179,17 +179,14 @@ is_open [] = 0
 is_open (x ∷ xs) = 1
 
 open_once : (run : List (Filed (List ℕ))) → is_open run ≤ 1
-open_once [] = omega arith
-open_once (x ∷ xs) = omega arith
+open_once run = grind arith
 
 one_at_most : (reason : Option ClosureReason) → one_if reason ≤ 1
-one_at_most None = omega arith
-one_at_most (Some reason) = omega arith
+one_at_most reason = grind arith
 
 closed_of_first : (reason : Option ClosureReason) (run : List (Filed (List ℕ))) (division : Division (List ℕ))
     → length (closed_first reason run division).closed ≡ one_if reason + length division.closed
-closed_of_first None run division = omega arith
-closed_of_first (Some reason) run division = omega arith
+closed_of_first reason run division = grind arith
 
 open_before : (limits : Limits) (run : List (Filed (List ℕ))) (i : stream.Item (List ℕ))
     → one_if (ends_before limits run i) ≤ is_open run
@@ -198,41 +195,24 @@ open_before limits [] i = omega arith
 open_before limits (x ∷ xs) i = one_at_most (ends_before limits (x ∷ xs) i)
 
 open_after : (reason : Option ClosureReason) (run : List (Filed (List ℕ))) → one_if reason + is_open (still reason run []) ≤ 1
-open_after None run = omega (arith, open_once run)
-open_after (Some reason) run = omega arith
+open_after reason run = grind (arith, open_once run)
 
 few_closed : (limits : Limits) (run : List (Filed (List ℕ))) (items : List (stream.Item (List ℕ)))
     → length (divided_from limits run items).closed ≤ length items + is_open run
 few_closed limits run [] = omega arith
 few_closed limits run (i ∷ items) =
-    let before : Option ClosureReason = ends_before limits run i in
-    let at : List (Filed (List ℕ)) = joined before run i in
-    let after : Option ClosureReason = ends_after limits at i in
-    let rest : Division (List ℕ) = divided_from limits (still after at []) items in
-    omega (
-      arith,
-      closed_of_first before run (closed_first after at rest),
-      closed_of_first after at rest,
-      open_before limits run i,
-      open_after after at,
-      few_closed limits (still after at []) items,
-    )
+    let rest : (r : List (Filed (List ℕ))) → length (divided_from limits r items).closed ≤ length items + is_open r = λ r. few_closed limits r items in
+    grind (arith, closed_of_first, open_before limits run i, open_after, rest)
 
 few_of_item : (profile : ℕ) (rules : List Rule) (s : ℕ) (i : Item) → length (stream_item profile rules s i) ≤ 1
-few_of_item profile rules s (item.Part kind tag octets moment) =
-    by_bool (λ (b : Bool). length (record_if b (stream_record profile kind octets moment)) ≤ 1) (stream_of rules tag kind.format == s) (λ e. omega arith) (λ e. omega arith)
-few_of_item profile rules s _ = omega arith
+few_of_item profile rules s i = grind (arith, nat_tests)
 
 few_of_stream : (profile : ℕ) (rules : List Rule) (s : ℕ) (items : List Item)
     → length (stream_items profile rules s items) ≤ length items
 few_of_stream profile rules s [] = omega arith
 few_of_stream profile rules s (i ∷ items) =
-    omega (
-      arith,
-      few_of_item profile rules s i,
-      few_of_stream profile rules s items,
-      length-append (stream_item profile rules s i) (stream_items profile rules s items),
-    )
+    let both = length-append (stream_item profile rules s i) (stream_items profile rules s items) in
+    grind (arith, few_of_item profile rules s i, few_of_stream profile rules s items, both)
 
 -- ---- what is read
 
@@ -257,14 +237,8 @@ pub read_there : StampsFit → ReadsThere → (settings : Settings) (h : List Hi
 read_there fits reads settings h place filed spelled size few short limits within closed there =
     let sound : All IsSound (items_of h) = items_sound [] h (All-nil HasSpelling) spelled in
     let items : List (stream.Item (List ℕ)) = stream_items settings.profile settings.rules place.stream (items_of h) in
-    let low : place.sequence < 2 ^ 32 = omega (
-      arith,
-      closed,
-      few_closed settings.limits [] items,
-      few_of_stream settings.profile settings.rules place.stream (items_of h),
-      few,
-      short,
-    ) in
+    let low : place.sequence < 2 ^ 32 =
+    omega (arith, few_closed settings.limits [] items, few_of_stream settings.profile settings.rules place.stream (items_of h)) in
     reads settings (items_of h) place filed limits (All-weaker IsSound IsFit (λ i is. is.0) (items_of h) sound)
     (All-weaker IsSound (IsStamped settings.file) (stamped fits settings.file within) (items_of h) sound) low closed there
 
@@ -293,12 +267,6 @@ pub among_files : (settings : Settings) (h : List HistoryEntry) (files : List Se
     → ReadsAt (stream_files settings place.stream (items_of h)) place filed → ReadsAt files place filed
 among_files settings h files place filed filing low are is reads =
     let small : place.stream < stream_count = few_streams settings place.stream low (stream_there settings h place filing is) in
-    record {
-      file = reads.file;
-      kept = filtered (λ (f : SealedFile). f.name.stream == place.stream) files reads.file
-          (subst (λ (fs : List SealedFile). Contains fs reads.file) (sym (are.each place.stream small)) reads.kept);
-      name = reads.name;
-      read = reads.read;
-      reads = reads.reads;
-      there = reads.there;
-    }
+    let kept : Contains files reads.file = filtered (λ (f : SealedFile). f.name.stream == place.stream) files reads.file
+    (subst (λ (fs : List SealedFile). Contains fs reads.file) (sym (are.each place.stream small)) reads.kept) in
+    search (kept, reads.name, reads.read, reads.reads, reads.there)

@@ -1,9 +1,9 @@
 -- Redirection Requests, one node after the other.
-use Rattle.std.proofs.Common.{◌≡◌, ℕ, suc, ◌+◌, ◌-◌, ◌<◌, ◌≤◌, ◌%◌, false, List, [], ◌∷◌, ◌++◌, length, drop, get_or, Option, Some, None, map, refl, ap, sym, ◌∙◌, arith, append_assoc}
+use Rattle.std.proofs.Common.{◌≡◌, ℕ, suc, ◌+◌, ◌-◌, ◌<◌, ◌≤◌, ◌%◌, false, List, [], ◌∷◌, ◌++◌, length, drop, get_or, Option, Some, None, map, arith, append_assoc}
 use Rattle.std.proofs.Math.Seq.{drop-cons}
 use Rattle.std.proofs.lemmas.List.{append-nil, drop_all}
 use Rattle.std.specs.List.{cons_option, filter_map}
-use Rattle.std.specs.Option.{option_map, option_map_or}
+use Rattle.std.specs.Option.{option_map_or}
 use Rattle.gateway_answer.specs.Told.{path_of}
 use Rattle.gateway_answer.specs.Value.{history_of}
 use Rattle.gw_base.specs.Starts.{opening_of, start_of}
@@ -22,9 +22,6 @@ use Rattle.once_core.specs.declared.message.Message.{Message}
 
 pub same_byte : (n : ℕ) → n < 256 → n % 256 ≡ n
 same_byte n small = omega (arith, small)
-
-same_word : (n : ℕ) → n < 65536 → n % 65536 ≡ n
-same_word n small = omega (arith, small)
 
 abbrev pub path_at : NodeId → Opening → Addr
 path_at node o = record { ip = node.0; port = o.port }
@@ -46,13 +43,7 @@ pub redirects_one : (gateway cause : ℕ) (to : Option ℕ) (g : Gateway) (h : L
     → octets ≡ redirection g.redirects cause to → g.redirects < 65536 → number ≡ g.redirects
     → request gateway place port start number octets ∷ [] ≡ redirecting_one gateway cause to g node
 redirects_one gateway cause to g h node o place port start number octets same kept found places ports starts spelled low is =
-    let near : place ≡ node_at (path_at node o) = places ∙ same_byte (node.0 - first_node_ip) (path_is_near node.0 h o kept found) in
-    let word : g.redirects ≡ g.redirects % 65536 = sym (same_word g.redirects low) in
-    let numbered : octets ≡ redirection (g.redirects % 65536) cause to = spelled ∙ ap (λ n. redirection n cause to) word in
-    let begun : start ≡ start_of node.0 (history_of g.book) = starts ∙ ap (start_of node.0) same in
-    (λ i. request gateway (near i) (ports i) (begun i) ((is ∙ word) i) (numbered i) ∷ [])
-    ∙ ap (λ (p : Option Addr). option_map_or (λ path. redirecting gateway cause to g path ∷ []) p [])
-    (sym (ap (λ (hh : List HistoryEntry). path_of hh node) (sym same) ∙ ap (λ (x : Option Opening). option_map (path_at node) x) found))
+    grind (arith, same_byte (node.0 - first_node_ip) (path_is_near node.0 h o kept found))
 
 -- ---- the nodes that are left
 
@@ -64,22 +55,17 @@ sent_by gateway cause to g path = option_map_or (λ path. redirecting gateway ca
 
 one_more : (gateway cause : ℕ) (to : Option ℕ) (g : Gateway) (nodes : List NodeId) (path : Option Addr)
     → map (redirecting gateway cause to g) (cons_option path (filter_map (path_of (history_of g.book)) nodes)) ≡ sent_by gateway cause to g path ++ all_of gateway cause to g nodes
-one_more gateway cause to g nodes None = refl
-one_more gateway cause to g nodes (Some path) = refl
+one_more gateway cause to g nodes path = grind arith
 
 pub redirects_more : (gateway cause : ℕ) (to : Option ℕ) (g : Gateway) (all : List NodeId) (k : ℕ) (d : NodeId) (so_far new first : List Message) → k < length all
     → so_far ++ all_of gateway cause to g (drop k all) ≡ first → new ≡ so_far ++ redirecting_one gateway cause to g (get_or all k d) → new ++ all_of gateway cause to g (drop (k + 1) all) ≡ first
 redirects_more gateway cause to g all k d so_far new first lt is one =
     let node : NodeId = get_or all k d in
     let next : k + 1 ≡ suc k = omega arith in
-    let rest : drop k all ≡ node ∷ drop (suc k) all = drop-cons all k d lt in
-    rw next
-    (ap (λ xs. xs ++ all_of gateway cause to g (drop (suc k) all)) one
-    ∙ (append_assoc so_far (redirecting_one gateway cause to g node) (all_of gateway cause to g (drop (suc k) all))
-    ∙ (ap (λ xs. so_far ++ xs) (sym (one_more gateway cause to g (drop (suc k) all) (path_of (history_of g.book) node)))
-    ∙ (ap (λ (ns : List NodeId). so_far ++ all_of gateway cause to g ns) (sym rest) ∙ is))))
+    let more = one_more gateway cause to g (drop (suc k) all) (path_of (history_of g.book) node) in
+    let parts = append_assoc so_far (redirecting_one gateway cause to g node) (all_of gateway cause to g (drop (suc k) all)) in
+    rw next (grind (arith, drop-cons all k d lt, more, parts))
 
 pub redirects_end : (gateway cause : ℕ) (to : Option ℕ) (g : Gateway) (all : List NodeId) (k : ℕ) (so_far first : List Message) → length all ≤ k
     → so_far ++ all_of gateway cause to g (drop k all) ≡ first → so_far ≡ first
-redirects_end gateway cause to g all k so_far first le is =
-    sym (append-nil so_far) ∙ (ap (λ (ns : List NodeId). so_far ++ all_of gateway cause to g ns) (sym (drop_all k all le)) ∙ is)
+redirects_end gateway cause to g all k so_far first le is = grind (arith, append-nil so_far, drop_all k all le)

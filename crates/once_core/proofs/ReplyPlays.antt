@@ -1,5 +1,5 @@
 -- An answer that waits or is sent is a happening.
-use Rattle.std.proofs.Common.{◌≡◌, ⊎_elim, ℕ, nat_le, not, Bool, true, false, cond, List, [], ◌∷◌, ◌++◌, length, filter, Contains, refl, sym, ap, subst, ◌∙◌, append-nil}
+use Rattle.std.proofs.Common.{◌≡◌, ⊎_elim, ℕ, nat_le, not, Bool, true, false, cond, List, [], ◌∷◌, ◌++◌, length, filter, Contains, refl, sym, ap, subst, ◌∙◌, append-nil, arith}
 use Rattle.std.proofs.lemmas.List.Elements.{Contains-push_cases, filter-append}
 use Rattle.std.proofs.lemmas.Bool.{both_ways}
 use Rattle.std.proofs.lemmas.List.Concat.{flat_map-append}
@@ -17,8 +17,8 @@ use Rattle.once_core.specs.declared.message.Waiting.{Waiting}
 use Rattle.once_core.proofs.CommitPlays.{settled_rightly, settled_said}
 use Rattle.once_core.proofs.MeaningLemmas.{GatewaySaid}
 use Rattle.once_core.proofs.PlayLemmas.{Plays, Rightly, same_at, settled_plays}
-use Rattle.once_core.proofs.StopLemmas.{history_is}
-use Rattle.once_core.proofs.CaseLemmas.{by_bool, if_both, if_known}
+use Rattle.once_core.proofs.PartLemmas.{history_is}
+use Rattle.once_core.proofs.CaseLemmas.{if_known}
 use Rattle.once_core.proofs.ListLemmas.{all_pass, filtered, in_head, in_one, none_pass, of_map, passed}
 
 module _ {g : Gateway} (rightly : Rightly g) (m : Message) (sound : g.book.is_broken ≡ false) (from : m.to_gateway ≡ false) (said : GatewaySaid m) where
@@ -47,12 +47,9 @@ module _ {g : Gateway} (rightly : Rightly g) (m : Message) (sound : g.book.is_br
   -- what waits then means what waited, and what the answer means where it waits
   left : (b : Bool) → is_reached g.book answer ≡ b → waiting_letters (replying g m).gateway.waiting ≡ waiting_letters g.waiting ++ waiting_letters (cond b [] (answer ∷ []))
   left b e =
-      ap waiting_letters
-      (filter-append waits g.waiting (answer ∷ [])
-      ∙ ap (λ (ws : List Waiting). ws ++ filter waits (answer ∷ [])) (all_pass waits g.waiting (λ w is. ap not (rightly.fronts w is)))
-      ∙ ap (λ (ws : List Waiting). g.waiting ++ ws) (ap (λ (c : Bool). cond (not c) (answer ∷ []) []) e
-      ∙ by_bool (λ (c : Bool). cond (not c) (answer ∷ []) [] ≡ cond c [] (answer ∷ [])) b (λ t. refl) (λ f. refl)))
-      ∙ flat_map-append (λ (w : Waiting). waiting_if (speaks w.message) w) g.waiting (cond b [] (answer ∷ []))
+      let all = all_pass waits g.waiting (λ w is. ap not (rightly.fronts w is)) in
+      let parts = flat_map-append (λ (w : Waiting). waiting_if (speaks w.message) w) g.waiting (cond b [] (answer ∷ [])) in
+      grind (arith, filter-append waits g.waiting (answer ∷ []), all, parts)
 
   module _ (gateway : ℕ) (scene : Scene) where
     -- one that means nothing here: nothing happens
@@ -62,11 +59,7 @@ module _ {g : Gateway} (rightly : Rightly g) (m : Message) (sound : g.book.is_br
       after = scene;
       is = refl;
       goes = same_at;
-      post = stands ∙ ap (λ (ws : List did.WaitingLetter). record { firm = g.book.firm; rest = g.book.rest; waiting = ws })
-          (sym (left (is_reached g.book answer) refl
-          ∙ ap (λ (ws : List did.WaitingLetter). waiting_letters g.waiting ++ ws)
-          (if_both (λ (ws : List Waiting). waiting_letters ws ≡ []) (is_reached g.book answer) refl (ap (λ (b : Bool). waiting_if b answer ++ []) silent))
-          ∙ append-nil (waiting_letters g.waiting)));
+      post = grind (arith, stands, left (is_reached g.book answer) refl, silent, append-nil (waiting_letters g.waiting));
       sends = λ other is speaking. absurd (both_ways (speaks other) (ap speaks (sym (only_one other is).0) ∙ silent) speaking);
       said = settled_said (record g { waiting = g.waiting ++ answer ∷ [] }) all_said;
       rightly = settled_rightly (record g { waiting = g.waiting ++ answer ∷ [] }) sound all_said;
@@ -99,6 +92,4 @@ module _ {g : Gateway} (rightly : Rightly g) (m : Message) (sound : g.book.is_br
         waiting_is same = ap (λ (ws : List did.WaitingLetter). record { firm = g.book.firm; rest = g.book.rest; waiting = ws }) same
 
         the_last : waiting_letters (answer ∷ []) ≡ record { front = length (g.book.firm ++ g.book.rest); letter = letter_of m } ∷ []
-        the_last =
-            ap (λ (b : Bool). waiting_if b answer ++ []) speaking
-            ∙ ap (λ (h : List HistoryEntry). record { front = length h; letter = letter_of m } ∷ []) (history_is g.book sound)
+        the_last = grind (arith, speaking, history_is g.book sound)

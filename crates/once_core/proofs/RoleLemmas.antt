@@ -1,37 +1,28 @@
 -- Each request number of a gateway has one role: two copies that use it are one.
-use Rattle.std.proofs.Common.{◌≡◌, ⊎_elim, ℕ, ◌+◌, ◌≤◌, true, false, List, [], ◌∷◌, Option, Some, Contains, sum_by, refl, sym, ap, subst, ◌∙◌, arith, eq-zero-or-pos, ◌==◌, eq-eqb}
-use Rattle.std.proofs.lemmas.Bool.{false≢true, cond-true}
+use Rattle.std.proofs.Common.{◌≡◌, ⊎_elim, ℕ, ◌≤◌, true, false, List, [], ◌∷◌, Some, Contains, sum_by, refl, sym, ap, subst, ◌∙◌, arith, eq-zero-or-pos}
+use Rattle.std.proofs.lemmas.Bool.{false≢true}
 use Rattle.std.proofs.lemmas.List.Elements.{All-contains}
 use Rattle.std.proofs.lemmas.List.Sums.{sum_by-cons, get_or-le-sum_by}
 use Rattle.node_core.specs.Packets.{PacketState}
-use Rattle.node_core.specs.Roles.{IsPlainFirst, use_of, uses, uses_by_command, uses_by_copies, uses_by_copy}
+use Rattle.node_core.specs.Roles.{IsPlainFirst, uses, uses_by_copies, uses_by_copy}
 use Rattle.node_core.specs.declared.copy.Command.{Command}
 use Rattle.node_core.specs.declared.copy.PacketCopy.{PacketCopy}
 use Rattle.once_core.proofs.ListLemmas.{in_cons, in_head, in_none, in_tail}
 use Rattle.std.proofs.lemmas.List.Recursion.{is_sum_by}
+use Rattle.std.proofs.lemmas.Bool.Decides.{nat_tests}
 
 -- ---- how often a copy uses a number
 
-uses_here : (gateway number : ℕ) (copy : PacketCopy) → copy.gateway ≡ gateway → uses_by_copy gateway number copy ≡ use_of number copy.number + uses_by_command number copy.command
-uses_here gateway number copy same = cond-true (copy.gateway == gateway) _ 0 (eq-eqb copy.gateway gateway same)
-
-used : (number other : ℕ) → other ≡ number → use_of number other ≡ 1
-used number other same = cond-true (other == number) 1 0 (eq-eqb other number same)
-
 pub own_use : (gateway number : ℕ) (copy : PacketCopy) → copy.gateway ≡ gateway → copy.number ≡ number → 1 ≤ uses_by_copy gateway number copy
-own_use gateway number copy same is = omega (arith, uses_here gateway number copy same, used number copy.number is)
-
-command_used : (number : ℕ) (command : Command) (there : Option Command) → there ≡ Some command → command.number ≡ number → uses_by_command number there ≡ 1
-command_used number command there e is = ap (uses_by_command number) e ∙ used number command.number is
+own_use gateway number copy same is = grind (arith, nat_tests)
 
 pub command_use : (gateway number : ℕ) (copy : PacketCopy) (command : Command) → copy.gateway ≡ gateway → copy.command ≡ Some command → command.number ≡ number
     → 1 ≤ uses_by_copy gateway number copy
-command_use gateway number copy command same e is = omega (arith, uses_here gateway number copy same, command_used number command copy.command e is)
+command_use gateway number copy command same e is = grind (arith, nat_tests)
 
 both_uses : (gateway number : ℕ) (copy : PacketCopy) (command : Command) → copy.gateway ≡ gateway → copy.number ≡ number → copy.command ≡ Some command → command.number ≡ number
     → 2 ≤ uses_by_copy gateway number copy
-both_uses gateway number copy command same own e is =
-    omega (arith, uses_here gateway number copy same, used number copy.number own, command_used number command copy.command e is)
+both_uses gateway number copy command same own e is = grind (arith, nat_tests)
 
 -- ---- sums over lists
 
@@ -56,10 +47,10 @@ one_counts w (x ∷ xs) one a b is_a is_b use_a use_b =
 
 -- ---- one user
 
-copies_sum : (gateway number : ℕ) (copies : List PacketCopy) → uses_by_copies gateway number copies ≡ sum_by (uses_by_copy gateway number) copies
+pub copies_sum : (gateway number : ℕ) (copies : List PacketCopy) → uses_by_copies gateway number copies ≡ sum_by (uses_by_copy gateway number) copies
 copies_sum gateway number = is_sum_by (uses_by_copies gateway number) (uses_by_copy gateway number) refl (λ copy copies. refl)
 
-packets_sum : (gateway number : ℕ) (packets : List PacketState) → uses gateway number packets ≡ sum_by (λ (p : PacketState). uses_by_copies gateway number p.copies) packets
+pub packets_sum : (gateway number : ℕ) (packets : List PacketState) → uses gateway number packets ≡ sum_by (λ (p : PacketState). uses_by_copies gateway number p.copies) packets
 packets_sum gateway number = is_sum_by (uses gateway number) (λ (p : PacketState). uses_by_copies gateway number p.copies) refl (λ packet packets. refl)
 
 pub among_copies : (gateway number : ℕ) (copies : List PacketCopy) (copy : PacketCopy) → Contains copies copy → uses_by_copy gateway number copy ≤ uses_by_copies gateway number copies
@@ -72,10 +63,9 @@ pub copies_once : (packets : List PacketState) (packet : PacketState) → ((gate
     → (gateway number : ℕ) → uses_by_copies gateway number packet.copies ≤ 1
 copies_once packets packet once kept gateway number = omega (arith, among_packets gateway number packets packet kept, once gateway number)
 
-sum_none : (w : PacketCopy → ℕ) (copies : List PacketCopy) → ((copy : PacketCopy) → Contains copies copy → w copy ≡ 0) → sum_by w copies ≡ 0
+pub sum_none : {A : Type 0} (w : A → ℕ) (xs : List A) → ((x : A) → Contains xs x → w x ≡ 0) → sum_by w xs ≡ 0
 sum_none w [] none = refl
-sum_none w (first ∷ copies) none =
-    omega (arith, sum_by-cons w first copies, none first (in_head first copies), sum_none w copies (λ copy later. none copy (in_tail first copy copies later)))
+sum_none w (x ∷ xs) none = omega (arith, sum_by-cons w x xs, none x (in_head x xs), sum_none w xs (λ y later. none y (in_tail x y xs later)))
 
 pub sum_one : (w : PacketCopy → ℕ) (copies : List PacketCopy) → ((copy : PacketCopy) → Contains copies copy → w copy ≤ 1)
     → ((a b : PacketCopy) → Contains copies a → Contains copies b → 1 ≤ w a → 1 ≤ w b → a ≡ b)

@@ -1,5 +1,5 @@
 -- Each record of each packet stands once in the files of all gateways, as it was filed once.
-use Rattle.std.proofs.Common.{◌≡◌, ℕ, ◌<◌, Bool, true, List, [], length, Option, Some, None, Contains, sum_by, refl, ap, subst, ◌∙◌, arith, count_by}
+use Rattle.std.proofs.Common.{◌≡◌, ℕ, ◌<◌, Bool, true, List, [], length, Option, Contains, sum_by, refl, ap, subst, ◌∙◌, arith, count_by}
 use Rattle.std.specs.Option.{option_map_or}
 use Rattle.std.proofs.lemmas.List.Elements.{All-contains}
 use Rattle.file_writer.specs.Places.{FilePlace}
@@ -14,7 +14,7 @@ use Rattle.node_core.specs.Drafts.{value_octets}
 use Rattle.node_core.specs.Packets.{is_resolved}
 use Rattle.node_core.specs.declared.copy.PacketCopy.{PacketCopy}
 use Rattle.once_core.specs.Addresses.{node_ip}
-use Rattle.once_core.specs.Epochs.{epoch_with, key_in, state_with, times_with}
+use Rattle.once_core.specs.Epochs.{key_in, state_with, times_with, epoch_with}
 use Rattle.once_core.specs.FilePlaces.{placed}
 use Rattle.once_core.specs.Followed.{Followed, all_followed}
 use Rattle.once_core.specs.Once.{GivenRecord, IsFiledAs, IsFiledFor, IsFollowed, Once, firm_in}
@@ -39,8 +39,7 @@ abbrev pub Submitted : World → Type 0
 Submitted w = (q : ℕ) (filing : FiledRecord) → Contains (filed (firm_in w q)) filing → WasSubmitted w q filing
 
 count_is : (o : Option PacketForm) → option_map_or (λ form. length form.records) o 0 ≡ length (option_map_or (λ (form : PacketForm). form.records) o [])
-count_is None = refl
-count_is (Some form) = refl
+count_is o = grind arith
 
 module _ (settings : ℕ → Settings) (counts : (q : ℕ) → Counts (settings q)) (there : (q : ℕ) → Stands (settings q)) (w : World) (once : Once w) where
   module _ (given : GivenRecord) (packet : Followed) (is : IsFollowed w given.node packet) where
@@ -61,7 +60,7 @@ module _ (settings : ℕ → Settings) (counts : (q : ℕ) → Counts (settings 
     summed = ap (λ (f : PacketCopy → ℕ). sum_by f packet.state.copies) (λ i copy. each copy i)
 
     within : index < length packet.form.records → index < record_count (value_octets packet.form)
-    within less = omega (arith, less, count_is (packet_of (value_octets packet.form)), ap length (once.records node packet is))
+    within less = grind (arith, count_is (packet_of (value_octets packet.form)), once.records node packet is)
 
     right : index < length packet.form.records → IsPlaced (is_resolved packet.state.copies) (sum_by (places_of settings w given packet) packet.state.copies)
     right less = by_bool (λ (b : Bool). IsPlaced b (sum_by (places_of settings w given packet) packet.state.copies)) (is_resolved packet.state.copies)
@@ -83,14 +82,8 @@ module _ (settings : ℕ → Settings) (counts : (q : ℕ) → Counts (settings 
       let was = submitted gateway filing kept in
       let number = number_of (all_followed (log_at w was.node)) was.packet was.followed in
       let given : GivenRecord = record { node = was.node; packet = number.0; index = filing.index } in
-      let is : IsFiledAs w gateway filing given = record {
-        packet = was.packet;
-        packet_is = number.1;
-        copy = was.copy;
-        gateway_is = was.gateway_is;
-        is = subst (λ (g : ℕ). IsFiledFor (firm_in w g) was.node was.packet was.copy filing) was.gateway_is was.filed_for;
-        index_is = refl;
-      } in
+      let under = subst (λ (g : ℕ). IsFiledFor (firm_in w g) was.node was.packet was.copy filing) was.gateway_is was.filed_for in
+      let is : IsFiledAs w gateway filing given = search (number.1, was.gateway_is, under) in
       record {
         given = given;
         is = is;

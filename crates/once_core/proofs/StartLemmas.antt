@@ -1,9 +1,8 @@
 -- The starts of nodes that a gateway knows of only rise.
-use Rattle.std.proofs.Common.{◌≡◌, ℕ, ◌≤◌, ◌==◌, Bool, true, false, if◌then◌else◌, List, [], ◌∷◌, ◌++◌, Option, Some, None, refl, sym, ap, subst, ◌∙◌, arith}
+use Rattle.std.proofs.Common.{◌≡◌, ℕ, ◌≤◌, List, [], ◌∷◌, ◌++◌, Option, Some, None, sym, subst, arith}
 use Rattle.std.specs.Prelude.{option_map}
-use Rattle.std.proofs.lemmas.Bool.{eqb-true, eq-eqb}
 use Rattle.gw_base.specs.EntryLaws.{opening_of-append}
-use Rattle.gw_base.specs.Starts.{opening_after, opening_of, start_by, start_of}
+use Rattle.gw_base.specs.Starts.{start_by, start_of}
 use Rattle.gw_base.specs.declared.address.NodeId.{NodeId}
 use Rattle.gw_base.specs.declared.history.Caller.{Caller}
 use Rattle.gw_base.specs.declared.history.HistoryAct.{HistoryAct}
@@ -14,26 +13,12 @@ use Rattle.path_mgmt.specs.GatewayPath.{opened_by}
 use Rattle.once_core.specs.Epochs.{RisesBy, StartsRise}
 use Rattle.once_core.specs.Growing.{GrowsTo}
 use Rattle.once_core.proofs.EachLemmas.{by_each_from, each_front}
+use Rattle.std.proofs.lemmas.Bool.Decides.{nat_tests}
 
 -- ---- with one entry
 
 pub one_rises : (ip : ℕ) (k : List HistoryEntry) (e : HistoryEntry) → RisesBy k e.act → start_of ip k ≤ start_of ip (k ++ e ∷ [])
-one_rises ip k e rises = subst (λ (n : ℕ). start_of ip k ≤ n) (sym (ap start_by (opening_of-append ip k e))) (by_act e.act rises)
-  where
-    by_act : (a : HistoryAct) → RisesBy k a → start_of ip k ≤ start_by (opening_after ip (opening_of ip k) a)
-    by_act (act.Path n port counter) rises = by (n.0 == ip) refl
-      where
-        by : (b : Bool) → (n.0 == ip) ≡ b → start_of ip k ≤ start_by (if b then Some (record { port = port; counter = counter }) else opening_of ip k)
-        by true e = let same : start_of n.0 k ≡ start_of ip k = ap (λ (m : ℕ). start_of m k) (eqb-true n.0 ip e) in omega (arith, rises, same)
-        by false e = omega arith
-    by_act act.Start rises = omega arith
-    by_act (act.File n x packet) rises = omega arith
-    by_act (act.Hold n x packet) rises = omega arith
-    by_act (act.Seal n x) rises = omega arith
-    by_act (act.Release n xs) rises = omega arith
-    by_act (act.Cancel n xs) rises = omega arith
-    by_act act.Tick rises = omega arith
-    by_act act.Close rises = omega arith
+one_rises ip k e rises = grind (arith, nat_tests, opening_of-append ip k e)
 
 pub start_rises : (ip : ℕ) (h g : List HistoryEntry) → StartsRise (h ++ g) → start_of ip h ≤ start_of ip (h ++ g)
 start_rises ip h g all =
@@ -46,29 +31,16 @@ IsNoPath (act.Path n port counter) = ⊥
 IsNoPath _ = Unit {0}
 
 pub no_path_rises : (h : List HistoryEntry) (a : HistoryAct) → IsNoPath a → RisesBy h a
-no_path_rises h (act.Path n port counter) isnt = absurd isnt
-no_path_rises h _ isnt = tt
+no_path_rises h a isnt = grind arith
 
 pub no_path_same : (ip : ℕ) (h : List HistoryEntry) (e : HistoryEntry) → IsNoPath e.act → start_of ip (h ++ e ∷ []) ≡ start_of ip h
-no_path_same ip h e isnt = ap start_by (opening_of-append ip h e) ∙ by e.act isnt
-  where
-    by : (a : HistoryAct) → IsNoPath a → start_by (opening_after ip (opening_of ip h) a) ≡ start_of ip h
-    by (act.Path n port counter) isnt = absurd isnt
-    by act.Start isnt = refl
-    by (act.File n x packet) isnt = refl
-    by (act.Hold n x packet) isnt = refl
-    by (act.Seal n x) isnt = refl
-    by (act.Release n xs) isnt = refl
-    by (act.Cancel n xs) isnt = refl
-    by act.Tick isnt = refl
-    by act.Close isnt = refl
+no_path_same ip h e isnt = grind (arith, opening_of-append ip h e)
 
 -- behind a Path of its own the node's start is the counter of that
 pub path_starts : (h : List HistoryEntry) (moment : ℕ) (who : Caller) (n : NodeId) (port counter : ℕ)
     → start_of n.0 (h ++ record { moment = moment; caller = who; act = act.Path n port counter } ∷ []) ≡ counter
 path_starts h moment who n port counter =
-    ap start_by (opening_of-append n.0 h (record { moment = moment; caller = who; act = act.Path n port counter }))
-    ∙ ap (λ (b : Bool). start_by (if b then Some (record { port = port; counter = counter }) else opening_of n.0 h)) (eq-eqb n.0 n.0 refl)
+    grind (arith, nat_tests, opening_of-append n.0 h (record { moment = moment; caller = who; act = act.Path n port counter }))
 
 -- ---- with some entries
 
@@ -82,18 +54,8 @@ front_low ip h rest k all goes =
 
 -- a counter that opens no epoch is the present start
 pub known_start : (opening : Option Opening) (counter : ℕ) → opened_by (option_map (λ o. o.counter) opening) counter ≡ None → start_by opening ≡ counter
-known_start None counter e = absurd (cc)
-known_start (Some o) counter e = by (o.counter == counter) refl e
-  where
-    by : (b : Bool) → (o.counter == counter) ≡ b → (if b then None else Some counter) ≡ None → o.counter ≡ counter
-    by true same e = eqb-true o.counter counter same
-    by false apart e = absurd (cc)
+known_start opening counter e = grind (arith, nat_tests)
 
 -- and one that does is the start of the epoch
 pub opened_start : (opening : Option Opening) (counter path : ℕ) → opened_by (option_map (λ o. o.counter) opening) counter ≡ Some path → counter ≡ path
-opened_start None counter path e = cc
-opened_start (Some o) counter path e = by (o.counter == counter) e
-  where
-    by : (b : Bool) → (if b then None else Some counter) ≡ Some path → counter ≡ path
-    by true e = absurd (cc)
-    by false e = cc
+opened_start opening counter path e = grind (arith, nat_tests)

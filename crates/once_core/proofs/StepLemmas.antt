@@ -1,66 +1,53 @@
--- A turn of a world that is kept is the turn of the world that it stands for.
-use Rattle.std.proofs.Common.{◌≡◌, ℕ, ◌-◌, ◌≤◌, Bool, true, false, not, if◌then◌else◌, List, [], ◌∷◌, length, Option, Some, None, refl, ap, sym, ◌∙◌, subst, option_map, slice_get}
-use Rattle.std.proofs.lemmas.Bool.{not-false}
+-- A turn of a world that is kept is the turn of the world that it stands for; and so what a step gives.
+use Rattle.std.proofs.Common.{◌≡◌, ℕ, ◌-◌, ◌≤◌, Bool, true, false, not, if◌then◌else◌, List, [], ◌∷◌, length, Option, Some, None, refl, ap, sym, ◌∙◌, subst, option_map, slice_get, ◌+◌, arith}
 use Rattle.std.specs.Option.{option_map_or, option_or}
 use Rattle.node_core.specs.Log.{LogEntry, Halted, runs}
 use Rattle.node_core.specs.Reached.{Halt, Start}
 use Rattle.node_core.specs.Ticks.{tick_entries}
-use Rattle.once_core.proofs.KeptMoveLemmas.{keeps_committing, keeps_cut, keeps_delivered, keeps_marking_close, keeps_marking_tick, moves_kept, opened_kept, redirects_kept}
-use Rattle.once_core.proofs.KeptTurnLemmas.{gateway_changes, gateway_turns, node_changes, node_turns}
-use Rattle.once_core.proofs.NodeCallLemmas.{NodeLaw, calls_halt, calls_hear, calls_start, calls_submit, nothing}
-use Rattle.once_core.proofs.NodeTickLemmas.{calls_tick}
+use Rattle.once_core.proofs.KeptMoveLemmas.{keeps_committing, keeps_cut, keeps_delivered, keeps_marking_close, keeps_marking_tick, moves_kept, opened_kept, redirects_kept, Keeps}
+use Rattle.once_core.proofs.KeptTurnLemmas.{gateway_changes, gateway_turns, node_changes, node_turns, refusals_same, starts_same}
+use Rattle.once_core.proofs.NodeCallLemmas.{NodeLaw, calls_halt, calls_hear, calls_start, calls_submit, nothing, calls_tick}
 use Rattle.once_core.specs.Answers.{delivered, making_close, making_tick, marked, redirected}
 use Rattle.once_core.specs.Beginning.{default_rules}
 use Rattle.once_core.specs.Expired.{starts_in}
-use Rattle.once_core.specs.Gateway.{committing, cut, opened, still}
-use Rattle.once_core.specs.KeptTurn.{reaching, started_again, turn_kept, with_gateway, with_node}
+use Rattle.once_core.specs.Gateway.{committing, cut, opened, still, Gateway, Moved}
+use Rattle.once_core.specs.KeptTurn.{reaching, started_again, turn_kept, with_gateway, with_node, HasBegun, refusal_kept, starts_at}
 use Rattle.once_core.specs.NodeMoves.{answered_by, due_messages, heard_by, submitted_entries, with_entries}
 use Rattle.once_core.specs.Redirecting.{redirected_kept}
-use Rattle.once_core.specs.Standing.{quiet, world_kept}
+use Rattle.once_core.specs.Standing.{quiet, world_kept, Stands, WorldKept, gateway_kept}
 use Rattle.once_core.specs.Turn.{at_gateway, at_node, calm, delivering, log_in, no_node, refusal_of, refusal_to_start, refusing, turn, turn_by, unless_refused}
 use Rattle.once_core.specs.World.{World, called, delivered_to_node, draft_of, submitting, ticking}
 use Rattle.once_core.specs.declared.event.Event.{Event}
 use Rattle.once_core.specs.declared.event.Event.TheVariants as event
 use Rattle.once_core.specs.declared.event.WorldKind.{WorldKind}
-use Rattle.once_core.specs.declared.event.WorldKind.TheVariants.{Halted as IsHalted, Running}
+use Rattle.once_core.specs.declared.event.WorldKind.TheVariants.{Halted as IsHalted}
 use Rattle.once_core.specs.declared.message.Message.{Message}
 use Rattle.once_core.proofs.CaseLemmas.{by_bool, by_option}
-use Rattle.once_core.proofs.TurnLemmas.{log_there}
-
--- ---- what an event that isn't refused tells
-
-pub or_none : (a b : Option WorldKind) → option_or a b ≡ None → b ≡ None
-or_none None b is = is
-or_none (Some k) b is = absurd (cc is)
-
-pub first_none : (a b : Option WorldKind) → option_or a b ≡ None → a ≡ None
-first_none None b is = refl
-first_none (Some k) b is = absurd (cc is)
-
-pub refusing_none : (b : Bool) (k : WorldKind) → refusing b k ≡ None → b ≡ false
-refusing_none true k is = absurd (cc is)
-refusing_none false k is = refl
+use Rattle.once_core.proofs.PartLemmas.{it_runs, log_there}
+use Rattle.std.proofs.lemmas.List.{length-map}
+use Rattle.once_core.proofs.ArmLemmas.{turn_stays}
+use Rattle.once_core.specs.Stepping.{IsPlayed, IsRefused, IsSpent}
 
 module _ (law : NodeLaw) (w : World) (few : length w.gateways ≤ 256) where
   runs_where : (number : ℕ) (log : List LogEntry) → slice_get w.nodes (number - 1) ≡ Some log → option_or (no_node w number) (refusing (not (runs (log_in w number))) IsHalted) ≡ None → runs log ≡ true
-  runs_where number log found allowed =
-      ap runs (sym (log_there w (number - 1) log found))
-      ∙ not-false (runs (log_in w number)) (refusing_none (not (runs (log_in w number))) IsHalted (or_none (no_node w number) _ allowed))
+  runs_where number log found allowed = ap runs (sym (log_there w (number - 1) log found)) ∙ it_runs w number allowed
+
+  -- a gateway's move that keeps what is kept
+  goes : (place : ℕ) (move : Gateway → Moved) → Keeps move → with_gateway (world_kept w) place move ≡ world_kept (at_gateway w place move)
+  goes place move keeps = gateway_turns w place move move (λ g. moves_kept move keeps g)
 
   reaches : (m : Message) → reaching (world_kept w) m ≡ world_kept (delivering default_rules quiet w m)
   reaches m = by_bool (λ (b : Bool).
       (if b then with_gateway (world_kept w) m.gateway (delivered default_rules w.now quiet m) else with_node (world_kept w) m.node (λ n. heard_by n m) (λ n. answered_by n m))
       ≡ world_kept (if b then at_gateway w m.gateway (delivered default_rules w.now quiet m) else at_node w m.node (delivered_to_node (length w.gateways) m.node m)))
       m.to_gateway
-      (λ to. gateway_turns w m.gateway (delivered default_rules w.now quiet m) (delivered default_rules w.now quiet m)
-      (λ g. moves_kept (delivered default_rules w.now quiet m) (keeps_delivered default_rules w.now quiet m) g))
+      (λ to. goes m.gateway (delivered default_rules w.now quiet m) (keeps_delivered default_rules w.now quiet m))
       (λ from. node_turns w m.node (delivered_to_node (length w.gateways) m.node m) (λ n. heard_by n m) (λ n. answered_by n m)
       (λ log is. calls_hear law (length w.gateways) m.node m log))
 
   down_where : (number : ℕ) (log : List LogEntry) → slice_get w.nodes (number - 1) ≡ Some log → refusal_to_start w number ≡ None → runs log ≡ false
   down_where number log found allowed =
-      ap runs (sym (log_there w (number - 1) log found))
-      ∙ refusing_none (runs (log_in w number)) Running (first_none (refusing (runs (log_in w number)) Running) _ (or_none (no_node w number) _ allowed))
+      grind (arith, log_there w (number - 1) log found)
 
   pub turned : (e : Event) → ((number : ℕ) → e ≡ event.Start number → 1 ≤ starts_in (log_in w number)) → refusal_of w e ≡ None → turn_kept (world_kept w) e ≡ world_kept (turn_by default_rules w (calm e) e)
   turned (event.Submit node packet) begun allowed =
@@ -72,11 +59,9 @@ module _ (law : NodeLaw) (w : World) (few : length w.gateways ≤ 256) where
       (λ log is. calls_tick law (length w.gateways) (node - 1) few log (runs_where node log is allowed))
   turned (event.Deliver message) begun allowed = by_option (λ (o : Option Message). option_map_or (reaching (world_kept w)) o (world_kept w) ≡ world_kept (option_map_or (delivering default_rules quiet w) o w))
       (slice_get w.messages (message - 1)) (λ none. refl) (λ m there. reaches m)
-  turned (event.Commit gateway) begun allowed =
-      gateway_turns w (gateway - 1) (committing quiet) (committing quiet) (λ g. moves_kept (committing quiet) (keeps_committing quiet) g)
+  turned (event.Commit gateway) begun allowed = goes (gateway - 1) (committing quiet) (keeps_committing quiet)
   turned (event.Cut gateway keep) begun allowed =
-      gateway_changes (world_kept w) (gateway - 1) (cut keep)
-      ∙ gateway_turns w (gateway - 1) (λ g. still (cut keep g)) (λ g. still (cut keep g)) (λ g. moves_kept (λ x. still (cut keep x)) (keeps_cut keep) g)
+      gateway_changes (world_kept w) (gateway - 1) (cut keep) ∙ goes (gateway - 1) (λ g. still (cut keep g)) (keeps_cut keep)
   turned (event.Open gateway) begun allowed =
       gateway_changes (world_kept w) (gateway - 1) (opened default_rules)
       ∙ gateway_turns w (gateway - 1) (λ g. still (opened default_rules g)) (λ g. still (opened default_rules g)) (λ g. opened_kept default_rules g)
@@ -94,14 +79,49 @@ module _ (law : NodeLaw) (w : World) (few : length w.gateways ≤ 256) where
       (λ g. redirects_kept (gateway - 1) cause (option_map (λ number. number - 1) to) g)
   turned (event.Moment now) begun allowed = refl
   turned (event.Mark gateway) begun allowed =
-      gateway_turns w (gateway - 1) (marked default_rules quiet (making_tick default_rules w.now)) (marked default_rules quiet (making_tick default_rules w.now))
-      (λ g. moves_kept (marked default_rules quiet (making_tick default_rules w.now)) (keeps_marking_tick default_rules quiet w.now) g)
+      goes (gateway - 1) (marked default_rules quiet (making_tick default_rules w.now)) (keeps_marking_tick default_rules quiet w.now)
   turned (event.Close gateway) begun allowed =
-      gateway_turns w (gateway - 1) (marked default_rules quiet (making_close w.now)) (marked default_rules quiet (making_close w.now))
-      (λ g. moves_kept (marked default_rules quiet (making_close w.now)) (keeps_marking_close default_rules quiet w.now) g)
+      goes (gateway - 1) (marked default_rules quiet (making_close w.now)) (keeps_marking_close default_rules quiet w.now)
 
   -- the turn of an event that isn't refused
   pub turn_is : (e : Event) → ((number : ℕ) → e ≡ event.Start number → 1 ≤ starts_in (log_in w number)) → refusal_of w e ≡ None → turn_kept (world_kept w) e ≡ world_kept (turn default_rules w (calm e))
   turn_is e begun allowed =
       turned e begun allowed
       ∙ ap (λ (o : Option WorldKind). world_kept (unless_refused o w (turn_by default_rules w (calm e) e))) (sym allowed)
+
+module _ (w : World) (e : Event) (old new : WorldKept) (stands : Stands w old) where
+  refusal_is : refusal_kept old e ≡ refusal_of w e
+  refusal_is = ap (λ (k : WorldKept). refusal_kept k e) stands ∙ refusals_same w e
+
+  pub step_refused : (kind : WorldKind) → refusal_kept old e ≡ Some kind → new ≡ old → IsRefused w e kind new
+  step_refused kind refused same = record { refused = sym refusal_is ∙ refused; same = same ∙ stands }
+
+  pub step_spent : refusal_kept old e ≡ None → new.is_spent ≡ true → IsSpent w e new
+  step_spent allowed spent = record { allowed = sym refusal_is ∙ allowed; spent = spent }
+
+  few_gateways : length old.gateways ≤ 8 → length w.gateways ≤ 256
+  few_gateways few =
+      let same : length old.gateways ≡ length w.gateways = ap (λ (k : WorldKept). length k.gateways) stands ∙ length-map w.gateways gateway_kept in
+      omega (arith, same, few)
+
+  begun_in : HasBegun old e → (number : ℕ) → e ≡ event.Start number → 1 ≤ starts_in (log_in w number)
+  begun_in has number is =
+      subst (λ (n : ℕ). 1 ≤ n) (ap (λ (k : WorldKept). starts_at k (number - 1)) stands ∙ starts_same w (number - 1))
+      (subst (HasBegun old) is has)
+
+  pub step_played : NodeLaw → length old.gateways ≤ 8 → HasBegun old e → refusal_kept old e ≡ None → new ≡ turn_kept old e → (first count : ℕ)
+      → first ≡ length old.messages + 1 → count ≡ length new.messages - length old.messages → IsPlayed w e first count new
+  step_played law few begun allowed is first count first_is count_is =
+      let free : refusal_of w e ≡ None = sym refusal_is ∙ allowed in
+      let turned : new ≡ world_kept (turn default_rules w (calm e)) =
+      is ∙ (ap (λ (k : WorldKept). turn_kept k e) stands ∙ turn_is law w (few_gateways few) e (begun_in begun) free) in
+      let sent : length old.messages ≡ length w.messages = ap (λ (k : WorldKept). length k.messages) stands in
+      let grown : length old.messages ≤ length new.messages =
+      subst (λ (k : WorldKept). length old.messages ≤ length k.messages) (sym is) (turn_stays old e) in
+      let all : length (turn default_rules w (calm e)).messages ≡ length new.messages = ap (λ (k : WorldKept). length k.messages) (sym turned) in
+      record {
+        allowed = free;
+        turned = turned;
+        first_is = omega (arith, first_is, sent);
+        count_is = omega (arith, all, count_is, grown, sent);
+      }

@@ -1,5 +1,5 @@
 -- The story meets the premise.
-use Rattle.std.proofs.Common.{◌≡◌, ⊎_elim, ℕ, ◌+◌, ◌≤◌, ◌==◌, Bool, true, false, if◌then◌else◌, List, [], ◌∷◌, None, Contains, refl, subst, arith}
+use Rattle.std.proofs.Common.{◌≡◌, ⊎_elim, ℕ, ◌≤◌, true, false, List, [], ◌∷◌, None, Contains, refl, subst, arith, All}
 use Rattle.std.proofs.lemmas.Bool.{false≢true}
 use Rattle.std.proofs.lemmas.List.Elements.{All-cons, All-nil}
 use Rattle.node_core.specs.Choosing.{IsChoice, ReleasesChoice}
@@ -14,7 +14,8 @@ use Rattle.once_core.specs.Following.{Follows, MaySend, heard_in}
 use Rattle.once_core.specs.Happenings.{Answers, Deed, Heard, Letter, Sent}
 use Rattle.once_core.specs.Scenes.{scene_after}
 use Rattle.once_core.specs.Story.{first_letter, one_known, one_packet, one_story}
-use Rattle.once_core.proofs.ListLemmas.{in_cons, in_head, in_none}
+use Rattle.once_core.proofs.ListLemmas.{in_cons, in_head, in_one}
+use Rattle.std.proofs.lemmas.Bool.Decides.{nat_tests}
 
 abbrev deeds : List Deed
 deeds = Sent first_letter ∷ Heard (record first_letter { says = Answers 128 }) ∷ []
@@ -26,12 +27,7 @@ abbrev packet_is : PacketState
 packet_is = record { number = 1; copies = copy_is ∷ [] }
 
 single_role : (gateway number : ℕ) → uses gateway number one_known ≤ 1
-single_role gateway number = by (0 == gateway) (65536 == number)
-  where
-    by : (b c : Bool) → (if b then (if c then 1 else 0) + 0 else 0) + 0 + 0 ≤ 1
-    by true true = omega arith
-    by true false = omega arith
-    by false c = omega arith
+single_role gateway number = grind (arith, nat_tests)
 
 may : (letter : Letter) → Contains deeds (Sent letter) → MaySend one_known (λ number. one_packet) letter letter.says
 may letter is = ⊎_elim
@@ -45,26 +41,21 @@ may letter is = ⊎_elim
         packet = refl;
       },
     ))
-    (λ later. ⊎_elim (λ e. absurd (cc)) (λ none. absurd (in_none (Sent letter) none)) (in_cons (Heard (record first_letter { says = Answers 128 })) (Sent letter) [] later))
+    (λ later. absurd (cc (in_one (Heard (record first_letter { says = Answers 128 })) (Sent letter) later)))
     (in_cons (Sent first_letter) (Sent letter) (Heard (record first_letter { says = Answers 128 }) ∷ []) is)
+
+alone : {A : Type 0} (P : A → Type 0) (x : A) → P x → All P (x ∷ [])
+alone P x is = All-cons P x [] is (All-nil P)
 
 pub follows : Follows ((scene_after one_story).deeds 5) 1 (λ number. one_packet) one_known
 follows = record {
   roles = single_role;
-  plain = All-cons (λ (p : PacketState). IsPlainFirst p.copies) packet_is [] (refl, All-nil (λ (c : PacketCopy). c.is_plain ≡ false)) (All-nil (λ (p : PacketState). IsPlainFirst p.copies));
-  choice =
-      All-cons ReleasesChoice packet_is []
-      (All-cons (λ (c : PacketCopy). is_chosen c ≡ true → IsChoice packet_is.copies c.gateway c.number) copy_is [] (λ chosen. absurd (false≢true chosen))
-      (All-nil (λ (c : PacketCopy). is_chosen c ≡ true → IsChoice packet_is.copies c.gateway c.number)))
-      (All-nil ReleasesChoice);
-  rests =
-      All-cons (AllRestOn (heard_in 1 deeds)) packet_is []
-      (All-cons (RestsOn (heard_in 1 deeds)) copy_is []
-      (record {
-        verdict = λ known. record { port = First; cause = 128; numbers = 65536 ∷ []; heard = in_head _ []; named = refl; tells = refl };
-        command = tt;
-      })
-      (All-nil (RestsOn (heard_in 1 deeds))))
-      (All-nil (AllRestOn (heard_in 1 deeds)));
+  plain = alone (λ (p : PacketState). IsPlainFirst p.copies) packet_is (refl, All-nil (λ (c : PacketCopy). c.is_plain ≡ false));
+  choice = alone ReleasesChoice packet_is
+      (alone (λ (c : PacketCopy). is_chosen c ≡ true → IsChoice packet_is.copies c.gateway c.number) copy_is (λ chosen. absurd (false≢true chosen)));
+  rests = alone (AllRestOn (heard_in 1 deeds)) packet_is (alone (RestsOn (heard_in 1 deeds)) copy_is (record {
+    verdict = λ known. record { port = First; cause = 128; numbers = 65536 ∷ []; heard = in_head _ []; named = refl; tells = refl };
+    command = tt;
+  }));
   sends = λ letter is start. may letter is;
 }

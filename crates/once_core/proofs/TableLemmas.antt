@@ -1,19 +1,21 @@
--- Each entry that a gateway of a world records keeps to the table of answers, and each mark is due.
-use Rattle.std.proofs.Common.{◌≡◌, ℕ, ◌-◌, true, false, List, [], ◌∷◌, ◌++◌, length, take, drop, Option, Some, refl, sym, ap, subst, ◌∙◌, append_assoc, append-nil, take-append-drop}
+-- Each entry that a gateway of a world records keeps to the table of answers, and each mark is due: no answer is one.
+use Rattle.std.proofs.Common.{◌≡◌, Bool, false, refl, ℕ, ◌-◌, true, List, [], ◌∷◌, ◌++◌, length, take, drop, Option, Some, sym, ap, subst, ◌∙◌, append_assoc, append-nil, take-append-drop}
+use Rattle.gateway_answer.specs.Answer.{Given, answer_by, node_of, Decided, Replies, Silent, Says, decided, failure_answer}
+use Rattle.gateway_answer.specs.EachAnswer.{HoldsOfEach, of_path, of_request}
+use Rattle.gateway_answer.specs.Marks.{is_mark}
+use Rattle.gateway_answer.specs.Preparing.{PreparedValue, Path, Request, IsWhole, prepared_of}
+use Rattle.gateway_answer.specs.Recording.{IfRecords, IsTabled}
+use Rattle.gw_base.specs.Observed.{Observed, observed}
+use Rattle.gw_base.specs.declared.address.Addr.{Addr}
+use Rattle.gw_base.specs.declared.history.HistoryAct.{HistoryAct}
 use Rattle.std.specs.Prelude.{⊤, slice_get}
 use Rattle.std.proofs.lemmas.Bool.{both_ways}
 use Rattle.std.proofs.lemmas.Option.{same_Some}
-use Rattle.gateway_answer.specs.Answer.{Decided, Given, Replies, Silent, Says, answer_by, decided, failure_answer}
 use Rattle.gateway_answer.specs.Answered.{entry_by, no_caller}
 use Rattle.gateway_answer.specs.Fit.{is_act_fit, is_act_lawful}
 use Rattle.gateway_answer.specs.FitLaws.{records_also, records_tabled}
-use Rattle.gateway_answer.specs.Marks.{is_mark}
-use Rattle.gateway_answer.specs.Preparing.{IsWhole, prepared_of}
-use Rattle.gateway_answer.specs.Recording.{IfRecords, IsTabled}
 use Rattle.gateway_answer.specs.Value.{BookValue, history_of, recorded}
 use Rattle.gw_base.specs.History.{is_close_due}
-use Rattle.gw_base.specs.Observed.{observed}
-use Rattle.gw_base.specs.declared.history.HistoryAct.{HistoryAct}
 use Rattle.gw_base.specs.declared.history.HistoryEntry.{HistoryEntry}
 use Rattle.node_core.specs.Log.{LogEntry}
 use Rattle.node_core.specs.Reached as call
@@ -28,13 +30,22 @@ use Rattle.once_core.specs.Turn.{RuledTurn, at_node, ruled_turns, turn}
 use Rattle.once_core.specs.World.{Called, World, called, delivered_to_node, submitting, ticking}
 use Rattle.once_core.specs.declared.message.Message.{Message}
 use Rattle.once_core.proofs.EachLemmas.{each_also, each_front, each_more}
-use Rattle.once_core.proofs.MarkLemmas.{NoMark, answers_no_mark}
-use Rattle.once_core.proofs.StopLemmas.{history_is}
+use Rattle.once_core.proofs.PartLemmas.{history_is, PartsKeep, TurnKeeps, first_keeps, turn_keeps}
 use Rattle.once_core.specs.Happenings.{Note, Starts, act_noted}
-use Rattle.once_core.proofs.PartLemmas.{PartsKeep, TurnKeeps, first_keeps, turn_keeps}
 use Rattle.once_core.specs.Once.{firm_in}
 use Rattle.once_core.proofs.FirstPlays.{gateways_each}
 use Rattle.once_core.proofs.CaseLemmas.{if_both, map_known, set_known}
+
+abbrev pub NoMark : Given → Type 0
+NoMark given = IfRecords (λ number message a. is_mark a ≡ false) given
+
+none_marks : (from : Addr) → HoldsOfEach NoMark from
+none_marks from = assumption
+
+pub answers_no_mark : (o : Observed) (from : Addr) (datagram : PreparedValue) (may : HistoryAct → Bool) → NoMark (answer_by o from datagram may)
+answers_no_mark o from (Path event) may = of_path NoMark from (none_marks from) o may event
+answers_no_mark o from (Request number body) may = of_request NoMark from (none_marks from) o may (node_of from) number body
+answers_no_mark o from _ may = tt
 
 -- what holds of the acts that gateways record by themselves, behind any history
 pub record IsPlain (P : List HistoryEntry → HistoryAct → Type 0) : Type 0 where

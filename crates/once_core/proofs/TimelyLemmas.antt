@@ -1,14 +1,15 @@
--- A request that a node sends in a tick isn't expired at a gateway whose present epoch is that of the node's start.
-use Rattle.std.proofs.Common.{◌≡◌, ⊎_elim, ℕ, ◌-◌, ◌<◌, ◌≤◌, ◌%◌, ◌==◌, ◌&&◌, not, nat_lt, Bool, true, false, if◌then◌else◌, List, [], ◌∷◌, ◌++◌, length, Option, Some, None, All, Contains, slice_get, refl, sym, ap, subst, ◌∙◌, arith, eq-eqb, eqb-true, le-ltb}
+-- What a node sends in a tick isn't expired: a gateway to which it sends a request knows its start as the present one,
+-- and no gateway knows of a later one.
+use Rattle.std.proofs.Common.{◌≡◌, ⊎_elim, ℕ, ◌-◌, ◌<◌, ◌≤◌, ◌%◌, ◌&&◌, not, nat_lt, Bool, true, false, if◌then◌else◌, List, [], ◌∷◌, ◌++◌, length, Option, Some, None, All, Contains, slice_get, refl, sym, ap, subst, ◌∙◌, arith, eqb-true, zero, suc, nat_le, ◌||◌, take, append-nil, length-take}
 use Rattle.std.specs.Option.{option_map_or}
-use Rattle.std.proofs.lemmas.Bool.{false≢true, and_right, or_from}
+use Rattle.std.proofs.lemmas.Bool.{false≢true}
 use Rattle.std.proofs.lemmas.List.Elements.{All-contains, Contains-append_cases}
 use Rattle.std.proofs.lemmas.Option.{slice_get_within}
 use Rattle.gw_base.specs.History.{top_of}
 use Rattle.gw_base.specs.Nearest.{nearest}
 use Rattle.gw_base.specs.Starts.{start_of}
 use Rattle.gw_base.specs.declared.history.HistoryEntry.{HistoryEntry}
-use Rattle.node_core.specs.Log.{LogEntry, NodeSetup, Ticked, forms_of, packets_of, peers_of, runs}
+use Rattle.node_core.specs.Log.{LogEntry, NodeSetup, Ticked, forms_of, packets_of, peers_of, runs, paths_of}
 use Rattle.node_core.specs.Moving.{appointing, moved_at_tick}
 use Rattle.node_core.specs.Nearness.{HasOpenCopy}
 use Rattle.node_core.specs.Octets.{outgoing}
@@ -16,43 +17,48 @@ use Rattle.node_core.specs.Packets.{PacketState, is_done, is_of, packet_after_al
 use Rattle.node_core.specs.Peers.{address_at, all_drawn}
 use Rattle.node_core.specs.Reached.{NodeCall, log_of, reached}
 use Rattle.node_core.specs.Reached as call
-use Rattle.node_core.specs.Roles.{IsRising, IsSingle}
 use Rattle.node_core.specs.Sendings.{due_for_all, probes}
 use Rattle.node_core.specs.Sent.{HasCopyOf, IsSent}
-use Rattle.node_core.specs.Ticks.{due, tick_entries}
+use Rattle.node_core.specs.Ticks.{due}
 use Rattle.node_core.specs.Value.{NodeValue, befallen, logged}
 use Rattle.node_core.specs.declared.sending.Sending.{Sending}
 use Rattle.node_core.specs.declared.sending.Sending.TheVariants as send
-use Rattle.path_mgmt.specs.NodePath.{is_alive}
-use Rattle.once_core.specs.Addresses.{addresses_from, gateway_at, node_ip, node_setup}
+use Rattle.path_mgmt.specs.NodePath.{is_alive, PathsOfNode}
+use Rattle.once_core.specs.Addresses.{addresses_from, gateway_at, node_ip, node_setup, first_node_ip}
 use Rattle.once_core.specs.Deeds.{deeds_of}
-use Rattle.once_core.specs.Expired.{is_expired, is_expired_request, present_start, starts_in, taken_for}
-use Rattle.once_core.specs.Gateway.{Gateway}
+use Rattle.once_core.specs.Expired.{is_expired, present_start, starts_in, taken_for}
+use Rattle.once_core.specs.Gateway.{Gateway, Moved, Rules, readying, still, with_book}
 use Rattle.once_core.specs.Growing.{IsBetween}
 use Rattle.once_core.specs.Happenings.{Post, Scene}
 use Rattle.once_core.specs.Messages.{about, is_request}
 use Rattle.once_core.specs.Scenes.{scene_after}
 use Rattle.once_core.specs.Shown.{post_of}
-use Rattle.once_core.specs.Turn.{calm, node_called, refusal_of, turn_by, unless_refused}
-use Rattle.once_core.specs.World.{World, log_after, log_at, message_of, node_value, ticking}
-use Rattle.once_core.specs.Beginning.{default_rules}
+use Rattle.once_core.specs.Turn.{calm, node_called, refusal_of, turn_by, unless_refused, Turn, at_gateway, at_node, delivering, gateway_moved, lost_if, refusing, turn}
+use Rattle.once_core.specs.World.{World, log_at, message_of, node_value, ticking, delivered_to_node}
+use Rattle.once_core.specs.Beginning.{default_rules, IsReached}
 use Rattle.once_core.specs.declared.event.Event.TheVariants as event
 use Rattle.once_core.specs.declared.event.WorldKind.{WorldKind}
 use Rattle.once_core.specs.declared.message.Message.{Message}
-use Rattle.once_core.proofs.DueLemmas.{IsOfOpen, all_of_open, is_probe, one_packet, probes_are, stays_open}
+use Rattle.once_core.proofs.DueLemmas.{IsOfOpen, all_of_open, is_probe, one_packet, probes_are, stays_open, AllAlive, copies_alive}
 use Rattle.once_core.proofs.LogLemmas.{gateway_is, size, starts_same}
 use Rattle.once_core.proofs.MeantLemmas.{Numbers, meant}
-use Rattle.once_core.proofs.NodePlays.{NodeRightly, appointed_starts, appointed}
+use Rattle.once_core.proofs.NodePlays.{NodeRightly, appointed_starts, appointed, tick_is, behind_tick}
 use Rattle.once_core.proofs.NumberLemmas.{all_keep, ever, values_are}
-use Rattle.once_core.proofs.SentPlays.{OneCopyEach}
-use Rattle.once_core.proofs.TurnPlays.{Laws, turn_made}
-use Rattle.once_core.proofs.ListLemmas.{in_map, of_map}
-use Rattle.once_core.proofs.WorldPlays.{Made, get_set}
+use Rattle.once_core.proofs.SendingPlays.{OneCopyEach, copy_in_range}
+use Rattle.once_core.proofs.WorldPlays.{Laws, turn_made, Made, get_set}
+use Rattle.once_core.proofs.ListLemmas.{in_map, of_map, get_contains}
 use Rattle.once_core.proofs.NodeTurnLemmas.{addresses_length}
-use Rattle.once_core.proofs.LifeWorlds.{values_in}
-use Rattle.once_core.proofs.TurnLemmas.{log_or, log_there}
-use Rattle.once_core.proofs.PartLemmas.{it_runs}
-use Rattle.once_core.proofs.CaseLemmas.{by_option}
+use Rattle.once_core.proofs.LifeWorlds.{values_in, reached_lives, reached_made}
+use Rattle.once_core.proofs.PartLemmas.{log_or, log_there, firm_there, it_runs, book_is, history_is}
+use Rattle.once_core.proofs.CaseLemmas.{by_option, by_bool, if_known, map_known}
+use Rattle.gateway_answer.specs.Value.{BookValue, Fortune, Gone, Refused, Reopening, Whole, history_of, reopened, tried}
+use Rattle.once_core.specs.Answers.{delivered, taken_in}
+use Rattle.once_core.specs.Epochs.{StartsRise}
+use Rattle.once_core.specs.declared.event.Event.{Event}
+use Rattle.once_core.specs.declared.event.WorldKind.TheVariants.{NoMessage}
+use Rattle.once_core.proofs.GrowingLemmas.{on, on_with}
+use Rattle.once_core.proofs.StartLemmas.{front_low, start_rises}
+use Rattle.std.proofs.lemmas.Bool.Decides.{nat_tests}
 
 -- what the law of requests says
 abbrev pub RequestsSent : Type 0
@@ -62,10 +68,7 @@ RequestsSent = (setup : NodeSetup) (calls : List NodeCall) → 1 ≤ length setu
 -- ---- what isn't expired
 
 fresh_message : (h : List HistoryEntry) (m : Message) → present_start h m ≡ m.start → taken_for h m ≡ about m → is_expired h m ≡ false
-fresh_message h m present read =
-    or_from (nat_lt m.start (present_start h m)) (is_request m && is_expired_request h m) (le-ltb m.start (present_start h m) (omega (arith, present)))
-    (and_right (is_request m) (is_expired_request h m) (or_from (not (m.start == present_start h m)) (not (taken_for h m == about m))
-    (ap not (eq-eqb m.start (present_start h m) (sym present))) (ap not (eq-eqb (taken_for h m) (about m) read))))
+fresh_message h m present read = grind (arith, nat_tests)
 
 -- ---- a request of a tick is about an open copy
 
@@ -76,8 +79,8 @@ module _ (setup : NodeSetup) (calls : List NodeCall) where
   abbrev log_now : List LogEntry
   log_now = log_of setup calls
 
-  abbrev pub behind : List LogEntry
-  behind = Ticked (due node_now) ∷ logged (appointing (moved_at_tick node_now)) log_now
+  abbrev behind : List LogEntry
+  behind = behind_tick setup log_now
 
   of_open : (s : Sending) → is_probe s ≡ false → Contains (due node_now) s → IsOfOpen (packets_of log_now) s
   of_open s isnt there =
@@ -90,16 +93,27 @@ module _ (setup : NodeSetup) (calls : List NodeCall) where
       (Contains-append_cases (probes node.paths node.gateways) (due_for_all node.favourite_place (is_alive node.paths node.favourite_place) drawn node.packets) s there))
 
   module _ (running : runs log_now ≡ true) where
-    pub after_is : log_of setup (call.Tick ∷ calls) ≡ behind
-    after_is = ap (λ (b : Bool). logged (if b then tick_entries node_now else []) log_now) running
-        ∙ by_option (λ (o : Option ℕ). logged (appointing o ++ Ticked (due node_now) ∷ []) log_now ≡ Ticked (due node_now) ∷ logged (appointing o) log_now)
-        (moved_at_tick node_now) (λ none. refl) (λ gateway is. refl)
+    after_is : log_of setup (call.Tick ∷ calls) ≡ behind
+    after_is = tick_is setup log_now running
 
     runs_after : runs (log_of setup (call.Tick ∷ calls)) ≡ true
     runs_after = ap runs after_is ∙ appointed runs (λ gateway log. refl) (moved_at_tick node_now) log_now ∙ running
 
     starts_after : starts_in (log_of setup (call.Tick ∷ calls)) ≡ starts_in log_now
-    starts_after = ap starts_in after_is ∙ starts_same (Ticked (due node_now)) (logged (appointing (moved_at_tick node_now)) log_now) refl ∙ appointed_starts (moved_at_tick node_now) log_now
+    starts_after =
+        let same = starts_same (Ticked (due node_now)) (logged (appointing (moved_at_tick node_now)) log_now) refl in
+        grind (arith, after_is, appointed_starts (moved_at_tick node_now) log_now, same)
+
+    -- a tick leaves the gateways alive that were
+    open_alive : (gateway number : ℕ) → HasOpenCopy (packets_of behind) gateway number
+        → is_alive (paths_of setup.counter log_now) gateway ≡ true
+    open_alive gateway number is =
+        let all = subst (λ (l : List LogEntry). AllAlive (paths_of setup.counter l) (packets_of l)) after_is
+        (copies_alive setup (call.Tick ∷ calls)) in
+        subst (λ (paths : PathsOfNode). is_alive paths gateway ≡ true)
+        (appointed (paths_of setup.counter) (λ gateway log. refl) (moved_at_tick node_now) log_now)
+        (subst (λ (q : ℕ). is_alive (paths_of setup.counter behind) q ≡ true) is.gateway_is
+        (all is.packet is.kept is.copy is.sent))
 
     module _ (sent : RequestsSent) (one_each : OneCopyEach) (some : 1 ≤ length setup.gateways) where
       was_sent : (s : Sending) → Contains (due node_now) s → IsSent (packets_of behind) s
@@ -120,114 +134,250 @@ module _ (setup : NodeSetup) (calls : List NodeCall) where
           ap (λ (p : PacketState). is_of p.number s) goes ∙ ap (λ (n : ℕ). is_of n s) (all_keep (due node_now) was.state) ∙ was.of in
           let e = ever behind in
           let same = one_packet (length e.before) (packets_of behind) (forms_of behind) of.state state e.numbered of.kept kept (of.packet_is ∙ own state.number is) in
-          record {
-            packet = of.state;
-            copy = of.at.copy;
-            kept = of.kept;
-            open_yet = ap (λ (p : PacketState). is_done p.copies) (same ∙ goes) ∙ stays_open (due node_now) was.state was.open_yet;
-            sent = of.at.among;
-            gateway_is = of.at.gateway_is;
-            number_is = of.at.number_is;
-          }
+          let open_yet = ap (λ (p : PacketState). is_done p.copies) (same ∙ goes) ∙ stays_open (due node_now) was.state was.open_yet in
+          search (of.kept, open_yet, of.at.among, of.at.gateway_is, of.at.number_is)
 
       open_in_range : (gateway number : ℕ) → HasOpenCopy (packets_of behind) gateway number → gateway < length (peers_of setup.gateways behind)
       open_in_range gateway number is =
-          let peers = peers_of setup.gateways behind in
-          let singles = subst (λ (l : List LogEntry). All (IsSingle (peers_of setup.gateways l)) (packets_of l)) after_is (one_each setup (call.Tick ∷ calls) some) in
-          let single : IsSingle peers is.packet = All-contains (IsSingle peers) (packets_of behind) is.packet singles is.kept in
-          let rising : IsRising peers is.copy = All-contains (IsRising peers) is.packet.copies is.copy single.rising is.sent in
-          omega (arith, rising.place, is.gateway_is)
+          let inside = copy_in_range one_each setup (call.Tick ∷ calls) behind some after_is is.packet is.copy is.kept is.sent in
+          omega (arith, inside, is.gateway_is)
+
+-- ---- what is asked of a gateway
+
+-- a message that is no request is expired by its start alone
+low_fresh : (h : List HistoryEntry) (m : Message) → is_request m ≡ false → present_start h m ≤ m.start → is_expired h m ≡ false
+low_fresh h m none low = grind (arith, nat_tests)
+
+-- what stands behind some elements
+behind_all : {A : Type 0} (xs ys : List A) (k : ℕ) (x : A) → length xs ≤ k → slice_get (xs ++ ys) k ≡ Some x → Contains ys x
+behind_all [] ys k x le e = get_contains ys k x e
+behind_all (y ∷ xs) ys zero x le e = absurd (omega (arith, le))
+behind_all (y ∷ xs) ys (suc k) x le e = behind_all xs ys k x (omega (arith, le)) e
+
+-- the history by which a gateway is asked whether a message is expired
+abbrev history_asked : Rules → Fortune → Gateway → List HistoryEntry
+history_asked rules f g = if g.book.is_broken then history_of (readying rules f g).gateway.book else history_of g.book
+
+-- one that isn't is taken in
+fresh_taken : (rules : Rules) (now : ℕ) (f : Fortune) (m : Message) (g : Gateway) → is_expired (history_asked rules f g) m ≡ false → delivered rules now f m g ≡ taken_in rules now f m g
+fresh_taken rules now f m g fresh = grind arith
+
+-- that history lies between its firm part and all that it holds
+asked_between : (rules : Rules) (f : Fortune) (g : Gateway) → IsBetween g.book.firm g.book.rest (history_asked rules f g)
+asked_between rules f g = if_known (IsBetween g.book.firm g.book.rest) g.book.is_broken
+    (λ broken. subst (λ (moved : Moved). IsBetween g.book.firm g.book.rest (history_of moved.gateway.book))
+    (sym (ap (λ (b : Bool). if b || rules.is_full g.book then with_book (if b then reopened g.book f.reopening else tried f g.book) g else still g) broken))
+    (subst (λ (v : BookValue). IsBetween g.book.firm g.book.rest (history_of v)) (sym (book_is (reopened g.book f.reopening) g)) (found f.reopening)))
+    (λ sound. subst (IsBetween g.book.firm g.book.rest) (sym (history_is g.book sound)) whole)
+  where
+    whole : IsBetween g.book.firm g.book.rest (g.book.firm ++ g.book.rest)
+    whole = record { front = on_with g.book.firm g.book.rest; back = on (g.book.firm ++ g.book.rest) }
+
+    firm : IsBetween g.book.firm g.book.rest g.book.firm
+    firm = record { front = on g.book.firm; back = on_with g.book.firm g.book.rest }
+
+    found : (r : Reopening) → IsBetween g.book.firm g.book.rest (history_of (reopened g.book r))
+    found Whole = subst (IsBetween g.book.firm g.book.rest) (sym (append-nil (g.book.firm ++ g.book.rest))) whole
+    found Gone = subst (IsBetween g.book.firm g.book.rest) (sym (append-nil g.book.firm)) firm
+    found Refused = firm
 
 -- ---- in a world
 
-module _ (laws : Laws) (sent : RequestsSent) (w : World) (made : Made (values_in w) w) (node : ℕ) (allowed : refusal_of w (event.Tick node) ≡ None)
-    (log : List LogEntry) (there : slice_get w.nodes (node - 1) ≡ Some log) where
-  abbrev rightly : NodeRightly (length w.gateways) (node - 1) log
-  rightly = made.sound.nodes (node - 1) log there
-
-  abbrev setup : NodeSetup
-  setup = node_setup (length w.gateways) (node - 1)
+module _ (laws : Laws) (numbers : Numbers) (sent : RequestsSent) (w : World) (reached_so : IsReached w) (node : ℕ) where
+  abbrev place : ℕ
+  place = node - 1
 
   abbrev ip : ℕ
-  ip = node_ip (node - 1)
+  ip = node_ip place
 
-  abbrev after : List LogEntry
-  after = behind setup rightly.calls
+  abbrev setup : NodeSetup
+  setup = node_setup (length w.gateways) place
 
-  pub some_gateways : 1 ≤ length setup.gateways
+  abbrev sends : List LogEntry → List Message
+  sends log = (ticking (length w.gateways) place log).sends
+
+  made : Made (values_in w) w
+  made = reached_made laws w reached_so
+
+  some_gateways : 1 ≤ length setup.gateways
   some_gateways = omega (arith, made.sound.some, addresses_length 0 (length w.gateways))
 
-  pub running : runs (log_of setup rightly.calls) ≡ true
-  running = ap runs (sym rightly.is) ∙ ap runs (sym (log_there w (node - 1) log there)) ∙ it_runs w node allowed
+  module _ (allowed : refusal_of w (event.Tick node) ≡ None) (log : List LogEntry) (there : slice_get w.nodes place ≡ Some log) where
+    abbrev rightly : NodeRightly (length w.gateways) place log
+    rightly = made.sound.nodes place log there
 
-  -- what a request of the tick is about
-  pub record IsAsking (m : Message) : Type 0 where
-    pub number : ℕ
-    pub about_is : about m ≡ number
-    pub is : HasOpenCopy (packets_of after) m.gateway number
-    pub of_node : m.node ≡ node - 1
-    pub of_start : m.start ≡ starts_in log
+    abbrev after_tick : List LogEntry
+    after_tick = behind setup rightly.calls
 
-  abbrev sent_by : Sending → Message
-  sent_by s = message_of (node - 1) log (outgoing (node_value (length w.gateways) (node - 1) log) s)
+    abbrev sent_by : Sending → Message
+    sent_by s = message_of place log (outgoing (node_value (length w.gateways) place log) s)
 
-  asking : (s : Sending) (packet gateway number : ℕ) → is_probe s ≡ false → Contains (due (reached setup rightly.calls)) s → ((n : ℕ) → is_of n s ≡ true → packet ≡ n)
-      → HasCopyOf (packets_of after) packet gateway number → (sent_by s).gateway ≡ gateway_at (address_at (peers_of (addresses_from 0 (length w.gateways)) log) gateway)
-      → about (sent_by s) ≡ number → IsAsking (sent_by s)
-  asking s packet gateway number isnt kept own of goes_to about_is =
-      let is = open_copy setup rightly.calls running sent laws.one_each some_gateways s packet gateway number isnt kept own of in
-      let range = open_in_range setup rightly.calls running sent laws.one_each some_gateways gateway number is in
-      let to : (sent_by s).gateway ≡ gateway = goes_to ∙ gateway_is (length w.gateways) log gateway (omega (arith, range, size (length w.gateways) after)) in
-      record { number = number; about_is = about_is; is = subst (λ (q : ℕ). HasOpenCopy (packets_of after) q number) (sym to) is; of_node = refl; of_start = refl }
+    log_is : log_at w place ≡ log
+    log_is = log_there w place log there
 
-  each_asks : (s : Sending) → Contains (due (reached setup rightly.calls)) s → IsSent (packets_of after) s → is_request (sent_by s) ≡ true → IsAsking (sent_by s)
-  each_asks (send.Probe gateway number) kept was request = absurd (false≢true request)
-  each_asks (send.Data packet gateway number is_plain is_new) kept was request =
-      asking (send.Data packet gateway number is_plain is_new) packet gateway number refl kept (eqb-true packet) was.0 refl refl
-  each_asks (send.Test packet gateway number) kept was request = asking (send.Test packet gateway number) packet gateway number refl kept (eqb-true packet) was refl refl
-  each_asks (send.Command packet gateway named number o is_new) kept was request =
-      asking (send.Command packet gateway named number o is_new) packet gateway named refl kept (eqb-true packet) was.0 refl refl
+    running : runs (log_of setup rightly.calls) ≡ true
+    running = ap runs (sym rightly.is) ∙ ap runs (sym log_is) ∙ it_runs w node allowed
 
-  pub asks : (m : Message) → Contains (ticking (length w.gateways) (node - 1) log).sends m → is_request m ≡ true → IsAsking m
-  asks m is request =
-      let s = of_map sent_by (due (node_value (length w.gateways) (node - 1) log)) m is in
-      let kept = subst (λ (l : List LogEntry). Contains (due (node_value (length w.gateways) (node - 1) l)) s.0) rightly.is s.1 in
-      subst IsAsking s.2 (each_asks s.0 kept (was_sent setup rightly.calls running sent laws.one_each some_gateways s.0 kept) (ap is_request s.2 ∙ request))
+    -- what a request of the tick is about
+    record IsAsking (m : Message) : Type 0 where
+      number : ℕ
+      about_is : about m ≡ number
+      is : HasOpenCopy (packets_of after_tick) m.gateway number
+      of_node : m.node ≡ place
+      of_start : m.start ≡ starts_in log
 
-  -- the world behind the tick
-  made_after : Made (values_in w) (node_called w (node - 1) (ticking (length w.gateways) (node - 1) log))
-  made_after =
-      subst (Made (values_in w))
-      (ap (λ (o : Option WorldKind). unless_refused o w (turn_by default_rules w (calm (event.Tick node)) (event.Tick node))) allowed
-      ∙ ap (λ (o : Option (List LogEntry)). option_map_or (λ l. node_called w (node - 1) (ticking (length w.gateways) (node - 1) l)) o w) there)
-      (turn_made laws default_rules (values_in w) w made (λ place. values_are (log_at w place)) (calm (event.Tick node)))
+    asking : (s : Sending) (packet gateway number : ℕ) → is_probe s ≡ false → Contains (due (reached setup rightly.calls)) s
+        → ((n : ℕ) → is_of n s ≡ true → packet ≡ n) → HasCopyOf (packets_of after_tick) packet gateway number
+        → (sent_by s).gateway ≡ gateway_at (address_at (peers_of (addresses_from 0 (length w.gateways)) log) gateway)
+        → about (sent_by s) ≡ number → IsAsking (sent_by s)
+    asking s packet gateway number isnt kept own of goes_to about_is =
+        let is = open_copy setup rightly.calls running sent laws.one_each some_gateways s packet gateway number isnt kept own of in
+        let range = open_in_range setup rightly.calls running sent laws.one_each some_gateways gateway number is in
+        let to : (sent_by s).gateway ≡ gateway =
+        goes_to ∙ gateway_is (length w.gateways) log gateway (omega (arith, range, size (length w.gateways) after_tick)) in
+        search (about_is, subst (λ (q : ℕ). HasOpenCopy (packets_of after_tick) q number) (sym to) is)
 
-  deeds_after : (scene_after made_after.happenings).deeds ip ≡ deeds_of ip (values_in w (node - 1)) (log_of setup (call.Tick ∷ rightly.calls))
-  deeds_after =
-      ap (λ (s : Scene). s.deeds ip) made_after.is ∙ made_after.shows.deeds (node - 1)
-      ∙ ap (λ (o : Option (List LogEntry)). deeds_of ip (values_in w (node - 1)) (log_or o)) (get_set w.nodes (node - 1) (ticking (length w.gateways) (node - 1) log).log log there)
-      ∙ ap (λ (l : List LogEntry). deeds_of ip (values_in w (node - 1)) (log_after (length w.gateways) (node - 1) call.Tick l)) rightly.is
+    each_asks : (s : Sending) → Contains (due (reached setup rightly.calls)) s → IsSent (packets_of after_tick) s
+        → is_request (sent_by s) ≡ true → IsAsking (sent_by s)
+    each_asks (send.Probe gateway number) kept was request = absurd (false≢true request)
+    each_asks (send.Data packet gateway number is_plain is_new) kept was request =
+        asking (send.Data packet gateway number is_plain is_new) packet gateway number refl kept (eqb-true packet) was.0 refl refl
+    each_asks (send.Test packet gateway number) kept was request =
+        asking (send.Test packet gateway number) packet gateway number refl kept (eqb-true packet) was refl refl
+    each_asks (send.Command packet gateway named number o is_new) kept was request =
+        asking (send.Command packet gateway named number o is_new) packet gateway named refl kept (eqb-true packet) was.0 refl refl
 
-  read : Numbers → (gateway number : ℕ) (g : Gateway) (h : List HistoryEntry) → slice_get w.gateways gateway ≡ Some g → IsBetween g.book.firm g.book.rest h → start_of ip h ≡ starts_in log
-      → HasOpenCopy (packets_of after) gateway number → nearest (top_of ip h) (number % 65536) ≡ number
-  read numbers gateway number g h here between present is =
-      meant numbers setup (call.Tick ∷ rightly.calls) some_gateways (runs_after setup rightly.calls running) gateway
-      (omega (arith, slice_get_within w.gateways gateway g here, addresses_length 0 (length w.gateways)))
-      made_after.happenings ip number (values_in w (node - 1)) h deeds_after
-      (subst (λ (p : Post). IsBetween p.firm p.rest h) (sym post_is) between)
-      (present ∙ ap starts_in rightly.is ∙ sym (starts_after setup rightly.calls running))
-      (subst (λ (l : List LogEntry). HasOpenCopy (packets_of l) gateway number) (sym (after_is setup rightly.calls running)) is)
-    where
-      post_is : (scene_after made_after.happenings).posts gateway ≡ post_of g
-      post_is =
-          ap (λ (s : Scene). s.posts gateway) made_after.is ∙ made_after.shows.posts gateway
-          ∙ ap (λ (o : Option Gateway). option_map_or post_of o (record { firm = []; rest = []; waiting = [] })) here
+    asks : (m : Message) → Contains (sends log) m → is_request m ≡ true → IsAsking m
+    asks m is request =
+        let s = of_map sent_by (due (node_value (length w.gateways) place log)) m is in
+        let kept = subst (λ (l : List LogEntry). Contains (due (node_value (length w.gateways) place l)) s.0) rightly.is s.1 in
+        subst IsAsking s.2 (each_asks s.0 kept
+        (was_sent setup rightly.calls running sent laws.one_each some_gateways s.0 kept) (ap is_request s.2 ∙ request))
 
-  pub not_expired : Numbers → (m : Message) (g : Gateway) (h : List HistoryEntry) → Contains (ticking (length w.gateways) (node - 1) log).sends m → is_request m ≡ true
-      → slice_get w.gateways m.gateway ≡ Some g → IsBetween g.book.firm g.book.rest h → present_start h m ≡ m.start → is_expired h m ≡ false
-  not_expired numbers m g h is request here between present =
-      let asked = asks m is request in
-      let start : start_of ip h ≡ starts_in log = ap (λ (n : ℕ). start_of (node_ip n) h) (sym asked.of_node) ∙ present ∙ asked.of_start in
-      fresh_message h m present
-      (ap (λ (n : ℕ). nearest (top_of (node_ip n) h) (about m % 65536)) asked.of_node ∙ ap (λ (n : ℕ). nearest (top_of ip h) (n % 65536)) asked.about_is
-      ∙ read numbers m.gateway asked.number g h here between start asked.is ∙ sym asked.about_is)
+    -- the world behind the tick
+    made_after : Made (values_in w) (node_called w place (ticking (length w.gateways) place log))
+    made_after =
+        subst (Made (values_in w))
+        (ap (λ (o : Option WorldKind). unless_refused o w (turn_by default_rules w (calm (event.Tick node)) (event.Tick node))) allowed
+        ∙ ap (λ (o : Option (List LogEntry)). option_map_or (λ l. node_called w place (ticking (length w.gateways) place l)) o w) there)
+        (turn_made laws default_rules (values_in w) w made (λ place. values_are (log_at w place)) (calm (event.Tick node)))
+
+    deeds_after : (scene_after made_after.happenings).deeds ip
+        ≡ deeds_of ip (values_in w place) (log_of setup (call.Tick ∷ rightly.calls))
+    deeds_after =
+        let set = get_set w.nodes place (ticking (length w.gateways) place log).log log there in
+        grind (arith, made_after.is, made_after.shows.deeds place, rightly.is, set)
+
+    module _ (m : Message) (g : Gateway) (h : List HistoryEntry) (is : Contains (sends log) m) (here : slice_get w.gateways m.gateway ≡ Some g)
+        (between : IsBetween g.book.firm g.book.rest h) where
+      read : (number : ℕ) → start_of ip h ≡ starts_in log → HasOpenCopy (packets_of after_tick) m.gateway number
+          → nearest (top_of ip h) (number % 65536) ≡ number
+      read number present is =
+          meant numbers setup (call.Tick ∷ rightly.calls) some_gateways (runs_after setup rightly.calls running) m.gateway
+          (omega (arith, slice_get_within w.gateways m.gateway g here, addresses_length 0 (length w.gateways)))
+          made_after.happenings ip number (values_in w place) h deeds_after
+          (subst (λ (p : Post). IsBetween p.firm p.rest h) (sym (ap (λ (s : Scene). s.posts m.gateway) made_after.is
+          ∙ made_after.shows.posts m.gateway
+          ∙ ap (λ (o : Option Gateway). option_map_or post_of o (record { firm = []; rest = []; waiting = [] })) here)) between)
+          (present ∙ ap starts_in rightly.is ∙ sym (starts_after setup rightly.calls running))
+          (subst (λ (l : List LogEntry). HasOpenCopy (packets_of l) m.gateway number)
+          (sym (after_is setup rightly.calls running)) is)
+
+      -- no gateway knows of a later start of the node, firmly or with entries that follow
+      low_start : start_of ip h ≤ starts_in log
+      low_start =
+          let truly = (reached_lives laws w reached_so).gateways m.gateway g here in
+          let own : ip - first_node_ip ≡ place = omega arith in
+          grind (arith, start_rises ip h between.back.more (subst StartsRise between.back.is truly.rises), truly.low ip, own, log_is, between.back.is)
+
+      -- and one that is alive knows this one as the present one
+      alive_present : is_alive (paths_of 1 log) m.gateway ≡ true → start_of ip h ≡ starts_in log
+      alive_present alive =
+          let lives = reached_lives laws w reached_so in
+          let rises = subst StartsRise between.back.is (lives.gateways m.gateway g here).rises in
+          let low = front_low ip g.book.firm between.back.more h rises between.front in
+          grind (arith, lives.alive place m.gateway, log_is, firm_there w m.gateway g here, low, low_start)
+
+      -- so neither a request is expired there, nor another message
+      request_fresh : is_request m ≡ true → is_expired h m ≡ false
+      request_fresh request =
+          let asked = asks m is request in
+          let start = alive_present (subst (λ (l : List LogEntry). is_alive (paths_of 1 l) m.gateway ≡ true) (sym rightly.is)
+          (open_alive setup rightly.calls running m.gateway asked.number asked.is)) in
+          grind (arith, nat_tests, start, asked.of_node, asked.of_start, asked.about_is, read asked.number start asked.is)
+
+      each_fresh : is_expired h m ≡ false
+      each_fresh = by_bool (λ (b : Bool). is_expired h m ≡ false) (is_request m) request_fresh (λ none.
+          let s = of_map sent_by (due (node_value (length w.gateways) place log)) m is in
+          low_fresh h m none (subst (λ (k : Message). present_start h k ≤ k.start) s.2 low_start))
+
+  pub sent_fresh : (m : Message) (g : Gateway) (h : List HistoryEntry) → refusal_of w (event.Tick node) ≡ None
+      → Contains (sends (log_at w place)) m → slice_get w.gateways m.gateway ≡ Some g → IsBetween g.book.firm g.book.rest h
+      → is_expired h m ≡ false
+  sent_fresh m g h allowed is here between = by_option (λ (o : Option (List LogEntry)). is_expired h m ≡ false) (slice_get w.nodes place)
+      (λ none. absurd (false≢true (sym (ap (λ (o : Option (List LogEntry)). runs (log_or o)) none) ∙ it_runs w node allowed)))
+      (λ log there. each_fresh allowed log there m g h
+      (subst (λ (l : List LogEntry). Contains (sends l) m) (log_is allowed log there) is) here between)
+
+  -- ---- and what comes next
+
+  -- what stands behind the messages that were there before the tick is a message of the node to a gateway, and isn't expired
+  module _ (ticking_rules : Rules) (t : Turn) (k : ℕ) (m : Message) (within : length w.messages ≤ k) where
+    record IsFresh (v : World) : Type 0 where
+      to : m.to_gateway ≡ true
+      fresh : (r : Rules) (f : Fortune) (g : Gateway) → slice_get v.gateways m.gateway ≡ Some g → is_expired (history_asked r f g) m ≡ false
+
+    abbrev BringsFresh : World → Type 0
+    BringsFresh v = slice_get v.messages k ≡ Some m → IsFresh v
+
+    ticked : refusal_of w (event.Tick node) ≡ None → BringsFresh (at_node w place (ticking (length w.gateways) place))
+    ticked allowed = map_known BringsFresh (slice_get w.nodes place)
+        (λ none is. absurd (omega (arith, within, slice_get_within w.messages k m is)))
+        (λ log there is.
+        let among = behind_all w.messages (sends log) k m within is in
+        let s = of_map (sent_by allowed log there) (due (node_value (length w.gateways) place log)) m among in
+        record {
+          to = ap (λ (n : Message). n.to_gateway) (sym s.2);
+          fresh = λ r f g here. sent_fresh m g (history_asked r f g) allowed
+              (subst (λ (l : List LogEntry). Contains (sends l) m) (sym (log_is allowed log there)) among) here (asked_between r f g);
+        })
+
+    next_fresh : t.event ≡ event.Tick node → BringsFresh (turn ticking_rules w t)
+    next_fresh ticks = by_option (λ (o : Option WorldKind). BringsFresh (unless_refused o w (lost_if t.is_lost w (turn_by ticking_rules w t t.event)))) (refusal_of w t.event)
+        (λ allowed. by_bool (λ (b : Bool). BringsFresh (lost_if b w (turn_by ticking_rules w t t.event))) t.is_lost
+        (λ lost is.
+        let all : List Message = (turn_by ticking_rules w t t.event).messages in
+        absurd (omega (arith, within, slice_get_within (take (length w.messages) all) k m is, length-take (length w.messages) all)))
+        (λ kept. subst (λ (v : Event). BringsFresh (turn_by ticking_rules w t v)) (sym ticks) (ticked (ap (refusal_of w) (sym ticks) ∙ allowed))))
+        (λ kind refused is. absurd (omega (arith, within, slice_get_within w.messages k m is)))
+
+  -- so the next event has the gateway take it in
+  module _ (ticking_rules next_rules : Rules) (t next : Turn) (number : ℕ) (m : Message) where
+    abbrev after : World
+    after = turn ticking_rules w t
+
+    pub next_taken : t.event ≡ event.Tick node → next.event ≡ event.Deliver number → length w.messages < number → slice_get after.messages (number - 1) ≡ Some m
+        → turn next_rules after next ≡ lost_if next.is_lost after (at_gateway after m.gateway (taken_in next_rules after.now next.fortune m))
+    next_taken ticks delivers within is =
+        ap (λ (v : Event). unless_refused (refusal_of after v) after (lost_if next.is_lost after (turn_by next_rules after next v))) delivers
+        ∙ ap (λ (b : Bool). unless_refused (refusing (not b) NoMessage) after (lost_if next.is_lost after (turn_by next_rules after next (event.Deliver number)))) there
+        ∙ ap (lost_if next.is_lost after) taken
+      where
+        fresh : IsFresh ticking_rules t (number - 1) m (omega (arith, within)) after
+        fresh = next_fresh ticking_rules t (number - 1) m (omega (arith, within)) ticks is
+
+        there : (nat_lt 0 number && nat_le number (length after.messages)) ≡ true
+        there = grind (arith, nat_tests, slice_get_within after.messages (number - 1) m is)
+
+        by : (o : Option Gateway) → slice_get after.gateways m.gateway ≡ o
+            → option_map_or (λ g. gateway_moved after m.gateway (delivered next_rules after.now next.fortune m g)) o after
+            ≡ option_map_or (λ g. gateway_moved after m.gateway (taken_in next_rules after.now next.fortune m g)) o after
+        by None e = refl
+        by (Some g) e = ap (gateway_moved after m.gateway) (fresh_taken next_rules after.now next.fortune m g (fresh.fresh next_rules next.fortune g e))
+
+        taken : turn_by next_rules after next (event.Deliver number) ≡ at_gateway after m.gateway (taken_in next_rules after.now next.fortune m)
+        taken =
+            ap (λ (o : Option Message). option_map_or (delivering next_rules next.fortune after) o after) is
+            ∙ ap (λ (b : Bool). if b then at_gateway after m.gateway (delivered next_rules after.now next.fortune m)
+            else at_node after m.node (delivered_to_node (length after.gateways) m.node m)) fresh.to
+            ∙ by (slice_get after.gateways m.gateway) refl

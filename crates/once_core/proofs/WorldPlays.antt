@@ -1,23 +1,32 @@
--- A world goes on with a gateway's move and with a node's call.
-use Rattle.std.proofs.Common.{◌≡◌, ◌≢◌, ⊎_elim, ℕ, zero, suc, ◌<◌, ◌≤◌, List, [], ◌∷◌, ◌++◌, length, length-set, Option, Some, Contains, slice_get, slice_set, refl, sym, ap, subst, ◌∙◌, arith, ne_eqb}
+-- A world goes on with a gateway's move and with a node's call, and so with each turn: they are what happens in a scene.
+use Rattle.std.proofs.Common.{◌≡◌, ℕ, zero, suc, ◌<◌, ◌≤◌, List, [], ◌∷◌, ◌++◌, length, length-set, Option, Some, Contains, slice_get, slice_set, refl, sym, ap, subst, ◌∙◌, arith, ne_eqb, take, true}
 use Rattle.std.specs.Option.{option_map_or}
-use Rattle.std.proofs.lemmas.List.Elements.{Contains-append_cases}
 use Rattle.std.proofs.lemmas.Option.{same_Some}
-use Rattle.node_core.specs.Log.{LogEntry}
+use Rattle.node_core.specs.Log.{LogEntry, runs}
 use Rattle.once_core.specs.Addresses.{first_node_ip, node_ip}
 use Rattle.once_core.specs.Deeds.{deeds_of}
-use Rattle.once_core.specs.Gateway.{Gateway, Moved}
+use Rattle.once_core.specs.Gateway.{Gateway, Moved, Rules}
 use Rattle.once_core.specs.Happenings.{Happening, Scene}
-use Rattle.once_core.specs.Meaning.{letter_of}
+use Rattle.once_core.specs.Meaning.{letter_of, speaks}
 use Rattle.once_core.specs.Scenes.{happened_all, nothing_yet, scene_after}
-use Rattle.once_core.specs.Shown.{Shows, post_of}
-use Rattle.once_core.specs.Turn.{at_gateway, at_node, gateway_moved, node_called}
-use Rattle.once_core.specs.World.{Called, World, log_at}
+use Rattle.once_core.specs.Shown.{Shows, post_of, forms_ever}
+use Rattle.once_core.specs.Turn.{at_gateway, at_node, gateway_moved, node_called, Turn, turn}
+use Rattle.once_core.specs.World.{Called, World, log_at, called, delivered_to_node, submitting, ticking}
 use Rattle.once_core.specs.declared.message.Message.{Message}
-use Rattle.once_core.proofs.MeaningLemmas.{Said}
-use Rattle.once_core.proofs.NodePlays.{NodePlays, NodeRightly, NodeStands}
-use Rattle.once_core.proofs.PlayLemmas.{Plays, Rightly, Stands, happened_more}
+use Rattle.once_core.proofs.MeaningLemmas.{Said, ReadsBack}
+use Rattle.once_core.proofs.NodePlays.{NodePlays, NodeRightly, NodeStands, halt_turns, hear_turns, start_turns, submit_turns}
+use Rattle.once_core.proofs.PlayLemmas.{Plays, Rightly, Stands, happened_more, of_both}
 use Rattle.once_core.proofs.CaseLemmas.{map_known, set_known}
+use Rattle.gateway_answer.specs.PreparingLaws.{RolesRead}
+use Rattle.node_core.specs.Reached as call
+use Rattle.once_core.specs.Expired.{starts_in}
+use Rattle.once_core.proofs.FormLemmas.{RecordsSpelled}
+use Rattle.once_core.proofs.NumberLemmas.{Values}
+use Rattle.once_core.proofs.SendingPlays.{NodesFollow, OneCopyEach, tick_turns}
+use Rattle.once_core.proofs.CommitPlays.{Played, parts_play}
+use Rattle.once_core.proofs.PartLemmas.{TurnKeeps, turn_keeps, log_there}
+use Rattle.once_core.proofs.DeliverPlays.{answers_play, failed_plays, redirected_plays}
+use Rattle.once_core.proofs.ListLemmas.{in_front}
 
 -- ---- one place of a list
 
@@ -25,13 +34,6 @@ pub get_set : {A : Type 0} (xs : List A) (p : ℕ) (x y : A) → slice_get xs p 
 get_set [] p x y e = absurd (cc)
 get_set (z ∷ xs) zero x y e = refl
 get_set (z ∷ xs) (suc p) x y e = get_set xs p x y e
-
-pub get_other : {A : Type 0} (xs : List A) (p q : ℕ) (x : A) → q ≢ p → slice_get (slice_set xs p x) q ≡ slice_get xs q
-get_other [] p q x apart = refl
-get_other (z ∷ xs) zero zero x apart = absurd (apart refl)
-get_other (z ∷ xs) zero (suc q) x apart = refl
-get_other (z ∷ xs) (suc p) zero x apart = refl
-get_other (z ∷ xs) (suc p) (suc q) x apart = get_other xs p q x (λ same. apart (ap suc same))
 
 -- ---- worlds that happenings make
 
@@ -78,10 +80,8 @@ module _ {values : ℕ → ℕ → List ℕ} {w : World} (made : Made values w) 
           posts = set_known w.gateways place moved.gateway g there (λ q (o : Option Gateway). plays.after.posts q ≡ option_map_or post_of o (record { firm = []; rest = []; waiting = [] })) plays.post
               (λ q apart. plays.goes.others q (ne_eqb q place apart) ∙ made.shows.posts q);
           deeds = λ p. plays.goes.deeds (node_ip p) ∙ made.shows.deeds p;
-          letters = λ m is speaking. ⊎_elim
-              (λ old. plays.goes.letters (letter_of m) (made.shows.letters m old speaking))
-              (λ new. plays.sends m new speaking)
-              (Contains-append_cases w.messages moved.sends m is);
+          letters = of_both w.messages moved.sends (λ m. speaks m ≡ true → Contains plays.after.letters (letter_of m))
+              (λ m is speaking. plays.goes.letters (letter_of m) (made.shows.letters m is speaking)) plays.sends;
         };
         strangers = λ p less. plays.goes.deeds p ∙ made.strangers p less;
         sound = record {
@@ -89,7 +89,7 @@ module _ {values : ℕ → ℕ → List ℕ} {w : World} (made : Made values w) 
           gateways = set_known w.gateways place moved.gateway g there (λ q (o : Option Gateway). (a : Gateway) → o ≡ Some a → Rightly a)
               (λ a e. subst Rightly (same_Some moved.gateway a e) plays.rightly) (λ q apart. made.sound.gateways q);
           nodes = λ p log is. subst (λ (n : ℕ). NodeRightly n p log) (sym same) (made.sound.nodes p log is);
-          messages = λ m is. ⊎_elim (made.sound.messages m) (plays.said m) (Contains-append_cases w.messages moved.sends m is);
+          messages = of_both w.messages moved.sends Said made.sound.messages plays.said;
         };
       }
 
@@ -111,10 +111,8 @@ module _ {values : ℕ → ℕ → List ℕ} {w : World} (made : Made values w) 
       deeds = set_known w.nodes place call.log log there
           (λ q (o : Option (List LogEntry)). plays.after.deeds (node_ip q) ≡ deeds_of (node_ip q) (values q) (option_map_or (λ l. l) o [])) plays.deeds
           (λ q apart. plays.others (node_ip q) (ne_eqb (node_ip q) (node_ip place) (λ same. apart (omega (arith, same)))) ∙ made.shows.deeds q);
-      letters = λ m is speaking. ⊎_elim
-          (λ old. plays.letters (letter_of m) (made.shows.letters m old speaking))
-          (λ new. plays.sends m new speaking)
-          (Contains-append_cases w.messages call.sends m is);
+      letters = of_both w.messages call.sends (λ m. speaks m ≡ true → Contains plays.after.letters (letter_of m))
+          (λ m is speaking. plays.letters (letter_of m) (made.shows.letters m is speaking)) plays.sends;
     };
     strangers = λ p less. plays.others p (ne_eqb p (node_ip place) (λ same. omega (arith, same, less))) ∙ made.strangers p less;
     sound = record {
@@ -122,13 +120,9 @@ module _ {values : ℕ → ℕ → List ℕ} {w : World} (made : Made values w) 
       gateways = made.sound.gateways;
       nodes = set_known w.nodes place call.log log there (λ q (o : Option (List LogEntry)). (l : List LogEntry) → o ≡ Some l → NodeRightly (length w.gateways) q l)
           (λ l e. subst (NodeRightly (length w.gateways) place) (same_Some call.log l e) rightly) (λ q apart. made.sound.nodes q);
-      messages = λ m is. ⊎_elim (made.sound.messages m) (plays.said m) (Contains-append_cases w.messages call.sends m is);
+      messages = of_both w.messages call.sends Said made.sound.messages plays.said;
     };
   }
-
-  -- the log of the node in a place
-  pub log_is : (log : List LogEntry) → slice_get w.nodes place ≡ Some log → log_at w place ≡ log
-  log_is log there = ap (λ (o : Option (List LogEntry)). option_map_or (λ l. l) o []) there
 
   pub node_made : (call : List LogEntry → Called)
       → ((log : List LogEntry) → slice_get w.nodes place ≡ Some log → NodeStands (length w.gateways) place (values place) made.scene log
@@ -138,6 +132,44 @@ module _ {values : ℕ → ℕ → List ℕ} {w : World} (made : Made values w) 
       (λ log there.
       let both = plays log there (record {
         rightly = made.sound.nodes place log there;
-        deeds = made.shows.deeds place ∙ ap (deeds_of (node_ip place) (values place)) (log_is log there);
+        deeds = made.shows.deeds place ∙ ap (deeds_of (node_ip place) (values place)) (log_there w place log there);
       }) in
       call_made log there (call log) both.0 both.1)
+
+-- what the laws of messages and of nodes say
+pub record Laws : Type 0 where
+  pub back : ReadsBack
+  pub roles : RolesRead
+  pub records : RecordsSpelled
+  pub follow : NodesFollow
+  pub one_each : OneCopyEach
+
+pub turn_made : (laws : Laws) (rules : Rules) (values : ℕ → ℕ → List ℕ) (w : World) → Made values w → ((place : ℕ) → Values (values place) (forms_ever (log_at w place)))
+    → (t : Turn) → Made values (turn rules w t)
+turn_made laws rules values w made are = turn_keeps keeps
+  where
+    said : (m : Message) → Contains w.messages m → Said m
+    said = made.sound.messages
+
+    keeps : TurnKeeps rules w (Played w) (Made values)
+    keeps = record {
+      parts = parts_play laws.back w;
+      redirects = λ place cause to g scene stands there. redirected_plays laws.back place cause to stands;
+      fails = λ m kept to g scene stands there. failed_plays laws.back laws.roles m to ((said m kept).node to) stands;
+      answers = λ m kept to g sound fresh scene stands there.
+          answers_play laws.back laws.roles m to ((said m kept).node to) stands rules w.now sound fresh (there m kept);
+      moves = λ place move plays. gateway_made made place move (λ g stands. plays g made.scene stands made.shows.letters);
+      submits = λ place packet. node_made made place (submitting (length w.gateways) place packet) (λ log here stands. submit_turns stands laws.records packet);
+      ticks = λ place running. node_made made place (ticking (length w.gateways) place) (λ log here stands.
+          let same = log_there w place log here in
+          tick_turns stands made.sound.some (ap runs (sym same) ∙ running) laws.follow laws.one_each laws.back
+          (subst (λ (l : List LogEntry). Values (values place) (forms_ever l)) same (are place)));
+      halts = λ place. node_made made place (called (length w.gateways) place call.Halt) (λ log here stands. halt_turns stands);
+      starts = λ place fewer. node_made made place (called (length w.gateways) place call.Start) (λ log here stands.
+          start_turns stands (subst (λ (l : List LogEntry). suc (starts_in l) ≤ 255) (log_there w place log here) fewer));
+      hears = λ m kept from. node_made made m.node (delivered_to_node (length w.gateways) m.node m) (λ log here stands.
+          hear_turns laws.back laws.roles m from ((said m kept).gateway from) stands (made.shows.letters m kept));
+      same = made;
+      lost = λ v number is. less_made is v.now (take number v.messages) (in_front number v.messages);
+      later = λ now. less_made made now w.messages (λ m is. is);
+    }

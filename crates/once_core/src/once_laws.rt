@@ -36,6 +36,7 @@ pub fn each_record_of_a_start_is_filed_once()
 
 /// What holds of gateways, nodes and messages: nothing was done at the beginning, and it goes on with
 /// whatever happens next.
+#[tactic(auto, using(crate::proofs::MoveLemmas::holds_always, crate::proofs::MoveLemmas::holds_on, crate::proofs::MoveLemmas::holds_yet))]
 pub fn what_holds_goes_on()
     ensures begins { SceneHolds nothing_yet }
     ensures on { (scene : Scene) (next : Happening) → SceneHolds scene → SceneHolds (happened scene next) }
@@ -53,6 +54,7 @@ pub fn what_holds_files_each_record_once()
 /// An epoch of a node is told by its start: the epoch with a start stays when entries follow, no two
 /// starts have one epoch, and where a node's starts rise its present epoch is the one with its present
 /// start.
+#[tactic(auto, using(crate::proofs::EpochLemmas::epoch_stays, crate::proofs::EpochLemmas::present_epoch, crate::proofs::EpochLemmas::start_is_one))]
 pub fn epochs_are_told_by_their_starts()
     ensures stays { (node start epoch : ℕ) (h more : List HistoryEntry) → epoch_with node start h ≡ Some epoch →
         epoch_with node start (h ++ more) ≡ Some epoch }
@@ -112,6 +114,7 @@ pub fn open_numbers_are_read_as_meant()
 
 /// The premise can be met: in a story of one packet, which comes to a gateway, is filed and
 /// answered, the node follows the procedure, and the packet's record is filed once.
+#[tactic(auto, using(crate::proofs::StoryLemmas::follows))]
 pub fn a_node_may_follow_the_procedure()
     ensures follows { Follows ((scene_after one_story).deeds 5) 1 (λ number. one_packet) one_known }
     ensures filed { times_of_one ≡ 1 }

@@ -91,6 +91,7 @@ pub fn what_a_tick_sends_is_not_expired()
 
 /// What is firm stays so in any turns, whatever devices do: the firm part of each gateway's history
 /// only grows, and so do the records that it files.
+#[tactic(auto, using(crate::proofs::GrowingLemmas::filed_grows, crate::proofs::GrowingLemmas::turns_grow))]
 pub fn firm_parts_only_grow()
     ensures entries { (w : World) (later : List RuledTurn) (place : ℕ) →
         GrowsTo (firm_in w place) (firm_in (ruled_turns w later) place) }
@@ -188,6 +189,7 @@ pub fn paths_lead_to_nodes()
 
 /// What a crash leaves of a gateway's history, by the clauses of its book the firm entries alone or
 /// these with all those behind them, waiting or torn, is what some stop leaves.
+#[tactic(auto, using(crate::proofs::PartLemmas::crash_to_all, crate::proofs::PartLemmas::crash_to_firm))]
 pub fn each_crash_is_a_stop()
     ensures firm { (g : Gateway) → history_of (cut 0 g).book ≡ g.book.firm }
     ensures whole { (g : Gateway) → history_of (cut (length (g.book.firm ++ g.book.rest)) g).book
@@ -198,6 +200,7 @@ pub fn each_crash_is_a_stop()
 /// records no Start: one that finds the torn entries whole is a stop that keeps all, and one that
 /// finds them gone keeps the firm ones alone. An opening again that fails leaves the same choice,
 /// and so does a stop in between.
+#[tactic(auto, using(crate::proofs::PartLemmas::kept_firm, crate::proofs::PartLemmas::kept_whole, crate::proofs::PartLemmas::torn_dropped, crate::proofs::PartLemmas::torn_kept))]
 pub fn a_failed_commit_is_a_stop()
     ensures whole { (g : Gateway) → g.book.is_broken ≡ false →
         HoldSame (reopened (faulted g.book) Whole)

@@ -2,8 +2,7 @@ use Rattle.std.proofs.Common.{ℕ, subst}
 use Rattle.node_core.specs.Reached.{log_of}
 use Rattle.once_core.specs.Followed.{packets_in}
 use Rattle.once_core.specs.Following.{MaySend}
-use Rattle.once_core.proofs.FollowKnownLemmas.{all_known}
-use Rattle.once_core.proofs.FollowSentLemmas.{all_sent}
+use Rattle.once_core.proofs.FollowSentLemmas.{all_known, all_sent}
 use Rattle.once_core.proofs.once_laws.a_node_follows_the_procedure.Goals as goal
 
 pub returns : goal.returns

@@ -1,5 +1,5 @@
 use Rattle.node_core.specs.Reached.{log_of}
-use Rattle.once_core.proofs.NodeLemmas.{knows}
+use Rattle.once_core.proofs.MeantLemmas.{knows}
 use Rattle.once_core.proofs.once_laws.a_node_knows_what_it_was_told.Goals as goal
 
 pub returns : goal.returns

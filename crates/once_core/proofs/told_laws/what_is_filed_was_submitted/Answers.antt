@@ -1,4 +1,4 @@
-use Rattle.once_core.proofs.ToldLemmas.{was_submitted}
+use Rattle.once_core.proofs.WorldOnceLemmas.{was_submitted}
 use Rattle.once_core.proofs.told_laws.what_is_filed_was_submitted.Goals as goal
 
 pub returns : goal.returns

@@ -5,7 +5,7 @@ use Rattle.gateway_index.specs.Limits.{within_limits}
 use Rattle.gw_base.specs.History.{state_of}
 use Rattle.gw_base.specs.Observed.{observed}
 use Rattle.gw_base.specs.declared.history.HistoryEntry.{HistoryEntry}
-use Rattle.once_core.proofs.AdmittedLemmas.{states_move}
+use Rattle.once_core.proofs.ForwardLemmas.{states_move}
 use Rattle.once_core.proofs.GrowingLemmas.{turns_grow}
 use Rattle.once_core.proofs.TableLemmas.{all_lawful, all_limited, firm_holds, firm_marks_due, lawful_plain, limited_plain, reached_keeps, turns_keep}
 use Rattle.once_core.proofs.world_laws.histories_keep_to_the_table.Goals as goal

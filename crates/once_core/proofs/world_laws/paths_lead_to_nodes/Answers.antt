@@ -1,5 +1,5 @@
-use Rattle.once_core.proofs.LeadingLemmas.{PathsLead, paths_lead}
-use Rattle.once_core.proofs.ReachedLemmas.{by_reached}
+use Rattle.once_core.proofs.LifeWorlds.{PathsLead, paths_lead}
+use Rattle.once_core.proofs.WorldOnceLemmas.{by_reached}
 use Rattle.once_core.proofs.world_laws.paths_lead_to_nodes.Goals as goal
 
 pub returns : goal.returns

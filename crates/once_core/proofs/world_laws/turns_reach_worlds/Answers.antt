@@ -1,4 +1,4 @@
-use Rattle.once_core.proofs.ReachedLemmas.{reached_alike, reached_by}
+use Rattle.once_core.proofs.WorldOnceLemmas.{reached_alike, reached_by}
 use Rattle.once_core.specs.ReachedLaws.{reached_on}
 use Rattle.once_core.proofs.world_laws.turns_reach_worlds.Goals as goal
 

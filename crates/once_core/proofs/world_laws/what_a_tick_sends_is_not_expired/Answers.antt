@@ -1,4 +1,4 @@
-use Rattle.once_core.proofs.PresentLemmas.{next_taken, sent_fresh}
+use Rattle.once_core.proofs.TimelyLemmas.{next_taken, sent_fresh}
 use Rattle.once_core.proofs.world_laws.what_a_tick_sends_is_not_expired.Goals as goal
 
 pub returns : goal.returns

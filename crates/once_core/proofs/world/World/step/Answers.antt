@@ -1,8 +1,7 @@
 use Rattle.std.proofs.Common.{◌≡◌, ◌+◌, ◌-◌, ◌≤◌, None, [], ◌∷◌, ap, sym, ◌∙◌, refl, length, arith, rules}
 use Rattle.once_core.proofs.ArmLemmas.{turn_stays}
-use Rattle.once_core.proofs.SteppedLemmas.{step_played, step_refused, step_spent}
+use Rattle.once_core.proofs.StepLemmas.{step_played, step_refused, step_spent}
 use Rattle.once_core.specs.Beginning.{default_rules}
-use Rattle.once_core.specs.KeptTurn.{turn_kept}
 use Rattle.once_core.specs.Standing.{WorldKept}
 use Rattle.once_core.specs.Turn.{calm, ruled, turn}
 use Rattle.once_core.proofs.world.World.step.Goals as goal
@@ -12,13 +11,17 @@ returns-in-Some-clause-gives c = λ w stands.
     step_refused w c.args.event.now c.args.self.now c.args.self.now stands c.in-Some.kind (sym c.in-Some.ensures.kind) refl
 
 pub overflow_sub-result : goal.overflow_sub-result
-overflow_sub-result c =
-    let grown = turn_stays c.args.self.now c.args.event.now in
-    let new : length c.play.new.self.messages ≡ length (turn_kept c.args.self.now c.args.event.now).messages =
-    ap (λ (k : WorldKept). length k.messages) c.in-Ok.ensures in
-    let here : length c.self.inside.messages.items ≡ length c.args.self.now.messages = ap (λ (k : WorldKept). length k.messages) c.self.view_is in
-    let there : length c.self-2.inside.messages.items ≡ length c.play.new.self.messages = ap (λ (k : WorldKept). length k.messages) c.self-2.view_is in
-    omega (arith, grown, new, here, there, c.len-before.ensures, c.len.ensures, c.self.inside.messages.ok, c.self-2.inside.messages.ok)
+overflow_sub-result c = grind (
+  arith,
+  turn_stays c.args.self.now c.args.event.now,
+  c.in-Ok.ensures,
+  c.self.view_is,
+  c.self-2.view_is,
+  c.len-before.ensures,
+  c.len.ensures,
+  c.self.inside.messages.ok,
+  c.self-2.inside.messages.ok,
+)
 
 pub returns-in-Ok-clause-gives : goal.returns-in-Ok-clause-gives
 returns-in-Ok-clause-gives c = λ w stands.
@@ -26,16 +29,8 @@ returns-in-Ok-clause-gives c = λ w stands.
     let few : length c.args.self.now.gateways ≤ 8 = omega (arith, c.self.invariant, ap (λ (k : WorldKept). length k.gateways) c.self.view_is) in
     step_played w c.args.event.now c.args.self.now c.play.new.self stands c.a_node_stands_for_its_log.ensures few
     (c.refusal_of.ensures.begun none) (sym c.refusal_of.ensures.kind ∙ none) c.in-Ok.ensures (c.len-before.result + 1) (c.len.result - c.len-before.result)
-    (omega (arith, c.len-before.ensures, c.self.inside.messages.ok, ap (λ (k : WorldKept). length k.messages) c.self.view_is))
-    (omega (
-      arith,
-      c.len-before.ensures,
-      c.len.ensures,
-      c.self.inside.messages.ok,
-      c.self-2.inside.messages.ok,
-      ap (λ (k : WorldKept). length k.messages) c.self.view_is,
-      ap (λ (k : WorldKept). length k.messages) c.self-2.view_is,
-    ))
+    (grind (arith, c.len-before.ensures, c.self.inside.messages.ok, c.self.view_is))
+    (grind (arith, c.len-before.ensures, c.len.ensures, c.self.inside.messages.ok, c.self-2.inside.messages.ok, c.self.view_is, c.self-2.view_is))
 
 pub returns-in-Err-clause-gives : goal.returns-in-Err-clause-gives
 returns-in-Err-clause-gives c = λ w stands.
