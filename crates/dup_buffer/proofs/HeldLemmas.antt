@@ -1,53 +1,43 @@
 -- Lists of which some copies were taken out, and what each step makes of those that are held.
-use Rattle.std.proofs.Common.{◌≡◌, ℕ, zero, suc, ◌+◌, ◌-◌, ◌<◌, ◌==◌, ◌&&◌, not, Bool, true, false, cond, if◌then◌else◌, List, [], ◌∷◌, ◌++◌, Option, None, Some, is_some, length, take, drop, filter, slice_index_or, refl, sym, ap, subst, ◌∙◌, arith, inl, inr}
+use Rattle.std.proofs.Common.{◌≡◌, ℕ, zero, suc, ◌+◌, ◌<◌, ◌==◌, ◌&&◌, not, Bool, true, false, if◌then◌else◌, List, [], ◌∷◌, ◌++◌, Option, None, Some, length, take, slice_index_or, refl, sym, ap, subst, ◌∙◌, arith, inl, inr}
 use Rattle.std.specs.List.{count_by, find}
 use Rattle.std.specs.Option.{option_map}
 use Rattle.std.specs.Prelude.{slice_set}
-use Rattle.std.proofs.lemmas.Bool.{and_parts, cases_Bool, cond_both, eq-eqb, eqb-true}
-use Rattle.std.proofs.lemmas.List.{append-nil}
-use Rattle.std.proofs.lemmas.List.Elements.{filter-append}
+use Rattle.std.proofs.lemmas.Bool.{cases_Bool, cases_eq, eq-eqb}
+use Rattle.std.proofs.lemmas.List.{append-nil, get_or_default}
 use Rattle.std.proofs.lemmas.List.Sums.{length-filter, sum_by-cons, sum_by-set, sum_by_more_le}
-use Rattle.gw_base.specs.declared.place.Place.{Place}
 use Rattle.dup_buffer.specs.Copies.{Copies, with_copy, without_copy}
 use Rattle.dup_buffer.specs.Stored.{AreFrom, AreHeld, AreStored, HaveSame, IsFound, IsOnce, all_held, copies_of, held_in, is_copy_of, place_of, rank}
 use Rattle.dup_buffer.specs.declared.copy.HeldCopy.{HeldCopy}
-use Rattle.dup_buffer.proofs.CountLemmas.{copies_of-same, count-append, count_all, held_all, held_are, none_if_none, none_of_none, once_more, once_same}
-use Rattle.dup_buffer.proofs.OrderLemmas.{key_of}
-use Rattle.dup_buffer.proofs.StoredLemmas.{copies_of-one_more, count_by-pass, find-one, none_left, same_copies, stored, whole}
+use Rattle.dup_buffer.proofs.OrderLemmas.{key_of, none_found}
+use Rattle.dup_buffer.proofs.StoredLemmas.{copies_of-one_more, copies_of-same, count-append, count-filter, count_all, count_by-pass, count_parts, find-filter, first_here, held_all, held_are, none_if_none, none_of_none, once_more, once_same, stored, taken_again}
 
 -- ---- finding
 
 pub none_held : (p : HeldCopy → Bool) (xs : List HeldCopy) → find p xs ≡ None → find p (held_in xs) ≡ None
-none_held p [] e = refl
-none_held p (x ∷ xs) e =
-    elim (cases_Bool (p x)) [
-      | inl is ↦ let found : Some x ≡ None = rw is at e in absurd (cc)
-      | inr isnt ↦
-          let rest = none_held p xs (rw isnt at e) in
-          cond_both x.held (x ∷ held_in xs) (held_in xs)
-          (λ (l : List HeldCopy). find p l ≡ None) (λ _. rw isnt rest) (λ _. rest)
-    ]
+none_held p xs e = none_of_none p (held_in xs) (omega (arith, count_parts p (λ c. c.held) xs, none_if_none p xs e))
 
 pub held_found : (n k : ℕ) (copies : List HeldCopy) (at : ℕ) (d : HeldCopy) → IsFound copies at n k
     → find (is_copy_of n k) (held_in copies) ≡ (if (slice_index_or copies at d).held then Some (slice_index_or copies at d) else None)
-held_found n k copies at d is =
-    ap (λ (l : List HeldCopy). find p (held_in l)) (sym (whole copies at d is.inside))
-    ∙ ap (find p) (filter-append (λ c. c.held) (take at copies) (one ∷ drop (suc at) copies))
-    ∙ by one.held
+held_found n k copies at d is = find-filter (is_copy_of n k) (λ c. c.held) copies ∙ elim (cases_Bool one.held) [
+  | inl held ↦ rw held (first_here p copies at d is.inside (rw (held, is.named d) refl)
+      (λ j e lt. other j e (is.others j e (omega (arith, lt, is.inside)) (λ same. omega (arith, same, lt)))))
+  | inr out ↦ rw out (none_found p copies (λ j e lt. elim (cases_eq j at) [
+      | inl same ↦ ap (λ (c : HeldCopy). p c) (ap (λ (m : ℕ). slice_index_or copies m e) same ∙
+          get_or_default copies at e d is.inside) ∙ rw out refl
+      | inr ne ↦ other j e (is.others j e lt ne)
+    ]))
+]
   where
-    p : HeldCopy → Bool
-    p = is_copy_of n k
-
     one : HeldCopy
     one = slice_index_or copies at d
 
-    none : find p (held_in (take at copies) ++ held_in (drop (suc at) copies)) ≡ None
-    none = ap (find p) (sym (filter-append (λ c. c.held) (take at copies) (drop (suc at) copies)))
-        ∙ none_held p (take at copies ++ drop (suc at) copies) (none_left p copies at is.inside is.others)
+    p : HeldCopy → Bool
+    p c = c.held && is_copy_of n k c
 
-    by : (b : Bool) → find p (held_in (take at copies) ++ cond b (one ∷ held_in (drop (suc at) copies)) (held_in (drop (suc at) copies))) ≡ (if b then Some one else None)
-    by true = find-one p (held_in (take at copies)) (held_in (drop (suc at) copies)) one (is.named d) none
-    by false = none
+    other : (j : ℕ) (e : HeldCopy) → is_copy_of n k (slice_index_or copies j e) ≡ false → p (slice_index_or copies j e)
+        ≡ false
+    other j e apart = grind arith
 
 -- ---- marking
 
@@ -56,20 +46,6 @@ pub from-set : (low : ℕ) (copies : List HeldCopy) (at : ℕ) (y d : HeldCopy) 
 from-set low [] at y d up same lt = absurd (omega (arith, lt))
 from-set low (copy ∷ copies) zero y d up same lt = (omega (arith, up.0, same), subst (λ k. AreFrom (k + 1) copies) (sym same) up.1)
 from-set low (copy ∷ copies) (suc at) y d up same lt = (up.0, from-set (rank copy + 1) copies at y d up.1 same (omega (arith, lt)))
-
-pub count-filter : (p q : HeldCopy → Bool) (xs : List HeldCopy) → count_by p (filter q xs) ≡ count_by (λ x. q x && p x) xs
-count-filter p q [] = refl
-count-filter p q (x ∷ xs) =
-    cond_both (q x) (x ∷ filter q xs) (filter q xs)
-    (λ (l : List HeldCopy). count_by p l ≡ count_by (λ y. q y && p y) (x ∷ xs))
-    (λ e. omega (
-      arith,
-      count-filter p q xs,
-      sum_by-cons (λ c.
-          if p c then 1 else 0) x (filter q xs),
-      count_by-pass (λ y. q y && p y) x xs (p x) (rw e refl),
-    ))
-    (λ e. omega (arith, count-filter p q xs, count_by-pass (λ y. q y && p y) x xs false (rw e refl)))
 
 pub mark_same : (copies : List HeldCopy) (at : ℕ) (y d : HeldCopy) → at < length copies → (slice_index_or copies at d).held ≡ true → y.held ≡ false
     → HaveSame (held_in copies) (slice_index_or copies at d ∷ held_in (slice_set copies at y))
@@ -113,10 +89,10 @@ pub record IsMore (one : HeldCopy) (old new : List HeldCopy) : Type 0 where
 
 pub one_more : (one : HeldCopy) (old new : List HeldCopy) → find (is_copy_of one.node one.number) old ≡ None → IsOnce old → HaveSame (one ∷ old) new → IsMore one old new
 one_more one old new none once same =
-    let all : IsOnce (one ∷ old) = once_more [] old one none once in
+    let all : IsOnce (one ∷ old) = once_more old one none once in
     record {
       once = once_same (one ∷ old) new same all;
-      copies = sym (copies_of-same (one ∷ old) new same all) ∙ copies_of-one_more one old 0 (omega arith) none;
+      copies = sym (copies_of-same (one ∷ old) new same all) ∙ copies_of-one_more one old;
       count = omega (arith, same_length (one ∷ old) new same);
     }
 
@@ -126,26 +102,6 @@ pub record IsLess (one : HeldCopy) (node number : ℕ) (old new : List HeldCopy)
   pub found : option_map place_of (find (is_copy_of node number) old) ≡ Some (place_of one)
   pub copies : copies_of (stored new) ≡ without_copy node number (copies_of (stored old))
   pub count : length old ≡ length new + 1
-
-taken_again : (n k : ℕ) (place : Place) (copies : Copies) → copies.place_of n k ≡ None → without_copy n k (with_copy n k place copies) ≡ copies
-taken_again n k place copies none = same_copies _ _
-    (λ i m j. places m j ((n == m) && (k == j)) refl i)
-    (rw itself (omega arith))
-    (λ i m. counts m (n == m) refl i)
-  where
-    itself : ((n == n) && (k == k)) ≡ true
-    itself = rw (eq-eqb n n refl, eq-eqb k k refl) refl
-
-    places : (m j : ℕ) (b : Bool) → ((n == m) && (k == j)) ≡ b → (if (n == m) && (k == j) then None else (if (n == m) && (k == j) then Some place else copies.place_of m j)) ≡ copies.place_of m j
-    places m j true e =
-        let parts = and_parts (n == m) (k == j) e in
-        rw e (sym none ∙ (λ i. copies.place_of (eqb-true n m parts.0 i) (eqb-true k j parts.1 i)))
-    places m j false e = rw e refl
-
-    counts : (m : ℕ) (b : Bool) → (n == m) ≡ b → (if n == m then (if n == m then copies.count_of m + 1 else copies.count_of m)
-        - (if is_some (if (n == n) && (k == k) then Some place else copies.place_of n k) then 1 else 0) else (if n == m then copies.count_of m + 1 else copies.count_of m)) ≡ copies.count_of m
-    counts m true e = rw (e, itself) (omega arith)
-    counts m false e = rw e refl
 
 pub one_less : (one : HeldCopy) (node number : ℕ) (old new : List HeldCopy) → is_copy_of node number one ≡ true → IsOnce old → HaveSame old (one ∷ new) → IsLess one node number old new
 one_less one node number old new named once same = record {
@@ -169,13 +125,10 @@ one_less one node number old new named once same = record {
 
     was : copies_of (stored old) ≡ with_copy node number (place_of one) (copies_of (stored new))
     was = copies_of-same old (one ∷ new) same once
-        ∙ copies_of-one_more one new 0 (omega arith) ((λ i. find (is_copy_of (key.0 i) (key.1 i)) new) ∙ none)
+        ∙ copies_of-one_more one new
         ∙ (λ i. with_copy (key.0 i) (key.1 i) (place_of one) (copies_of (stored new)))
 
 -- ---- a list of two
-
-pub same_behind : (xs ys zs : List HeldCopy) → HaveSame ys zs → HaveSame (xs ++ ys) (xs ++ zs)
-same_behind xs ys zs same p = omega (arith, same p, count-append p xs ys, count-append p xs zs)
 
 pub more_behind : (one : HeldCopy) (xs ys zs : List HeldCopy) → HaveSame (one ∷ ys) zs → HaveSame (one ∷ (xs ++ ys)) (xs ++ zs)
 more_behind one xs ys zs same p =
@@ -197,14 +150,6 @@ less_before one xs ys zs same p =
       count-append p zs ys,
       sum_by-cons (λ c. if p c then 1 else 0) one zs,
       sum_by-cons (λ c. if p c then 1 else 0) one (zs ++ ys),
-    )
-
--- none in the whole is none in a part
-pub none_parts : (p : HeldCopy → Bool) (xs ys : List HeldCopy) → find p (xs ++ ys) ≡ None → (find p xs ≡ None) × (find p ys ≡ None)
-none_parts p xs ys e =
-    let zero_all = none_if_none p (xs ++ ys) e in (
-      none_of_none p xs (omega (arith, zero_all, count-append p xs ys)),
-      none_of_none p ys (omega (arith, zero_all, count-append p xs ys)),
     )
 
 -- ---- the two lists made one

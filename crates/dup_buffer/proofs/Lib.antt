@@ -1,4 +1,3 @@
-pub mod CountLemmas
 pub mod HeldLemmas
 pub mod MergeLemmas
 pub mod OrderLemmas

@@ -1,13 +1,13 @@
 -- Two lists in order made one, from their ends.
-use Rattle.std.proofs.Common.{◌≡◌, ℕ, zero, suc, ◌+◌, ◌-◌, ◌<◌, ◌≤◌, Bool, false, if◌then◌else◌, List, [], ◌∷◌, ◌++◌, length, take, drop, slice_index_or, refl, sym, ap, subst, ◌∙◌, arith}
+use Rattle.std.proofs.Common.{◌≡◌, ℕ, ◌+◌, ◌-◌, ◌<◌, ◌≤◌, Bool, false, if◌then◌else◌, List, [], ◌∷◌, ◌++◌, length, take, drop, slice_index_or, refl, sym, ap, subst, ◌∙◌, arith, inl, inr}
 use Rattle.std.specs.List.{count_by}
 use Rattle.std.specs.Prelude.{slice_set}
-use Rattle.std.proofs.lemmas.Bool.{false_from_ne_true}
+use Rattle.std.proofs.lemmas.Bool.{cases_lt, false_from_ne_true}
 use Rattle.std.proofs.lemmas.List.{drop-set-lt, drop_all, drop_more, get_or-set_same, length-append, length-set, take-append-drop, take-set-le, take_all, take_at, take_more}
 use Rattle.std.proofs.lemmas.List.Sums.{sum_by-cons, sum_by_more}
 use Rattle.dup_buffer.specs.Stored.{AreFrom, HaveSame, IsMerging, IsOnce, above, is_copy_of, rank}
 use Rattle.dup_buffer.specs.declared.copy.HeldCopy.{HeldCopy}
-use Rattle.dup_buffer.proofs.CountLemmas.{count-append, named_self}
+use Rattle.dup_buffer.proofs.StoredLemmas.{count-append, named_self}
 
 from_front : (low : ℕ) (xs ys : List HeldCopy) → AreFrom low (xs ++ ys) → AreFrom low xs
 from_front low [] ys up = tt
@@ -21,22 +21,23 @@ above-push : (low : ℕ) (xs : List HeldCopy) (x : HeldCopy) → above low (xs +
 above-push low [] x = refl
 above-push low (y ∷ xs) x = above-push (rank y + 1) xs x
 
--- the last of so many, and those in front of it
-module _ (copies : List HeldCopy) (m : ℕ) (d : HeldCopy) (inside : m < length copies) where
-  last_of : take (m + 1) copies ≡ take m copies ++ slice_index_or copies m d ∷ []
-  last_of = take_more copies m d inside
+-- the last of the first n, and those in front of it
+module _ (copies : List HeldCopy) (n m : ℕ) (d : HeldCopy) (size : n ≡ m + 1) (inside : m < length copies) where
+  last_of : take n copies ≡ take m copies ++ slice_index_or copies m d ∷ []
+  last_of = rw size (take_more copies m d inside)
 
-  above-last : above 0 (take (m + 1) copies) ≡ rank (slice_index_or copies m d) + 1
+  above-last : above 0 (take n copies) ≡ rank (slice_index_or copies m d) + 1
   above-last = ap (above 0) last_of ∙ above-push 0 (take m copies) (slice_index_or copies m d)
 
-  front_last : AreFrom 0 (take (m + 1) copies) → AreFrom 0 (take m copies)
+  front_last : AreFrom 0 (take n copies) → AreFrom 0 (take m copies)
   front_last up = from_front 0 (take m copies) (slice_index_or copies m d ∷ []) (subst (AreFrom 0) last_of up)
 
-  fits_last : AreFrom 0 (take (m + 1) copies) → above 0 (take m copies) ≤ rank (slice_index_or copies m d)
+  fits_last : AreFrom 0 (take n copies) → above 0 (take m copies) ≤ rank (slice_index_or copies m d)
   fits_last up = let back = from_back 0 (take m copies) (slice_index_or copies m d ∷ []) (subst (AreFrom 0) last_of up) in back.0
 
-  count_last : (p : HeldCopy → Bool) → count_by p (take (m + 1) copies) ≡ count_by p (take m copies) + (if p (slice_index_or copies m d) then 1 else 0)
-  count_last p = sum_by_more (λ c. if p c then 1 else 0) copies m d inside
+  count_last : (p : HeldCopy → Bool) → count_by p (take n copies)
+      ≡ count_by p (take m copies) + (if p (slice_index_or copies m d) then 1 else 0)
+  count_last p = rw size (sum_by_more (λ c. if p c then 1 else 0) copies m d inside)
 
 from-take : (n : ℕ) (copies : List HeldCopy) → AreFrom 0 copies → AreFrom 0 (take n copies)
 from-take n copies up = from_front 0 (take n copies) (drop n copies) (subst (AreFrom 0) (sym (take-append-drop n copies)) up)
@@ -47,104 +48,88 @@ drop-set copies at one lt =
     drop_more (slice_set copies at one) at one (omega (arith, lt, length-set copies at one))
     ∙ (λ i. get_or-set_same copies at one one lt i ∷ drop-set-lt (at + 1) copies at one (omega arith) i)
 
--- a copy of the first list is placed
-pub kept_placed : (kept late copies : List HeldCopy) (m l : ℕ) (d : HeldCopy) → IsMerging kept late (m + 1) (l + 1) copies
-    → rank (slice_index_or late l d) < rank (slice_index_or copies m d)
-    → IsMerging kept late m (l + 1) (slice_set copies (m + (l + 1)) (slice_index_or copies m d))
-kept_placed kept late copies m l d is lt =
-    record {
-      size = length-set copies at x ∙ is.size;
-      inside = omega (arith, is.inside, length-set copies at x);
-      within = is.within;
-      same = λ p. omega (arith, is.same p, ap (count_by p) front, ap (count_by p) back, sum_by-cons (λ c. if p c then 1 else 0) x rest, count_last copies m d here p);
-      waits = subst (AreFrom 0) (sym front) (front_last copies m d here is.waits);
-      behind = subst (λ (ys : List HeldCopy). AreFrom (above 0 ys) (drop at new)) (sym front) (subst (AreFrom (above 0 (take m copies))) (sym back) (fits_last copies m d here is.waits, after));
-      behind_late = subst (AreFrom (above 0 (take (l + 1) late))) (sym back) (omega (arith, lt, above-last late l d (omega (arith, is.within))), after);
-    }
+-- one more copy is placed, so that m of the one list and l of the other still wait
+placed : (kept late copies : List HeldCopy) (i j m l : ℕ) (x : HeldCopy) → IsMerging kept late i j copies → i + j
+    ≡ m + l + 1 → l ≤ j
+    → ((p : HeldCopy → Bool) → count_by p (take i copies) + count_by p (take j late) ≡
+        count_by p (take m copies) + count_by p (take l late) + (if p x then 1 else 0))
+    → AreFrom 0 (take m copies) → above 0 (take m copies) ≤ rank x → above 0 (take l late) ≤ rank x →
+        AreFrom (rank x + 1) (drop (i + j) copies)
+    → IsMerging kept late m l (slice_set copies (i + j - 1) x)
+placed kept late copies i j m l x is left fewer counts waits le le_late after = record {
+  size = length-set copies (i + j - 1) x ∙ is.size;
+  inside = omega (arith, is.inside, length-set copies (i + j - 1) x);
+  within = omega (arith, is.within);
+  same = λ p. omega (arith, is.same p, counts p, ap (count_by p) front, ap (count_by p) back,
+      sum_by-cons (λ c. if p c then 1 else 0) x (drop (i + j) copies));
+  waits = rw front waits;
+  behind = rw (front, back) (le, after);
+  behind_late = rw back (le_late, after);
+}
   where
-    x : HeldCopy
-    x = slice_index_or copies m d
+    front : take m (slice_set copies (i + j - 1) x) ≡ take m copies
+    front = take-set-le m copies (i + j - 1) x (omega arith)
 
-    at : ℕ
-    at = m + (l + 1)
+    back : drop (m + l) (slice_set copies (i + j - 1) x) ≡ x ∷ drop (i + j) copies
+    back =
+        let at : m + l ≡ i + j - 1 = omega arith in
+        let next : i + j - 1 + 1 ≡ i + j = omega arith in
+        ap (λ k. drop k (slice_set copies (i + j - 1) x)) at ∙ drop-set copies (i + j - 1) x (omega (arith, is.inside))
+        ∙ ap (λ k. x ∷ drop k copies) next
 
-    new : List HeldCopy
-    new = slice_set copies at x
+pub place_kept : (kept late copies : List HeldCopy) (i j : ℕ) (d : HeldCopy) → 0 < i → 0 < j →
+    IsMerging kept late i j copies
+    → rank (slice_index_or late (j - 1) d) < rank (slice_index_or copies (i - 1) d)
+    → IsMerging kept late (i - 1) j (slice_set copies (i + j - 1) (slice_index_or copies (i - 1) d))
+place_kept kept late copies i j d some_i some_j is lt =
+    let i_is : i ≡ i - 1 + 1 = omega arith in
+    let here : i - 1 < length copies = omega (arith, is.inside) in
+    placed kept late copies i j (i - 1) j (slice_index_or copies (i - 1) d) is (omega arith) (omega arith)
+    (λ p. omega (arith, count_last copies i (i - 1) d i_is here p))
+    (front_last copies i (i - 1) d i_is here is.waits) (fits_last copies i (i - 1) d i_is here is.waits)
+    (omega (arith, lt, above-last late j (j - 1) d (omega arith) (omega (arith, is.within))))
+    (subst (λ k. AreFrom k (drop (i + j) copies)) (above-last copies i (i - 1) d i_is here) is.behind)
 
-    rest : List HeldCopy
-    rest = drop (m + 1 + (l + 1)) copies
-
-    here : m < length copies
-    here = omega (arith, is.inside)
-
-    front : take m new ≡ take m copies
-    front = take-set-le m copies at x (omega arith)
-
-    back : drop at new ≡ x ∷ rest
-    back = drop-set copies at x (omega (arith, is.inside)) ∙ ap (λ k. x ∷ drop k copies) (let e : at + 1 ≡ m + 1 + (l + 1) = omega arith in e)
-
-    after : AreFrom (rank x + 1) rest
-    after = subst (λ k. AreFrom k rest) (above-last copies m d here) is.behind
-
--- a copy of the second list is placed
-pub late_placed : (kept late copies : List HeldCopy) (i l : ℕ) (d : HeldCopy) → AreFrom 0 late → IsMerging kept late i (l + 1) copies
-    → above 0 (take i copies) ≤ rank (slice_index_or late l d)
-    → IsMerging kept late i l (slice_set copies (i + l) (slice_index_or late l d))
-late_placed kept late copies i l d order is le =
-    record {
-      size = length-set copies at y ∙ is.size;
-      inside = omega (arith, is.inside, length-set copies at y);
-      within = omega (arith, is.within);
-      same = λ p. omega (arith, is.same p, ap (count_by p) front, ap (count_by p) back, sum_by-cons (λ c. if p c then 1 else 0) y rest, count_last late l d here p);
-      waits = subst (AreFrom 0) (sym front) is.waits;
-      behind = subst (λ (ys : List HeldCopy). AreFrom (above 0 ys) (drop at new)) (sym front) (subst (AreFrom (above 0 (take i copies))) (sym back) (le, after));
-      behind_late = subst (AreFrom (above 0 (take l late))) (sym back) (fits_last late l d here (from-take (l + 1) late order), after);
-    }
+pub place_late : (kept late copies : List HeldCopy) (i j : ℕ) (d : HeldCopy) → 0 < j → AreFrom 0 late →
+    IsMerging kept late i j copies
+    → (0 < i → rank (slice_index_or copies (i - 1) d) < rank (slice_index_or late (j - 1) d))
+    → IsMerging kept late i (j - 1) (slice_set copies (i + j - 1) (slice_index_or late (j - 1) d))
+place_late kept late copies i j d some_j order is lt =
+    let j_is : j ≡ j - 1 + 1 = omega arith in
+    let here : j - 1 < length late = omega (arith, is.within) in
+    placed kept late copies i j i (j - 1) (slice_index_or late (j - 1) d) is (omega arith) (omega arith)
+    (λ p. omega (arith, count_last late j (j - 1) d j_is here p)) is.waits fits
+    (fits_last late j (j - 1) d j_is here (from-take j late order))
+    (subst (λ k. AreFrom k (drop (i + j) copies)) (above-last late j (j - 1) d j_is here) is.behind_late)
   where
-    y : HeldCopy
-    y = slice_index_or late l d
-
-    at : ℕ
-    at = i + l
-
-    new : List HeldCopy
-    new = slice_set copies at y
-
-    rest : List HeldCopy
-    rest = drop (i + (l + 1)) copies
-
-    here : l < length late
-    here = omega (arith, is.within)
-
-    front : take i new ≡ take i copies
-    front = take-set-le i copies at y (omega arith)
-
-    back : drop at new ≡ y ∷ rest
-    back = drop-set copies at y (omega (arith, is.inside)) ∙ ap (λ k. y ∷ drop k copies) (let e : at + 1 ≡ i + (l + 1) = omega arith in e)
-
-    after : AreFrom (rank y + 1) rest
-    after = subst (λ k. AreFrom k rest) (above-last late l d here) is.behind_late
+    fits : above 0 (take i copies) ≤ rank (slice_index_or late (j - 1) d)
+    fits = elim (cases_lt 0 i) [
+      | inl some ↦ omega (arith, lt some, above-last copies i (i - 1) d (omega arith) (omega (arith, is.inside)))
+      | inr none ↦ let i_is : i ≡ 0 = omega arith in rw i_is (omega arith)
+    ]
 
 -- the last that waits of the one list isn't that of the other
-pub not_both : (kept late copies : List HeldCopy) (m l : ℕ) (d : HeldCopy) → IsOnce (kept ++ late) → IsMerging kept late (m + 1) (l + 1) copies
-    → is_copy_of (slice_index_or late l d).node (slice_index_or late l d).number (slice_index_or copies m d) ≡ false
-not_both kept late copies m l d once is = false_from_ne_true (p x) (λ e.
+pub last_apart : (kept late copies : List HeldCopy) (i j : ℕ) (d : HeldCopy) → 0 < i → 0 < j → IsOnce (kept ++ late) →
+    IsMerging kept late i j copies
+    → is_copy_of (slice_index_or late (j - 1) d).node (slice_index_or late (j - 1) d).number
+        (slice_index_or copies (i - 1) d) ≡ false
+last_apart kept late copies i j d some_i some_j once is = false_from_ne_true (p x) (λ e.
     omega (
       arith,
       is.same p,
       once y.node y.number,
       count-append p kept late,
-      count_last copies m d (omega (arith, is.inside)) p,
-      count_last late l d (omega (arith, is.within)) p,
+      count_last copies i (i - 1) d (omega arith) (omega (arith, is.inside)) p,
+      count_last late j (j - 1) d (omega arith) (omega (arith, is.within)) p,
       ap {B = ℕ} (λ (b : Bool). if b then 1 else 0) e,
       ap {B = ℕ} (λ (b : Bool). if b then 1 else 0) (named_self y),
     ))
   where
     x : HeldCopy
-    x = slice_index_or copies m d
+    x = slice_index_or copies (i - 1) d
 
     y : HeldCopy
-    y = slice_index_or late l d
+    y = slice_index_or late (j - 1) d
 
     p : HeldCopy → Bool
     p = is_copy_of y.node y.number
@@ -172,67 +157,19 @@ from_both : (low : ℕ) (xs ys : List HeldCopy) → AreFrom low xs → AreFrom (
 from_both low [] ys up more = more
 from_both low (x ∷ xs) ys up more = (up.0, from_both (rank x + 1) xs ys up.1 more)
 
-pub merged_order : (kept late copies : List HeldCopy) (i : ℕ) → IsMerging kept late i 0 copies → AreFrom 0 copies
-merged_order kept late copies i is = subst (AreFrom 0) (take-append-drop i copies)
-    (from_both 0 (take i copies) (drop i copies) is.waits (subst (λ k. AreFrom (above 0 (take i copies)) (drop k copies)) (let e : i + 0 ≡ i = omega arith in e) is.behind))
-
-pub merged_same : (kept late copies : List HeldCopy) (i : ℕ) → IsMerging kept late i 0 copies → HaveSame (kept ++ late) copies
-merged_same kept late copies i is p =
-    let whole : count_by p (take i copies) + count_by p (drop i copies) ≡ count_by p copies = sym (count-append p (take i copies) (drop i copies)) ∙ ap (count_by p) (take-append-drop i copies) in
-    let rest : count_by p (drop (i + 0) copies) ≡ count_by p (drop i copies) = ap (λ k. count_by p (drop k copies)) (let e : i + 0 ≡ i = omega arith in e) in
-    omega (arith, is.same p, whole, rest, count-append p kept late)
-
--- ---- the steps, by how many of each wait
-
-pub place_kept : (kept late copies : List HeldCopy) (i j : ℕ) (d : HeldCopy) → 0 < i → 0 < j → IsMerging kept late i j copies
-    → rank (slice_index_or late (j - 1) d) < rank (slice_index_or copies (i - 1) d)
-    → IsMerging kept late (i - 1) j (slice_set copies (i + j - 1) (slice_index_or copies (i - 1) d))
-place_kept kept late copies i j d some_i some_j is lt =
-    let is_more : IsMerging kept late (i - 1 + 1) (j - 1 + 1) copies = subst (λ m. IsMerging kept late m (j - 1 + 1) copies) (sym i_is) (subst (λ l. IsMerging kept late i l copies) (sym j_is) is) in
-    let placed = kept_placed kept late copies (i - 1) (j - 1) d is_more lt in
-    subst (λ at. IsMerging kept late (i - 1) j (slice_set copies at (slice_index_or copies (i - 1) d))) here
-    (subst (λ l. IsMerging kept late (i - 1) l (slice_set copies (i - 1 + (j - 1 + 1)) (slice_index_or copies (i - 1) d))) j_is placed)
-  where
-    i_is : i - 1 + 1 ≡ i
-    i_is = omega (arith, some_i)
-
-    j_is : j - 1 + 1 ≡ j
-    j_is = omega (arith, some_j)
-
-    here : i - 1 + (j - 1 + 1) ≡ i + j - 1
-    here = omega (arith, some_i, some_j)
-
-pub place_late : (kept late copies : List HeldCopy) (i j : ℕ) (d : HeldCopy) → 0 < j → AreFrom 0 late → IsMerging kept late i j copies
-    → (0 < i → rank (slice_index_or copies (i - 1) d) < rank (slice_index_or late (j - 1) d))
-    → IsMerging kept late i (j - 1) (slice_set copies (i + j - 1) (slice_index_or late (j - 1) d))
-place_late kept late copies i j d some_j order is lt =
-    let is_more : IsMerging kept late i (j - 1 + 1) copies = subst (λ l. IsMerging kept late i l copies) (sym j_is) is in
-    let placed = late_placed kept late copies i (j - 1) d order is_more (fits i refl) in
-    subst (λ at. IsMerging kept late i (j - 1) (slice_set copies at (slice_index_or late (j - 1) d))) here placed
-  where
-    j_is : j - 1 + 1 ≡ j
-    j_is = omega (arith, some_j)
-
-    here : i + (j - 1) ≡ i + j - 1
-    here = omega (arith, some_j)
-
-    fits : (m : ℕ) → m ≡ i → above 0 (take i copies) ≤ rank (slice_index_or late (j - 1) d)
-    fits zero e = subst (λ m. above 0 (take m copies) ≤ rank (slice_index_or late (j - 1) d)) e (omega arith)
-    fits (suc m) e =
-        let first : rank (slice_index_or copies (i - 1) d) < rank (slice_index_or late (j - 1) d) = lt (omega (arith, e)) in
-        let m_is : m ≡ i - 1 = omega (arith, e) in
-        let last : above 0 (take (m + 1) copies) ≡ rank (slice_index_or copies m d) + 1 = above-last copies m d (omega (arith, e, is.inside)) in
-        let whole : m + 1 ≡ i = omega (arith, e) in
-        subst (λ n. above 0 (take n copies) ≤ rank (slice_index_or late (j - 1) d)) whole (omega (arith, last, first, ap (λ n. rank (slice_index_or copies n d)) m_is))
-
--- the last that waits of the one list isn't that of the other
-pub last_apart : (kept late copies : List HeldCopy) (i j : ℕ) (d : HeldCopy) → 0 < i → 0 < j → IsOnce (kept ++ late) → IsMerging kept late i j copies
-    → is_copy_of (slice_index_or late (j - 1) d).node (slice_index_or late (j - 1) d).number (slice_index_or copies (i - 1) d) ≡ false
-last_apart kept late copies i j d some_i some_j once is =
-    not_both kept late copies (i - 1) (j - 1) d once (subst (λ m. IsMerging kept late m (j - 1 + 1) copies) (sym i_is) (subst (λ l. IsMerging kept late i l copies) (sym j_is) is))
-  where
-    i_is : i - 1 + 1 ≡ i
-    i_is = omega (arith, some_i)
-
-    j_is : j - 1 + 1 ≡ j
-    j_is = omega (arith, some_j)
+pub merged : (kept late copies : List HeldCopy) (i j : ℕ) → j ≡ 0 → IsMerging kept late i j copies →
+    AreFrom 0 copies × HaveSame (kept ++ late) copies
+merged kept late copies i j none is =
+    let here : i + j ≡ i = omega arith in (
+      subst (AreFrom 0) (take-append-drop i copies) (from_both 0 (take i copies) (drop i copies) is.waits
+          (rw here at is.behind)),
+      λ p. omega (
+        arith,
+        is.same p,
+        ap (λ k. count_by p (take k late)) none,
+        ap (λ k. count_by p (drop k copies)) here,
+        count-append p (take i copies) (drop i copies),
+        ap (count_by p) (take-append-drop i copies),
+        count-append p kept late,
+      ),
+    )

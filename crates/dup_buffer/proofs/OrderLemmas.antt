@@ -89,13 +89,24 @@ from_point copies at q inside point = record {
   later = λ j d le within. ltb-false (rank (slice_index_or copies j d)) q (point.1 j d le within);
 }
 
-pub absent_end : (copies : List HeldCopy) (at n k : ℕ) → at ≡ length copies → IsFrom copies at (rank_of n k) → IsAbsent copies at n k
-absent_end copies at n k end from = record {
+absent_from : (copies : List HeldCopy) (at n k : ℕ) → IsFrom copies at (rank_of n k)
+    → ((j : ℕ) (d : HeldCopy) → at ≤ j → j < length copies → rank_of n k < rank (slice_index_or copies j d)) →
+        IsAbsent copies at n k
+absent_from copies at n k from past = record {
   inside = from.inside;
-  none = none_found (is_copy_of n k) copies (λ j d lt. not_named n k (slice_index_or copies j d) (λ e. omega (arith, e, from.before j d (omega (arith, end, lt)))));
+  none = none_found (is_copy_of n k) copies (λ j d lt. not_named n k (slice_index_or copies j d)
+      (λ q. elim (cases_lt j at) [
+    | inl less ↦ omega (arith, q, from.before j d less)
+    | inr le ↦ omega (arith, q, past j d le lt)
+  ]));
   before = from.before;
-  later = λ j d le within. absurd (omega (arith, le, within, end));
+  later = past;
 }
+
+pub absent_end : (copies : List HeldCopy) (at n k : ℕ) → at ≡ length copies → IsFrom copies at (rank_of n k) →
+    IsAbsent copies at n k
+absent_end copies at n k end from = absent_from copies at n k from
+    (λ j d le within. absurd (omega (arith, le, within, end)))
 
 pub found_at : (copies : List HeldCopy) (at n k : ℕ) (e : HeldCopy) → AreFrom 0 copies → at < length copies → IsFrom copies at (rank_of n k)
     → is_copy_of n k (slice_index_or copies at e) ≡ true → IsFound copies at n k
@@ -120,13 +131,7 @@ found_at copies at n k e up inside from named =
 
 pub absent_at : (copies : List HeldCopy) (at n k : ℕ) (e : HeldCopy) → AreFrom 0 copies → at < length copies → IsFrom copies at (rank_of n k)
     → (rank (slice_index_or copies at e) ≡ rank_of n k → ⊥) → IsAbsent copies at n k
-absent_at copies at n k e up inside from apart =
-    record {
-      inside = from.inside;
-      none = none_found (is_copy_of n k) copies (λ j d lt. not_named n k (slice_index_or copies j d) (λ q. other j d lt q));
-      before = from.before;
-      later = past;
-    }
+absent_at copies at n k e up inside from apart = absent_from copies at n k from past
   where
     here : (d : HeldCopy) → rank_of n k < rank (slice_index_or copies at d)
     here d =
@@ -136,10 +141,4 @@ absent_at copies at n k e up inside from apart =
     past j d le within = elim (cases_eq at j) [
       | inl same ↦ omega (arith, here d, ap (λ (m : ℕ). rank (slice_index_or copies m d)) same)
       | inr ne ↦ omega (arith, here d, ascending 0 copies up at j d (omega (arith, le, ne)) within)
-    ]
-
-    other : (j : ℕ) (d : HeldCopy) → j < length copies → rank (slice_index_or copies j d) ≡ rank_of n k → ⊥
-    other j d lt q = elim (cases_lt j at) [
-      | inl less ↦ omega (arith, q, from.before j d less)
-      | inr le ↦ omega (arith, q, past j d le lt)
     ]

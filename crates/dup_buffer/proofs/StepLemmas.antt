@@ -1,25 +1,23 @@
 -- What each step on the two lists makes of the copies that are held.
-use Rattle.std.proofs.Common.{◌≡◌, ℕ, ◌+◌, ◌<◌, ◌≤◌, ◌==◌, ◌&&◌, not, Bool, true, false, cond, if◌then◌else◌, List, [], ◌∷◌, ◌++◌, Option, None, Some, length, filter, refl, sym, ap, subst, ◌∙◌, arith, length-append}
+use Rattle.std.proofs.Common.{◌≡◌, ℕ, ◌+◌, ◌<◌, ◌≤◌, ◌==◌, ◌&&◌, not, Bool, true, false, if◌then◌else◌, List, ◌∷◌, ◌++◌, Option, None, Some, length, filter, refl, sym, ap, subst, ◌∙◌, arith, length-append}
 use Rattle.std.specs.List.{count_by, find}
 use Rattle.std.specs.Option.{option_map, option_or}
 use Rattle.std.proofs.lemmas.List.Elements.{filter-append}
 use Rattle.std.proofs.lemmas.List.Sums.{count_by-le-length, length-filter, sum_by-cons}
 use Rattle.std.proofs.lemmas.List.Folds.{find-append}
-use Rattle.std.proofs.lemmas.Bool.{cond_both}
 use Rattle.dup_buffer.specs.Copies.{with_copy, without_node}
 use Rattle.dup_buffer.specs.Stored.{AreFrom, AreHeld, AreStored, HaveSame, IsOnce, all_held, copies_of, held_in, is_copy_of, is_of, most_late, place_of}
 use Rattle.dup_buffer.specs.declared.copy.HeldCopy.{HeldCopy}
-use Rattle.dup_buffer.proofs.CountLemmas.{count-append, found_counts, found_passes, held_all, held_are, none_if_none, none_of_none}
-use Rattle.dup_buffer.proofs.HeldLemmas.{IsLess, IsMore, less_before, more_behind, none_parts, one_less, one_more, same_length}
+use Rattle.dup_buffer.proofs.StoredLemmas.{copies_of-node_out, count-append, count_by-is_of, count_by-pass, count_parts, filter-filter, found_counts, held_all, held_are, none_if_none, none_of_none, others, stored}
+use Rattle.dup_buffer.proofs.HeldLemmas.{IsLess, IsMore, less_before, more_behind, one_less, one_more, same_length}
 use Rattle.dup_buffer.proofs.OrderLemmas.{from-filter}
-use Rattle.dup_buffer.proofs.StoredLemmas.{copies_of-node_out, count_by-is_of, count_by-pass, others, stored}
 
 -- ---- finding
 
 pub found_late : (n k : ℕ) (kept late : List HeldCopy) (c : HeldCopy) → IsOnce (kept ++ late) → find (is_copy_of n k) late ≡ Some c → find (is_copy_of n k) (kept ++ late) ≡ Some c
 found_late n k kept late c once e =
     find-append p kept late ∙ ap (λ (o : Option HeldCopy). option_or o (find p late)) (none_of_none p kept
-    (omega (arith, once n k, count-append p kept late, found_counts p p late c e (found_passes p late c e)))) ∙ e
+    (omega (arith, once n k, count-append p kept late, found_counts p late c e))) ∙ e
   where
     p : HeldCopy → Bool
     p = is_copy_of n k
@@ -43,13 +41,11 @@ few_held kept late =
       count_by-le-length (λ (c : HeldCopy). c.held) kept,
     )
 
-pub none_same : (p : HeldCopy → Bool) (xs ys : List HeldCopy) → HaveSame xs ys → find p xs ≡ None → find p ys ≡ None
-none_same p xs ys same none = none_of_none p ys (omega (arith, same p, none_if_none p xs none))
-
 pub none_late : (p : HeldCopy → Bool) (kept late new_kept new_late : List HeldCopy) → HaveSame (all_held kept late) (all_held new_kept new_late)
     → find p (all_held kept late) ≡ None → find p new_late ≡ None
 none_late p kept late new_kept new_late same none =
-    let parts = none_parts p (held_in new_kept) new_late (none_same p (all_held kept late) (all_held new_kept new_late) same none) in parts.1
+    none_of_none p new_late
+    (omega (arith, same p, none_if_none p (all_held kept late) none, count-append p (held_in new_kept) new_late))
 
 -- a copy came into the short list
 pub record IsHeld (one : HeldCopy) (old : List HeldCopy) (kept late : List HeldCopy) : Type 0 where
@@ -74,22 +70,9 @@ held_one one old kept late new same none once held is room order more =
       count = all.count;
     }
 
-no_place : (o : Option HeldCopy) → option_map place_of o ≡ None → o ≡ None
+pub no_place : (o : Option HeldCopy) → option_map place_of o ≡ None → o ≡ None
 no_place None e = refl
 no_place (Some copy) e = absurd (cc)
-
-pub none_placed : (one : HeldCopy) (kept late reserved new_kept new_late : List HeldCopy) → reserved ≡ kept → HaveSame (all_held reserved late) (all_held new_kept new_late)
-    → option_map place_of (find (is_copy_of one.node one.number) (all_held kept late)) ≡ None → find (is_copy_of one.node one.number) new_late ≡ None
-none_placed one kept late reserved new_kept new_late e same none =
-    none_late (is_copy_of one.node one.number) reserved late new_kept new_late same
-    ((λ i. find (is_copy_of one.node one.number) (all_held (e i) late)) ∙ no_place (find (is_copy_of one.node one.number) (all_held kept late)) none)
-
-pub held_step : (one : HeldCopy) (kept late reserved new_kept new_late new : List HeldCopy) → reserved ≡ kept → HaveSame (all_held reserved late) (all_held new_kept new_late)
-    → option_map place_of (find (is_copy_of one.node one.number) (all_held kept late)) ≡ None → IsOnce (all_held kept late) → one.held ≡ true
-    → AreStored new_kept new_late → length new_late < most_late → AreFrom 0 new → HaveSame (one ∷ new_late) new → IsHeld one (all_held kept late) new_kept new
-held_step one kept late reserved new_kept new_late new e same none once held is room order more =
-    held_one one (all_held kept late) new_kept new_late new (λ p. (λ i. count_by p (all_held (sym e i) late)) ∙ same p)
-    (no_place (find (is_copy_of one.node one.number) (all_held kept late)) none) once held is room order more
 
 -- ---- taking out
 
@@ -127,27 +110,14 @@ abbrev pub left_in : ℕ → List HeldCopy → List HeldCopy
 left_in node copies = filter (λ c. c.held && not (c.node == node)) copies
 
 left_is : (node : ℕ) (copies : List HeldCopy) → left_in node copies ≡ others node (held_in copies)
-left_is node [] = refl
-left_is node (c ∷ cs) = by c.held (left_is node cs)
-  where
-    by : (b : Bool) → left_in node cs ≡ others node (held_in cs)
-        → cond (b && not (c.node == node)) (c ∷ left_in node cs) (left_in node cs) ≡ others node (cond b (c ∷ held_in cs) (held_in cs))
-    by true rest = ap (λ (l : List HeldCopy). cond (not (c.node == node)) (c ∷ l) l) rest
-    by false rest = rest
-
-fewer : (p q : HeldCopy → Bool) (xs : List HeldCopy) → count_by p (filter q xs) ≤ count_by p xs
-fewer p q [] = omega arith
-fewer p q (x ∷ xs) =
-    let more = sum_by-cons (λ c. if p c then 1 else 0) x in
-    cond_both (q x) (x ∷ filter q xs) (filter q xs) (λ (l : List HeldCopy). count_by p l ≤ count_by p (x ∷ xs))
-    (λ _. omega (arith, fewer p q xs, more xs, more (filter q xs))) (λ _. omega (arith, fewer p q xs, more xs))
+left_is node copies = sym (filter-filter (λ c. not (c.node == node)) (λ c. c.held) copies)
 
 fewer_all : (q : HeldCopy → Bool) (xs : List HeldCopy) → length (filter q xs) ≤ length xs
 fewer_all q xs = omega (arith, length-filter q xs, count_by-le-length q xs)
 
 left_held : (node : ℕ) (copies : List HeldCopy) → AreHeld (left_in node copies)
 left_held node copies =
-    let few = fewer (λ c. not c.held) (λ c. not (c.node == node)) (held_in copies) in
+    let few = count_parts (λ c. not c.held) (λ c. not (c.node == node)) (held_in copies) in
     omega (arith, few, held_are copies, ap (count_by (λ c. not c.held)) (left_is node copies))
 
 -- none is left that isn't held
@@ -176,7 +146,7 @@ gone_count node kept late new_kept new_late held k l =
     (λ i. length (k i) + length (l i) + count_by (is_of node) (all_held kept late)) ∙ left_count node kept late held
 
 once_filter : (q : HeldCopy → Bool) (xs : List HeldCopy) → IsOnce xs → IsOnce (filter q xs)
-once_filter q xs once n k = omega (arith, once n k, fewer (is_copy_of n k) q xs)
+once_filter q xs once n k = omega (arith, once n k, count_parts (is_copy_of n k) q xs)
 
 pub left_stored : (node : ℕ) (kept late : List HeldCopy) → AreStored kept late → AreStored (left_in node kept) (left_in node late)
 left_stored node kept late is = record {

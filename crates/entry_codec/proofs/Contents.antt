@@ -7,7 +7,8 @@ use Rattle.gw_base.specs.declared.history.HistoryEntry.{HistoryEntry}
 use Rattle.entry_codec.specs.Content.{AreEntries, entries_of, entries_up_to, spelled, with_next}
 use Rattle.entry_codec.specs.Reading.{entry_at}
 use Rattle.entry_codec.specs.Spelling.{HasSpelling, spelling}
-use Rattle.entry_codec.proofs.Entries.{entry_part, same_entry}
+use Rattle.entry_codec.proofs.Entries.{entry_part}
+use Rattle.entry_codec.proofs.Parts.{same_first}
 pub use Rattle.entry_codec.specs.Laws.{costs_of-append, costs_of-spelled, length_of_spelling, more_entries, no_entries, one_entry}
 
 -- ---- reading them back
@@ -40,6 +41,7 @@ first_entries [] g b p q e = (g, refl, record { spelling = e; each = q })
 first_entries (x ∷ h) [] b p q e = absurd (omega (arith, ap (λ (o : List ℕ). length o) e, length-append (spelled (x ∷ h)) b, length-append (spelling x) (spelled h), length_of_spelling x))
 first_entries (x ∷ h) (y ∷ g) b p q e =
     let regrouped : spelling x ++ (spelled h ++ b) ≡ spelling y ++ spelled g = sym (append_assoc (spelling x) (spelled h) b) ∙ e in
-    let same = same_entry x y (spelled h ++ b) (spelled g) (All-head HasSpelling x h p) (All-head HasSpelling y g q) regrouped in
+    let same = same_first entry_part x y (spelled h ++ b) (spelled g) (All-head HasSpelling x h p)
+        (All-head HasSpelling y g q) regrouped in
     let others = first_entries h g b (All-tail HasSpelling x h p) (All-tail HasSpelling y g q) same.1 in
     (others.0, (λ i. sym same.0 i ∷ others.1 i), others.2)

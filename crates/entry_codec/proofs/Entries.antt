@@ -1,19 +1,20 @@
 -- Entries as a part: what is read is spelled so, what is spelled so is read, and a fault is the first wrong octet.
-use Rattle.std.proofs.Common.{◌≡◌, ℕ, suc, ◌+◌, ◌-◌, ◌^◌, ◌<◌, ◌≤◌, ◌==◌, ◌||◌, nat_le, Bool, true, false, List, [], ◌∷◌, ◌++◌, length, take, Ok, Err, refl, sym, ap, subst, ◌∙◌, inl, inr, append_assoc, arith}
+use Rattle.std.proofs.Common.{◌≡◌, ℕ, ◌+◌, ◌-◌, ◌≤◌, ◌==◌, ◌||◌, nat_le, Bool, true, false, List, [], ◌∷◌, ◌++◌, length, take, drop, Ok, Err, refl, sym, ap, subst, ◌∙◌, inl, inr, append_assoc, arith}
 use Rattle.std.proofs.lemmas.Bool.{eqb-true, leb-true, cases_lt}
-use Rattle.std.proofs.lemmas.List.{append-nil, length-append, take_at}
+use Rattle.std.proofs.lemmas.List.{length-append, length-take, take-append-drop, take_at}
 use Rattle.byteorder.specs.Endian.{big_bytes}
 use Rattle.gw_base.specs.declared.history.HistoryAct.{HistoryAct}
 use Rattle.gw_base.specs.declared.history.HistoryEntry.{HistoryEntry}
 use Rattle.entry_codec.specs.declared.kind.Kind.{Kind}
 use Rattle.entry_codec.specs.declared.kind.Kind.TheVariants as kinds
 use Rattle.entry_codec.specs.Fault.{BeginsAnEntry, BeginsWith, IsFirstWrong}
-use Rattle.entry_codec.specs.Reading.{◌>>=◌, act_at, entry_at, fits_length, is_length, kind_at, length_at, moment_at, number_at}
-use Rattle.entry_codec.specs.Spelling.{AreBelow, HasSpelling, body, entry_length, kind_of, spelling}
-use Rattle.entry_codec.proofs.Acts.{IsActOf, IsKind, act_length, act_part, list_test, kind_part, kind_spelling, some_act}
-use Rattle.entry_codec.proofs.Fields.{IsNumber, number_part, wide4, wide8}
-use Rattle.entry_codec.proofs.Heads.{IsLength, IsMoment, is_length_long, length_part, moment_part}
-use Rattle.entry_codec.proofs.Parts.{IsPart, done_part, not_both, ok_is, then_part}
+use Rattle.entry_codec.specs.Reading.{entry_at, fits_length, is_length}
+use Rattle.entry_codec.specs.Spelling.{AreBelow, HasSpelling, body, code_of, entry_length, kind_of, spelling}
+use Rattle.entry_codec.proofs.Acts.{IsKind, act_length, act_part, kind_part, list_test}
+use Rattle.entry_codec.proofs.Fields.{number_part, wide4, wide8}
+use Rattle.entry_codec.proofs.Heads.{is_length_long, length_part, moment_part}
+use Rattle.entry_codec.proofs.Lists.{fronts}
+use Rattle.entry_codec.proofs.Parts.{IsPart, bind_assoc, not_both, ok_is, onto_part, pair_part}
 pub use Rattle.entry_codec.specs.Laws.{length_of_spelling}
 
 -- ---- lengths and kinds
@@ -53,130 +54,45 @@ is_length_of n _ fits = ap is_length (eqb-true n 25 fits)
 abbrev entry_of : ℕ → ℕ → ℕ → HistoryAct → HistoryEntry
 entry_of moment session serial act = record { moment = moment; caller = record { session = session; serial = serial }; act = act }
 
-spelled_entry : (n : ℕ) (kind : Kind) (moment session serial : ℕ) (act : HistoryAct) → n < 2 ^ 32 → IsMoment moment → session < 2 ^ 32 → serial < 2 ^ 64 → IsActOf n kind act → HasSpelling (entry_of moment session serial act)
-spelled_entry n kind moment session serial act short m s r fits = record { moment = m; session = s; serial = r; act = fits.0; short = omega (arith, fits.2, short) }
-
-abbrev Fits1 : ℕ → HistoryEntry → Type 0
-Fits1 n e = HasSpelling e × (entry_length e ≡ n)
-
-abbrev Fits2 : ℕ → Kind → HistoryEntry → Type 0
-Fits2 n kind e = Fits1 n e × (kind_of e.act ≡ kind)
-
-abbrev Fits3 : ℕ → Kind → ℕ → HistoryEntry → Type 0
-Fits3 n kind moment e = Fits2 n kind e × (e.moment ≡ moment)
-
-abbrev Fits4 : ℕ → Kind → ℕ → ℕ → HistoryEntry → Type 0
-Fits4 n kind moment session e = Fits3 n kind moment e × (e.caller.session ≡ session)
-
-abbrev Fits5 : ℕ → Kind → ℕ → ℕ → ℕ → HistoryEntry → Type 0
-Fits5 n kind moment session serial e = Fits4 n kind moment session e × (e.caller.serial ≡ serial)
-
-part6 : (n : ℕ) (kind : Kind) (moment session serial : ℕ) → IsLength n → IsKind n kind → IsMoment moment → IsNumber 4 session → IsNumber 8 serial
-    → IsPart (Fits5 n kind moment session serial) (λ e. body e.act) (λ rest. act_at n kind rest >>= λ act. Ok (entry_of moment session serial act.0, act.1))
-part6 n kind moment session serial fn fk fm fs fr =
-    then_part (IsActOf n kind) body (act_at n kind) (Fits5 n kind moment session serial) (λ e. body e.act) (λ e. e.act) (λ e. [])
-    (λ act rest. Ok (entry_of moment session serial act, rest))
-    (act_part n kind fk)
-    (record {
-      picked = λ e f. (f.0.0.0.0.0.act, f.0.0.0.1, f.0.0.0.0.1);
-      spelled = λ e f. sym (append-nil (body e.act));
-      some = λ act fa. (entry_of moment session serial act, (((((spelled_entry n kind moment session serial act fn.1 fm fs fr fa, fa.2), fa.1), refl), refl), refl), refl);
-      part = λ act fa.
-          done_part (λ (e : HistoryEntry). Fits5 n kind moment session serial e × (e.act ≡ act)) (entry_of moment session serial act)
-          (λ e f. λ i. entry_of (f.0.0.0.1 i) (f.0.0.1 i) (f.0.1 i) (f.1 i))
-          ((((((spelled_entry n kind moment session serial act fn.1 fm fs fr fa, fa.2), fa.1), refl), refl), refl), refl);
-    })
-
-part5 : (n : ℕ) (kind : Kind) (moment session : ℕ) → IsLength n → IsKind n kind → IsMoment moment → IsNumber 4 session
-    → IsPart (Fits4 n kind moment session) (λ e. big_bytes 8 e.caller.serial ++ body e.act) (λ rest. number_at 8 rest >>= λ serial. act_at n kind serial.1 >>= λ act. Ok (entry_of moment session serial.0 act.0, act.1))
-part5 n kind moment session fn fk fm fs =
-    then_part (IsNumber 8) (big_bytes 8) (number_at 8) (Fits4 n kind moment session) (λ e. big_bytes 8 e.caller.serial ++ body e.act) (λ e. e.caller.serial) (λ e. body e.act)
-    (λ serial rest. act_at n kind rest >>= λ act. Ok (entry_of moment session serial act.0, act.1))
-    (number_part 8 wide8)
-    (record {
-      picked = λ e f. f.0.0.0.0.serial;
-      spelled = λ e f. refl;
-      some = λ serial fr. let a = some_act n kind fk in (entry_of moment session serial a.0, ((((spelled_entry n kind moment session serial a.0 fn.1 fm fs fr a.1, a.1.2), a.1.1), refl), refl), refl);
-      part = λ serial fr. part6 n kind moment session serial fn fk fm fs fr;
-    })
-
-part4 : (n : ℕ) (kind : Kind) (moment : ℕ) → IsLength n → IsKind n kind → IsMoment moment
-    → IsPart (Fits3 n kind moment) (λ e. big_bytes 4 e.caller.session ++ (big_bytes 8 e.caller.serial ++ body e.act)) (λ rest. number_at 4 rest >>= λ session. number_at 8 session.1 >>= λ serial. act_at n kind serial.1 >>= λ act. Ok (entry_of moment session.0 serial.0 act.0, act.1))
-part4 n kind moment fn fk fm =
-    then_part (IsNumber 4) (big_bytes 4) (number_at 4) (Fits3 n kind moment) (λ e. big_bytes 4 e.caller.session ++ (big_bytes 8 e.caller.serial ++ body e.act)) (λ e. e.caller.session) (λ e. big_bytes 8 e.caller.serial ++ body e.act)
-    (λ session rest. number_at 8 rest >>= λ serial. act_at n kind serial.1 >>= λ act. Ok (entry_of moment session serial.0 act.0, act.1))
-    (number_part 4 wide4)
-    (record {
-      picked = λ e f. f.0.0.0.session;
-      spelled = λ e f. refl;
-      some = λ session fs. let a = some_act n kind fk in (entry_of moment session 0 a.0, (((spelled_entry n kind moment session 0 a.0 fn.1 fm fs (omega arith) a.1, a.1.2), a.1.1), refl), refl);
-      part = λ session fs. part5 n kind moment session fn fk fm fs;
-    })
-
-part3 : (n : ℕ) (kind : Kind) → IsLength n → IsKind n kind
-    → IsPart (Fits2 n kind) (λ e. big_bytes 8 e.moment ++ (big_bytes 4 e.caller.session ++ (big_bytes 8 e.caller.serial ++ body e.act)))
-    (λ rest. moment_at rest >>= λ moment. number_at 4 moment.1 >>= λ session. number_at 8 session.1 >>= λ serial. act_at n kind serial.1 >>= λ act. Ok (entry_of moment.0 session.0 serial.0 act.0, act.1))
-part3 n kind fn fk =
-    then_part IsMoment (big_bytes 8) moment_at (Fits2 n kind) (λ e. big_bytes 8 e.moment ++ (big_bytes 4 e.caller.session ++ (big_bytes 8 e.caller.serial ++ body e.act))) (λ e. e.moment) (λ e. big_bytes 4 e.caller.session ++ (big_bytes 8 e.caller.serial ++ body e.act))
-    (λ moment rest. number_at 4 rest >>= λ session. number_at 8 session.1 >>= λ serial. act_at n kind serial.1 >>= λ act. Ok (entry_of moment session.0 serial.0 act.0, act.1))
-    moment_part
-    (record {
-      picked = λ e f. f.0.0.moment;
-      spelled = λ e f. refl;
-      some = λ moment fm. let a = some_act n kind fk in (entry_of moment 0 0 a.0, ((spelled_entry n kind moment 0 0 a.0 fn.1 fm (omega arith) (omega arith) a.1, a.1.2), a.1.1), refl);
-      part = λ moment fm. part4 n kind moment fn fk fm;
-    })
-
-part2 : (n : ℕ) → IsLength n
-    → IsPart (Fits1 n) (λ e. kind_spelling (kind_of e.act) ++ (big_bytes 8 e.moment ++ (big_bytes 4 e.caller.session ++ (big_bytes 8 e.caller.serial ++ body e.act))))
-    (λ rest. kind_at n rest >>= λ kind. moment_at kind.1 >>= λ moment. number_at 4 moment.1 >>= λ session. number_at 8 session.1 >>= λ serial. act_at n kind.0 serial.1 >>= λ act. Ok (entry_of moment.0 session.0 serial.0 act.0, act.1))
-part2 n fn =
-    let k = kind_for n fn.0 in
-    then_part (IsKind n) kind_spelling (kind_at n) (Fits1 n) (λ e. kind_spelling (kind_of e.act) ++ (big_bytes 8 e.moment ++ (big_bytes 4 e.caller.session ++ (big_bytes 8 e.caller.serial ++ body e.act)))) (λ e. kind_of e.act) (λ e. big_bytes 8 e.moment ++ (big_bytes 4 e.caller.session ++ (big_bytes 8 e.caller.serial ++ body e.act)))
-    (λ kind rest. moment_at rest >>= λ moment. number_at 4 moment.1 >>= λ session. number_at 8 session.1 >>= λ serial. act_at n kind serial.1 >>= λ act. Ok (entry_of moment.0 session.0 serial.0 act.0, act.1))
-    (kind_part n k.0 k.1)
-    (record {
-      picked = λ e f. subst (λ (m : ℕ). IsKind m (kind_of e.act)) f.1 (act_length e.act);
-      spelled = λ e f. refl;
-      some = λ kind fk. let a = some_act n kind fk in (entry_of 0 0 0 a.0, (spelled_entry n kind 0 0 0 a.0 fn.1 (omega arith) (omega arith) (omega arith) a.1, a.1.2), a.1.1);
-      part = λ kind fk. part3 n kind fn fk;
-    })
+abbrev Parts : Type 0
+Parts = ℕ × (Kind × (ℕ × (ℕ × (ℕ × HistoryAct))))
 
 pub entry_part : IsPart HasSpelling spelling entry_at
 unfolding entry_at
 entry_part =
-    then_part IsLength (big_bytes 4) length_at HasSpelling spelling entry_length (λ e. kind_spelling (kind_of e.act) ++ (big_bytes 8 e.moment ++ (big_bytes 4 e.caller.session ++ (big_bytes 8 e.caller.serial ++ body e.act))))
-    (λ n rest. kind_at n rest >>= λ kind. moment_at kind.1 >>= λ moment. number_at 4 moment.1 >>= λ session. number_at 8 session.1 >>= λ serial. act_at n kind.0 serial.1 >>= λ act. Ok (entry_of moment.0 session.0 serial.0 act.0, act.1))
-    length_part
+    onto_part (λ (t : Parts). entry_of t.1.1.0 t.1.1.1.0 t.1.1.1.1.0 t.1.1.1.1.1)
+    (pair_part length_part (λ n fn. let k = kind_for n fn.0 in pair_part (kind_part n k.0 k.1) (λ kind fk.
+    pair_part moment_part (λ m fm. pair_part (number_part 4 wide4) (λ s fs. pair_part (number_part 8 wide8) (λ r fr.
+    act_part n kind fk))))))
     (record {
-      picked = λ e f. (is_length_of (entry_length e) (kind_of e.act) (act_length e.act), f.short);
-      spelled = λ e f. refl;
-      some = λ n fn. let k = kind_for n fn.0 in let a = some_act n k.0 k.1 in (entry_of 0 0 0 a.0, spelled_entry n k.0 0 0 0 a.0 fn.1 (omega arith) (omega arith) (omega arith) a.1, a.1.2);
-      part = λ n fn. part2 n fn;
+      fits = λ t f.
+          let act = f.1.1.1.1.1 in
+          record { moment = f.1.1.0; session = f.1.1.1.0; serial = f.1.1.1.1.0; act = act.0;
+              short = omega (arith, act.2, f.0.1) };
+      spelled = λ t f. let act = f.1.1.1.1.1 in
+          λ i. big_bytes 4 (act.2 i) ++ (code_of (act.1 i) ∷ (big_bytes 8 t.1.1.0
+              ++ (big_bytes 4 t.1.1.1.0 ++ (big_bytes 8 t.1.1.1.1.0 ++ body t.1.1.1.1.1))));
+      from = λ e f.
+          ((entry_length e, (kind_of e.act, (e.moment, (e.caller.session, (e.caller.serial, e.act))))),
+          ((is_length_of (entry_length e) (kind_of e.act) (act_length e.act), f.short),
+              (act_length e.act, (f.moment, (f.session, (f.serial, (f.act, refl, refl)))))),
+          refl);
     })
+    (λ octets. simp bind_assoc)
 
 -- ---- what follows from it
-
-pub same_entry : (a b : HistoryEntry) (x y : List ℕ) → HasSpelling a → HasSpelling b → spelling a ++ x ≡ spelling b ++ y → (a ≡ b) × (x ≡ y)
-same_entry a b x y fa fb e =
-    let both = ok_is (a, x) (b, y) (sym (entry_part.again a x fa) ∙ ap entry_at e ∙ entry_part.again b y fb) in
-    (ap (λ (p : HistoryEntry × List ℕ). p.0) both, ap (λ (p : HistoryEntry × List ℕ). p.1) both)
-
-take_past : (xs ys : List ℕ) (k : ℕ) → take (length xs + k) (xs ++ ys) ≡ xs ++ take k ys
-take_past [] ys k = let e : 0 + k ≡ k = omega arith in rw e refl
-take_past (x ∷ xs) ys k = let e : suc (length xs) + k ≡ suc (length xs + k) = omega arith in rw e (ap (λ (o : List ℕ). x ∷ o) (take_past xs ys k))
 
 -- no entry begins with the front and one octet more
 none_longer : (octets rest front : List ℕ) → octets ≡ front ++ rest → ((h : ℕ) (t : List ℕ) → rest ≡ h ∷ t → (c : HistoryEntry) (z : List ℕ) → HasSpelling c → spelling c ≡ front ++ h ∷ z → ⊥)
     → (n : ℕ) → n ≤ length octets → BeginsAnEntry (take n octets) → n ≤ length front
 none_longer octets [] front parts refused n le b = omega (arith, ap (λ (o : List ℕ). length o) parts, length-append front [])
 none_longer octets (h ∷ t) front parts refused n le b =
-    elim (cases_lt (length front) n) [
-      | inr le ↦ le
-      | inl lt ↦
-          let more : n ≡ length front + suc (n - length front - 1) = omega arith in
-          let taken : take n octets ≡ front ++ h ∷ take (n - length front - 1) t = ap (take n) parts ∙ ap (λ (k : ℕ). take k (front ++ h ∷ t)) more ∙ take_past front (h ∷ t) (suc (n - length front - 1)) in
-          absurd (refused h t refl b.0 (take (n - length front - 1) t ++ b.1) b.2 (b.3 ∙ ap (λ (o : List ℕ). o ++ b.1) taken ∙ append_assoc front (h ∷ take (n - length front - 1) t) b.1))
+    elim (fronts (take n octets) (drop n octets) front h t (take-append-drop n octets ∙ parts)) [
+      | inl p ↦ omega (arith, ap (λ (o : List ℕ). length o) p.1, length-append (take n octets) p.0,
+          length-take n octets, le)
+      | inr p ↦
+          absurd (refused h t refl b.0 (p.0 ++ b.1) b.2 (b.3 ∙ ap (λ (o : List ℕ). o ++ b.1) p.1 ∙
+              append_assoc front (h ∷ p.0) b.1))
     ]
 
 -- the first octet of the rest is the first wrong one

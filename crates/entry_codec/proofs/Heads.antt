@@ -1,342 +1,174 @@
 -- The fields whose octets are bound by others or by a limit, each as a part.
-use Rattle.std.proofs.Common.{◌≡◌, ℕ, suc, ◌+◌, ◌-◌, ◌*◌, ◌^◌, ◌<◌, ◌≤◌, ◌==◌, Bool, true, false, cond, ltb, List, [], ◌∷◌, ◌++◌, length, take, drop, Result, Ok, Err, refl, sym, ap, subst, ◌∙◌, ◌⊎◌, inl, inr, arith}
-use Rattle.std.proofs.lemmas.Bool.{cases_Bool, cases_lt, eq-eqb, eqb-false, eqb-true, le-leb, le-ltb, ltb-false, ltb-true, ne_eqb}
-use Rattle.std.proofs.lemmas.List.{append-nil, nil_from_length, take_at, drop_at, take-append-drop, length-append, length-take}
+use Rattle.std.proofs.Common.{◌≡◌, ℕ, suc, ◌+◌, ◌*◌, ◌^◌, ◌<◌, ◌≤◌, ◌==◌, Bool, true, false, cond, ltb, List, [], ◌∷◌, ◌++◌, length, take, get_or, Ok, Err, refl, ap, ◌∙◌, inl, inr, arith, ◌↔◌}
+use Rattle.std.proofs.Math.Nat.{mul-le-mul_right}
+use Rattle.std.proofs.lemmas.Bool.{cases_Bool, cases_lt, eq-eqb, eqb-false, eqb-true, le-leb, le-ltb, lt-ltb, ne_eqb}
+use Rattle.std.proofs.lemmas.List.{length-append}
 use Rattle.byteorder.specs.Endian.{big_bytes, big_number}
-use Rattle.entry_codec.specs.Reading.{◌>>=◌, Read, at_most, exactly, is_length, last_moment_octets, length_at, moment_at, number_at}
+use Rattle.entry_codec.specs.Reading.{◌>>=◌, Read, at_most, exactly, is_length, last_moment_octets, length_at, moment_at, octets_at}
 use Rattle.entry_codec.specs.Spelling.{AreBelow}
-use Rattle.byteorder.specs.Numbers.{big_from-lt, big_number-reads_back}
-use Rattle.entry_codec.proofs.Lists.{AreBelow-append, AreBelow-take, places-AreBelow}
-use Rattle.entry_codec.proofs.Fields.{bytes_below, itself, length-zeros, number_of_bytes, number_of_front, number_part, wide4, wide8, zeros, zeros_below}
-use Rattle.entry_codec.proofs.Parts.{IsOnto, IsPart, Stops, err, err_is, not_both, ok, ok_is, onto_part, same_read}
-
-eqb-same : (n : ℕ) → (n == n) ≡ true
-eqb-same n = eq-eqb n n refl
+use Rattle.byteorder.specs.Numbers.{big_from-cons, big_from-lt, big_from-take}
+use Rattle.entry_codec.proofs.Lists.{AreBelow-append, places-AreBelow}
+use Rattle.entry_codec.proofs.Fields.{AreOctets, bytes_below, number_of_bytes, octets_part, wide4, wide8}
+use Rattle.entry_codec.proofs.Parts.{IsPart, bind_assoc, nothing_part, one_part, onto_part, pair_part}
 
 -- ---- given octets
 
--- where the octets stop being the wanted ones
-pub record Differs (wanted octets rest : List ℕ) : Type 0 where
-  pub front : List ℕ
-  pub parts : octets ≡ front ++ rest
-  pub more : List ℕ
-  pub begins : wanted ≡ front ++ more
-  pub refused : (h : ℕ) (t : List ℕ) → rest ≡ h ∷ t → (z : List ℕ) → wanted ≡ front ++ h ∷ z → ⊥
+abbrev pub given_at : List ℕ → List ℕ → Read (Unit {0})
+given_at wanted octets = exactly wanted octets >>= λ rest. Ok (tt, rest)
 
-exactly_take : (wanted octets rest : List ℕ) → exactly wanted octets ≡ ok rest → octets ≡ wanted ++ rest
-exactly_take [] octets rest e = ok_is octets rest e
-exactly_take (b ∷ wanted) [] rest e = absurd (not_both rest [] (sym e))
-exactly_take (b ∷ wanted) (x ∷ octets) rest e =
-    elim (cases_Bool (x == b)) [
-      | inl is ↦ let same : x ≡ b = eqb-true x b is in let tails = exactly_take wanted octets rest (rw is at e) in cc
-      | inr isnt ↦ absurd (not_both rest (x ∷ octets) (sym (rw isnt at e)))
-    ]
+given_octet : (b : ℕ) → IsPart (λ u. Unit {0}) (λ u. b ∷ []) (given_at (b ∷ []))
+given_octet b =
+    one_part (λ u. b) (tt, tt) refl (λ u x octets f is. rw (eq-eqb x b is) refl)
+    (λ x octets small. elim (cases_Bool (x == b)) [ inl is ↦ inl (tt, tt, eqb-true x b is) | inr other ↦
+        inr (rw other refl) ])
 
-exactly_again : (wanted rest : List ℕ) → exactly wanted (wanted ++ rest) ≡ ok rest
-exactly_again [] rest = refl
-exactly_again (b ∷ wanted) rest = rw (eqb-same b) (exactly_again wanted rest)
+given_more : (b : ℕ) (wanted octets : List ℕ) → given_at (b ∷ wanted) octets ≡
+    (given_at (b ∷ []) octets >>= λ x. given_at wanted x.1 >>= λ y. Ok (tt, y.1))
+given_more b wanted [] = refl
+given_more b wanted (x ∷ octets) = elim (cases_Bool (x == b)) [
+  | inl is ↦ rw is (simp bind_assoc)
+  | inr other ↦ rw other refl
+]
 
-exactly_stop : (wanted octets rest : List ℕ) → exactly wanted octets ≡ err rest → Differs wanted octets rest
-exactly_stop [] octets rest e = absurd (not_both octets rest e)
-exactly_stop (b ∷ wanted) [] rest e =
-    let none : [] ≡ rest = err_is {A = List ℕ} [] rest e in
-    record { front = []; parts = none; more = b ∷ wanted; begins = refl; refused = λ h t at z begins. let both = none ∙ at in absurd cc }
-exactly_stop (b ∷ wanted) (x ∷ octets) rest e = by_test (λ tail. exactly_stop wanted octets rest tail) (x == b) refl e
-  where
-    by_test : (exactly wanted octets ≡ err rest → Differs wanted octets rest) → (t : Bool) → (x == b) ≡ t → (let r : Result (List ℕ) (List ℕ) = cond t (exactly wanted octets) (Err (x ∷ octets)) in r) ≡ err rest → Differs (b ∷ wanted) (x ∷ octets) rest
-    by_test again true is e =
-        let same : x ≡ b = eqb-true x b is in
-        let s = again e in
-        record {
-          front = x ∷ s.front;
-          parts = ap (λ (o : List ℕ). x ∷ o) s.parts;
-          more = s.more;
-          begins = ap (λ (o : List ℕ). b ∷ o) s.begins ∙ ap (λ (y : ℕ). y ∷ (s.front ++ s.more)) (sym same);
-          refused = λ h t at z begins. let tails : wanted ≡ s.front ++ h ∷ z = cc in s.refused h t at z tails;
-        }
-    by_test again false is e =
-        let same : x ∷ octets ≡ rest = err_is {A = List ℕ} (x ∷ octets) rest e in
-        record {
-          front = [];
-          parts = same;
-          more = b ∷ wanted;
-          begins = refl;
-          refused = λ h t at z begins.
-              let both : x ∷ octets ≡ h ∷ t = same ∙ at in
-              let equal : x ≡ b = cc in
-              eqb-false x b is equal;
-        }
-
--- nothing to know of octets that are given
-abbrev pub IsGiven : Unit {0} → Type 0
-IsGiven u = Unit {0}
-
-abbrev pub exactly_at : List ℕ → List ℕ → Read (Unit {0})
-exactly_at wanted octets = exactly wanted octets >>= λ rest. Ok (tt, rest)
-
-exactly_at_takes : (wanted octets : List ℕ) (u : Unit {0}) (rest : List ℕ) (r : Result (List ℕ) (List ℕ)) → exactly wanted octets ≡ r → (let f : List ℕ → Read (Unit {0}) = λ t. Ok (tt, t) in r >>= f) ≡ Ok (u, rest) → octets ≡ wanted ++ rest
-exactly_at_takes wanted octets u rest (Ok t) is e = exactly_take wanted octets rest (is ∙ ap (λ (p : Unit {0} × List ℕ). ok p.1) (ok_is (tt, t) (u, rest) e))
-exactly_at_takes wanted octets u rest (Err d) is e = absurd (not_both (u, rest) d (sym e))
-
-exactly_at_stops : (wanted octets rest : List ℕ) (r : Result (List ℕ) (List ℕ)) → exactly wanted octets ≡ r → (let f : List ℕ → Read (Unit {0}) = λ t. Ok (tt, t) in r >>= f) ≡ Err rest → exactly wanted octets ≡ err rest
-exactly_at_stops wanted octets rest (Ok t) is e = absurd (let u : Unit {0} = tt in not_both (u, t) rest e)
-exactly_at_stops wanted octets rest (Err d) is e = is ∙ ap err (err_is {A = Unit {0} × List ℕ} d rest e)
-
-pub exactly_part : (wanted : List ℕ) → IsPart IsGiven (λ u. wanted) (exactly_at wanted)
-exactly_part wanted = record {
-  takes = λ octets u rest small e. (tt, exactly_at_takes wanted octets u rest (exactly wanted octets) refl e);
-  again = λ u rest fits. ap (λ (r : Result (List ℕ) (List ℕ)). let f : List ℕ → Read (Unit {0}) = λ t. Ok (tt, t) in r >>= f) (exactly_again wanted rest);
-  stops = λ octets rest small e.
-      let s = exactly_stop wanted octets rest (exactly_at_stops wanted octets rest (exactly wanted octets) refl e) in
-      record { front = s.front; parts = s.parts; value = tt; fits = tt; more = s.more; begins = s.begins; refused = λ h t at c z fits begins. s.refused h t at z begins };
-}
+pub given_part : (wanted : List ℕ) → IsPart (λ u. Unit {0}) (λ u. wanted) (given_at wanted)
+given_part [] = nothing_part
+given_part (b ∷ wanted) =
+    onto_part (λ t. tt) (pair_part (given_octet b) (λ u f. given_part wanted))
+    (record { fits = λ t f. tt; spelled = λ t f. refl; from = λ u f. ((tt, tt), (tt, tt), refl) })
+    (λ octets. given_more b wanted octets ∙ simp bind_assoc)
 
 -- ---- a number that is at most another
 
--- of as many octets as the bound, and the first that differs is lower
-abbrev pub IsAtMost : List ℕ → List ℕ → Type 0
-IsAtMost [] [] = Unit {0}
-IsAtMost [] (x ∷ raw) = ⊥
-IsAtMost (b ∷ bound) [] = ⊥
-IsAtMost (b ∷ bound) (x ∷ raw) = ((x ≡ b) × IsAtMost bound raw) ⊎ ((x < b) × (length raw ≡ length bound))
+-- octets of a number that is at most the one with the bound's octets
+abbrev AreAtMost : List ℕ → List ℕ → Type 0
+AreAtMost bound raw = AreOctets (length bound) raw × (big_number (length bound) raw ≤ big_number (length bound) bound)
 
-IsAtMost-itself : (bound : List ℕ) → IsAtMost bound bound
-IsAtMost-itself [] = tt
-IsAtMost-itself (b ∷ bound) = inl (refl, IsAtMost-itself bound)
+abbrev at_most_at : List ℕ → List ℕ → Read (List ℕ)
+at_most_at bound octets = at_most bound octets >>= λ rest. Ok (take (length bound) octets, rest)
 
-pub length_at_most : (bound raw : List ℕ) → IsAtMost bound raw → length raw ≡ length bound
-length_at_most [] [] h = refl
-length_at_most [] (x ∷ raw) h = absurd h
-length_at_most (b ∷ bound) [] h = absurd h
-length_at_most (b ∷ bound) (x ∷ raw) h = elim h [ inl p ↦ ap suc (length_at_most bound raw p.1) | inr p ↦ ap suc p.1 ]
+-- the first octet, which is at most the bound's
+abbrev first_at : ℕ → List ℕ → Read ℕ
+first_at b [] = Err []
+first_at b (x ∷ octets) = cond (ltb b x) (Err (x ∷ octets)) (Ok (x, octets))
 
-at_most_takes : (bound octets rest : List ℕ) → at_most bound octets ≡ ok rest → (raw : List ℕ) × IsAtMost bound raw × (octets ≡ raw ++ rest)
-at_most_takes [] octets rest e = ([], tt, ok_is octets rest e)
-at_most_takes (b ∷ bound) [] rest e = absurd (not_both rest [] (sym e))
-at_most_takes (b ∷ bound) (x ∷ octets) rest e = by_tests (λ tail. at_most_takes bound octets rest tail) (x == b) refl (ltb b x) refl (ltb (length octets) (length bound)) refl e
+-- the octets behind it, which are bound where it is the bound's
+abbrev rest_at : ℕ → List ℕ → ℕ → List ℕ → Read (List ℕ)
+rest_at b bound x octets = cond (x == b) (at_most_at bound octets) (octets_at (length bound) octets)
+
+first_part : (b : ℕ) → IsPart (λ x. x ≤ b) (λ x. x ∷ []) (first_at b)
+first_part b =
+    one_part (λ x. x) (b, omega arith) refl (λ a x octets le is. rw (le-ltb b x (omega arith), is) refl)
+    (λ x octets small. elim (cases_lt b x) [ inl lt ↦ inr (rw (lt-ltb b x lt) refl) | inr le ↦ inl (x, le, refl) ])
+
+first_and_rest : (b : ℕ) (bound octets : List ℕ) → at_most_at (b ∷ bound) octets ≡
+    (first_at b octets >>= λ x. rest_at b bound x.0 x.1 >>= λ y. Ok (x.0 ∷ y.0, y.1))
+first_and_rest b bound [] = refl
+first_and_rest b bound (x ∷ octets) = elim (cases_Bool (x == b)) [
+  | inl is ↦ rw (le-ltb b x (omega (arith, eqb-true x b is)), is) (simp bind_assoc)
+  | inr other ↦ elim (cases_Bool (ltb b x)) [
+    | inl above ↦ rw (above, other) refl
+    | inr low ↦ rw (low, other) (elim (cases_Bool (ltb (length octets) (length bound)))
+        [ inl cut ↦ rw cut refl | inr long ↦ rw long refl ])
+  ]
+]
+
+-- numbers are compared by their first octet, and by the others where that is the same
+abbrev IsLess : ℕ → ℕ → ℕ → ℕ → Type 0
+IsLess x n b m = (x ≤ b) × (x ≡ b → n ≤ m)
+
+less_from : (p x n b m : ℕ) → n < p → m < p → x * p + n ≤ b * p + m → IsLess x n b m
+less_from p x n b m np mp le = elim (cases_lt b x) [
+  | inl lt ↦ absurd (omega (arith, mul-le-mul_right p lt))
+  | inr low ↦ (low, λ same. let e : x * p ≡ b * p = ap (λ (y : ℕ). y * p) same in omega arith)
+]
+
+less_to : (p x n b m : ℕ) → n < p → IsLess x n b m → x * p + n ≤ b * p + m
+less_to p x n b m np less = elim (cases_lt x b) [
+  | inl lt ↦ omega (arith, mul-le-mul_right p lt)
+  | inr ge ↦
+      let same : x ≡ b = omega (arith, less.0) in
+      let e : x * p ≡ b * p = ap (λ (y : ℕ). y * p) same in
+      omega (arith, less.1 same)
+]
+
+-- what stands behind the first octet x
+abbrev IsRest : ℕ → List ℕ → ℕ → List ℕ → Type 0
+IsRest b bound x raw = AreOctets (length bound) raw × (x ≡ b →
+    big_number (length bound) raw ≤ big_number (length bound) bound)
+
+rest_part : (b : ℕ) (bound : List ℕ) → IsPart (AreAtMost bound) (λ raw. raw) (at_most_at bound) → (x : ℕ) (t : Bool) →
+    (x == b) ≡ t
+    → IsPart (IsRest b bound x) (λ raw. raw) (λ octets. cond t (at_most_at bound octets)
+        (octets_at (length bound) octets))
+rest_part b bound p x true is =
+    onto_part (λ raw. raw) p
+    (record { fits = λ raw f. (f.0, λ e. f.1); spelled = λ raw f. refl;
+        from = λ raw f. (raw, (f.0, f.1 (eqb-true x b is)), refl) })
+    (λ octets. simp bind_assoc)
+rest_part b bound p x false is =
+    onto_part (λ raw. raw) (octets_part (length bound))
+    (record { fits = λ raw f. (f, λ e. absurd (eqb-false x b is e)); spelled = λ raw f. refl;
+        from = λ raw f. (raw, f.0, refl) })
+    (λ octets. elim (cases_Bool (ltb (length octets) (length bound)))
+        [ inl cut ↦ rw cut refl | inr long ↦ rw long refl ])
+
+-- numbers of octets are compared so
+at_most_cons : (b : ℕ) (bound : List ℕ) (x : ℕ) (raw : List ℕ) → AreBelow 256 (b ∷ bound) → AreOctets (length bound) raw
+    → (big_number (suc (length bound)) (x ∷ raw) ≤ big_number (suc (length bound)) (b ∷ bound)) ↔
+      IsLess x (big_number (length bound) raw) b (big_number (length bound) bound)
+at_most_cons b bound x raw small are =
+    let below : (o : List ℕ) → AreBelow 256 o → big_number (length bound) o < 256 ^ length bound =
+        λ o low. big_from-lt 0 (length bound) o (places-AreBelow 256 o (omega arith) low) in
+    rw (big_from-cons 0 (length bound) x raw, big_from-cons 0 (length bound) b bound)
+    (less_from (256 ^ length bound) x _ b _ (below raw are.1) (below bound small.1),
+        less_to (256 ^ length bound) x _ b _ (below raw are.1))
+
+at_most_part : (bound : List ℕ) → AreBelow 256 bound → IsPart (AreAtMost bound) (λ raw. raw) (at_most_at bound)
+at_most_part [] small =
+    onto_part (λ u. []) nothing_part
+    (record { fits = λ u f. ((refl, tt), omega arith); spelled = λ u f. refl; from = λ raw f. none raw f.0.0 })
+        (λ octets. refl)
   where
-    by_tests : (at_most bound octets ≡ ok rest → (raw : List ℕ) × IsAtMost bound raw × (octets ≡ raw ++ rest)) → (same : Bool) → (x == b) ≡ same → (above : Bool) → ltb b x ≡ above → (cut : Bool) → ltb (length octets) (length bound) ≡ cut
-        → (let r : Result (List ℕ) (List ℕ) = cond same (at_most bound octets) (cond above (Err (x ∷ octets)) (cond cut (Err []) (Ok (drop (length bound) octets)))) in r) ≡ ok rest
-        → (raw : List ℕ) × IsAtMost (b ∷ bound) raw × (x ∷ octets ≡ raw ++ rest)
-    by_tests again true is above is-above cut is-cut e = let s = again e in (x ∷ s.0, inl (eqb-true x b is, s.1), ap (λ (o : List ℕ). x ∷ o) s.2)
-    by_tests again false is true is-above cut is-cut e = absurd (not_both rest (x ∷ octets) (sym e))
-    by_tests again false is false is-above true is-cut e = absurd (not_both rest [] (sym e))
-    by_tests again false is false is-above false is-cut e =
-        let below : x < b = omega (arith, eqb-false x b is, ltb-false b x is-above) in
-        let long : length bound ≤ length octets = ltb-false _ _ is-cut in
-        let tail : drop (length bound) octets ≡ rest = ok_is _ _ e in
-        (x ∷ take (length bound) octets, inr (below, omega (arith, length-take (length bound) octets, long)), ap (λ (o : List ℕ). x ∷ o) (sym (take-append-drop (length bound) octets) ∙ ap (λ (t : List ℕ). take (length bound) octets ++ t) tail))
-
-at_most_again : (bound raw rest : List ℕ) → IsAtMost bound raw → at_most bound (raw ++ rest) ≡ ok rest
-at_most_again [] [] rest h = refl
-at_most_again [] (x ∷ raw) rest h = absurd h
-at_most_again (b ∷ bound) [] rest h = absurd h
-at_most_again (b ∷ bound) (x ∷ raw) rest h =
-    elim h [
-      | inl p ↦ let same : (x == b) ≡ true = eq-eqb x b p.0 in rw same (at_most_again bound raw rest p.1)
-      | inr p ↦
-          let apart : (x == b) ≡ false = ne_eqb x b (omega (arith, p.0)) in
-          let lower : ltb b x ≡ false = le-ltb b x (omega (arith, p.0)) in
-          let enough : ltb (length (raw ++ rest)) (length bound) ≡ false = le-ltb _ _ (omega (arith, p.1, length-append raw rest)) in
-          rw (apart, lower, enough, drop_at raw rest (length bound) p.1) refl
-    ]
-
--- where the octets stop being those of a number that is at most the bound
-pub record Exceeds (bound octets rest : List ℕ) : Type 0 where
-  pub front : List ℕ
-  pub parts : octets ≡ front ++ rest
-  pub value : List ℕ
-  pub is_at_most : IsAtMost bound value
-  pub small : AreBelow 256 value
-  pub more : List ℕ
-  pub begins : value ≡ front ++ more
-  pub refused : (h : ℕ) (t : List ℕ) → rest ≡ h ∷ t → (c : List ℕ) (z : List ℕ) → IsAtMost bound c → c ≡ front ++ h ∷ z → ⊥
-
--- neither the same nor lower
-above_bound : (b x : ℕ) (bound c : List ℕ) → b < x → IsAtMost (b ∷ bound) (x ∷ c) → ⊥
-above_bound b x bound c lt h = elim h [ inl p ↦ omega (arith, p.0) | inr p ↦ omega (arith, p.0) ]
-
--- what begins with the same octet is at most the rest of the bound behind it
-behind_same : (b x : ℕ) (bound c : List ℕ) → x ≡ b → IsAtMost (b ∷ bound) (x ∷ c) → IsAtMost bound c
-behind_same b x bound c same h = elim h [ inl p ↦ p.1 | inr p ↦ absurd (omega (arith, same, p.0)) ]
-
-at_most_stops : (bound octets rest : List ℕ) → AreBelow 256 bound → AreBelow 256 octets → at_most bound octets ≡ err rest → Exceeds bound octets rest
-at_most_stops [] octets rest sb so e = absurd (not_both octets rest e)
-at_most_stops (b ∷ bound) [] rest sb so e =
-    let none : [] ≡ rest = err_is {A = List ℕ} [] rest e in
-    record { front = []; parts = none; value = b ∷ bound; is_at_most = IsAtMost-itself (b ∷ bound); small = sb; more = b ∷ bound; begins = refl; refused = λ h t at c z fits begins. let both = none ∙ at in absurd cc }
-at_most_stops (b ∷ bound) (x ∷ octets) rest sb so e = by_tests (λ tail. at_most_stops bound octets rest sb.1 so.1 tail) (x == b) refl (ltb b x) refl (ltb (length octets) (length bound)) refl e
+    none : (raw : List ℕ) → length raw ≡ 0 → (u : Unit {0}) × Unit {0} × ([] ≡ raw)
+    none [] e = (tt, tt, refl)
+    none (x ∷ raw) e = absurd (omega arith)
+at_most_part (b ∷ bound) small =
+    let p = at_most_part bound small.1 in
+    onto_part (λ t. t.0 ∷ t.1) (pair_part (first_part b) (λ x le. rest_part b bound p x (x == b) refl))
+    (record {
+      fits = λ t f.
+          ((ap suc f.1.0.0, (omega (arith, f.0, small.0), f.1.0.1)),
+              (at_most_cons b bound t.0 t.1 small f.1.0).1 (f.0, f.1.1));
+      spelled = λ t f. refl;
+      from = λ raw f. from raw f;
+    })
+    (λ octets. first_and_rest b bound octets ∙ simp bind_assoc)
   where
-    by_tests : (at_most bound octets ≡ err rest → Exceeds bound octets rest) → (same : Bool) → (x == b) ≡ same → (above : Bool) → ltb b x ≡ above → (cut : Bool) → ltb (length octets) (length bound) ≡ cut
-        → (let r : Result (List ℕ) (List ℕ) = cond same (at_most bound octets) (cond above (Err (x ∷ octets)) (cond cut (Err []) (Ok (drop (length bound) octets)))) in r) ≡ err rest
-        → Exceeds (b ∷ bound) (x ∷ octets) rest
-    by_tests again true is above is-above cut is-cut e =
-        let s = again e in
-        let same : x ≡ b = eqb-true x b is in
-        record {
-          front = x ∷ s.front;
-          parts = ap (λ (o : List ℕ). x ∷ o) s.parts;
-          value = x ∷ s.value;
-          is_at_most = inl (same, s.is_at_most);
-          small = (so.0, s.small);
-          more = s.more;
-          begins = ap (λ (o : List ℕ). x ∷ o) s.begins;
-          refused = λ h t at c z fits begins. s.refused h t at (s.front ++ h ∷ z) z (behind_same b x bound (s.front ++ h ∷ z) same (subst (λ (o : List ℕ). IsAtMost (b ∷ bound) o) begins fits)) refl;
-        }
-    by_tests again false is true is-above cut is-cut e =
-        let all : x ∷ octets ≡ rest = err_is {A = List ℕ} (x ∷ octets) rest e in
-        record {
-          front = [];
-          parts = all;
-          value = b ∷ bound;
-          is_at_most = IsAtMost-itself (b ∷ bound);
-          small = sb;
-          more = b ∷ bound;
-          begins = refl;
-          refused = λ h t at c z fits begins.
-              let heads : x ∷ octets ≡ h ∷ t = all ∙ at in
-              let same : h ≡ x = cc in
-              above_bound b h bound z (omega (arith, ltb-true b x is-above, same)) (subst (λ (o : List ℕ). IsAtMost (b ∷ bound) o) begins fits);
-        }
-    by_tests again false is false is-above true is-cut e =
-        let none : [] ≡ rest = err_is {A = List ℕ} [] rest e in
-        let below : x < b = omega (arith, eqb-false x b is, ltb-false b x is-above) in
-        let short : length octets < length bound = ltb-true _ _ is-cut in
-        let pad : List ℕ = zeros (length bound - length octets) in
-        record {
-          front = x ∷ octets;
-          parts = sym (append-nil (x ∷ octets)) ∙ ap (λ (t : List ℕ). (x ∷ octets) ++ t) none;
-          value = x ∷ (octets ++ pad);
-          is_at_most = inr (below, omega (arith, length-append octets pad, length-zeros (length bound - length octets), short));
-          small = (so.0, AreBelow-append 256 octets pad so.1 (zeros_below 256 (length bound - length octets) (omega arith)));
-          more = pad;
-          begins = refl;
-          refused = λ h t at c z fits begins. let both = none ∙ at in absurd cc;
-        }
-    by_tests again false is false is-above false is-cut e = absurd (not_both (drop (length bound) octets) rest e)
+    from : (raw : List ℕ) → AreAtMost (b ∷ bound) raw → (t : ℕ × List ℕ) × ((t.0 ≤ b) × IsRest b bound t.0 t.1)
+        × (t.0 ∷ t.1 ≡ raw)
+    from [] f = absurd (omega (arith, f.0.0))
+    from (x ∷ raw) f =
+        let are : AreOctets (length bound) raw = (omega (arith, f.0.0), f.0.1.1) in
+        let less = (at_most_cons b bound x raw small are).0 f.1 in
+        ((x, raw), (less.0, (are, less.1)), refl)
 
 -- ---- the moment
 
 abbrev pub IsMoment : ℕ → Type 0
 IsMoment m = m ≤ 4102444799
 
-abbrev AreMomentOctets : List ℕ → Type 0
-AreMomentOctets raw = IsAtMost last_moment_octets raw × AreBelow 256 raw
-
-unfoldable moment_octets_at : List ℕ → Read (List ℕ)
-moment_octets_at octets = at_most last_moment_octets octets >>= λ rest. Ok (take 8 octets, rest)
-
-last_small : AreBelow 256 last_moment_octets
-last_small = (omega arith, (omega arith, (omega arith, (omega arith, (omega arith, (omega arith, (omega arith, (omega arith, tt))))))))
-
-moment_octets_take : (octets raw rest : List ℕ) (r : Result (List ℕ) (List ℕ)) → AreBelow 256 octets → at_most last_moment_octets octets ≡ r → (let f : List ℕ → Read (List ℕ) = λ t. Ok (take 8 octets, t) in r >>= f) ≡ Ok (raw, rest) → AreMomentOctets raw × (octets ≡ raw ++ rest)
-moment_octets_take octets raw rest (Ok t) small is e =
-    let s = at_most_takes last_moment_octets octets t is in
-    let same = ok_is (take 8 octets, t) (raw, rest) e in
-    let front : take 8 octets ≡ s.0 = ap (take 8) s.2 ∙ take_at s.0 t 8 (length_at_most last_moment_octets s.0 s.1) in
-    let raw-is : raw ≡ s.0 = sym (ap (λ (p : List ℕ × List ℕ). p.0) same) ∙ front in
-    let rest-is : t ≡ rest = ap (λ (p : List ℕ × List ℕ). p.1) same in
-    let small_raw : AreBelow 256 s.0 = subst (λ (o : List ℕ). AreBelow 256 o) front (AreBelow-take 256 8 octets small) in
-    (subst AreMomentOctets (sym raw-is) (s.1, small_raw), s.2 ∙ ap (λ (o : List ℕ). o ++ t) (sym raw-is) ∙ ap (λ (o : List ℕ). raw ++ o) rest-is)
-moment_octets_take octets raw rest (Err d) small is e = absurd (not_both (raw, rest) d (sym e))
-
-moment_octets_again : (raw rest : List ℕ) → AreMomentOctets raw → moment_octets_at (raw ++ rest) ≡ Ok (raw, rest)
-unfolding moment_octets_at
-moment_octets_again raw rest fits = rw (at_most_again last_moment_octets raw rest fits.0, take_at raw rest 8 (length_at_most last_moment_octets raw fits.0)) refl
-
-moment_octets_err : (octets rest : List ℕ) (r : Result (List ℕ) (List ℕ)) → at_most last_moment_octets octets ≡ r → (let f : List ℕ → Read (List ℕ) = λ t. Ok (take 8 octets, t) in r >>= f) ≡ Err rest → at_most last_moment_octets octets ≡ err rest
-moment_octets_err octets rest (Ok t) is e = absurd (not_both (take 8 octets, t) rest e)
-moment_octets_err octets rest (Err d) is e = is ∙ ap err (err_is {A = List ℕ × List ℕ} d rest e)
-
-moment_octets_part : IsPart AreMomentOctets itself moment_octets_at
-unfolding moment_octets_at
-moment_octets_part = record {
-  takes = λ octets raw rest small e. moment_octets_take octets raw rest (at_most last_moment_octets octets) small refl e;
-  again = λ raw rest fits. moment_octets_again raw rest fits;
-  stops = λ octets rest small e.
-      let s = at_most_stops last_moment_octets octets rest last_small small (moment_octets_err octets rest (at_most last_moment_octets octets) refl e) in
-      record { front = s.front; parts = s.parts; value = s.value; fits = (s.is_at_most, s.small); more = s.more; begins = s.begins; refused = λ h t at c z fits begins. s.refused h t at c z fits.0 begins };
-}
-
-at_most_number : (a b c d e f g h : ℕ) → AreMomentOctets (a ∷ b ∷ c ∷ d ∷ e ∷ f ∷ g ∷ h ∷ []) → IsMoment (big_number 8 (a ∷ b ∷ c ∷ d ∷ e ∷ f ∷ g ∷ h ∷ []))
-at_most_number a b c d e f g h fits =
-    let f_small : f < 256 = fits.1.1.1.1.1.1.0 in
-    let g_small : g < 256 = fits.1.1.1.1.1.1.1.0 in
-    let h_small : h < 256 = fits.1.1.1.1.1.1.1.1.0 in
-    elim fits.0 [
-      | inl pa ↦ elim pa.1 [
-        | inl pb ↦ elim pb.1 [
-          | inl pc ↦ elim pc.1 [
-            | inl pd ↦ elim pd.1 [
-              | inl pe ↦ elim pe.1 [
-                | inl pf ↦ elim pf.1 [
-                  | inl pg ↦ elim pg.1 [
-                    | inl ph ↦ omega (arith, pa.0, pb.0, pc.0, pd.0, pe.0, pf.0, pg.0, ph.0)
-                    | inr ph ↦ omega (arith, pa.0, pb.0, pc.0, pd.0, pe.0, pf.0, pg.0, ph.0)
-                  ]
-                  | inr pg ↦ omega (arith, pa.0, pb.0, pc.0, pd.0, pe.0, pf.0, pg.0)
-                ]
-                | inr pf ↦ omega (arith, pa.0, pb.0, pc.0, pd.0, pe.0, pf.0)
-              ]
-              | inr pe ↦ omega (arith, pa.0, pb.0, pc.0, pd.0, pe.0)
-            ]
-            | inr pd ↦ absurd (omega (arith, pd.0))
-          ]
-          | inr pc ↦ absurd (omega (arith, pc.0))
-        ]
-        | inr pb ↦ absurd (omega (arith, pb.0))
-      ]
-      | inr pa ↦ absurd (omega (arith, pa.0))
-    ]
-
--- an octet below that of the bound, or the same one and the rest at most that of the bound
-lower_or_same : (b x : ℕ) (bound raw : List ℕ) → x ≤ b → length raw ≡ length bound → (x ≡ b → IsAtMost bound raw) →
-    IsAtMost (b ∷ bound) (x ∷ raw)
-lower_or_same b x bound raw le long same =
-    elim (cases_lt x b) [ inl lt ↦ inr (lt, long) | inr ge ↦ let is : x ≡ b = omega arith in inl (is, same is) ]
-
-low_at_most : (e f g h : ℕ) → f < 256 → g < 256 → h < 256 → e * 16777216 + f * 65536 + g * 256 + h ≤ 4102444799 → IsAtMost (0xF4 ∷ 0x86 ∷ 0x56 ∷ 0xFF ∷ []) (e ∷ f ∷ g ∷ h ∷ [])
-low_at_most e f g h fs gs hs le =
-    lower_or_same 0xF4 e (0x86 ∷ 0x56 ∷ 0xFF ∷ []) (f ∷ g ∷ h ∷ []) (omega arith) refl (λ e-is.
-    lower_or_same 0x86 f (0x56 ∷ 0xFF ∷ []) (g ∷ h ∷ []) (omega arith) refl (λ f-is.
-    lower_or_same 0x56 g (0xFF ∷ []) (h ∷ []) (omega arith) refl (λ g-is.
-    lower_or_same 0xFF h [] [] (omega arith) refl (λ h-is. tt))))
-
-number_at_most : (a b c d e f g h : ℕ) → AreBelow 256 (a ∷ b ∷ c ∷ d ∷ e ∷ f ∷ g ∷ h ∷ []) → IsMoment (big_number 8 (a ∷ b ∷ c ∷ d ∷ e ∷ f ∷ g ∷ h ∷ [])) → IsAtMost last_moment_octets (a ∷ b ∷ c ∷ d ∷ e ∷ f ∷ g ∷ h ∷ [])
-number_at_most a b c d e f g h small le =
-    let a-is : a ≡ 0 = omega arith in
-    let b-is : b ≡ 0 = omega arith in
-    let c-is : c ≡ 0 = omega arith in
-    let d-is : d ≡ 0 = omega arith in
-    inl (a-is, inl (b-is, inl (c-is, inl (d-is, low_at_most e f g h small.1.1.1.1.1.0 small.1.1.1.1.1.1.0 small.1.1.1.1.1.1.1.0 (omega (arith, le))))))
-
-moment_fits : (raw : List ℕ) → AreMomentOctets raw → IsMoment (big_number 8 raw)
-moment_fits (a ∷ b ∷ c ∷ d ∷ e ∷ f ∷ g ∷ h ∷ []) fits = at_most_number a b c d e f g h fits
-moment_fits raw fits = absurd (omega (arith, length_at_most last_moment_octets raw fits.0))
-
-moment_onto : IsOnto AreMomentOctets itself IsMoment (big_bytes 8) (big_number 8)
-moment_onto = record {
-  fits = λ raw f. moment_fits raw f;
-  spelled = λ raw f. wide8.back raw (length_at_most last_moment_octets raw f.0, f.1);
-  from = λ m le.
-      let same : big_number 8 (big_bytes 8 m) ≡ m = number_of_bytes 8 m (omega (arith, le)) in
-      (big_bytes 8 m, (number_at_most _ _ _ _ _ _ _ _ (bytes_below 8 m) (subst IsMoment (sym same) le), bytes_below 8 m), same);
-}
-
-moment_read : (octets : List ℕ) (r : Result (List ℕ) (List ℕ)) → at_most last_moment_octets octets ≡ r
-    → (let f : List ℕ → Read ℕ = λ t. Ok (big_number 8 octets, t) in r >>= f) ≡ ((let f : List ℕ → Read (List ℕ) = λ t. Ok (take 8 octets, t) in r >>= f) >>= λ x. Ok (big_number 8 x.0, x.1))
-moment_read octets (Ok t) is =
-    let s = at_most_takes last_moment_octets octets t is in
-    let long : 8 ≤ length octets = omega (arith, ap (λ (o : List ℕ). length o) s.2, length-append s.0 t, length_at_most last_moment_octets s.0 s.1) in
-    let pair : ℕ → Read ℕ = λ n. Ok (n, t) in ap pair (number_of_front 8 octets long)
-moment_read octets (Err d) is = refl
-
 pub moment_part : IsPart IsMoment (big_bytes 8) moment_at
-unfolding moment_at moment_octets_at
+unfolding moment_at
 moment_part =
-    same_read IsMoment (big_bytes 8) (λ octets. moment_octets_at octets >>= λ x. Ok (big_number 8 x.0, x.1)) moment_at
-    (onto_part AreMomentOctets itself moment_octets_at IsMoment (big_bytes 8) (big_number 8) moment_octets_part moment_onto)
-    (λ octets. moment_read octets (at_most last_moment_octets octets) refl)
+    onto_part (big_number 8) (at_most_part last_moment_octets (omega arith))
+    (record {
+      fits = λ raw f. f.1;
+      spelled = λ raw f. wide8 raw f.0;
+      from = λ m le.
+          let same = number_of_bytes 8 m (omega (arith, le)) in
+          (big_bytes 8 m, ((refl, bytes_below 8 m), rw same le), same);
+    })
+    (λ octets. rw (bind_assoc (at_most last_moment_octets octets), big_from-take 0 8 8 octets (omega arith)) refl)
 
 -- ---- the length
 
@@ -345,80 +177,56 @@ IsLength n = (is_length n ≡ true) × (n < 256 ^ 4)
 
 pub is_length_long : (n : ℕ) → 37 ≤ n → is_length n ≡ true
 is_length_long n le =
-    let a : (n == 25) ≡ false = ne_eqb n 25 (omega arith) in
-    let b : (n == 32) ≡ false = ne_eqb n 32 (omega arith) in
-    let c : (n == 33) ≡ false = ne_eqb n 33 (omega arith) in
-    rw (a, b, c) (le-leb 37 n le)
+    rw (ne_eqb n 25 (omega arith), ne_eqb n 32 (omega arith), ne_eqb n 33 (omega arith)) (le-leb 37 n le)
 
-abbrev length_if : Bool → Bool → ℕ → List ℕ → Read ℕ
-length_if cut good n octets = cond cut (Err []) (cond good (Ok (n, drop 4 octets)) (Err (drop 3 octets)))
+-- the last octet of a length
+abbrev IsLast : List ℕ → ℕ → Type 0
+IsLast raw x = (is_length (big_number 4 (raw ++ x ∷ [])) ≡ true) × (x < 256)
 
-length_takes : (octets : List ℕ) (n : ℕ) (rest : List ℕ) (cut good : Bool) → AreBelow 256 octets → ltb (length octets) 4 ≡ cut → is_length (big_number 4 octets) ≡ good → length_if cut good (big_number 4 octets) octets ≡ Ok (n, rest) → IsLength n × (octets ≡ big_bytes 4 n ++ rest)
-length_takes octets n rest true good small is-cut is-good e = absurd (not_both (n, rest) [] (sym e))
-length_takes octets n rest false false small is-cut is-good e = absurd (not_both (n, rest) (drop 3 octets) (sym e))
-length_takes octets n rest false true small is-cut is-good e =
-    let long : ltb (length octets) 4 ≡ false = is-cut in
-    let number : number_at 4 octets ≡ Ok (big_number 4 octets, drop 4 octets) = rw long refl in
-    let taken = (number_part 4 wide4).takes octets (big_number 4 octets) (drop 4 octets) small number in
-    let same = ok_is (big_number 4 octets, drop 4 octets) (n, rest) e in
-    subst (λ (p : ℕ × List ℕ). IsLength p.0 × (octets ≡ big_bytes 4 p.0 ++ p.1)) same ((is-good, taken.0), taken.1)
+abbrev last_at : List ℕ → List ℕ → Read ℕ
+last_at raw [] = Err []
+last_at raw (x ∷ octets) = cond (is_length (big_number 4 (raw ++ x ∷ []))) (Ok (x, octets)) (Err (x ∷ octets))
 
-length_again : (n : ℕ) (rest : List ℕ) → IsLength n → length_at (big_bytes 4 n ++ rest) ≡ Ok (n, rest)
-length_again n rest fits =
-    let long : ltb (length (big_bytes 4 n ++ rest)) 4 ≡ false = le-ltb _ _ (omega arith) in
-    rw (long, big_number-reads_back 4 n rest fits.1, fits.0) refl
-
--- a length whose first octets are these
-long_length : (a b c : ℕ) → AreBelow 256 (a ∷ b ∷ c ∷ []) → (d : ℕ) → d ≡ 255 → IsLength (big_number 4 (a ∷ b ∷ c ∷ d ∷ [])) × (big_bytes 4 (big_number 4 (a ∷ b ∷ c ∷ d ∷ [])) ≡ a ∷ b ∷ c ∷ d ∷ [])
-long_length a b c small d is =
-    let octets : AreBelow 256 (a ∷ b ∷ c ∷ d ∷ []) = (small.0, (small.1.0, (small.1.1.0, (omega arith, tt)))) in
-    ((is_length_long (big_number 4 (a ∷ b ∷ c ∷ d ∷ [])) (omega arith), big_from-lt 0 4 (a ∷ b ∷ c ∷ d ∷ []) (places-AreBelow 256 (a ∷ b ∷ c ∷ d ∷ []) (omega arith) octets)), wide4.back (a ∷ b ∷ c ∷ d ∷ []) (refl, octets))
-
-cut_length : (octets rest : List ℕ) → AreBelow 256 octets → length octets < 4 → [] ≡ rest → Stops IsLength (big_bytes 4) octets rest
-cut_length [] rest small lt none =
-    let l = long_length 255 255 255 (omega arith, (omega arith, (omega arith, tt))) 255 refl in
-    record { front = []; parts = none; value = big_number 4 (255 ∷ 255 ∷ 255 ∷ 255 ∷ []); fits = l.0; more = 255 ∷ 255 ∷ 255 ∷ 255 ∷ []; begins = l.1; refused = λ h t at c z fits begins. let both = none ∙ at in absurd cc }
-cut_length (a ∷ []) rest small lt none =
-    let l = long_length a 255 255 (small.0, (omega arith, (omega arith, tt))) 255 refl in
-    record { front = a ∷ []; parts = ap (λ (t : List ℕ). a ∷ t) none; value = big_number 4 (a ∷ 255 ∷ 255 ∷ 255 ∷ []); fits = l.0; more = 255 ∷ 255 ∷ 255 ∷ []; begins = l.1; refused = λ h t at c z fits begins. let both = none ∙ at in absurd cc }
-cut_length (a ∷ b ∷ []) rest small lt none =
-    let l = long_length a b 255 (small.0, (small.1.0, (omega arith, tt))) 255 refl in
-    record { front = a ∷ b ∷ []; parts = ap (λ (t : List ℕ). a ∷ b ∷ t) none; value = big_number 4 (a ∷ b ∷ 255 ∷ 255 ∷ []); fits = l.0; more = 255 ∷ 255 ∷ []; begins = l.1; refused = λ h t at c z fits begins. let both = none ∙ at in absurd cc }
-cut_length (a ∷ b ∷ c ∷ []) rest small lt none =
-    let l = long_length a b c small 255 refl in
-    record { front = a ∷ b ∷ c ∷ []; parts = ap (λ (t : List ℕ). a ∷ b ∷ c ∷ t) none; value = big_number 4 (a ∷ b ∷ c ∷ 255 ∷ []); fits = l.0; more = 255 ∷ []; begins = l.1; refused = λ h t at c' z fits begins. let both = none ∙ at in absurd cc }
-cut_length (a ∷ b ∷ c ∷ d ∷ octets) rest small lt none = absurd (omega arith)
-
-wrong_length : (octets rest : List ℕ) → AreBelow 256 octets → 4 ≤ length octets → is_length (big_number 4 octets) ≡ false → drop 3 octets ≡ rest → Stops IsLength (big_bytes 4) octets rest
-wrong_length (a ∷ b ∷ c ∷ d ∷ octets) rest small le bad tail =
-    let l = long_length a b c (small.0, (small.1.0, (small.1.1.0, tt))) 255 refl in
-    record {
-      front = a ∷ b ∷ c ∷ [];
-      parts = ap (λ (t : List ℕ). a ∷ b ∷ c ∷ t) tail;
-      value = big_number 4 (a ∷ b ∷ c ∷ 255 ∷ []);
-      fits = l.0;
-      more = 255 ∷ [];
-      begins = l.1;
-      refused = λ h t at n z fits begins.
-          let heads : d ∷ octets ≡ h ∷ t = tail ∙ at in
-          let last : d ≡ h = cc in
-          let none : z ≡ [] = nil_from_length z (omega (arith, ap (λ (o : List ℕ). length o) begins)) in
-          let spelled : big_bytes 4 n ≡ a ∷ b ∷ c ∷ d ∷ [] = begins ∙ ap (λ (o : List ℕ). a ∷ b ∷ c ∷ h ∷ o) none ∙ ap (λ (x : ℕ). a ∷ b ∷ c ∷ x ∷ []) (sym last) in
-          let number : n ≡ big_number 4 (a ∷ b ∷ c ∷ d ∷ []) = sym (number_of_bytes 4 n fits.1) ∙ ap (big_number 4) spelled in
-          let good : is_length (big_number 4 (a ∷ b ∷ c ∷ d ∷ octets)) ≡ true = ap is_length (sym number) ∙ fits.0 in
-          let both : true ≡ false = sym good ∙ bad in
-          cc;
-    }
-wrong_length octets rest small le bad tail = absurd (omega arith)
-
-length_stops : (octets rest : List ℕ) (cut good : Bool) → AreBelow 256 octets → ltb (length octets) 4 ≡ cut → is_length (big_number 4 octets) ≡ good → length_if cut good (big_number 4 octets) octets ≡ Err rest → Stops IsLength (big_bytes 4) octets rest
-length_stops octets rest true good small is-cut is-good e = cut_length octets rest small (ltb-true _ _ is-cut) (err_is {A = ℕ × List ℕ} [] rest e)
-length_stops octets rest false true small is-cut is-good e = absurd (not_both (big_number 4 octets, drop 4 octets) rest e)
-length_stops octets rest false false small is-cut is-good e = wrong_length octets rest small (ltb-false _ _ is-cut) is-good (err_is {A = ℕ × List ℕ} (drop 3 octets) rest e)
+last_part : (raw : List ℕ) → AreOctets 3 raw → IsPart (IsLast raw) (λ x. x ∷ []) (last_at raw)
+last_part raw fits =
+    one_part (λ x. x) (255, (long raw fits.0, omega arith)) refl (λ a x octets last is. rw (is, last.0) refl)
+    (λ x octets small. elim (cases_Bool (is_length (big_number 4 (raw ++ x ∷ [])))) [
+      | inl good ↦ inl (x, (good, small), refl)
+      | inr bad ↦ inr (rw bad refl)
+    ])
+  where
+    long : (raw : List ℕ) → length raw ≡ 3 → is_length (big_number 4 (raw ++ 255 ∷ [])) ≡ true
+    long (a ∷ b ∷ c ∷ []) e = is_length_long (big_number 4 (a ∷ b ∷ c ∷ 255 ∷ [])) (omega arith)
+    long raw e = absurd (omega arith)
 
 pub length_part : IsPart IsLength (big_bytes 4) length_at
-length_part = record {
-  takes = λ octets n rest small e. length_takes octets n rest (ltb (length octets) 4) (is_length (big_number 4 octets)) small refl refl e;
-  again = λ n rest fits. length_again n rest fits;
-  stops = λ octets rest small e. length_stops octets rest (ltb (length octets) 4) (is_length (big_number 4 octets)) small refl refl e;
-}
+length_part =
+    onto_part (λ t. big_number 4 (t.0 ++ t.1 ∷ [])) (pair_part (octets_part 3) (λ raw fits. last_part raw fits))
+    (record {
+      fits = λ t f. (f.1.0, big_from-lt 0 4 (t.0 ++ t.1 ∷ [])
+          (places-AreBelow 256 _ (omega arith) (four t.0 t.1 f.0 f.1.1).1));
+      spelled = λ t f. wide4 (t.0 ++ t.1 ∷ []) (four t.0 t.1 f.0 f.1.1);
+      from = λ n f.
+          let raw = take 3 (big_bytes 4 n) in
+          let small = bytes_below 4 n in
+          let same = number_of_bytes 4 n f.1 in
+          ((raw, get_or (big_bytes 4 n) 3 0), ((refl, (small.0, (small.1.0, (small.1.1.0, tt)))),
+              (rw same f.0, small.1.1.1.0)), same);
+    })
+    (λ octets. by_four octets ∙ simp bind_assoc)
+  where
+    four : (raw : List ℕ) (x : ℕ) → AreOctets 3 raw → x < 256 → AreOctets 4 (raw ++ x ∷ [])
+    four raw x fits lt = (omega (arith, fits.0, length-append raw (x ∷ [])),
+        AreBelow-append 256 raw (x ∷ []) fits.1 (lt, tt))
+
+    by_four : (octets : List ℕ) → length_at octets ≡ (octets_at 3 octets >>= λ r. last_at r.0 r.1 >>= λ x.
+        Ok (big_number 4 (r.0 ++ x.0 ∷ []), x.1))
+    by_four (a ∷ b ∷ c ∷ d ∷ octets) =
+        rw (le-ltb (length (a ∷ b ∷ c ∷ d ∷ octets)) 4 (omega arith),
+            le-ltb (length (a ∷ b ∷ c ∷ d ∷ octets)) 3 (omega arith))
+        (elim (cases_Bool (is_length (big_number 4 (a ∷ b ∷ c ∷ d ∷ octets))))
+            [ inl good ↦ rw good refl | inr bad ↦ rw bad refl ])
+    by_four [] = refl
+    by_four (a ∷ []) = refl
+    by_four (a ∷ b ∷ []) = refl
+    by_four (a ∷ b ∷ c ∷ []) = refl

@@ -1,5 +1,4 @@
 pub mod Acts
-pub mod Appends
 pub mod Contents
 pub mod Entries
 pub mod Fields

@@ -1,5 +1,5 @@
 -- Lists of octets, and two lists that begin alike.
-use Rattle.std.proofs.Common.{◌≡◌, ℕ, zero, suc, ◌<◌, List, [], ◌∷◌, ◌++◌, take, drop, get_or, refl, ◌⊎◌, inl, inr}
+use Rattle.std.proofs.Common.{◌≡◌, ℕ, zero, suc, ◌<◌, List, [], ◌∷◌, ◌++◌, take, get_or, replicate, refl, ◌⊎◌, inl, inr}
 use Rattle.entry_codec.specs.Spelling.{AreBelow}
 
 pub AreBelow-append : (bound : ℕ) (a b : List ℕ) → AreBelow bound a → AreBelow bound b → AreBelow bound (a ++ b)
@@ -14,10 +14,9 @@ pub AreBelow-take : (bound n : ℕ) (a : List ℕ) → AreBelow bound a → AreB
 AreBelow-take bound (suc n) (x ∷ a) p = (p.0, AreBelow-take bound n a p.1)
 AreBelow-take bound _ _ p = tt
 
-pub AreBelow-drop : (bound n : ℕ) (a : List ℕ) → AreBelow bound a → AreBelow bound (drop n a)
-AreBelow-drop bound zero a p = p
-AreBelow-drop bound (suc n) [] p = tt
-AreBelow-drop bound (suc n) (x ∷ a) p = AreBelow-drop bound n a p.1
+pub AreBelow-replicate : (bound n : ℕ) → 0 < bound → AreBelow bound (replicate n 0)
+AreBelow-replicate bound zero lt = tt
+AreBelow-replicate bound (suc n) lt = (lt, AreBelow-replicate bound n lt)
 
 -- each is below a bound that isn't 0, where each place is, also those past the end
 pub AreBelow-places : (bound : ℕ) (a : List ℕ) → ((i : ℕ) → get_or a i 0 < bound) → AreBelow bound a

@@ -31,10 +31,7 @@ abbrev Implies : (HeldKey → Bool) → (HeldKey → Bool) → Type 0
 Implies q p = (key : HeldKey) → q key ≡ true → p key ≡ true
 
 no_more_by : (key : HeldKey) (kept left : List HeldKey) (a b : Bool) → (a ≡ true → b ≡ true) → length kept ≤ length left → length (cond a (key ∷ kept) kept) ≤ length (cond b (key ∷ left) left)
-no_more_by key kept left true true w le = omega (arith, le)
-no_more_by key kept left true false w le = absurd (let e = w refl in cc)
-no_more_by key kept left false true w le = omega (arith, le)
-no_more_by key kept left false false w le = le
+no_more_by key kept left a b w le = grind arith
 
 no_more : (p q : HeldKey → Bool) → Implies q p → (keys : List HeldKey) → length (filter q keys) ≤ length (filter p keys)
 no_more p q w [] = omega arith
@@ -43,13 +40,7 @@ no_more p q w (key ∷ keys) = no_more_by key (filter q keys) (filter p keys) (q
 fewer_by : (key : HeldKey) (kept left : List HeldKey) (here others a b : Bool) → (here ≡ true → (b ≡ true) × (a ≡ false)) → (a ≡ true → b ≡ true)
     → length kept ≤ length left → (others ≡ true → length kept + 1 ≤ length left) → (here || others) ≡ true
     → length (cond a (key ∷ kept) kept) + 1 ≤ length (cond b (key ∷ left) left)
-fewer_by key kept left true others true b at w le less any = absurd (let e = (at refl).1 in cc)
-fewer_by key kept left true others false false at w le less any = absurd (let e = (at refl).0 in cc)
-fewer_by key kept left true others false true at w le less any = omega (arith, le)
-fewer_by key kept left false others true false at w le less any = absurd (let e = w refl in cc)
-fewer_by key kept left false others true true at w le less any = omega (arith, less any)
-fewer_by key kept left false others false true at w le less any = omega (arith, less any)
-fewer_by key kept left false others false false at w le less any = less any
+fewer_by key kept left here others a b at w le less any = grind arith
 
 -- a test that a key fails which another test lets pass keeps fewer
 fewer : (p q t : HeldKey → Bool) → Implies q p → ((key : HeldKey) → t key ≡ true → (p key ≡ true) × (q key ≡ false)) → (keys : List HeldKey)
@@ -65,9 +56,7 @@ abbrev lists : NodeId → List ℕ → HeldKey → Bool
 lists n xs key = (n.0 == key.node.0) && list_any (λ (x : ℕ). x == key.number) xs
 
 fewer_named : (a b c : Bool) → not (a && (b || c)) ≡ true → not (a && c) ≡ true
-fewer_named true true c e = absurd cc
-fewer_named true false c e = e
-fewer_named false b c e = refl
+fewer_named a b c e = grind arith
 
 none_other : (x : ℕ) (xs : List ℕ) → AllByRecursion (λ (y : ℕ). (x == y) ≡ false) xs → list_any (λ (y : ℕ). y == x) xs ≡ false
 none_other x [] apart = refl
@@ -99,8 +88,7 @@ released n (x ∷ xs) keys apart held =
 -- ---- promises behind one more entry
 
 due_at_most : (b : Bool) → (if b then 30 else 0) ≤ 30
-due_at_most true = omega arith
-due_at_most false = omega arith
+due_at_most b = grind arith
 
 -- ---- the laws
 

@@ -1,9 +1,8 @@
 use Rattle.std.proofs.Common.{◌≤◌, ◌+◌, ◌-◌, List, ap, arith, length, vec_capacity, ◌≡◌}
 use Rattle.dup_buffer.specs.Stored.{all_held, copies_of, held_in}
 use Rattle.dup_buffer.specs.declared.copy.HeldCopy.{HeldCopy}
-use Rattle.dup_buffer.proofs.CountLemmas.{held_all}
+use Rattle.dup_buffer.proofs.StoredLemmas.{held_all, stored}
 use Rattle.dup_buffer.proofs.StepLemmas.{copied_same, copied_stored}
-use Rattle.dup_buffer.proofs.StoredLemmas.{stored}
 use Rattle.dup_buffer.proofs.held.Held.copy_from.Goals as goal
 
 pub copy_held-requires-2 : goal.copy_held-requires-2

@@ -1,7 +1,6 @@
-use Rattle.std.proofs.Common.{◌∙◌, arith, ◌≡◌, ◌+◌, length}
-use Rattle.dup_buffer.specs.Stored.{all_held, copies_of, is_of}
+use Rattle.std.proofs.Common.{arith, ◌≡◌, ◌+◌, length}
+use Rattle.dup_buffer.specs.Stored.{all_held, is_of}
 use Rattle.dup_buffer.proofs.StepLemmas.{gone_count, left_copies, left_count, left_length, left_stored}
-use Rattle.dup_buffer.proofs.StoredLemmas.{stored}
 use Rattle.dup_buffer.proofs.held.Held.drop_node.Goals as goal
 use Rattle.std.specs.List.{count_by}
 
@@ -16,86 +15,28 @@ gone c =
     c.drop_copies.ensures.items c.drop_copies-2.ensures.items
 
 pub overflow_sub-result : goal.overflow_sub-result
-overflow_sub-result c =
-    omega (
-      arith,
-      gone c,
-      c.self.invariant.1,
-      c.len.ensures,
-      c.len-2.ensures,
-      c.drop_copies.new.copies.ok.0,
-      c.drop_copies-2.new.copies.ok.0,
-    )
+overflow_sub-result c = omega (arith, gone c, c.self.invariant.1)
 
 pub invariant_of-self : goal.invariant_of-self
 invariant_of-self c =
     let kept = c.self.inside.kept.items in
-    let late = c.self.inside.late.items in
-    let count = c.self.invariant.1 in (
+    let late = c.self.inside.late.items in (
       rw (c.drop_copies.ensures.items, c.drop_copies-2.ensures.items) (left_stored c.args.node.0 kept late c.self.invariant.0),
       rw (c.drop_copies.ensures.items, c.drop_copies-2.ensures.items)
-          (omega (
-            arith,
-            gone c,
-            left_count c.args.node.0 kept late
-                c.self.invariant.0.held,
-            left_length c.args.node.0 kept late,
-            c.len.ensures,
-            c.len-2.ensures,
-            c.drop_copies.new.copies.ok.0,
-            c.drop_copies-2.new.copies.ok.0,
-          )),
-      omega (
-        arith,
-        gone c,
-        count,
-        c.self.invariant.2,
-        c.len.ensures,
-        c.len-2.ensures,
-        c.drop_copies.new.copies.ok.0,
-        c.drop_copies-2.new.copies.ok.0,
-      ),
-      omega (
-        arith,
-        gone c,
-        count,
-        c.self.invariant.3,
-        c.drop_copies.ensures.capacity,
-        c.len.ensures,
-        c.len-2.ensures,
-        c.drop_copies.new.copies.ok.0,
-        c.drop_copies-2.new.copies.ok.0,
-      ),
-      omega (arith, c.self.invariant.4, c.drop_copies-2.ensures.capacity),
+          (omega (arith, gone c, left_count c.args.node.0 kept late c.self.invariant.0.held,
+          left_length c.args.node.0 kept late)),
+      omega (arith, gone c, c.self.invariant.1, c.self.invariant.2),
+      omega (arith, gone c, c.self.invariant.1, c.self.invariant.3),
+      omega (arith, c.self.invariant.4),
     )
 
 pub returns-clause-value : goal.returns-clause-value
-returns-clause-value c =
-    rw (← c.self.view_is) (omega (
-      arith,
-      gone c,
-      c.self.invariant.1,
-      c.len.ensures,
-      c.len-2.ensures,
-      c.drop_copies.new.copies.ok.0,
-      c.drop_copies-2.new.copies.ok.0,
-    ))
+returns-clause-value c = rw (← c.self.view_is) (omega (arith, gone c, c.self.invariant.1))
 
 pub returns-clause-others : goal.returns-clause-others
 returns-clause-others c =
-    rw (← c.self.view_is)
-    ((λ i. copies_of (stored (all_held (c.drop_copies.ensures.items i) (c.drop_copies-2.ensures.items i)))) ∙ left_copies c.args.node.0 c.self.inside.kept.items c.self.inside.late.items c.self.invariant.0.held)
+    rw (← c.self.view_is, c.drop_copies.ensures.items, c.drop_copies-2.ensures.items)
+    (left_copies c.args.node.0 c.self.inside.kept.items c.self.inside.late.items c.self.invariant.0.held)
 
 pub returns-clause-spare : goal.returns-clause-spare
-returns-clause-spare c =
-    rw (← c.self.view_is) (omega (
-      arith,
-      gone c,
-      c.self.invariant.1,
-      c.drop_copies.ensures.capacity,
-      c.self.invariant.3,
-      c.len.ensures,
-      c.len-2.ensures,
-      c.drop_copies.new.copies.ok.0,
-      c.drop_copies-2.new.copies.ok.0,
-    ))
+returns-clause-spare c = rw (← c.self.view_is) (omega (arith, gone c, c.self.invariant.1, c.self.invariant.3))
