@@ -1,5 +1,5 @@
 -- How an opening comes out as planned.
-use Rattle.std.proofs.Common.{◌≡◌, ◌≢◌, ◌⊎◌, inl, inr, ⊎_elim, ℕ, ◌≤◌, List, [], ◌++◌, Result, Ok, Err, length, get_or, refl, sym, ◌∙◌, ap, subst, arith, Bool, true, false}
+use Rattle.std.proofs.Common.{◌≡◌, ◌≢◌, ◌⊎◌, inl, inr, ⊎_elim, ℕ, ◌≤◌, List, [], ◌++◌, Result, Ok, Err, length, get_or, refl, sym, ◌∙◌, ap, subst, arith, Bool, false}
 use Rattle.std.specs.Prelude.{IfErr, IfOk, IsTrue, OnErr, ◌||◌}
 use Rattle.std.proofs.lemmas.List.Elements.{All-nil}
 use Rattle.std.proofs.lemmas.Bool.{false_from_ne_true, true≢false}
@@ -32,7 +32,7 @@ use Rattle.cgf_journal.specs.Fit.{AreFit, IsUnfitTo, StandsFit}
 use Rattle.cgf_journal.specs.Format.{IsForeignTo, StandsFor, entries_in}
 use Rattle.cgf_journal.specs.OpenPlan.{OpenFollows}
 use Rattle.cgf_journal.specs.Opening.{AreListedBefore, BreaksAt}
-use Rattle.cgf_journal.specs.Results.{FindsHistory, IsFresh, IsMadeAnew, IsOpened, IsRefused, OnArea, RefusesForeign, RoseByDevice}
+use Rattle.cgf_journal.specs.Results.{FindsHistory, IsFresh, IsMadeAnew, IsOpened, IsRefused, IsTrailOf, OnArea, RefusesForeign, RoseByDevice}
 use Rattle.cgf_journal.specs.Trail.{area_of, firm_entries}
 use Rattle.cgf_journal.specs.declared.trail.Trail.{Trail}
 use Rattle.cgf_journal.proofs.Meanings.{are_fit, are_fit-first, unfit_foreign, broken_off, broken_or_starts, foreign_or_starts, one_place, spoiled_by, stands_or_foreign, stands_or_starts}
@@ -163,9 +163,8 @@ module _ {A : Type 0} (tells : Ghosts A) (area : A) (address generation : ℕ) (
   }
 
   -- what is known of a trail over an opened journal, or of why there is none
-  pub record Over (size : ℕ) (j : Journal A tells) (r : Answer) : Type 0 where
-    pub are_fit : Told tells → IfOk r (λ trail. AreFit fits size (journal.batches j))
-    pub entries : Told tells → IfOk r (λ trail. firm_entries trail ≡ entries_in (journal.batches j))
+  pub record Over (size : ℕ) (Asked : List HistoryEntry → Type 0) (j : Journal A tells) (r : Answer) : Type 0 where
+    pub taken : Told tells → IfOk r (λ trail. IsTrailOf fits size (journal.batches j) Asked trail)
     pub fresh : IfOk r (λ trail. IsFresh (journal.header_of j) trail)
     pub breaks : Told tells → IfErr r (λ fault. (at : ℕ) → fault.0 ≡ NotOurs at → BreaksAt (AreFit fits size) (journal.batches j) at)
     pub some : Told tells → OnErr r (journal.batches j ≢ [])
@@ -173,14 +172,15 @@ module _ {A : Type 0} (tells : Ghosts A) (area : A) (address generation : ℕ) (
     pub cause : RoseByDevice tells (journal.area_of j) r
     pub runs : IsTrue tells.tells_fate → ReadsRun (tells.fate (journal.area_of j)).schedule → is_device r ≡ false
 
-  pub record Opens (r : Answer) : Type 0 where
+  pub record Opens (Asked : List HistoryEntry → Type 0) (r : Answer) : Type 0 where
     pub ok : IfOk r (λ trail. IsOpened tells asked area (StandsFit fits asked) trail)
+    pub follows : Told tells → IfOk r (λ trail. Asked (firm_entries trail))
     pub err : IfErr r (λ fault. IsRefused tells area (IsUnfitTo fits asked) fault)
     pub gives : Gives r
     pub size : OnArea r (λ now. tells.size now ≡ tells.size area)
     pub planned : IsTrue tells.tells_fate → OpenFollows tells area r asked
 
-  module _ (back : EntriesAreReadBack) (laws : AreaLaws tells) (size : ℕ) (size_is : size ≡ tells.size area) (j : Journal A tells) (opened : opening.IsOpened tells area asked j) (counted : OpenCounts tells area (Ok j) asked)
+  module _ (back : EntriesAreReadBack) (laws : AreaLaws tells) (Asked : List HistoryEntry → Type 0) (size : ℕ) (size_is : size ≡ tells.size area) (j : Journal A tells) (opened : opening.IsOpened tells area asked j) (counted : OpenCounts tells area (Ok j) asked)
       (leaves : OpenLeaves tells area asked (journal.area_of j)) (same_size : tells.size (journal.area_of j) ≡ tells.size area) (planned : IsTrue tells.tells_fate → gates.OpenFollows tells area (Ok j) asked) where
     sized : Told tells → length here ≡ size
     sized told = laws.whole area told.0 ∙ sym size_is
@@ -193,31 +193,32 @@ module _ {A : Type 0} (tells : Ghosts A) (area : A) (address generation : ℕ) (
         (subst (λ f. Keeps f (journal.header_of j) (journal.batches j) (tells.octets (journal.area_of j))) opened.front
         (opened.settled.reads told))))) (opened.found told)
 
-    found : (trail : Trail A tells) → Over size j (Ok trail) → Told tells → StandsFit fits asked here (firm_entries trail) ⊎ (Starts asked here × (firm_entries trail ≡ []))
+    found : (trail : Trail A tells) → Over size Asked j (Ok trail) → Told tells → StandsFit fits asked here (firm_entries trail) ⊎ (Starts asked here × (firm_entries trail ≡ []))
     found trail over told =
-        let are : AreFit fits (length here) (journal.batches j) = rw (sized told) (over.are_fit told) in
-        ⊎_elim (λ starts. inr (starts, over.entries told ∙ ap entries_in (opened.anew told starts)))
+        let are : AreFit fits (length here) (journal.batches j) = rw (sized told) ((over.taken told).are_fit) in
+        ⊎_elim (λ starts. inr (starts, (over.taken told).entries ∙ ap entries_in (opened.anew told starts)))
         (λ (stands : Stands asked here (journal.batches j)). inl (record {
-          stands = rw (over.entries told) (by_batches asked here (journal.batches j) stands are.are_batches);
-          fit = rw (over.entries told) are.fit;
+          stands = rw ((over.taken told).entries) (by_batches asked here (journal.batches j) stands are.are_batches);
+          fit = rw ((over.taken told).entries) are.fit;
         })) (there told)
 
-    pub opens : (r : Answer) → Over size j r → Opens r
+    pub opens : (r : Answer) → Over size Asked j r → Opens Asked r
     opens (Ok trail) over =
         let left = later (journal.area_of j) (area_of trail) leaves over.kept in
         record {
           ok = record { found = found trail over; fresh = rw opened.header at over.fresh; faults = over.cause.faults ∙ counted.cause.faults };
+          follows = λ told. (over.taken told).asked;
           err = tt;
           gives = record {
             reads = λ told h stands.
                 let list = in_batches back asked here h stands.stands in
                 record {
-                  listed = over.entries told ∙ ap entries_in (opened.reads told list.batches list.stands) ∙ sym list.history;
+                  listed = (over.taken told).entries ∙ ap entries_in (opened.reads told list.batches list.stands) ∙ sym list.history;
                   moments = left.unmade told (stands_unlike h stands);
                   calls = λ tell. over.kept.calls tell ∙ counted.calls tell told (stands_unlike h stands);
                 };
             anew = λ told starts. record {
-              listed = over.entries told ∙ ap entries_in (opened.anew told starts);
+              listed = (over.taken told).entries ∙ ap entries_in (opened.anew told starts);
               moments = making (area_of trail) (left.anew told starts);
               calls = λ tell. over.kept.calls tell ∙ counted.calls_anew tell told starts;
             };
@@ -240,6 +241,7 @@ module _ {A : Type 0} (tells : Ghosts A) (area : A) (address generation : ℕ) (
         }
     opens (Err fault) over = record {
       ok = tt;
+      follows = λ told. tt;
       err = record {
         place = places;
         cause = λ e. rw counted.cause.faults at (over.cause.device e);

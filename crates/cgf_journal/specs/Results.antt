@@ -7,7 +7,8 @@ use Rattle.gate_journal.specs.Format.{Starts}
 use Rattle.gate_journal.specs.Moments.{Leaves, Told}
 use Rattle.gate_journal.specs.declared.faults.OpenFault.{OpenFault}
 use Rattle.gate_journal.specs.declared.faults.OpenFault.TheVariants.{Device, NoMemory, NotOurs}
-use Rattle.cgf_journal.specs.Format.{StandsFor}
+use Rattle.cgf_journal.specs.Fit.{AreFit}
+use Rattle.cgf_journal.specs.Format.{StandsFor, entries_in}
 use Rattle.cgf_journal.specs.Trail.{IsSettled, area_of, entries, firm_entries, firm_length, header_of, is_closed, length_of, waiting, waiting_octets}
 use Rattle.cgf_journal.specs.declared.trail.Trail.{Trail}
 
@@ -25,6 +26,13 @@ pub record IsFresh {A : Type 0} {tells : Ghosts A} (header : List ℕ) (trail : 
   pub emptied : waiting_octets trail ≡ 0
   pub length : length_of trail ≡ firm_length trail
   pub settled : IsSettled trail
+
+-- The trail's firm entries are those of these batches, which are fit, and a judge was asked of them.
+pub record IsTrailOf {A : Type 0} {tells : Ghosts A} (fits : ℕ → List HistoryEntry → HistoryEntry → Type 0) (size : ℕ)
+    (batches : List (List ℕ)) (Asked : List HistoryEntry → Type 0) (trail : Trail A tells) : Type 0 where
+  pub are_fit : AreFit fits size batches
+  pub entries : firm_entries trail ≡ entries_in batches
+  pub asked : Asked (firm_entries trail)
 
 module _ {A : Type 0} (tells : Ghosts A) where
   -- The trail has the history that the area stands for, or the area was made anew.

@@ -9,11 +9,11 @@ ghost use Rattle.gate_journal.specs.Opening.{is_device};
 ghost use Rattle.gate_journal.specs.Planned.{ReadsRun};
 ghost use Rattle.gate_journal.specs.declared.journal.Front.TheVariants.{Founded};
 ghost use Rattle.cgf_journal.specs.Fit.{AreFit, IsUnfitTo, StandsFit};
-ghost use Rattle.cgf_journal.specs.Format.{IsForeignTo, StandsFor, entries_in};
+ghost use Rattle.cgf_journal.specs.Format.{IsForeignTo, StandsFor};
 ghost use Rattle.cgf_journal.specs.Judged.{IsJudged};
 ghost use Rattle.cgf_journal.specs.OpenPlan.{OpenFollows, is_memory};
 ghost use Rattle.cgf_journal.specs.Opening.{AreListed, AreListedBefore, AreTakenIn, BreaksAt, IsTakenUpTo};
-ghost use Rattle.cgf_journal.specs.Results.{FindsHistory, IsFresh, IsMadeAnew, IsOpened, IsRefused, OnArea, RefusesForeign, RoseByDevice};
+ghost use Rattle.cgf_journal.specs.Results.{FindsHistory, IsFresh, IsMadeAnew, IsOpened, IsRefused, IsTrailOf, OnArea, RefusesForeign, RoseByDevice};
 ghost use Rattle.cgf_journal.specs.Trail.{area_of, firm_entries};
 
 use crate::Trail;
@@ -195,9 +195,8 @@ impl<A: Area> Trail<A> {
         requires taken { AreTakenIn size 32 [] listing.places listing.tally }
         requires follows { J.follows judge.old [] }
 
-        ensures are_fit { Told A.Area → IfOk result (λ trail. AreFit J.fits size (gates.batches journal)) }
-        ensures follows { Told A.Area → IfOk result (λ trail. J.follows judge.new (firm_entries trail)) }
-        ensures entries { Told A.Area → IfOk result (λ trail. firm_entries trail ≡ entries_in (gates.batches journal)) }
+        ensures taken { Told A.Area →
+            IfOk result (IsTrailOf J.fits size (gates.batches journal) (J.follows judge.new)) }
         ensures fresh { IfOk result (λ trail. IsFresh (gates.header_of journal) trail) }
 
         ensures breaks { Told A.Area → IfErr result (λ fault. (at : ℕ) → fault.0 ≡ OpenFault.NotOurs at →
@@ -230,9 +229,7 @@ impl<A: Area> Trail<A> {
         requires taken { IsTakenUpTo (AreListed A.Area (gates.batches journal)) (IsJudged J.Judge size judge.now)
             size (gates.end journal) listing.places listing.tally }
 
-        ensures are_fit { Told A.Area → AreFit J.fits size (gates.batches journal) }
-        ensures follows { Told A.Area → J.follows judge.now (firm_entries result) }
-        ensures entries { Told A.Area → firm_entries result ≡ entries_in (gates.batches journal) }
+        ensures taken { Told A.Area → IsTrailOf J.fits size (gates.batches journal) (J.follows judge.now) result }
         ensures fresh { IsFresh (gates.header_of journal) result }
         ensures area { area_of result ≡ gates.area_of journal }
     {

@@ -18,10 +18,6 @@ invariant_of-result g c =
           (made c.args.journal c.args.size c.args.listing.places c.args.listing.tally c.requires.size c.requires.settled.place c.requires.taken c.requires.founded c.requires.ready);
     }
 
-pub returns-clause-entries : goal.returns-clause-entries
-unfolding firm_entries
-returns-clause-entries g c = λ told. refl
-
 pub returns-clause-fresh : goal.returns-clause-fresh
 unfolding waiting
 returns-clause-fresh g c =
@@ -37,12 +33,17 @@ returns-clause-fresh g c =
       settled = settled _ c.area_laws.ensures c.requires.settled;
     }
 
-pub returns-clause-are_fit : goal.returns-clause-are_fit
-returns-clause-are_fit g c = λ told. record {
-  are_batches = all_batches c.args.journal c.args.size c.args.listing.places c.args.listing.tally c.requires.size c.requires.settled.place c.requires.taken told;
-  fit = (all_judged c.args.journal c.args.size c.args.listing.places c.args.listing.tally c.requires.size c.requires.settled.place c.requires.taken told).fit;
-}
-
-pub returns-clause-follows : goal.returns-clause-follows
+pub returns-clause-taken : goal.returns-clause-taken
 unfolding firm_entries
-returns-clause-follows g c = λ told. (all_judged c.args.journal c.args.size c.args.listing.places c.args.listing.tally c.requires.size c.requires.settled.place c.requires.taken told).follows
+returns-clause-taken g c = λ told.
+    let taken = c.requires.taken in
+    let place = c.requires.settled.place in
+    let judged = all_judged c.args.journal c.args.size c.args.listing.places c.args.listing.tally c.requires.size place taken told in
+    record {
+      are_fit = record {
+        are_batches = all_batches c.args.journal c.args.size c.args.listing.places c.args.listing.tally c.requires.size place taken told;
+        fit = judged.fit;
+      };
+      entries = refl;
+      asked = judged.follows;
+    }

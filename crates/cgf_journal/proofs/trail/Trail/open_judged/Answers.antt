@@ -1,4 +1,4 @@
-use Rattle.std.proofs.Common.{◌≡◌, ◌⊎◌, inr, ℕ, ⊎_elim, sym, ◌∙◌, ap, subst, arith}
+use Rattle.std.proofs.Common.{◌≡◌, inr, ℕ, ⊎_elim, sym, ◌∙◌, ap, subst, arith}
 use Rattle.gate_journal.specs.Moments.{Told}
 use Rattle.gate_journal.specs.Opening.{is_device_fault}
 use Rattle.gate_journal.specs.Planned.{SyncPlanned}
@@ -13,10 +13,10 @@ pub returns-in-Ok-open : goal.returns-in-Ok-open
 returns-in-Ok-open g c =
     let given = c.in-Ok-open.ensures in
     let over = c.over.ensures in
-    let so = opens g.A.Area c.args.area c.args.address c.args.generation g.J.Judge.fits c.entries_are_read_back.ensures c.area_laws.ensures c.length-size.result c.length-size.ensures c.in-Ok-open.journal
-    given.ok given.counted given.any_moment given.size given.planned c.over.result
-    (record { are_fit = over.are_fit; entries = over.entries; fresh = over.fresh; breaks = over.breaks; some = over.some; kept = over.kept; cause = over.cause; runs = over.runs }) in
-    record { ok = so.ok; follows = over.follows; err = so.err; reads = so.gives.reads; anew = so.gives.anew; foreign = so.gives.foreign; size = so.size; planned = λ tell some. so.planned tell }
+    let so = opens g.A.Area c.args.area c.args.address c.args.generation g.J.Judge.fits c.entries_are_read_back.ensures c.area_laws.ensures (g.J.Judge.follows c.over.new.judge)
+    c.length-size.result c.length-size.ensures c.in-Ok-open.journal given.ok given.counted given.any_moment given.size given.planned c.over.result
+    (record { taken = over.taken; fresh = over.fresh; breaks = over.breaks; some = over.some; kept = over.kept; cause = over.cause; runs = over.runs }) in
+    record { ok = so.ok; follows = so.follows; err = so.err; reads = so.gives.reads; anew = so.gives.anew; foreign = so.gives.foreign; size = so.size; planned = λ tell some. so.planned tell }
 
 -- where it was refused: by a batch before the place, or there
 pub fault_before-fault-requires-clause-taken : goal.fault_before-fault-requires-clause-taken
