@@ -3,8 +3,8 @@ use Rattle.std.proofs.Common.{◌≡◌, ◌∙◌, refl, sym, ap, ℕ, Bool, tr
 use Rattle.std.proofs.lemmas.List.{append-nil}
 use Rattle.gateway_answer.specs.Answer.{Decided, Silent, decided, failure_answer, Says}
 use Rattle.gateway_book.specs.Calls.{given_at, Left, cause_in, left_by, outcome_at}
-use Rattle.gateway_answer.specs.Preparing.{prepared_of, PreparedValue}
-use Rattle.gateway_answer.specs.Value.{BookValue, Fortune, history_of, readied, committed, faulted, is_batch_full, recorded_if}
+use Rattle.gateway_answer.specs.Preparing.{prepared_of}
+use Rattle.gateway_answer.specs.Value.{BookValue, Fortune, history_of, readied, recorded_if}
 use Rattle.gtpp_message.specs.declared.reading.Why.{Why}
 use Rattle.once_core.specs.Addresses.{node_address}
 use Rattle.once_core.specs.Answers.{acting, answer_at, answered, failed, failed_by, if_broken}
@@ -36,7 +36,7 @@ use Rattle.replay_gateway.specs.declared.machine.Sent.{Sent}
 use Rattle.replay_gateway.specs.declared.taking.Delivery.{Delivery}
 use Rattle.replay_gateway.specs.declared.taking.Ending.{Ending}
 use Rattle.replay_gateway.specs.declared.taking.Ending.TheVariants as ending
-use Rattle.replay_gateway.proofs.CallLemmas.{none_reached}
+use Rattle.replay_gateway.proofs.CallLemmas.{failure_acts, none_reached}
 
 -- What a gateway makes of a message, by what its book answers.
 
@@ -119,11 +119,6 @@ said book (Says octets act) receipt is =
 pub silent : (book : BookValue) (decision : Decided) (why : Why) → outcome_at book decision ≡ outcome.Drop why →
     decision ≡ Silent why
 silent book decision why is = grind arith
-
--- a failure records nothing
-failure_act : (d : PreparedValue) {octets : _} (act : Option HistoryAct) →
-    decided (failure_answer d) ≡ Says octets act → act ≡ None
-failure_act d act is = grind arith
 
 -- What is recorded doesn't change whether the book is broken.
 
@@ -208,7 +203,8 @@ module _ (setup : Setup) (place : ℕ) (g : Gateway) (m : Machine) (now : ℕ) (
           HasMoved setup place (followed (with_book ready g) (answers setup now message))
           (record m { armed = Nothing; at_last = last }) messages new
       broke last is has done =
-          let nothing = failure_act _ act (sym (broken_decides setup message ready is) ∙ reply) in
+          let nothing : act ≡ None =
+          cc (failure_acts (prepared_of message.octets), broken_decides setup message ready is, reply) in
           let same : v ≡ ready = cc in
           let given_up = giving_up (record g { book = ready }) in
           let there = rw same at has in
@@ -282,13 +278,9 @@ abbrev pub told_of : Sequel → Decided → Ending
 told_of (Stops stands) d = ending.Quiet
 told_of _ d = decided_ending d
 
-history_by : (v : BookValue) (full : Bool) {fails : _} → v.is_broken ≡ false → fails ≡ false →
-    history_of (if full then (if fails then faulted v else committed v) else v) ≡ history_of v
-history_by v full whole is = grind (arith, append-nil)
-
 pub history_ready : (f : Fortune) (v : BookValue) → v.is_broken ≡ false → f.fails ≡ false →
     history_of (readied f v) ≡ history_of v
-history_ready f v whole is = cc (history_by v (is_batch_full v) whole is)
+history_ready f v whole is = grind (arith, append-nil)
 
 module _ (setup : Setup) (place : ℕ) (g : Gateway) (m : Machine) (now : ℕ) (message : Message)
     (runs : g.is_down ≡ false) (whole : g.book.is_broken ≡ false)
@@ -371,14 +363,11 @@ module _ (setup : Setup) (place : ℕ) (g : Gateway) (m : Machine) (now : ℕ) (
       let says = said left.value decision receipt answer in
       let v : BookValue = recorded_if is_ready now no_caller says.act in
       let value_is : left.value ≡ v = ap (λ (d : Decided). (left_by is_ready now no_caller d).value) says.is in
-      let called_there : IsCalled setup place g m v sequel called =
-      subst (λ (b : BookValue). IsCalled setup place g m b sequel called) value_is is_called in
-      let after_there : AfterCall setup place g m v sequel sent mid =
-      subst (λ (b : BookValue). AfterCall setup place g m b sequel sent mid) value_is after_it in
-      let answered_there : HasAnswered message says.octets (length (history_of v)) sent mid delivery new =
-      subst (λ (b : BookValue). HasAnswered message says.octets (length (history_of b)) sent mid delivery new) value_is
-      (subst (λ (n : ℕ). HasAnswered message says.octets n sent mid delivery new) says.front
-      (subst (λ (o : List ℕ). HasAnswered message o receipt.front sent mid delivery new) says.reply answered)) in
+      let called_there = subst (λ b. IsCalled setup place g m b sequel called) value_is is_called in
+      let after_there = subst (λ b. AfterCall setup place g m b sequel sent mid) value_is after_it in
+      let answered_there = subst (λ b. HasAnswered message says.octets (length (history_of b)) sent mid delivery new)
+      value_is (subst (λ n. HasAnswered message says.octets n sent mid delivery new) says.front
+      (subst (λ o. HasAnswered message o receipt.front sent mid delivery new) says.reply answered)) in
       let tells : Tells sequel is_ready =
       tells_ready sequel is_ready now says.act (site_tells setup place v sequel called.site called_there.site) in
       record {

@@ -113,10 +113,7 @@ module _ (setup : Setup) (place : ℕ) (g : Gateway) (m : Machine) (value : Book
   left_by : (stands : Bool) (v : BookValue) →
       take ((if stands then length (v.firm ++ v.rest) else 0) - length v.firm) v.rest ≡ (if stands then v.rest else [])
   left_by true v = take_all (length (v.firm ++ v.rest) - length v.firm) v.rest (omega (arith, length-append v.firm v.rest))
-  left_by false v = take_none (0 - length v.firm) v.rest (omega arith)
-    where
-      take_none : (n : ℕ) (xs : List HistoryEntry) → n ≡ 0 → take n xs ≡ []
-      take_none n xs is = cc
+  left_by false v = let none : 0 - length v.firm ≡ 0 = omega arith in cc
 
   whole_or_firm : (stands : Bool) (firm rest : List HistoryEntry) →
       firm ++ (if stands then rest else []) ≡ (if stands then firm ++ rest else firm)
@@ -240,7 +237,7 @@ stopped {setup} {place} g m stands down none ends rest = record {
 -- What a book makes of a message's datagram.
 
 -- a failure records nothing
-failure_acts : (d : PreparedValue) → act_decided (decided (failure_answer d)) ≡ None
+pub failure_acts : (d : PreparedValue) → act_decided (decided (failure_answer d)) ≡ None
 failure_acts (Drop why) = refl
 failure_acts _ = refl
 
@@ -273,9 +270,9 @@ pub outcome_called : {setup place : _} (g : Gateway) (m : Machine) (message : Me
     (result ≡ (taken_of setup m g message now s).answer))
 outcome_called {setup} {place} g m message now {octets} {old} new site result more_items stay stands runs from_is
     octets_are is took =
-    let s : Sequel = ready_sequel_of m.armed m.at_last g.book in
-    let sender : Addr = node_address message.node message.port in
-    let datagram : PreparedValue = prepared_of message.octets in
+    let s = ready_sequel_of m.armed m.at_last g.book in
+    let sender = node_address message.node message.port in
+    let datagram = prepared_of message.octets in
     let there : SiteTook setup place g m sender message.octets now site result =
     subst (λ (o : List ℕ). SiteTook setup place g m sender o now site result) octets_are
     (subst (λ (a : Addr). SiteTook setup place g m a octets now site result) from_is took) in (

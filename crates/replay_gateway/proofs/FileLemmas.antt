@@ -8,7 +8,7 @@ use Rattle.cdr_shelf.specs.Files.{SealedFile, file_named, in_stream}
 use Rattle.cdr_shelf.specs.declared.file_name.FileName.{FileName}
 use Rattle.file_rotate.specs.Division.{ClosedRun, Division, closed_first, cuts_at, divided_from, joined, run_after, ends_after, ends_before}
 use Rattle.file_writer.specs.Files.{files_from, stream_files}
-use Rattle.file_writer.specs.Streams.{Settings, stream_division, closed_of, record_if, stream_item, stream_items}
+use Rattle.file_writer.specs.Streams.{Settings, stream_division, closed_of, stream_item, stream_items}
 use Rattle.gw_base.specs.declared.item.Item.{Item}
 use Rattle.replay_gateway.specs.GatewayReport.{file_line}
 use Rattle.cdr_file.specs.declared.closure.ClosureReason.{ClosureReason}
@@ -17,7 +17,7 @@ use Rattle.file_rotate.specs.Items.{Filed, Tick, Close}
 use Rattle.file_rotate.specs.declared.limits.Limits.{Limits}
 use Rattle.route_filter.specs.declared.rule.Rule.{Rule}
 use Rattle.replay_gateway.proofs.WriterLemmas.{files_length}
-use Rattle.replay_gateway.proofs.ListLemmas.{none_beyond, take_next}
+use Rattle.replay_gateway.proofs.ListLemmas.{mapped_from, mapped_none, none_beyond, take_next}
 use Rattle.std.proofs.lemmas.Grind.{flat_map-append}
 use Rattle.file_writer.specs.Laws.{DivisionGoesOn}
 use Rattle.gateway_answer.specs.Filed.{along}
@@ -89,13 +89,6 @@ one_more place xs k {f} is =
     ap (flat_map (file_line place)) (take_next xs k is) ∙ flat_map-append (file_line place) (take k xs) (f ∷ [])
     ∙ ap (λ l. flat_map (file_line place) (take k xs) ++ l) (append-nil (file_line place f))
 
-found_in : (o : Option SealedFile) {octets : _} → Some octets ≡ option_map (λ (f : SealedFile). f.octets) o →
-    (f : SealedFile) × (o ≡ Some f) × (octets ≡ f.octets)
-found_in o is = grind arith
-
-none_in : (o : Option SealedFile) → None ≡ option_map (λ (f : SealedFile). f.octets) o → o ≡ None
-none_in o is = grind arith
-
 module _ (file : FileSettings) (s place : ℕ) (closed : List (ClosedRun (List ℕ))) (sealed : List SealedFile)
     (are : in_stream s sealed ≡ files_from file s 1 closed) where
   abbrev all : List SealedFile
@@ -114,7 +107,7 @@ module _ (file : FileSettings) (s place : ℕ) (closed : List (ClosedRun (List �
       let k = n - 1 in
       let number : n ≡ 1 + k = omega arith in
       let next : suc k ≡ n + 1 - 1 = omega arith in
-      let found = found_in _ (finds ∙ ap (λ i. file_named (name_at s i) sealed) number ∙ there k) in
+      let found = mapped_from _ _ (finds ∙ ap (λ i. file_named (name_at s i) sealed) number ∙ there k) in
       let is : record { name = name_at s n; octets = octets } ≡ found.0 =
       λ i. record { name = (ap (name_at s) number ∙ sym (kth_name _ s 1 k _ found.1)) i; octets = found.2 i } in
       cc (
@@ -128,7 +121,7 @@ module _ (file : FileSettings) (s place : ℕ) (closed : List (ClosedRun (List �
   lines_all n before some none are_so =
       let k = n - 1 in
       let number : n ≡ 1 + k = omega arith in
-      let gone = none_in _ (none ∙ ap (λ i. file_named (name_at s i) sealed) number ∙ there k) in
+      let gone = mapped_none _ _ (none ∙ ap (λ i. file_named (name_at s i) sealed) number ∙ there k) in
       cc (take_all k all (none_beyond all k gone))
 
 -- How many files items close: at most two for each item, so that an octet's four say the number of each.
@@ -149,11 +142,8 @@ closed_twice limits run (i ∷ items) =
     omega (arith, first_more cuts.before run (closed_first cuts.after (joined cuts.before run i) later))
 
 -- a stream has no more items than there are
-one_if : (b : Bool) (filed : Filed (List ℕ)) → length (record_if b filed) ≤ 1
-one_if b filed = grind arith
-
 one_item : (profile : ℕ) (rules : List Rule) (s : ℕ) (i : Item) → length (stream_item profile rules s i) ≤ 1
-one_item profile rules s i = grind (arith, nat_tests, one_if)
+one_item profile rules s i = grind (arith, nat_tests)
 
 as_few : (profile : ℕ) (rules : List Rule) (s : ℕ) (items : List Item) →
     length (stream_items profile rules s items) ≤ length items

@@ -4,12 +4,10 @@ use Rattle.std.proofs.lemmas.List.{append-nil}
 use Rattle.area_disk.specs.Armed.{Armed}
 use Rattle.gateway_answer.specs.Answer.{Decided}
 use Rattle.gateway_answer.specs.Answered.{act_decided, no_caller}
-use Rattle.gateway_book.specs.Calls.{Left, left_by, marked_at, marked_if_ready}
+use Rattle.gateway_book.specs.Calls.{left_by, marked_at, marked_if_ready}
 use Rattle.gateway_answer.specs.Marks.{Mark, NotDue, Makes, close_mark, made_if, tick_mark}
 use Rattle.gateway_book.specs.Up.{Sequel, fortune_by, ready_sequel_of, GoesOn, Breaks, Stops, sequel_of}
 use Rattle.gateway_answer.specs.Value.{is_batch_full, BookValue, Fortune, Refused, Reopening, Whole, after_commit, committed, faulted, readied, recorded_if, reopened, tried_with, history_of, tried}
-use Rattle.gateway_book.specs.declared.outcome.Marked.{Marked}
-use Rattle.gateway_book.specs.declared.outcome.Marked.TheVariants as made
 use Rattle.gw_base.specs.declared.history.Caller.{Caller}
 use Rattle.gw_base.specs.declared.history.HistoryAct.{HistoryAct}
 use Rattle.gw_base.specs.declared.history.HistoryEntry.{HistoryEntry}
@@ -104,22 +102,15 @@ stop_breaks armed at_last v is = rw (stop_refuses at_last _ is) (grind arith)
 
 -- Marks.
 
-mark_firm : (ready : BookValue) (now : ℕ) (who : Caller) (mark : Mark) → (marked_at ready now who mark).value.firm ≡ ready.firm
-mark_firm ready now who NotDue = refl
-mark_firm ready now who _ = refl
-
-abbrev broken_mark : BookValue → Left Marked
-broken_mark ready = record { value = ready; answer = made.Device }
-
-mark_firm_by : (ready : BookValue) (now : ℕ) (who : Caller) (mark : Mark) (b : Bool) →
-    (if b then broken_mark ready else marked_at ready now who mark).value.firm ≡ ready.firm
-mark_firm_by ready now who mark b = grind (arith, mark_firm)
+mark_firm : (ready : BookValue) (now : ℕ) (who : Caller) (mark : Mark) →
+    (marked_if_ready ready now who mark).value.firm ≡ ready.firm
+mark_firm ready now who mark = grind arith
 
 pub mark_grows : (f : Fortune) (v : BookValue) (now : ℕ) (who : Caller) (mark : Mark) →
     Grows v (marked_if_ready (readied f v) now who mark).value
 mark_grows f v now who mark =
     let grown = ready_grows f v in
-    (grown.0, mark_firm_by (readied f v) now who mark (readied f v).is_broken ∙ grown.1)
+    (grown.0, mark_firm (readied f v) now who mark ∙ grown.1)
 
 pub mark_same : (ready : BookValue) (now : ℕ) (who : Caller) (mark : Mark) → ready.is_broken ≡ true →
     (marked_if_ready ready now who mark).value ≡ ready

@@ -1,5 +1,5 @@
 -- Lists that are read place by place, and what a filter picks of a list that grows.
-use Rattle.std.proofs.Common.{◌≡◌, All, subst, Bool, cond, ℕ, zero, suc, ◌+◌, ◌≤◌, List, [], ◌∷◌, ◌++◌, length, take, drop, map, filter, Some, None, slice_get, arith}
+use Rattle.std.proofs.Common.{◌≡◌, All, subst, Bool, cond, ℕ, zero, suc, ◌+◌, ◌≤◌, List, [], ◌∷◌, ◌++◌, length, take, drop, map, filter, Option, Some, None, option_map, slice_get, arith}
 use Rattle.std.proofs.lemmas.List.{drop_all, drop_more, take_more}
 use Rattle.std.proofs.lemmas.Option.{get_or_from_slice_get, slice_get_within}
 
@@ -25,6 +25,14 @@ take_next xs k {x} is =
 -- what holds of each element holds of the one in a place
 pub all_at : {X : Type 0} (P : X → Type 0) (xs : List X) (i : ℕ) {x : _} → All P xs → slice_get xs i ≡ Some x → P x
 all_at P xs i {x} all at = subst P (get_or_from_slice_get xs i x x at) (all i x (slice_get_within xs i x at))
+
+-- what a value is mapped from
+pub mapped_from : {A B : Type 0} (f : A → B) (o : Option A) {y : _} → Some y ≡ option_map f o →
+    (x : A) × (o ≡ Some x) × (y ≡ f x)
+mapped_from f o is = grind arith
+
+pub mapped_none : {A B : Type 0} (f : A → B) (o : Option A) → None ≡ option_map f o → o ≡ None
+mapped_none f o is = grind arith
 
 picked_by : {A B : Type 0} (f : A → B) (y : A) (more xs : List A) (last : List B) (b : Bool) →
     map f more ≡ map f xs ++ last → map f (cond b (y ∷ more) more) ≡ map f (cond b (y ∷ xs) xs) ++ last

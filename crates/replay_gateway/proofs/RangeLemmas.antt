@@ -3,7 +3,7 @@
 use Rattle.std.proofs.Common.{◌≡◌, ℕ, suc, ◌+◌, ◌*◌, ◌≤◌, ◌<◌, Bool, true, false, ◌&&◌, ◌==◌, nat_le, nat_lt, if◌then◌else◌, List, [], ◌∷◌, ◌++◌, length, count_by, All, Option, Some, None, is_some, option_and_then, Result, Ok, Err, IfOk, IsUtf8, slice_index_or, refl, ap, arith, codes, length-append, ℤ, pos, neg_ℤ}
 use Rattle.std.proofs.lemmas.Bool.Decides.{nat_tests}
 use Rattle.std.proofs.lemmas.Int.{ints}
-use Rattle.std.proofs.lemmas.Bool.{leb-true, ltb-true, ltb-false, and_parts}
+use Rattle.std.proofs.lemmas.Bool.{cond_both, leb-true, ltb-true, ltb-false, and_parts}
 use Rattle.std.proofs.lemmas.List.Elements.{All-append, All-cons}
 use Rattle.std.proofs.lemmas.List.Sums.{AllPass-from_list_all, sum_by-append, sum_by-cons}
 use Rattle.std.proofs.lemmas.Str.{IsUtf8-from_ascii}
@@ -72,11 +72,8 @@ pos_within n h = (grind (arith, ints), grind (arith, ints))
 neg_within : (n : ℕ) → n ≤ 959 → IsWithin 959 (neg_ℤ (pos n))
 neg_within n h = grind arith
 
-same_offset : (a b : ℤ) → ◌≡◌ {A = Option ℤ} (Some a) (Some b) → a ≡ b
-same_offset a b e = cc
-
 signed_within : (sign n : ℕ) (z : ℤ) → n ≤ 959 → signed sign n ≡ Some z → IsWithin 959 z
-signed_within sign n z h e = grind (arith, nat_tests, neg_within, pos_within, same_offset)
+signed_within sign n z h e = grind (arith, nat_tests, neg_within, pos_within)
 
 digits_within : (most tens ones n : ℕ) → two_digits most tens ones ≡ Some n → n ≤ most
 digits_within most tens ones n h = at_most_within _ _ (where_some _ _ n h).1
@@ -366,22 +363,19 @@ size_of-onto_line x (l ∷ ls) = omega (arith, sum_by-cons line_size l ls, sum_b
 
 size_of-raw_lines : (text : List ℕ) → size_of (raw_lines text) ≡ length text
 size_of-raw_lines [] = refl
-size_of-raw_lines (x ∷ xs) = by (x == 10) refl (size_of-raw_lines xs)
-  where
-    by : (r : Bool) → (x == 10) ≡ r → size_of (raw_lines xs) ≡ length xs → size_of (raw_lines (x ∷ xs)) ≡ length (x ∷ xs)
-    by true e rest = rw e (omega (arith, sum_by-cons line_size (record { octets = []; ended = true }) (raw_lines xs)))
-    by false e rest = rw e (omega (arith, size_of-onto_line x (raw_lines xs)))
+size_of-raw_lines (x ∷ xs) =
+    let rest = size_of-raw_lines xs in
+    cond_both (x == 10) (record { octets = []; ended = true } ∷ raw_lines xs) (onto_line x (raw_lines xs))
+    (λ lines. size_of lines ≡ length (x ∷ xs))
+    (λ ends. omega (arith, sum_by-cons line_size (record { octets = []; ended = true }) (raw_lines xs)))
+    (λ more. omega (arith, size_of-onto_line x (raw_lines xs)))
 
 length-onto_line : (x : ℕ) (lines : List RawLine) → length (onto_line x lines) ≤ suc (length lines)
 length-onto_line x lines = grind arith
 
 length-raw_lines : (text : List ℕ) → length (raw_lines text) ≤ length text
 length-raw_lines [] = omega arith
-length-raw_lines (x ∷ xs) = by (x == 10) refl (length-raw_lines xs)
-  where
-    by : (r : Bool) → (x == 10) ≡ r → length (raw_lines xs) ≤ length xs → length (raw_lines (x ∷ xs)) ≤ length (x ∷ xs)
-    by true e rest = rw e (omega arith)
-    by false e rest = rw e (omega (arith, length-onto_line x (raw_lines xs)))
+length-raw_lines (x ∷ xs) = grind (arith, length-onto_line, length-raw_lines xs)
 
 -- the text of a script has no more octets than it may have
 pub script_within : (of : ScriptKind) (text : List ℕ) (lines : List Line) → script_in of text ≡ Ok lines → length text ≤ most_text

@@ -1,5 +1,5 @@
 -- The requests of a gateway to all nodes that it has a path to.
-use Rattle.std.proofs.Common.{◌≡◌, ◌∙◌, refl, ap, ℕ, suc, ◌+◌, ◌%◌, ◌≤◌, ◌<◌, false, List, [], ◌∷◌, ◌++◌, All, length, map, take, Option, Some, None, option_and_then, option_map, slice_get, take_all, arith}
+use Rattle.std.proofs.Common.{◌≡◌, ◌∙◌, refl, ap, ℕ, suc, ◌+◌, ◌%◌, ◌≤◌, ◌<◌, false, List, [], ◌∷◌, ◌++◌, All, length, map, take, Option, Some, None, option_and_then, slice_get, take_all, arith}
 use Rattle.std.specs.List.{cons_option, filter_map}
 use Rattle.std.proofs.lemmas.List.Elements.{All-head, All-tail}
 use Rattle.std.proofs.lemmas.List.{map_push}
@@ -24,7 +24,7 @@ use Rattle.replay_gateway.specs.Setup.{Setup}
 use Rattle.replay_gateway.specs.Standing.{MachineStands, SiteStands, area_tells}
 use Rattle.replay_gateway.specs.Machine.{Machine}
 use Rattle.replay_gateway.specs.declared.site.Site.{Site}
-use Rattle.replay_gateway.proofs.ListLemmas.{none_beyond, take_next}
+use Rattle.replay_gateway.proofs.ListLemmas.{mapped_from, mapped_none, none_beyond, take_next}
 use Rattle.replay_gateway.specs.declared.site.Site.TheVariants.{Up, Down}
 
 -- the request to the node with a path
@@ -46,29 +46,21 @@ started path start = (path, start)
 abbrev path_with : BookValue → Addr → Addr × ℕ
 path_with v p = (p, start_of p.ip (history_of v))
 
--- a path that was found
-found : (v : BookValue) (o : Option Addr) (path : Addr) (start : ℕ) → Some (started path start) ≡ option_map (path_with v) o →
-    (o ≡ Some path) × (start ≡ start_of path.ip (history_of v))
-found v o path start is = grind arith
-
-gone : (v : BookValue) (o : Option Addr) → None ≡ option_map (path_with v) o → o ≡ None
-gone v o is = grind arith
-
 module _ (place cause number : ℕ) (to : Option ℕ) (site : Option Site) where
   pub asked_more : (k : ℕ) (before : List Message) {after : _} (path : Addr) (start : ℕ) →
       AskedSoFar place cause number to site k before → Some (started path start) ≡ option_and_then (λ v. path_in v k)
       (book_in site) → after ≡ before ++ asking place cause number to (path, start) ∷ [] →
       AskedSoFar place cause number to site (k + 1) after
   asked_more k before path start inv finds grows v is =
-      let there = found v _ _ _ (finds ∙ ap (option_and_then (λ w. path_in w k)) is) in
+      let there = mapped_from (path_with v) _ (finds ∙ ap (option_and_then (λ w. path_in w k)) is) in
       let next : suc k ≡ k + 1 = omega arith in
-      cc (inv v is, there.1, one_more (asks_path place cause number to v) _ k there.0)
+      cc (inv v is, there.2, one_more (asks_path place cause number to v) _ k there.1)
 
   pub asked_all : (k : ℕ) (messages : List Message) → AskedSoFar place cause number to site k messages →
       None ≡ option_and_then (λ v. path_in v k) (book_in site) → {v : _} → book_in site ≡ Some v →
       messages ≡ map (asks_path place cause number to v) (paths_of (history_of v))
   asked_all k messages inv none {v} is =
-      let no_more = gone v _ (none ∙ ap (option_and_then (λ w. path_in w k)) is) in
+      let no_more = mapped_none (path_with v) _ (none ∙ ap (option_and_then (λ w. path_in w k)) is) in
       cc (inv v is, take_all k (paths_of (history_of v)) (none_beyond _ k no_more))
 
   -- there are no more
@@ -115,10 +107,10 @@ module _ (place cause number : ℕ) (to : Option ℕ) (g : Gateway) (is : number
       map (asks_path place cause number to g.book) paths ≡ map (redirecting place cause to g) paths
   asked_paths [] near = refl
   asked_paths (path ∷ paths) near =
-      ap (λ m. m ∷ map (asks_path place cause number to g.book) paths)
-      (asked_path path (All-head (λ p. node_at p < 256) path paths near))
-      ∙ ap (λ ms. redirecting place cause to g path ∷ ms)
-      (asked_paths paths (All-tail (λ p. node_at p < 256) path paths near))
+      cc (
+        asked_path path (All-head (λ p. node_at p < 256) path paths near),
+        asked_paths paths (All-tail (λ p. node_at p < 256) path paths near),
+      )
 
   pub asked_as : KnowsNear g →
       map (asks_path place cause number to g.book) (paths_of (history_of g.book)) ≡ (redirected place cause to g).sends

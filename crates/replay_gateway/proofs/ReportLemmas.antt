@@ -140,8 +140,7 @@ module _ (setup : Setup) (place : ℕ) (g : Gateway) (m : Machine) where
       let next : suc k ≡ k + 1 = omega arith in
       cc (
         append_assoc before (lines_below k) (flat_map (file_line place) more),
-        flat_map-append (file_line place)
-            front more,
+        flat_map-append (file_line place) front more,
       )
 
 -- What is reported of a gateway that has written all its items.

@@ -165,11 +165,6 @@ after_all {s} (said ∷ lines) is range =
     after_all {s = after_setting s said} lines (after_one s said is (All-head IsInRange said lines range))
     (All-tail IsInRange said lines range)
 
-script_readable : (of : ScriptKind) (text : List ℕ) {lines : _} → script_in of text ≡ Ok lines →
-    IsReadable (setup_of lines)
-script_readable of text {lines} h =
-    after_all lines by_default (lines_in_range of text h).each
-
 -- ---- files that are closed
 
 before_last : (runs : List (List (Filed (List ℕ)))) (before index : ℕ) {filed : _} →
@@ -208,19 +203,13 @@ StandThere = (settings : Settings) (h : List HistoryEntry) (place : FilePlace) (
     Contains (placed settings h) (place, filing) → record_at settings (items_of h) place
     ≡ Some (stream_record settings.profile filing.kind filing.octets filing.moment)
 
-read_of : Reads → StandThere → (setup : Setup) (place : ℕ) (g : Gateway) (a : MemoryArea) (shelf : MemoryShelf) →
-    IsReadable setup → IsAtRest setup place g a shelf → (at : FilePlace) (filing : FiledRecord) →
-    Contains (placed (files_in setup place) g.book.firm) (at, filing) → ReadsAt (shelf_tells.files shelf) at
-    (stream_record (files_in setup place).profile filing.kind filing.octets filing.moment)
-read_of reads stand setup place g a shelf sound rests at filing is =
-    let settings = files_in setup place in
-    reads settings (header_at setup place) (area_tells.octets a) g.book.firm (shelf_tells.files shelf) at filing
-    (record { limits = sound.limits; offset = sound.offset; streams = sound.streams }) rests.area
-    (omega (arith, rests.size, sound.size)) rests.files
-    (closed_there settings _ at rests.shut (stand settings g.book.firm at filing is)) is
-
 pub rest_read : Reads → StandThere → (of : ScriptKind) (text : List ℕ) (lines : List Line) (place : ℕ) (g : Gateway)
     (a : MemoryArea) (shelf : MemoryShelf) → script_in of text ≡ Ok lines → IsAtRest (setup_of lines) place g a shelf →
     IsRead (files_in (setup_of lines) place) g.book.firm shelf
 rest_read reads stand of text lines place g a shelf h rests at filing is =
-    read_of reads stand (setup_of lines) place g a shelf (script_readable of text h) rests at filing is
+    let settings = files_in (setup_of lines) place in
+    let sound = after_all lines by_default (lines_in_range of text h).each in
+    reads settings (header_at (setup_of lines) place) (area_tells.octets a) g.book.firm (shelf_tells.files shelf) at
+    filing (record { limits = sound.limits; offset = sound.offset; streams = sound.streams }) rests.area
+    (omega (arith, rests.size, sound.size)) rests.files
+    (closed_there settings _ at rests.shut (stand settings g.book.firm at filing is)) is

@@ -74,11 +74,8 @@ pub files_count : (settings : Settings) (s : ℕ) (items : List Item) →
 files_count settings s items = files_length _ s 1 _
 
 -- of items that are written more may be taken
-writable_fit : (i : Item) → IsWritable i → IsFit i
-writable_fit i is = grind arith
-
 pub all_fit : (items : List Item) → All IsWritable items → All IsFit items
-all_fit items are = All-weaker IsWritable IsFit writable_fit items are
+all_fit items are = All-weaker IsWritable IsFit (λ i is. grind arith) items are
 
 abbrev files_in : Writer MemoryShelf shelf_tells → List SealedFile
 files_in w = shelf_tells.files (writer.shelf_of w)
