@@ -1,25 +1,28 @@
--- A gateway goes as what is armed for its area says.
-use Rattle.std.proofs.Common.{◌≡◌, ◌∙◌, refl, sym, ap, subst, ℕ, Bool, true, false, not, ◌||◌, ◌&&◌, cond, if◌then◌else◌, List, [], ◌∷◌, ◌++◌, All, map, filter, Option, Some, None}
+-- What a call makes of a book, and that a gateway goes as what is armed for its area says.
+use Rattle.std.proofs.Common.{◌≡◌, ◌∙◌, refl, sym, ℕ, Bool, true, false, if◌then◌else◌, List, [], ◌∷◌, ◌++◌, arith, ap, not, ◌||◌, ◌&&◌, All, map, filter, Some, None}
 use Rattle.std.proofs.lemmas.List.{append-nil}
+use Rattle.area_disk.specs.Armed.{Armed}
+use Rattle.gateway_answer.specs.Answer.{Decided}
+use Rattle.gateway_answer.specs.Answered.{act_decided, no_caller}
+use Rattle.gateway_book.specs.Calls.{left_by, marked_at, marked_if_ready}
+use Rattle.gateway_answer.specs.Marks.{Mark, NotDue, Makes, close_mark, made_if, tick_mark}
+use Rattle.gateway_book.specs.Up.{Sequel, fortune_by, ready_sequel_of, GoesOn, Breaks, Stops, sequel_of}
+use Rattle.gateway_answer.specs.Value.{is_batch_full, BookValue, Fortune, Refused, Reopening, Whole, after_commit, committed, faulted, readied, recorded_if, reopened, tried_with, history_of, tried}
+use Rattle.gw_base.specs.declared.history.Caller.{Caller}
+use Rattle.gw_base.specs.declared.history.HistoryAct.{HistoryAct}
+use Rattle.gw_base.specs.declared.history.HistoryEntry.{HistoryEntry}
+use Rattle.replay_gateway.specs.Device.{is_stop, machine_after, machine_with, sequel_on}
+use Rattle.std.specs.Prelude.{Option}
+use Rattle.std.proofs.lemmas.Bool.{cond_both}
 use Rattle.std.proofs.lemmas.List.Elements.{recursion_from_All}
 use Rattle.std.specs.List.{AllByRecursion}
-use Rattle.area_disk.specs.Armed.{Armed}
-use Rattle.gateway_answer.specs.Answered.{no_caller, room_for}
-use Rattle.gateway_book.specs.Calls.{marked_at, marked_if_ready}
-use Rattle.gateway_book.specs.Comes.{Asked, AsksNothing, AsksReopening, asked_to_commit, asked_with}
-use Rattle.gateway_answer.specs.Marks.{Mark, NotDue, Makes, close_mark, made_if, tick_mark}
-use Rattle.gateway_book.specs.Up.{Sequel, GoesOn, Breaks, Stops, fortune_by, sequel_of}
-use Rattle.gateway_answer.specs.Value.{BookValue, Fortune, after_commit, history_of, is_batch_full, readied, reopened, tried, tried_with}
-use Rattle.gw_base.specs.History.{is_close_due}
-use Rattle.gw_base.specs.TickDue.{is_tick_due}
+use Rattle.gateway_book.specs.Comes.{Asked, AsksReopening, asked_to_commit, asked_with, AsksNothing}
 use Rattle.gw_base.specs.declared.history.HistoryAct.TheVariants.{Tick, Close}
-use Rattle.gw_base.specs.declared.history.HistoryEntry.{HistoryEntry}
 use Rattle.once_core.specs.Answers.{if_broken, making_close, making_tick, marked, recorded_where}
 use Rattle.once_core.specs.Gateway.{Gateway, Moved, committing, followed, giving_up, is_reached, readying, settling, still, with_book}
 use Rattle.once_core.specs.declared.message.Message.{Message}
 use Rattle.once_core.specs.declared.message.Waiting.{Waiting}
 use Rattle.replay_gateway.specs.Called.{AfterCall, IsCalled, SiteIsCalled, moved_after}
-use Rattle.replay_gateway.specs.Device.{is_stop, machine_after, machine_with, sequel_on}
 use Rattle.replay_gateway.specs.Moves.{GoesAsArmed, HasMoved, moved_by}
 use Rattle.replay_gateway.specs.Setup.{Setup, rules_in}
 use Rattle.replay_gateway.specs.Standing.{MachineStands, SiteStands}
@@ -27,8 +30,119 @@ use Rattle.replay_gateway.specs.Machine.{Machine}
 use Rattle.replay_gateway.specs.declared.machine.Machine as real
 use Rattle.replay_gateway.specs.declared.machine.Sent.{Sent}
 use Rattle.replay_gateway.specs.declared.site.Site.{Site}
-use Rattle.replay_gateway.specs.declared.site.Site.TheVariants.{Up, Down}
-use Rattle.replay_gateway.proofs.BookLemmas.{mark_same, mark_unbroken}
+use Rattle.replay_gateway.specs.Asking.{asked_by, asked_move, asked_value}
+use Rattle.replay_gateway.specs.declared.calls.GatewayCall.{GatewayCall}
+use Rattle.replay_gateway.specs.declared.calls.GatewayCall.TheVariants as call
+use Rattle.replay_gateway.specs.declared.site.Site.TheVariants.{Up}
+
+-- What a call makes of a book's value: which entries stay, and what a stop leaves.
+
+-- the firm entries stay, and more may follow them
+abbrev pub Grows : BookValue → BookValue → Type 0
+Grows v w = (more : List HistoryEntry) × (w.firm ≡ v.firm ++ more)
+
+-- all entries stay, and none follows
+abbrev pub Keeps : BookValue → BookValue → Type 0
+Keeps v w = (w.firm ≡ v.firm) × (w.rest ≡ v.rest)
+
+-- What grows.
+
+no_more : (v : BookValue) → Grows v v
+no_more v = ([], sym (append-nil v.firm))
+
+reopened_grows : (v : BookValue) (r : Reopening) → Grows v (reopened v r)
+reopened_grows v Whole = (v.rest, refl)
+reopened_grows v _ = ([], sym (append-nil v.firm))
+
+tried_by : (v : BookValue) (fails : Bool) → Grows v (if fails then faulted v else committed v)
+tried_by v true = ([], sym (append-nil v.firm))
+tried_by v false = (v.rest, refl)
+
+tried_with_grows : (f : Fortune) (v : BookValue) (rest : List HistoryEntry) → Grows v (tried_with f v rest)
+tried_with_grows f v [] = no_more v
+tried_with_grows f v (e ∷ rest) = tried_by v _
+
+pub commit_grows : (f : Fortune) (v : BookValue) → Grows v (after_commit f v)
+commit_grows f v =
+    cond_both v.is_broken _ _ (Grows v) (λ is. reopened_grows v f.reopening) (λ is. tried_with_grows f v v.rest)
+
+pub ready_grows : (f : Fortune) (v : BookValue) → Grows v (readied f v)
+ready_grows f v =
+    cond_both v.is_broken _ _ (Grows v) (λ is. reopened_grows v f.reopening)
+    (λ is. cond_both (is_batch_full v) _ _ (Grows v) (λ full. tried_by v f.fails) (λ short. no_more v))
+
+-- What a stop leaves.
+
+abbrev refused : Fortune
+refused = record { fails = true; reopening = Refused }
+
+stop_refuses : (at_last : Bool) (s : Sequel) → is_stop s ≡ true → fortune_by at_last s ≡ refused
+stop_refuses at_last (Stops stands) is = refl
+stop_refuses at_last _ is = absurd (cc)
+
+tried_keeps : (v : BookValue) (rest : List HistoryEntry) → Keeps v (tried_with refused v rest)
+tried_keeps v [] = (refl, refl)
+tried_keeps v (e ∷ rest) = (refl, refl)
+
+commit_kept : (v : BookValue) (b : Bool) → Keeps v (if b then reopened v Refused else tried_with refused v v.rest)
+commit_kept v true = (refl, refl)
+commit_kept v false = tried_keeps v v.rest
+
+pub commit_keeps : (at_last : Bool) (s : Sequel) (v : BookValue) → is_stop s ≡ true →
+    Keeps v (after_commit (fortune_by at_last s) v)
+commit_keeps at_last s v is = rw (stop_refuses at_last s is) (commit_kept v _)
+
+-- the book is broken, and all entries stay
+abbrev pub BreaksAs : BookValue → BookValue → Type 0
+BreaksAs v w = (w.is_broken ≡ true) × Keeps v w
+
+pub stop_breaks : (armed : Armed) (at_last : Bool) (v : BookValue) → is_stop (ready_sequel_of armed at_last v) ≡ true →
+    BreaksAs v (readied (fortune_by at_last (ready_sequel_of armed at_last v)) v)
+stop_breaks armed at_last v is = rw (stop_refuses at_last _ is) (grind arith)
+
+-- Marks.
+
+mark_firm : (ready : BookValue) (now : ℕ) (who : Caller) (mark : Mark) →
+    (marked_if_ready ready now who mark).value.firm ≡ ready.firm
+mark_firm ready now who mark = grind arith
+
+pub mark_grows : (f : Fortune) (v : BookValue) (now : ℕ) (who : Caller) (mark : Mark) →
+    Grows v (marked_if_ready (readied f v) now who mark).value
+mark_grows f v now who mark =
+    let grown = ready_grows f v in
+    (grown.0, mark_firm (readied f v) now who mark ∙ grown.1)
+
+pub mark_same : (ready : BookValue) (now : ℕ) (who : Caller) (mark : Mark) → ready.is_broken ≡ true →
+    (marked_if_ready ready now who mark).value ≡ ready
+mark_same ready now who mark is = cc
+
+pub mark_unbroken : (ready : BookValue) (now : ℕ) (who : Caller) (mark : Mark) → ready.is_broken ≡ false →
+    (marked_if_ready ready now who mark).value ≡ (marked_at ready now who mark).value
+mark_unbroken ready now who mark is = cc
+
+pub mark_keeps : (armed : Armed) (at_last : Bool) (v : BookValue) (now : ℕ) (who : Caller) (mark : Mark) →
+    is_stop (ready_sequel_of armed at_last v) ≡ true →
+    Keeps v (marked_if_ready (readied (fortune_by at_last (ready_sequel_of armed at_last v)) v) now who mark).value
+mark_keeps armed at_last v now who mark is =
+    let f = fortune_by at_last (ready_sequel_of armed at_last v) in
+    let broken = stop_breaks _ _ v is in
+    let same = mark_same (readied f v) now who mark broken.0 in
+    (cc broken.1.0, cc broken.1.1)
+
+-- What an answer records.
+
+pub recorded_firm : (v : BookValue) (now : ℕ) (who : Caller) (act : Option HistoryAct) →
+    (recorded_if v now who act).firm ≡ v.firm
+recorded_firm v now who None = refl
+recorded_firm v now who (Some act) = refl
+
+pub answer_grows : (f : Fortune) (v : BookValue) (now : ℕ) (who : Caller) (decision : Decided) →
+    Grows v (left_by (readied f v) now who decision).value
+answer_grows f v now who decision =
+    let grown = ready_grows f v in
+    (grown.0, recorded_firm (readied f v) now who (act_decided decision) ∙ grown.1)
+
+-- A gateway goes as what is armed for its area says.
 
 abbrev pub moved : Gateway → List Message → Moved
 moved g sends = record { gateway = g; sends = sends }
@@ -43,30 +157,24 @@ nothing_due : (v : BookValue) (ws : List Waiting) → AllByRecursion (λ w. is_r
     (filter (is_reached v) ws ≡ []) × (filter (λ w. not (is_reached v w)) ws ≡ ws)
 nothing_due v [] none = (refl, refl)
 nothing_due v (w ∷ ws) none =
-    let later = nothing_due v ws none.1 in (
-      ap (λ (b : Bool). cond b (w ∷ filter (is_reached v) ws) (filter (is_reached v) ws)) none.0 ∙ later.0,
-      ap (λ (b : Bool). cond (not b) (w ∷ filter (λ u. not (is_reached v u)) ws)
-          (filter (λ u. not (is_reached v u)) ws)) none.0 ∙ ap (λ (us : List Waiting). w ∷ us) later.1,
-    )
+    let later = nothing_due v ws none.1 in
+    (cc (none.0, later.0), cc (none.0, later.1))
 
 abbrev parts : Gateway → List Waiting → List Waiting → Moved
 parts g due later = moved (record g { waiting = later }) (map (λ w. w.message) due)
 
 pub stays : (g : Gateway) → All (λ w. is_reached g.book w ≡ false) g.waiting → settling g ≡ still g
 stays g none =
-    let due = nothing_due g.book g.waiting (recursion_from_All (λ w. is_reached g.book w ≡ false) g.waiting none) in
-    ap (λ (ws : List Waiting). parts g ws (filter (λ w. not (is_reached g.book w)) g.waiting)) due.0
-    ∙ ap (λ (ws : List Waiting). parts g [] ws) due.1
+    let due = nothing_due g.book _ (recursion_from_All (λ w. is_reached g.book w ≡ false) g.waiting none) in
+    ap (λ ws. parts g ws (filter (λ w. not (is_reached g.book w)) g.waiting)) due.0 ∙ ap (parts g []) due.1
 
 -- A book that became another one.
 
 pub unbroken : (w : BookValue) (g : Gateway) → w.is_broken ≡ false → with_book w g ≡ settling (record g { book = w })
-unbroken w g is =
-    ap (λ (b : Bool). if b then giving_up (record g { book = w }) else settling (record g { book = w })) is
+unbroken w g is = cc
 
 pub broken : (w : BookValue) (g : Gateway) → w.is_broken ≡ true → with_book w g ≡ giving_up (record g { book = w })
-broken w g is =
-    ap (λ (b : Bool). if b then giving_up (record g { book = w }) else settling (record g { book = w })) is
+broken w g is = cc
 
 -- What comes before an answer or a mark.
 
@@ -79,21 +187,14 @@ by_flags f g none _ _ is = refl
 
 pub readying_is : (setup : Setup) (f : Fortune) (g : Gateway) → All (λ w. is_reached g.book w ≡ false) g.waiting →
     readying (rules_in setup) f g ≡ with_book (readied f g.book) g
-readying_is setup f g none = by_flags f g none g.book.is_broken (is_batch_full g.book) refl
+readying_is setup f g none = by_flags f g none _ _ refl
 
 -- Commits.
-
-abbrev book_with : BookValue → List HistoryEntry → List HistoryEntry → BookValue
-book_with v firm rest = record v { firm = firm; rest = rest }
 
 by_rest : (v : BookValue) (armed : Armed) (at_last : Bool) (rest : List HistoryEntry) → v.rest ≡ rest →
     tried (fortune_by at_last (sequel_of (asked_with rest) armed at_last)) v
     ≡ tried_with (fortune_by at_last (sequel_of (asked_with rest) armed at_last)) v rest
-by_rest v armed at_last [] is =
-    ap (λ (xs : List HistoryEntry). book_with v (v.firm ++ xs) []) is
-    ∙ ap (λ (xs : List HistoryEntry). book_with v xs []) (append-nil v.firm)
-    ∙ ap (λ (xs : List HistoryEntry). book_with v v.firm xs) (sym is)
-by_rest v armed at_last (e ∷ rest) is = refl
+by_rest v armed at_last rest is = grind (arith, append-nil)
 
 commit_by : (v : BookValue) (armed : Armed) (at_last b : Bool) →
     (let f = fortune_by at_last (sequel_of (if b then AsksReopening else asked_with v.rest) armed at_last) in
@@ -104,7 +205,7 @@ commit_by v armed at_last false = by_rest v armed at_last v.rest refl
 pub committing_is : (g : Gateway) (armed : Armed) (at_last : Bool) →
     (let f = fortune_by at_last (sequel_of (asked_to_commit g.book) armed at_last) in
     committing f g ≡ with_book (after_commit f g.book) g)
-committing_is g armed at_last = ap (λ (w : BookValue). with_book w g) (commit_by g.book armed at_last g.book.is_broken)
+committing_is g armed at_last = cc (commit_by g.book armed at_last g.book.is_broken)
 
 -- Marks.
 
@@ -129,12 +230,9 @@ mark_ready : (ready : BookValue) (g : Gateway) (now : ℕ) (mark : Mark) → rea
     (still (record (settling (record g { book = ready })).gateway { book = mark_made now mark ready }))
     ≡ with_book (mark_made now mark ready) g
 mark_ready ready g now (Makes act) is =
-    let w : BookValue = mark_made now (Makes act) ready in
-    ap (λ (sends : List Message). moved (settling (record g { book = w })).gateway sends)
-    (append-nil (settling (record g { book = w })).sends) ∙ sym (unbroken w g is)
-mark_ready ready g now _ is =
-    ap (λ (sends : List Message). moved (settling (record g { book = ready })).gateway sends)
-    (append-nil (settling (record g { book = ready })).sends) ∙ sym (unbroken ready g is)
+    let w = mark_made now (Makes act) ready in
+    cc (append-nil (settling (record g { book = w })).sends, unbroken w g is)
+mark_ready ready g now _ is = cc (append-nil (settling (record g { book = ready })).sends, unbroken ready g is)
 
 module _ (move : Gateway → Moved) (mark : List HistoryEntry → Mark) (now : ℕ)
     (makes : (h : Gateway) → move h ≡ still (record h { book = mark_made now (mark (history_of h.book)) h.book })) where
@@ -142,43 +240,36 @@ module _ (move : Gateway → Moved) (mark : List HistoryEntry → Mark) (now : �
       followed (with_book ready g) (if_broken still move)
       ≡ with_book (marked_if_ready ready now no_caller (mark (history_of ready))).value g
   mark_by ready g true is =
-      ap (λ (m : Moved). followed m (if_broken still move)) (broken ready g is)
-      ∙ ap (λ (b : Bool). after (giving_up (record g { book = ready }))
-      (if b then still (giving_up (record g { book = ready })).gateway
-      else move (giving_up (record g { book = ready })).gateway)) is
-      ∙ ap (λ (sends : List Message). moved (giving_up (record g { book = ready })).gateway sends)
-      (append-nil (giving_up (record g { book = ready })).sends)
-      ∙ sym (broken ready g is)
-      ∙ ap (λ (w : BookValue). with_book w g) (sym (mark_same ready now no_caller (mark (history_of ready)) is))
+      cc (
+        broken ready g is,
+        append-nil (giving_up (record g { book = ready })).sends,
+        mark_same ready now no_caller (mark (history_of ready)) is,
+      )
   mark_by ready g false is =
       let settled : Gateway = (settling (record g { book = ready })).gateway in
-      ap (λ (m : Moved). followed m (if_broken still move)) (unbroken ready g is)
-      ∙ ap (λ (b : Bool). after (settling (record g { book = ready })) (if b then still settled else move settled)) is
-      ∙ ap (λ (m : Moved). after (settling (record g { book = ready })) m) (makes settled)
+      ap (λ m. followed m (if_broken still move)) (unbroken ready g is)
+      ∙ ap (λ b. after (settling (record g { book = ready })) (if b then still settled else move settled)) is
+      ∙ ap (after (settling (record g { book = ready }))) (makes settled)
       ∙ mark_ready ready g now (mark (history_of ready)) is
-      ∙ ap (λ (w : BookValue). with_book w g) (sym (mark_unbroken ready now no_caller (mark (history_of ready)) is))
+      ∙ ap (λ w. with_book w g) (sym (mark_unbroken ready now no_caller (mark (history_of ready)) is))
 
   mark_is : (setup : Setup) (f : Fortune) (g : Gateway) → All (λ w. is_reached g.book w ≡ false) g.waiting →
       marked (rules_in setup) f move g
       ≡ with_book (marked_if_ready (readied f g.book) now no_caller (mark (history_of (readied f g.book)))).value g
   mark_is setup f g none =
-      ap (λ (m : Moved). followed m (if_broken still move)) (readying_is setup f g none)
-      ∙ mark_by (readied f g.book) g (readied f g.book).is_broken refl
+      cc (readying_is setup f g none, mark_by (readied f g.book) g (readied f g.book).is_broken refl)
 
 pub tick_is : (setup : Setup) (f : Fortune) (g : Gateway) (now : ℕ) → All (λ w. is_reached g.book w ≡ false) g.waiting →
     marked (rules_in setup) f (making_tick (rules_in setup) now) g
     ≡ with_book (marked_if_ready (readied f g.book) now no_caller
     (tick_mark setup.limits.open_time now (history_of (readied f g.book)) setup.size)).value g
 tick_is setup f g now none =
-    mark_is (making_tick (rules_in setup) now) (λ h. tick_mark setup.limits.open_time now h setup.size) now
-    (λ h. tick_by h now (is_tick_due setup.limits.open_time now (history_of h.book))
-    (room_for (history_of h.book) setup.size Tick)) setup f g none
+    mark_is _ (λ h. tick_mark setup.limits.open_time now h setup.size) now (λ h. tick_by h now _ _) setup f g none
 
 pub close_is : (setup : Setup) (f : Fortune) (g : Gateway) (now : ℕ) → All (λ w. is_reached g.book w ≡ false) g.waiting →
     marked (rules_in setup) f (making_close now) g
     ≡ with_book (marked_if_ready (readied f g.book) now no_caller (close_mark (history_of (readied f g.book)))).value g
-close_is setup f g now none =
-    mark_is (making_close now) close_mark now (λ h. close_by h now (is_close_due (history_of h.book))) setup f g none
+close_is setup f g now none = mark_is _ close_mark now (λ h. close_by h now _) setup f g none
 
 -- What came of a call.
 
@@ -190,80 +281,66 @@ Tells (Stops stands) v = Unit {0}
 
 pub site_tells : (setup : Setup) (place : ℕ) (v : BookValue) (s : Sequel) (site : Option Site) →
     SiteIsCalled setup place v s site → Tells s v
-site_tells setup place v s None called = absurd called
 site_tells setup place v (Stops stands) (Some (Up book)) called = tt
-site_tells setup place v s (Some (Down fallen)) called = absurd called
 site_tells setup place v _ (Some (Up book)) called = called.stands.0
+site_tells setup place v s _ called = absurd called
 
 -- what it did then, but for a stop
-moved_with : (s : Sequel) (v : BookValue) (g : Gateway) → Tells s v → is_stop s ≡ false → moved_after s v g ≡ with_book v g
-moved_with (GoesOn armed) v g tells is = sym (unbroken v g tells)
-moved_with (Breaks last) v g tells is = sym (broken v g tells)
-moved_with (Stops stands) v g tells is = absurd (cc)
-
 moved_same : (s : Sequel) (move : Fortune → Gateway → Moved) (m : Machine) (g : Gateway) (v : BookValue) → Tells s v →
     (is_stop s ≡ false → move (fortune_by m.at_last s) g ≡ with_book v g) →
     moved_after s v g ≡ moved_by s move m g
-moved_same (GoesOn armed) move m g v tells is = moved_with (GoesOn armed) v g tells refl ∙ sym (is refl)
-moved_same (Breaks last) move m g v tells is = moved_with (Breaks last) v g tells refl ∙ sym (is refl)
+moved_same (GoesOn armed) move m g v tells is = sym (is refl ∙ unbroken v g tells)
+moved_same (Breaks last) move m g v tells is = sym (is refl ∙ broken v g tells)
 moved_same (Stops stands) move m g v tells is = refl
 
 module _ (setup : Setup) (place : ℕ) where
   -- of a book that isn't broken nobody asks how it broke
-  site_rearmed : (g : Gateway) (m : Machine) (site : Option Site) → g.book.is_broken ≡ false →
-      SiteStands setup place g (record m { at_last = false }) site → SiteStands setup place g m site
-  site_rearmed g m None is stands = absurd stands
-  site_rearmed g m (Some (Up book)) is stands = record {
-    runs = stands.runs;
-    up = record {
-      value = stands.up.value;
-      named = stands.up.named;
-      is_armed = stands.up.is_armed;
-      has_spare = stands.up.has_spare;
-      torn = λ breaks outcome. absurd (cc (sym is ∙ breaks));
-    };
-    size = stands.size;
-    open_time = stands.open_time;
-  }
-  site_rearmed g m (Some (Down fallen)) is stands =
-      record {
-        stopped = stands.stopped;
-        down = stands.down;
-        is_armed = stands.is_armed;
-        unarmed = stands.unarmed;
-        silent = stands.silent;
-        size = stands.size;
-      }
-
-  pub rearmed : (g : Gateway) (m : Machine) (r : real.Machine) → g.book.is_broken ≡ false →
+  pub rearmed : {g : Gateway} (m : Machine) {r : real.Machine} → g.book.is_broken ≡ false →
       MachineStands setup place g (record m { at_last = false }) r → MachineStands setup place g m r
-  rearmed g m r is stands = record {
-    site = site_rearmed g m r.site is stands.site;
-    waiting = stands.waiting;
-    unreached = stands.unreached;
-    redirects = stands.redirects;
-    named = stands.named;
-    writes = stands.writes;
-  }
+  rearmed {g} m {r} is stands = let site : SiteStands setup place g m r.site = grind (arith, stands.site) in assumption
 
-  machine_is : (asked : Asked) (m : Machine) (v : BookValue) (g : Gateway) (sends : List Message) (r : real.Machine) →
+  machine_is : (asked : Asked) (m : Machine) (v : BookValue) (g : Gateway) {sends : _} (r : real.Machine) →
       Tells (sequel_on m asked) v →
       HasMoved setup place (moved_after (sequel_on m asked) v g) (machine_with m (sequel_on m asked)) sends r →
       HasMoved setup place (moved_after (sequel_on m asked) v g) (machine_after asked m) sends r
-  machine_is AsksNothing m v g sends r tells moved =
-      record { stands = rearmed (settling (record g { book = v })).gateway m r tells moved.stands; sends = moved.sends }
-  machine_is _ m v g sends r tells moved = moved
+  machine_is AsksNothing m v g r tells moved = record { stands = rearmed m tells moved.stands; sends = moved.sends }
+  machine_is _ m v g r tells moved = moved
 
   pub goes_as_armed : (g : Gateway) (m : Machine) (asked : Asked) (move : Fortune → Gateway → Moved) (v : BookValue)
-      (old : real.Machine) (sent : Sent) (new : real.Machine) →
-      IsCalled setup place g m v (sequel_on m asked) old →
+      {old : _} (sent : Sent) {new : _} → IsCalled setup place g m v (sequel_on m asked) old →
       (is_stop (sequel_on m asked) ≡ false → move (fortune_by m.at_last (sequel_on m asked)) g ≡ with_book v g) →
       AfterCall setup place g m v (sequel_on m asked) sent new → GoesAsArmed setup place asked move g m sent new
-  goes_as_armed g m asked move v old sent new called is after_it =
-      let tells = site_tells setup place v (sequel_on m asked) old.site called.site in
+  goes_as_armed g m asked move v sent {new} called is after_it =
+      let tells = site_tells _ _ v _ _ called.site in
       record {
-        moved = subst (λ (moved : Moved). HasMoved setup place moved (machine_after asked m) sent.messages.items new)
-            (moved_same (sequel_on m asked) move m g v tells is)
-            (machine_is asked m v g sent.messages.items new tells after_it.moved);
+        moved = rw (moved_same _ move m g v tells is) at (machine_is _ m v g new tells after_it.moved);
         came = after_it.came;
       }
+
+-- What is asked of a gateway's book, call by call.
+
+module _ (setup : Setup) (now : ℕ) (g : Gateway) (m : Machine) where
+  -- the firm entries stay
+  pub asked_grows : (asks : GatewayCall) (f : Fortune) → Grows g.book (asked_value setup now asks f g.book)
+  asked_grows call.Commit f = commit_grows f g.book
+  asked_grows call.Mark f = mark_grows f g.book now no_caller
+      (tick_mark setup.limits.open_time now (history_of (readied f g.book)) setup.size)
+  asked_grows call.Close f = mark_grows f g.book now no_caller (close_mark (history_of (readied f g.book)))
+
+  -- where it is stopped all stay
+  pub asked_keeps : (asks : GatewayCall) → is_stop (sequel_on m (asked_by asks g.book)) ≡ true →
+      Keeps g.book (asked_value setup now asks (fortune_by m.at_last (sequel_on m (asked_by asks g.book))) g.book)
+  asked_keeps call.Commit is = commit_keeps m.at_last (sequel_on m (asked_by call.Commit g.book)) g.book is
+  asked_keeps call.Mark is = mark_keeps m.armed m.at_last g.book now no_caller
+      (tick_mark setup.limits.open_time now (history_of (readied (fortune_by m.at_last (sequel_on m (asked_by call.Mark
+      g.book))) g.book)) setup.size) is
+  asked_keeps call.Close is = mark_keeps m.armed m.at_last g.book now no_caller
+      (close_mark (history_of (readied (fortune_by m.at_last (sequel_on m (asked_by call.Close g.book))) g.book))) is
+
+  -- and what it did is what its book became
+  pub asked_is : (asks : GatewayCall) → All (λ w. is_reached g.book w ≡ false) g.waiting →
+      (let f = fortune_by m.at_last (sequel_on m (asked_by asks g.book)) in
+      asked_move setup now asks f g ≡ with_book (asked_value setup now asks f g.book) g)
+  asked_is call.Commit none = committing_is g m.armed m.at_last
+  asked_is call.Mark none = tick_is setup (fortune_by m.at_last (sequel_on m (asked_by call.Mark g.book))) g now none
+  asked_is call.Close none = close_is setup (fortune_by m.at_last (sequel_on m (asked_by call.Close g.book))) g now none

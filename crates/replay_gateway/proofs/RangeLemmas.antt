@@ -1,27 +1,26 @@
 -- What holds of the lines that the grammar of scripts takes: settings are in their ranges, rules are rules, and there are
 -- no more of them than there may be.
-use Rattle.std.proofs.Common.{◌≡◌, ℕ, zero, suc, ◌+◌, ◌-◌, ◌*◌, ◌≤◌, ◌<◌, Bool, true, false, ◌&&◌, ◌==◌, nat_le, nat_lt, if◌then◌else◌, List, [], ◌∷◌, ◌++◌, length, count_by, All, Option, Some, None, IsSome, is_some, option_and_then, Result, Ok, Err, IsUtf8, slice_index_or, refl, ap, ◌∙◌, subst, arith, codes, length-append, ℤ, pos, neg_ℤ}
+use Rattle.std.proofs.Common.{◌≡◌, ℕ, suc, ◌+◌, ◌*◌, ◌≤◌, ◌<◌, Bool, true, false, ◌&&◌, ◌==◌, nat_le, nat_lt, if◌then◌else◌, List, [], ◌∷◌, ◌++◌, length, count_by, All, Option, Some, None, is_some, option_and_then, Result, Ok, Err, IfOk, IsUtf8, slice_index_or, refl, ap, arith, codes, length-append, ℤ, pos, neg_ℤ}
+use Rattle.std.proofs.lemmas.Bool.Decides.{nat_tests}
 use Rattle.std.proofs.lemmas.Int.{ints}
-use Rattle.std.proofs.lemmas.Bool.{leb-true, ltb-true, ltb-false, and_parts}
+use Rattle.std.proofs.lemmas.Bool.{cond_both, leb-true, ltb-true, ltb-false, and_parts}
 use Rattle.std.proofs.lemmas.List.Elements.{All-append, All-cons}
 use Rattle.std.proofs.lemmas.List.Sums.{AllPass-from_list_all, sum_by-append, sum_by-cons}
 use Rattle.std.proofs.lemmas.Str.{IsUtf8-from_ascii}
 use Rattle.std.proofs.lemmas.Str.Ascii.{IsAscii-from_reads}
-use Rattle.std.specs.Char.{is_ascii_digit}
 use Rattle.std.specs.Int.{is_in_range}
 use Rattle.std.specs.List.{flat_map}
 use Rattle.std.proofs.lemmas.Grind.{flat_map-append}
 use Rattle.std.proofs.lemmas.Option.{same_Some}
-use Rattle.std.specs.Option.{ok_or, option_map_or}
+use Rattle.std.proofs.lemmas.Result.{IfOk-at_ok, IfOk-weaker}
+use Rattle.std.specs.Option.{ok_or}
 use Rattle.std.specs.Str.{bytes_eq}
-use Rattle.std.specs.Str.Parse.{digits_value}
 use Rattle.jiff_core.specs.Calendar.{IsWithin}
 use Rattle.route_filter.specs.Rules.{most_rules, rule_of}
-use Rattle.route_filter.specs.declared.rule.Rule.{Rule}
-use Rattle.route_filter.specs.Words.{at_most, is_decimal, number_up_to, octets_of, words_of, ◌>>=◌}
+use Rattle.route_filter.specs.Words.{at_most, number_up_to, octets_of, words_of, ◌>>=◌}
 use Rattle.world_script.specs.Forms.{is_setting, keyword_of}
 use Rattle.world_script.specs.Printing.{ReadsBack, printed}
-use Rattle.world_script.specs.Saying.{arm_said, at_said, call_of, fail_said, in_said, last_moment, limit_on, limit_said, offset_said, one_between, one_gateway, one_number, read_or, read_then, redirect_said, rule_said, ruled, said_as, said_by, submit_said, word_said}
+use Rattle.world_script.specs.Saying.{arm_said, at_said, call_of, fail_said, in_said, limit_said, offset_said, one_between, read_or, read_then, redirect_said, rule_said, ruled, said_as, said_by, submit_said, word_said}
 use Rattle.world_script.specs.Script.{Refusal, ScriptValue, contented, is_rule_line, keyed, most_text, onward, progress_of, reading_of, script_after, script_in, worded}
 use Rattle.world_script.specs.Text.{RawLine, is_blank, is_printable, line_content, line_size, onto_line, raw_lines, size_of}
 use Rattle.world_script.specs.Values.{address_of, mode_of, number_between, number_of, offset_of, records_of, signed, two_digits, version_of}
@@ -38,90 +37,59 @@ use Rattle.replay_gateway.specs.Settings.{AreInRange, IsInRange, rules_in_line}
 
 -- ---- what a test leaves
 
--- a test that wasn't failed
-passed : {A E : Type 0} (b : Bool) (e : E) (r : Result A E) (x : A) → (if b then Err e else r) ≡ Ok x → (b ≡ false) × (r ≡ Ok x)
-passed true e r x h = let no : ⊥ = cc in absurd no
-passed false e r x h = (refl, h)
+if_ok : {A E : Type 0} (P : A → Type 0) (b : Bool) (r s : Result A E) → (b ≡ true → IfOk r P) → (b ≡ false → IfOk s P) →
+    IfOk (if b then r else s) P
+if_ok P true r s first later = first refl
+if_ok P false r s first later = later refl
 
--- a test that was passed
-taken : {A E : Type 0} (b : Bool) (e : E) (r : Result A E) (x : A) → (if b then r else Err e) ≡ Ok x → (b ≡ true) × (r ≡ Ok x)
-taken true e r x h = (refl, h)
-taken false e r x h = let no : ⊥ = cc in absurd no
+where_some : {A : Type 0} (b : Bool) (o : Option A) (x : A) → (if b then o else None) ≡ Some x →
+    (b ≡ true) × (o ≡ Some x)
+where_some b o x h = grind arith
 
-pub where_some : {A : Type 0} (b : Bool) (o : Option A) (x : A) → (if b then o else None) ≡ Some x → (b ≡ true) × (o ≡ Some x)
-where_some true o x h = (refl, h)
-where_some false o x h = let no : ⊥ = cc in absurd no
-
-pub then_some : {A B : Type 0} (o : Option A) (f : A → Option B) (y : B) → option_and_then f o ≡ Some y → (x : A) × (o ≡ Some x) × (f x ≡ Some y)
-then_some None f y h = let no : ⊥ = cc in absurd no
-then_some (Some x) f y h = (x, refl, h)
+then_some : {A B : Type 0} (o : Option A) (f : A → Option B) (y : B) → option_and_then f o ≡ Some y →
+    (x : A) × (o ≡ Some x) × (f x ≡ Some y)
+then_some o f y h = grind arith
 
 -- ---- numbers
 
-at_most_within : (most v n : ℕ) → at_most most v ≡ Some n → n ≤ most
-at_most_within most v n h =
-    let found = where_some (nat_le v most) (Some v) n h in
-    subst (λ m. m ≤ most) (same_Some v n found.1) (leb-true v most found.0)
+at_most_within : (most v : ℕ) {n : _} → at_most most v ≡ Some n → n ≤ most
+at_most_within most v {n} h =
+    let found = where_some _ _ n h in
+    rw (same_Some v n found.1) at (leb-true v most found.0)
 
-pub number_within : (most : ℕ) (word : List ℕ) (n : ℕ) → number_up_to most word ≡ Some n → n ≤ most
-number_within most word n h =
-    at_most_within most (digits_value 10 word) n (where_some (is_decimal word) (at_most most (digits_value 10 word)) n h).1
+pub number_within : (most : ℕ) (word : List ℕ) {n : _} → number_up_to most word ≡ Some n → n ≤ most
+number_within most word {n} h = at_most_within _ _ (where_some _ _ n h).1
 
 number_from : (least most : ℕ) (word : List ℕ) (n : ℕ) → number_between least most word ≡ Some n → (least ≤ n) × (n ≤ most)
 number_from least most word n h =
-    let found = then_some (number_up_to most word) (λ m. if nat_le least m then Some m else None) n h in
-    let kept = where_some (nat_le least found.0) (Some found.0) n found.2 in
-    subst (λ k. (least ≤ k) × (k ≤ most)) (same_Some found.0 n kept.1) (leb-true least found.0 kept.0, number_within most word found.0 found.1)
+    let found = then_some _ (λ m. if nat_le least m then Some m else None) n h in
+    let kept = where_some _ _ n found.2 in
+    rw (← (same_Some found.0 n kept.1)) (leb-true least found.0 kept.0, number_within _ word found.1)
 
 pub pos_within : (n : ℕ) → n ≤ 959 → IsWithin 959 (pos n)
 pos_within n h = (grind (arith, ints), grind (arith, ints))
 
 neg_within : (n : ℕ) → n ≤ 959 → IsWithin 959 (neg_ℤ (pos n))
-neg_within zero h = (grind (arith, ints), grind (arith, ints))
-neg_within (suc n) h = (grind (arith, ints), grind (arith, ints))
-
-same_offset : (a b : ℤ) → ◌≡◌ {A = Option ℤ} (Some a) (Some b) → a ≡ b
-same_offset a b e = cc
+neg_within n h = grind arith
 
 signed_within : (sign n : ℕ) (z : ℤ) → n ≤ 959 → signed sign n ≡ Some z → IsWithin 959 z
-signed_within sign n z h e = by (sign == 43) (sign == 45) e
-  where
-    by : (plus minus : Bool) → (if plus then Some (pos n) else if minus then Some (neg_ℤ (pos n)) else None) ≡ Some z → IsWithin 959 z
-    by true minus k = subst (IsWithin 959) (same_offset (pos n) z k) (pos_within n h)
-    by false true k = subst (IsWithin 959) (same_offset (neg_ℤ (pos n)) z k) (neg_within n h)
-    by false false k = let no : ⊥ = cc in absurd no
+signed_within sign n z h e = grind (arith, nat_tests, neg_within, pos_within)
 
 digits_within : (most tens ones n : ℕ) → two_digits most tens ones ≡ Some n → n ≤ most
-digits_within most tens ones n h =
-    at_most_within most ((tens - 48) * 10 + (ones - 48)) n
-    (where_some (is_ascii_digit tens && is_ascii_digit ones) (at_most most ((tens - 48) * 10 + (ones - 48))) n h).1
+digits_within most tens ones n h = at_most_within _ _ (where_some _ _ n h).1
 
-offset_within : (word : List ℕ) (z : ℤ) → offset_of word ≡ Some z → IsWithin 959 z
-offset_within (sign ∷ a ∷ b ∷ colon ∷ c ∷ d ∷ []) z h =
-    let shown = where_some (colon == 58) (two_digits 15 a b >>= λ hours. two_digits 59 c d >>= λ minutes. signed sign (hours * 60 + minutes)) z h in
-    let hours = then_some (two_digits 15 a b) (λ hours. two_digits 59 c d >>= λ minutes. signed sign (hours * 60 + minutes)) z shown.1 in
+offset_within : (word : List ℕ) {z : _} → offset_of word ≡ Some z → IsWithin 959 z
+offset_within (sign ∷ a ∷ b ∷ colon ∷ c ∷ d ∷ []) {z} h =
+    let shown = where_some (colon == 58)
+    (two_digits 15 a b >>= λ hours. two_digits 59 c d >>= λ minutes. signed sign (hours * 60 + minutes)) z h in
+    let hours = then_some (two_digits 15 a b)
+    (λ hours. two_digits 59 c d >>= λ minutes. signed sign (hours * 60 + minutes)) z shown.1 in
     let minutes = then_some (two_digits 59 c d) (λ minutes. signed sign (hours.0 * 60 + minutes)) z hours.2 in
     signed_within sign (hours.0 * 60 + minutes.0) z
     (omega (arith, digits_within 15 a b hours.0 hours.1, digits_within 59 c d minutes.0 minutes.1)) minutes.2
-offset_within _ z h = let no : ⊥ = cc in absurd no
+offset_within _ h = absurd (cc)
 
 -- ---- what a line says
-
-same_line : (a b : Line) → ◌≡◌ {A = Result Line InputKind} (Ok a) (Ok b) → a ≡ b
-same_line a b e = cc
-
-read_value : {A : Type 0} (k : InputKind) (of : A → Line) (o : Option A) (said : Line) → read_or k of o ≡ Ok said
-    → (x : A) × (o ≡ Some x) × (of x ≡ said)
-read_value k of None said h = let no : ⊥ = cc in absurd no
-read_value k of (Some x) said h = (x, refl, same_line (of x) said h)
-
-no_line : {P : Type 0} (k : InputKind) (said : Line) → ◌≡◌ {A = Result Line InputKind} (Err k) (Ok said) → P
-no_line k said e = let no : ⊥ = cc in absurd no
-
--- what is said, where the line of it is read
-said_value : {A : Type 0} (of : A → Line) (r : Result A InputKind) (l : Line) → said_as of r ≡ Ok l → (x : A) × (r ≡ Ok x) × (of x ≡ l)
-said_value of (Err k) l h = no_line k l h
-said_value of (Ok x) l h = (x, refl, same_line (of x) l h)
 
 -- a line is in its range, and is a rule only where there was room for it
 record IsFine (rules : ℕ) (l : Line) : Type 0 where
@@ -129,248 +97,203 @@ record IsFine (rules : ℕ) (l : Line) : Type 0 where
   few : length (rules_in_line l) ≤ (if is_rule_line l then 1 else 0)
   room : is_rule_line l ≡ true → rules < most_rules
 
-not_both : {P : Type 0} (b : Bool) → b ≡ false → b ≡ true → P
-not_both true e f = let no : ⊥ = cc in absurd no
-not_both false e f = let no : ⊥ = cc in absurd no
-
--- no rule
-plain : (rules : ℕ) (l : Line) → is_rule_line l ≡ false → rules_in_line l ≡ [] → IsInRange l → IsFine rules l
-plain rules l other none range = record {
-  range = range;
-  few = omega (arith, ap (λ xs. length xs) none);
-  room = λ e. not_both (is_rule_line l) other e;
-}
-
--- a line of one value, which may be any
-value_fine : {A : Type 0} (rules : ℕ) (of : A → Line) (r : Result A InputKind) (l : Line) → ((x : A) → IsFine rules (of x)) → said_as of r ≡ Ok l → IsFine rules l
-value_fine rules of r l fine h = let found = said_value of r l h in subst (IsFine rules) found.2 (fine found.0)
-
-read_fine : {A : Type 0} (rules : ℕ) (k : InputKind) (of : A → Line) (o : Option A) (l : Line) → ((x : A) → IsFine rules (of x)) → read_or k of o ≡ Ok l → IsFine rules l
-read_fine rules k of o l fine h = let found = read_value k of o l h in subst (IsFine rules) found.2 (fine found.0)
-
--- a word is read in front of the others
-then_fine : {A : Type 0} (rules : ℕ) (k : InputKind) (o : Option A) (later : A → Result Line InputKind) (l : Line)
-    → ((x : A) → later x ≡ Ok l → IsFine rules l) → read_then k o later ≡ Ok l → IsFine rules l
-then_fine rules k None later l fine h = no_line k l h
-then_fine rules k (Some x) later l fine h = fine x h
-
-word_fine : (rules : ℕ) (said l : Line) (words : List (List ℕ)) → IsFine rules said → word_said said words ≡ Ok l → IsFine rules l
-word_fine rules said l [] fine h = subst (IsFine rules) (same_line said l h) fine
-word_fine rules said l (word ∷ words) fine h = no_line kind.Arity l h
-
-at_fine : (rules : ℕ) (words : List (List ℕ)) (l : Line) → at_said words ≡ Ok l → IsFine rules l
-at_fine rules (seconds ∷ []) l h =
-    read_fine rules kind.Number line.At (number_up_to last_moment seconds) l (λ n. plain rules (line.At n) refl refl tt) h
-at_fine rules _ l h = no_line kind.Arity l h
-
-in_fine : (rules : ℕ) (words : List (List ℕ)) (l : Line) → in_said words ≡ Ok l → IsFine rules l
-in_fine rules (from ∷ word ∷ words) l h =
-    then_fine rules kind.Number (address_of from) (λ sender. read_or kind.Hex (line.Datagram sender) (octets_of (word ∷ words))) l
-    (λ sender k. read_fine rules kind.Hex (line.Datagram sender) (octets_of (word ∷ words)) l (λ octets. plain rules (line.Datagram sender octets) refl refl tt) k) h
-in_fine rules _ l h = no_line kind.Arity l h
-
-between_ok : (least most n : ℕ) (words : List (List ℕ)) → one_between least most words ≡ Ok n → (least ≤ n) × (n ≤ most)
-between_ok least most n (word ∷ []) h = by (number_between least most word) refl h
-  where
-    by : (o : Option ℕ) → number_between least most word ≡ o → ok_or o kind.Number ≡ Ok n → (least ≤ n) × (n ≤ most)
-    by None e k = let no : ⊥ = cc in absurd no
-    by (Some m) e k = let same : m ≡ n = cc in subst (λ x. (least ≤ x) × (x ≤ most)) same (number_from least most word m e)
-between_ok least most n _ h = let no : ⊥ = cc in absurd no
-
-reserve_fine : (rules : ℕ) (words : List (List ℕ)) (l : Line) → said_as line.Reserve (one_between 100 268435456 words) ≡ Ok l → IsFine rules l
-reserve_fine rules words l h =
-    let found = said_value line.Reserve (one_between 100 268435456 words) l h in
-    subst (IsFine rules) found.2 (plain rules (line.Reserve found.0) refl refl (between_ok 100 268435456 found.0 words found.1))
-
-gateways_fine : (rules : ℕ) (words : List (List ℕ)) (l : Line) → said_as line.Gateways (one_between 1 8 words) ≡ Ok l → IsFine rules l
-gateways_fine rules words l h =
-    let found = said_value line.Gateways (one_between 1 8 words) l h in
-    let within = between_ok 1 8 found.0 words found.1 in
-    subst (IsFine rules) found.2 (plain rules (line.Gateways found.0) refl refl (within.0, omega (arith, within.1)))
-
-profile_fine : (rules : ℕ) (words : List (List ℕ)) (l : Line) → said_as line.Profile (one_between 1 2 words) ≡ Ok l → IsFine rules l
-profile_fine rules words l h =
-    let found = said_value line.Profile (one_between 1 2 words) l h in
-    subst (IsFine rules) found.2 (plain rules (line.Profile found.0) refl refl (between_ok 1 2 found.0 words found.1))
-
-limit_fine : (rules : ℕ) (what number : List ℕ) (l : Line) → limit_on what number ≡ Ok l → IsFine rules l
-limit_fine rules what number l h = by (bytes_eq what (codes "records")) (bytes_eq what (codes "size")) (bytes_eq what (codes "open")) h
-  where
-    by : (records size open_time : Bool) →
-        (if records then read_or kind.Number line.LimitRecords (number_between 1 1000000 number)
-        else if size then read_or kind.Number line.LimitSize (number_between 1 1000000000 number)
-        else if open_time then read_or kind.Number line.LimitOpen (number_between 1 1000000 number)
-        else Err kind.Number) ≡ Ok l → IsFine rules l
-    by true size open_time k =
-        let found = read_value kind.Number line.LimitRecords (number_between 1 1000000 number) l k in
-        subst (IsFine rules) found.2
-        (plain rules (line.LimitRecords found.0) refl refl (number_from 1 1000000 number found.0 found.1).0)
-    by false true open_time k =
-        let found = read_value kind.Number line.LimitSize (number_between 1 1000000000 number) l k in
-        let within = number_from 1 1000000000 number found.0 found.1 in
-        subst (IsFine rules) found.2
-        (plain rules (line.LimitSize found.0) refl refl (within.0, omega (arith, within.1)))
-    by false false true k =
-        let found = read_value kind.Number line.LimitOpen (number_between 1 1000000 number) l k in
-        subst (IsFine rules) found.2 (plain rules (line.LimitOpen found.0) refl refl tt)
-    by false false false k = no_line kind.Number l k
-
-limits_fine : (rules : ℕ) (words : List (List ℕ)) (l : Line) → limit_said words ≡ Ok l → IsFine rules l
-limits_fine rules (what ∷ number ∷ []) l h = limit_fine rules what number l h
-limits_fine rules _ l h = no_line kind.Arity l h
-
-offset_fine : (rules : ℕ) (words : List (List ℕ)) (l : Line) → offset_said words ≡ Ok l → IsFine rules l
-offset_fine rules (word ∷ []) l h =
-    let found = read_value kind.Number line.Offset (offset_of word) l h in
-    subst (IsFine rules) found.2
-    (plain rules (line.Offset found.0) refl refl (offset_within word found.0 found.1))
-offset_fine rules _ l h = no_line kind.Arity l h
-
 -- printable octets are text
 is_text : (content : List ℕ) → is_printable content ≡ true → IsUtf8 content
 is_text content h = IsUtf8-from_ascii content (IsAscii-from_reads content (length content) (omega arith) low)
   where
     low : (k : ℕ) → k < length content → slice_index_or content k 0 < 128
     low k below =
-        let x : ℕ = slice_index_or content k 0 in
-        let shown : is_in_range 32 126 x ≡ true = AllPass-from_list_all (λ y. is_in_range 32 126 y) content h k 0 below in
+        let x = slice_index_or content k 0 in
+        let shown : is_in_range 32 126 x ≡ true =
+        AllPass-from_list_all (λ y. is_in_range 32 126 y) content h k 0 below in
         omega (arith, leb-true x 126 (and_parts (nat_le 32 x) (nat_le x 126) shown).1)
 
-few_rules : (o : Option Rule) → length (option_map_or (λ rule. rule ∷ []) o []) ≤ 1
-few_rules None = omega arith
-few_rules (Some rule) = omega arith
+module _ (rules : ℕ) where
+  -- what is said is fine, if it isn't refused
+  abbrev Fine : Result Line InputKind → Type 0
+  Fine said = IfOk said (IsFine rules)
 
-some_is : (o : Option Rule) → is_some o ≡ true → IsSome o
-some_is None h = let no : ⊥ = cc in absurd no
-some_is (Some rule) h = refl
+  -- no rule
+  plain : {l : Line} → is_rule_line l ≡ false → rules_in_line l ≡ [] → IsInRange l → IsFine rules l
+  plain {l} other none range = record {
+    range = range;
+    few = omega (arith, ap (λ xs. length xs) none);
+    room = λ e. grind arith;
+  }
 
-ruled_fine : (rules : ℕ) (content : List ℕ) (l : Line) → is_printable content ≡ true → ruled rules content ≡ Ok l → IsFine rules l
-ruled_fine rules content l shown h =
-    let found = taken (nat_lt rules most_rules && is_some (rule_of content)) kind.Rule (Ok (line.Rule content)) l h in
-    let tests = and_parts (nat_lt rules most_rules) (is_some (rule_of content)) found.0 in
-    subst (IsFine rules) (same_line (line.Rule content) l found.1) (record {
-      range = (some_is (rule_of content) tests.1, is_text content shown);
-      few = few_rules (rule_of content);
-      room = λ e. ltb-true rules most_rules tests.0;
-    })
+  -- a line of one value, which may be any
+  value_fine : {A : Type 0} (of : A → Line) (r : Result A InputKind) → ((x : A) → IsFine rules (of x)) →
+      Fine (said_as of r)
+  value_fine of (Err k) fine = tt
+  value_fine of (Ok x) fine = fine x
 
-rule_fine : (rules : ℕ) (content : List ℕ) (words : List (List ℕ)) (l : Line) → is_printable content ≡ true
-    → rule_said rules content words ≡ Ok l → IsFine rules l
-rule_fine rules content (tag ∷ format ∷ stream ∷ []) l shown h = ruled_fine rules content l shown h
-rule_fine rules content _ l shown h = no_line kind.Arity l h
+  -- the last word is read, and others in front of it
+  read_fine : {A : Type 0} (k : InputKind) (of : A → Line) (o : Option A) →
+      ((x : A) → o ≡ Some x → IsFine rules (of x)) → Fine (read_or k of o)
+  read_fine k of None fine = tt
+  read_fine k of (Some x) fine = fine x refl
 
--- ---- the forms of replays, which no feed has: none is a rule
+  two_fine : {A B : Type 0} (k l : InputKind) (of : A → B → Line) (o : Option A) (p : Option B) →
+      ((x : A) (y : B) → IsFine rules (of x y)) → Fine (read_then k o (λ x. read_or l (of x) p))
+  two_fine k l of None p fine = tt
+  two_fine k l of (Some x) p fine = read_fine l (of x) p (λ y is. fine x y)
 
-submit_fine : (rules : ℕ) (words : List (List ℕ)) (l : Line) → submit_said words ≡ Ok l → IsFine rules l
-submit_fine rules (node ∷ format ∷ version ∷ word ∷ words) l h =
-    let records = records_of (word ∷ words) in
-    then_fine rules kind.Number (number_of node) (λ n. read_then kind.Number (number_up_to 255 format) (λ f.
-    read_then kind.Hex (version_of version) (λ v. read_or kind.Hex (line.Submit n f v) records))) l (λ n h1.
-    then_fine rules kind.Number (number_up_to 255 format) (λ f. read_then kind.Hex (version_of version) (λ v. read_or kind.Hex (line.Submit n f v) records)) l (λ f h2.
-    then_fine rules kind.Hex (version_of version) (λ v. read_or kind.Hex (line.Submit n f v) records) l (λ v h3.
-    read_fine rules kind.Hex (line.Submit n f v) records l (λ rs. plain rules (line.Submit n f v rs) refl refl tt) h3) h2) h1) h
-submit_fine rules _ l h = no_line kind.Arity l h
+  three_fine : {A B C : Type 0} (k l m : InputKind) (of : A → B → C → Line) (o : Option A) (p : Option B)
+      (q : Option C) → ((x : A) (y : B) (z : C) → IsFine rules (of x y z)) →
+      Fine (read_then k o (λ x. read_then l p (λ y. read_or m (of x y) q)))
+  three_fine k l m of None p q fine = tt
+  three_fine k l m of (Some x) p q fine = two_fine l m (of x) p q (fine x)
 
-redirect_fine : (rules : ℕ) (words : List (List ℕ)) (l : Line) → redirect_said words ≡ Ok l → IsFine rules l
-redirect_fine rules (gateway ∷ cause ∷ []) l h =
-    then_fine rules kind.Number (number_of gateway) (λ g. read_or kind.Number (λ c. line.Redirect g c None) (number_between 59 63 cause)) l (λ g h1.
-    read_fine rules kind.Number (λ c. line.Redirect g c None) (number_between 59 63 cause) l (λ c. plain rules (line.Redirect g c None) refl refl tt) h1) h
-redirect_fine rules (gateway ∷ cause ∷ to ∷ []) l h =
-    then_fine rules kind.Number (number_of gateway) (λ g. read_then kind.Number (number_between 59 63 cause) (λ c.
-    read_or kind.Number (λ t. line.Redirect g c (Some t)) (number_of to))) l (λ g h1.
-    then_fine rules kind.Number (number_between 59 63 cause) (λ c. read_or kind.Number (λ t. line.Redirect g c (Some t)) (number_of to)) l (λ c h2.
-    read_fine rules kind.Number (λ t. line.Redirect g c (Some t)) (number_of to) l (λ t. plain rules (line.Redirect g c (Some t)) refl refl tt) h2) h1) h
-redirect_fine rules _ l h = no_line kind.Arity l h
+  word_fine : {said : Line} (words : List (List ℕ)) → IsFine rules said → Fine (word_said said words)
+  word_fine [] fine = fine
+  word_fine (word ∷ words) fine = tt
 
-arm_fine : (arms : ℕ → ℕ → Mode → Line) (rules : ℕ) (words : List (List ℕ)) (l : Line) →
-    ((g c : ℕ) (m : Mode) → IsFine rules (arms g c m)) → arm_said arms words ≡ Ok l → IsFine rules l
-arm_fine arms rules (gateway ∷ call ∷ mode ∷ []) l fine h =
-    then_fine rules kind.Number (number_of gateway) (λ g. read_then kind.Number (call_of call) (λ c. read_or kind.Number (arms g c) (mode_of mode))) l (λ g h1.
-    then_fine rules kind.Number (call_of call) (λ c. read_or kind.Number (arms g c) (mode_of mode)) l (λ c h2.
-    read_fine rules kind.Number (arms g c) (mode_of mode) l (λ m. fine g c m) h2) h1) h
-arm_fine arms rules _ l fine h = no_line kind.Arity l h
+  -- a number in a range
+  number_fine : (of : ℕ → Line) (least most : ℕ) (word : List ℕ) →
+      ((n : ℕ) → (least ≤ n) × (n ≤ most) → IsFine rules (of n)) →
+      Fine (read_or kind.Number of (number_between least most word))
+  number_fine of least most word fine = read_fine _ _ _ (λ n is. fine n (number_from least most word n is))
 
-fail_fine : (fails : ℕ → ℕ → Line) (rules : ℕ) (words : List (List ℕ)) (l : Line) →
-    ((g c : ℕ) → IsFine rules (fails g c)) → fail_said fails words ≡ Ok l → IsFine rules l
-fail_fine fails rules (gateway ∷ call ∷ []) l fine h =
-    then_fine rules kind.Number (number_of gateway) (λ g. read_or kind.Number (fails g) (call_of call)) l (λ g h1.
-    read_fine rules kind.Number (fails g) (call_of call) l (λ c. fine g c) h1) h
-fail_fine fails rules _ l fine h = no_line kind.Arity l h
+  between_fine : (of : ℕ → Line) (least most : ℕ) (words : List (List ℕ)) →
+      ((n : ℕ) → (least ≤ n) × (n ≤ most) → IsFine rules (of n)) → Fine (said_as of (one_between least most words))
+  between_fine of least most (word ∷ []) fine = by (number_between least most word) refl
+    where
+      by : (o : Option ℕ) → number_between least most word ≡ o → Fine (said_as of (ok_or o kind.Number))
+      by None is = tt
+      by (Some n) is = fine n (number_from least most word n is)
+  between_fine of least most _ fine = tt
 
-said_fine : (of : ScriptKind) (form : Keyword) (rules : ℕ) (content : List ℕ) (words : List (List ℕ)) (l : Line) → is_printable content ≡ true
-    → said_by of form rules content words ≡ Ok l → IsFine rules l
-said_fine of keyword.At rules content words l shown h = at_fine rules words l h
-said_fine of keyword.In rules content words l shown h = in_fine rules words l h
-said_fine of keyword.Mark rules content words l shown h = value_fine rules line.Mark (one_gateway of words) l (λ n. plain rules (line.Mark n) refl refl tt) h
-said_fine of keyword.Close rules content words l shown h = value_fine rules line.Close (one_gateway of words) l (λ n. plain rules (line.Close n) refl refl tt) h
-said_fine of keyword.End rules content words l shown h = word_fine rules line.End l words (plain rules line.End refl refl tt) h
-said_fine of keyword.Reserve rules content words l shown h = reserve_fine rules words l h
-said_fine of keyword.Limit rules content words l shown h = limits_fine rules words l h
-said_fine of keyword.Offset rules content words l shown h = offset_fine rules words l h
-said_fine of keyword.Profile rules content words l shown h = profile_fine rules words l h
-said_fine of keyword.Rule rules content words l shown h = rule_fine rules content words l shown h
-said_fine of keyword.Gateways rules content words l shown h = gateways_fine rules words l h
-said_fine of keyword.Nodes rules content words l shown h = value_fine rules line.Nodes (one_between 1 16 words) l (λ n. plain rules (line.Nodes n) refl refl tt) h
-said_fine of keyword.Submit rules content words l shown h = submit_fine rules words l h
-said_fine of keyword.Tick rules content words l shown h = value_fine rules line.Tick (one_number words) l (λ n. plain rules (line.Tick n) refl refl tt) h
-said_fine of keyword.Halt rules content words l shown h = value_fine rules line.Halt (one_number words) l (λ n. plain rules (line.Halt n) refl refl tt) h
-said_fine of keyword.Start rules content words l shown h = value_fine rules line.Start (one_number words) l (λ n. plain rules (line.Start n) refl refl tt) h
-said_fine of keyword.Deliver rules content words l shown h = value_fine rules line.Deliver (one_number words) l (λ n. plain rules (line.Deliver n) refl refl tt) h
-said_fine of keyword.Flow rules content words l shown h = word_fine rules line.Flow l words (plain rules line.Flow refl refl tt) h
-said_fine of keyword.Mix rules content words l shown h = value_fine rules line.Mix (one_number words) l (λ n. plain rules (line.Mix n) refl refl tt) h
-said_fine of keyword.Commit rules content words l shown h = value_fine rules line.Commit (one_number words) l (λ n. plain rules (line.Commit n) refl refl tt) h
-said_fine of keyword.Write rules content words l shown h = value_fine rules line.Write (one_number words) l (λ n. plain rules (line.Write n) refl refl tt) h
-said_fine of keyword.Redirect rules content words l shown h = redirect_fine rules words l h
-said_fine of keyword.Stop rules content words l shown h = value_fine rules line.Stop (one_number words) l (λ n. plain rules (line.Stop n) refl refl tt) h
-said_fine of keyword.Open rules content words l shown h = value_fine rules line.Open (one_number words) l (λ n. plain rules (line.Open n) refl refl tt) h
-said_fine of keyword.Arm rules content words l shown h = arm_fine line.Arm rules words l (λ g c m. plain rules (line.Arm g c m) refl refl tt) h
-said_fine of keyword.Fail rules content words l shown h = fail_fine line.Fail rules words l (λ g c. plain rules (line.Fail g c) refl refl tt) h
-said_fine of keyword.ArmShelf rules content words l shown h = arm_fine line.ArmShelf rules words l (λ g c m. plain rules (line.ArmShelf g c m) refl refl tt) h
-said_fine of keyword.FailShelf rules content words l shown h = fail_fine line.FailShelf rules words l (λ g c. plain rules (line.FailShelf g c) refl refl tt) h
-said_fine of keyword.Settle rules content words l shown h = word_fine rules line.Settle l words (plain rules line.Settle refl refl tt) h
+  at_fine : (words : List (List ℕ)) → Fine (at_said words)
+  at_fine (seconds ∷ []) = read_fine _ _ _ (λ n is. plain refl refl tt)
+  at_fine _ = tt
+
+  in_fine : (words : List (List ℕ)) → Fine (in_said words)
+  in_fine (from ∷ word ∷ words) =
+      two_fine _ _ line.Datagram (address_of from) (octets_of (word ∷ words)) (λ sender octets. plain refl refl tt)
+  in_fine _ = tt
+
+  limits_fine : (words : List (List ℕ)) → Fine (limit_said words)
+  limits_fine (what ∷ number ∷ []) =
+      if_ok _ (bytes_eq what (codes "records")) _ _
+      (λ is. number_fine line.LimitRecords 1 1000000 number (λ n within. plain refl refl within.0))
+      (λ records. if_ok _ (bytes_eq what (codes "size")) _ _ (λ is. number_fine line.LimitSize 1 1000000000 number
+      (λ n within. plain refl refl (within.0, omega (arith, within.1))))
+      (λ size. if_ok _ (bytes_eq what (codes "open")) _ _
+      (λ is. number_fine line.LimitOpen 1 1000000 number (λ n within. plain refl refl tt)) (λ other. tt)))
+  limits_fine _ = tt
+
+  offset_fine : (words : List (List ℕ)) → Fine (offset_said words)
+  offset_fine (word ∷ []) = read_fine _ _ _ (λ z is. plain refl refl (offset_within word is))
+  offset_fine _ = tt
+
+  ruled_fine : (content : List ℕ) → is_printable content ≡ true → Fine (ruled rules content)
+  ruled_fine content shown =
+      if_ok _ _ _ _ (λ are.
+      let tests = and_parts (nat_lt rules most_rules) (is_some (rule_of content)) are in
+      record {
+        range = (grind (arith, tests.1), is_text content shown);
+        few = grind arith;
+        room = λ e. ltb-true rules most_rules tests.0;
+      }) (λ other. tt)
+
+  rule_fine : (content : List ℕ) (words : List (List ℕ)) → is_printable content ≡ true →
+      Fine (rule_said rules content words)
+  rule_fine content (tag ∷ format ∷ stream ∷ []) shown = ruled_fine content shown
+  rule_fine content _ shown = tt
+
+  -- the forms of replays, which no feed has: none is a rule
+
+  submit_fine : (words : List (List ℕ)) → Fine (submit_said words)
+  submit_fine (node ∷ format ∷ version ∷ word ∷ words) = by (number_of node)
+    where
+      by : (o : Option ℕ) → Fine (read_then kind.Number o (λ n. read_then kind.Number (number_up_to 255 format)
+          (λ f. read_then kind.Hex (version_of version)
+          (λ v. read_or kind.Hex (line.Submit n f v) (records_of (word ∷ words))))))
+      by None = tt
+      by (Some n) =
+          three_fine _ _ _ (line.Submit n) (number_up_to 255 format) (version_of version) (records_of (word ∷ words))
+          (λ f v rs. plain refl refl tt)
+  submit_fine _ = tt
+
+  redirect_fine : (words : List (List ℕ)) → Fine (redirect_said words)
+  redirect_fine (gateway ∷ cause ∷ []) =
+      two_fine _ _ (λ g c. line.Redirect g c None) (number_of gateway) (number_between 59 63 cause)
+      (λ g c. plain refl refl tt)
+  redirect_fine (gateway ∷ cause ∷ to ∷ []) =
+      three_fine _ _ _ (λ g c t. line.Redirect g c (Some t)) (number_of gateway) (number_between 59 63 cause)
+      (number_of to) (λ g c t. plain refl refl tt)
+  redirect_fine _ = tt
+
+  arm_fine : (arms : ℕ → ℕ → Mode → Line) (words : List (List ℕ)) →
+      ((g c : ℕ) (m : Mode) → IsFine rules (arms g c m)) → Fine (arm_said arms words)
+  arm_fine arms (gateway ∷ call ∷ mode ∷ []) fine =
+      three_fine _ _ _ arms (number_of gateway) (call_of call) (mode_of mode) fine
+  arm_fine arms _ fine = tt
+
+  fail_fine : (fails : ℕ → ℕ → Line) (words : List (List ℕ)) → ((g c : ℕ) → IsFine rules (fails g c)) →
+      Fine (fail_said fails words)
+  fail_fine fails (gateway ∷ call ∷ []) fine = two_fine _ _ fails (number_of gateway) (call_of call) fine
+  fail_fine fails _ fine = tt
+
+  said_fine : (of : ScriptKind) (form : Keyword) (content : List ℕ) (words : List (List ℕ)) →
+      is_printable content ≡ true → Fine (said_by of form rules content words)
+  said_fine of keyword.At content words shown = at_fine words
+  said_fine of keyword.In content words shown = in_fine words
+  said_fine of keyword.End content words shown = word_fine words (plain refl refl tt)
+  said_fine of keyword.Reserve content words shown =
+      between_fine _ 100 268435456 words (λ n within. plain refl refl within)
+  said_fine of keyword.Limit content words shown = limits_fine words
+  said_fine of keyword.Offset content words shown = offset_fine words
+  said_fine of keyword.Profile content words shown = between_fine _ 1 2 words (λ n within. plain refl refl within)
+  said_fine of keyword.Rule content words shown = rule_fine content words shown
+  said_fine of keyword.Gateways content words shown =
+      between_fine _ 1 8 words (λ n within. plain refl refl (within.0, omega (arith, within.1)))
+  said_fine of keyword.Submit content words shown = submit_fine words
+  said_fine of keyword.Flow content words shown = word_fine words (plain refl refl tt)
+  said_fine of keyword.Redirect content words shown = redirect_fine words
+  said_fine of keyword.Arm content words shown = arm_fine _ words (λ g c m. plain refl refl tt)
+  said_fine of keyword.Fail content words shown = fail_fine _ words (λ g c. plain refl refl tt)
+  said_fine of keyword.ArmShelf content words shown = arm_fine _ words (λ g c m. plain refl refl tt)
+  said_fine of keyword.FailShelf content words shown = fail_fine _ words (λ g c. plain refl refl tt)
+  said_fine of keyword.Settle content words shown = word_fine words (plain refl refl tt)
+  said_fine of _ content words shown = value_fine _ _ (λ n. plain refl refl tt)
 
 -- ---- one line
 
-keyed_fine : (before : Progress) (form : Result Keyword InputKind) (content : List ℕ) (words : List (List ℕ)) (l : Line) → is_printable content ≡ true
-    → keyed before form content words ≡ Ok l → IsFine before.rules l
-keyed_fine before (Err k) content words l shown h = no_line k l h
-keyed_fine before (Ok form) content words l shown h =
-    let said = said_by before.kind form before.rules content words in
-    let early = passed before.has_end kind.After (if is_setting form && before.has_action then Err kind.Late else said) l h in
-    let placed = passed (is_setting form && before.has_action) kind.Late said l early.1 in
-    said_fine before.kind form before.rules content words l shown placed.1
+keyed_fine : (before : Progress) (form : Result Keyword InputKind) (content : List ℕ) (words : List (List ℕ)) →
+    is_printable content ≡ true → Fine before.rules (keyed before form content words)
+keyed_fine before (Err k) content words shown = tt
+keyed_fine before (Ok form) content words shown =
+    if_ok _ before.has_end _ _ (λ is. tt) (λ goes. if_ok _ (is_setting form && before.has_action) _ _ (λ is. tt)
+    (λ fits. said_fine before.rules before.kind form content words shown))
 
-worded_fine : (before : Progress) (content : List ℕ) (words : List (List ℕ)) (l : Line) → is_printable content ≡ true
-    → worded before content words ≡ Ok l → IsFine before.rules l
-worded_fine before content [] l shown h = no_line kind.Word l h
-worded_fine before content (word ∷ words) l shown h = keyed_fine before (keyword_of before.kind word) content words l shown h
+worded_fine : (before : Progress) (content : List ℕ) (words : List (List ℕ)) → is_printable content ≡ true →
+    Fine before.rules (worded before content words)
+worded_fine before content [] shown = tt
+worded_fine before content (word ∷ words) shown = keyed_fine before (keyword_of before.kind word) content words shown
 
-contented_fine : (before : Progress) (content : List ℕ) (l : Line) → contented before content ≡ Ok l → IsFine before.rules l
-contented_fine before content l h = by (is_blank content) (is_printable content) refl h
-  where
-    by : (blank shown : Bool) → is_printable content ≡ shown
-        → (if blank then Ok line.Blank else (if shown then worded before content (words_of content) else Err kind.Word)) ≡ Ok l
-        → IsFine before.rules l
-    by true shown f k = subst (IsFine before.rules) (same_line line.Blank l k) (plain before.rules line.Blank refl refl tt)
-    by false true f k = worded_fine before content (words_of content) l f k
-    by false false f k = no_line kind.Word l k
+contented_fine : (before : Progress) (content : List ℕ) → Fine before.rules (contented before content)
+contented_fine before content =
+    if_ok _ (is_blank content) _ _ (λ blank. plain before.rules refl refl tt)
+    (λ other. if_ok _ (is_printable content) _ _ (λ shown. worded_fine before content (words_of content) shown)
+    (λ hidden. tt))
 
-reading_fine : (before : Progress) (raw : RawLine) (l : Line) → reading_of before raw ≡ Ok l
-    → IsFine before.rules l × (before.size + line_size raw ≤ most_text)
-reading_fine before raw l h =
-    let short = passed (nat_lt most_text (before.size + line_size raw)) kind.TooLong (contented before (line_content raw)) l h in
-    (contented_fine before (line_content raw) l short.1, ltb-false most_text (before.size + line_size raw) short.0)
+reading_fine : (before : Progress) (raw : RawLine) →
+    IfOk (reading_of before raw) (λ l. IsFine before.rules l × (before.size + line_size raw ≤ most_text))
+reading_fine before raw =
+    let size = before.size + line_size raw in
+    if_ok _ (nat_lt most_text size) _ _ (λ long. tt)
+    (λ short. IfOk-weaker (contented before (line_content raw)) (IsFine before.rules) _
+    (λ l fine. (fine, ltb-false most_text size short)) (contented_fine before (line_content raw)))
 
 -- ---- all lines
 
-same_lines : (a b : List Line) → ◌≡◌ {A = Result (List Line) Refusal} (Ok a) (Ok b) → a ≡ b
-same_lines a b e = cc
-
 -- a line in front of the others was read
-line_first : (place : ℕ) (said : Result Line InputKind) (later : Line → Result (List Line) Refusal) (lines : List Line)
-    → onward place said later ≡ Ok lines → (l : Line) × (said ≡ Ok l) × (later l ≡ Ok lines)
-line_first place (Err k) later lines h = let no : ⊥ = cc in absurd no
-line_first place (Ok l) later lines h = (l, refl, h)
+onward_fine : (P : List Line → Type 0) (Q : Line → Type 0) (place : ℕ) (said : Result Line InputKind)
+    (later : Line → Result (List Line) Refusal) → IfOk said Q → ((l : Line) → Q l → IfOk (later l) P) →
+    IfOk (onward place said later) P
+onward_fine P Q place (Err k) later fine goes = tt
+onward_fine P Q place (Ok l) later fine goes = goes l fine
 
 -- what holds of lines that were read
 record AreFine (lines : List Line) : Type 0 where
@@ -382,34 +305,27 @@ no_lines : AreFine []
 no_lines = record { each = λ k d below. absurd (none k below); rules = omega arith; room = omega arith }
   where
     none : (k : ℕ) → k < 0 → ⊥
-    none k below = omega (arith, below)
+    none k below = omega arith
 
 count-more : (before : List Line) (l : Line) → count_by is_rule_line (before ++ l ∷ []) ≡ count_by is_rule_line before + (if is_rule_line l then 1 else 0)
 count-more before l =
-    sum_by-append (λ x. if is_rule_line x then 1 else 0) before (l ∷ [])
-    ∙ ap (λ n. count_by is_rule_line before + n) (sum_by-cons (λ x. if is_rule_line x then 1 else 0) l [] ∙ no_more (if is_rule_line l then 1 else 0))
-  where
-    no_more : (n : ℕ) → n + 0 ≡ n
-    no_more n = omega arith
+    let both = sum_by-append (λ x. if is_rule_line x then 1 else 0) before (l ∷ []) in
+    omega (arith, sum_by-cons (λ x. if is_rule_line x then 1 else 0) l [])
 
 rules-more : (before : List Line) (l : Line) → length (flat_map rules_in_line (before ++ l ∷ [])) ≡ length (flat_map rules_in_line before) + length (rules_in_line l)
 rules-more before l =
-    omega (
-      arith,
-      ap (λ rules. length rules) (flat_map-append rules_in_line before (l ∷ [])),
-      length-append (flat_map rules_in_line before) (rules_in_line l ++ []),
-      length-append (rules_in_line l) [],
-    )
+    let both = ap (λ rules. length rules) (flat_map-append rules_in_line before (l ∷ [])) in
+    let parts = length-append (flat_map rules_in_line before) (rules_in_line l ++ []) in
+    omega (arith, length-append (rules_in_line l) [])
 
-room_after : (b : Bool) (n : ℕ) → n ≤ most_rules → (b ≡ true → n < most_rules) → n + (if b then 1 else 0) ≤ most_rules
-room_after true n h room = omega (arith, room refl)
-room_after false n h room = omega (arith, h)
+room_after : {b : _} (n : ℕ) → n ≤ most_rules → (b ≡ true → n < most_rules) → n + (if b then 1 else 0) ≤ most_rules
+room_after n h room = grind arith
 
-one_more : (before : List Line) (l : Line) → AreFine before → IsFine (count_by is_rule_line before) l → AreFine (before ++ l ∷ [])
-one_more before l held fine = record {
+one_more : {before l : _} → AreFine before → IsFine (count_by is_rule_line before) l → AreFine (before ++ l ∷ [])
+one_more {before} {l} held fine = record {
   each = All-append IsInRange before (l ∷ []) held.each (All-cons IsInRange l [] fine.range no_lines.each);
-  rules = omega (arith, held.rules, fine.few, rules-more before l, count-more before l);
-  room = omega (arith, count-more before l, room_after (is_rule_line l) (count_by is_rule_line before) held.room fine.room);
+  rules = omega (arith, rules-more before l, count-more before l);
+  room = omega (arith, count-more before l, room_after (count_by is_rule_line before) held.room fine.room);
 }
 
 -- what holds of all lines, where these were read before those that are left
@@ -418,21 +334,26 @@ record AreAllFine (size : ℕ) (before : List Line) (raws : List RawLine) (lines
   count : length lines ≡ length before + length raws
   short : size + size_of raws ≤ most_text
 
-after_fine : (of : ScriptKind) (size : ℕ) (before : List Line) (raws : List RawLine) (lines : List Line) → AreFine before → size ≤ most_text
-    → script_after of size before raws ≡ Ok lines → AreAllFine size before raws lines
-after_fine of size before [] lines held within h =
-    let ended = taken (progress_of of size before).has_end (record { place = (progress_of of size before).place; kind = kind.NoEnd }) (Ok before) lines h in
-    subst (AreAllFine size before []) (same_lines before lines ended.1) (record { fine = held; count = omega arith; short = omega (arith, within) })
-after_fine of size before (raw ∷ raws) lines held within h =
-    let first = line_first (length before + 1) (reading_of (progress_of of size before) raw)
-    (λ said. script_after of (size + line_size raw) (before ++ said ∷ []) raws) lines h in
-    let read = reading_fine (progress_of of size before) raw first.0 first.1 in
-    let later = after_fine of (size + line_size raw) (before ++ first.0 ∷ []) raws lines (one_more before first.0 held read.0) read.1 first.2 in
-    record {
+after_fine : (of : ScriptKind) (size : ℕ) (before : List Line) (raws : List RawLine) → AreFine before →
+    size ≤ most_text → IfOk (script_after of size before raws) (AreAllFine size before raws)
+after_fine of size before [] held within =
+    if_ok (AreAllFine size before []) (progress_of of size before).has_end (Ok before) _
+    (λ ends. record { fine = held; count = omega arith; short = omega (arith, within) }) (λ goes. tt)
+after_fine of size before (raw ∷ raws) held within =
+    onward_fine (AreAllFine size before (raw ∷ raws))
+    (λ l. IsFine (count_by is_rule_line before) l × (size + line_size raw ≤ most_text)) _
+    (reading_of (progress_of of size before) raw) (λ l. script_after of (size + line_size raw) (before ++ l ∷ []) raws)
+    (reading_fine (progress_of of size before) raw) (λ l read.
+    IfOk-weaker _ (AreAllFine (size + line_size raw) (before ++ l ∷ []) raws) _ (λ lines later. record {
       fine = later.fine;
-      count = omega (arith, later.count, length-append before (first.0 ∷ []));
+      count = omega (arith, later.count, length-append before (l ∷ []));
       short = omega (arith, later.short, sum_by-cons line_size raw raws);
-    }
+    }) (after_fine of (size + line_size raw) (before ++ l ∷ []) raws (one_more held read.0) read.1))
+
+all_fine : (of : ScriptKind) (text : List ℕ) {lines : _} → script_in of text ≡ Ok lines →
+    AreAllFine 0 [] (raw_lines text) lines
+all_fine of text h =
+    IfOk-at_ok (AreAllFine 0 [] (raw_lines text)) h (after_fine of 0 [] (raw_lines text) no_lines (omega arith))
 
 -- ---- the lines of a text
 
@@ -442,32 +363,27 @@ size_of-onto_line x (l ∷ ls) = omega (arith, sum_by-cons line_size l ls, sum_b
 
 size_of-raw_lines : (text : List ℕ) → size_of (raw_lines text) ≡ length text
 size_of-raw_lines [] = refl
-size_of-raw_lines (x ∷ xs) = by (x == 10) refl (size_of-raw_lines xs)
-  where
-    by : (r : Bool) → (x == 10) ≡ r → size_of (raw_lines xs) ≡ length xs → size_of (raw_lines (x ∷ xs)) ≡ length (x ∷ xs)
-    by true e rest = rw e (omega (arith, rest, sum_by-cons line_size (record { octets = []; ended = true }) (raw_lines xs)))
-    by false e rest = rw e (omega (arith, rest, size_of-onto_line x (raw_lines xs)))
+size_of-raw_lines (x ∷ xs) =
+    let rest = size_of-raw_lines xs in
+    cond_both (x == 10) (record { octets = []; ended = true } ∷ raw_lines xs) (onto_line x (raw_lines xs))
+    (λ lines. size_of lines ≡ length (x ∷ xs))
+    (λ ends. omega (arith, sum_by-cons line_size (record { octets = []; ended = true }) (raw_lines xs)))
+    (λ more. omega (arith, size_of-onto_line x (raw_lines xs)))
 
 length-onto_line : (x : ℕ) (lines : List RawLine) → length (onto_line x lines) ≤ suc (length lines)
-length-onto_line x [] = omega arith
-length-onto_line x (l ∷ ls) = omega arith
+length-onto_line x lines = grind arith
 
 length-raw_lines : (text : List ℕ) → length (raw_lines text) ≤ length text
 length-raw_lines [] = omega arith
-length-raw_lines (x ∷ xs) = by (x == 10) refl (length-raw_lines xs)
-  where
-    by : (r : Bool) → (x == 10) ≡ r → length (raw_lines xs) ≤ length xs → length (raw_lines (x ∷ xs)) ≤ length (x ∷ xs)
-    by true e rest = rw e (omega (arith, rest))
-    by false e rest = rw e (omega (arith, rest, length-onto_line x (raw_lines xs)))
+length-raw_lines (x ∷ xs) = grind (arith, length-onto_line, length-raw_lines xs)
 
 -- the text of a script has no more octets than it may have
 pub script_within : (of : ScriptKind) (text : List ℕ) (lines : List Line) → script_in of text ≡ Ok lines → length text ≤ most_text
-script_within of text lines h =
-    omega (arith, (after_fine of 0 [] (raw_lines text) lines no_lines (omega arith) h).short, size_of-raw_lines text)
+script_within of text lines h = omega (arith, (all_fine of text h).short, size_of-raw_lines text)
 
-pub lines_in_range : (of : ScriptKind) (text : List ℕ) (lines : List Line) → script_in of text ≡ Ok lines → AreInRange lines
-lines_in_range of text lines h =
-    let all = after_fine of 0 [] (raw_lines text) lines no_lines (omega arith) h in
+pub lines_in_range : (of : ScriptKind) (text : List ℕ) {lines : _} → script_in of text ≡ Ok lines → AreInRange lines
+lines_in_range of text {lines} h =
+    let all = all_fine of text h in
     record {
       each = all.fine.each;
       few = omega (arith, all.count, length-raw_lines text, script_within of text lines h);
@@ -476,8 +392,8 @@ lines_in_range of text lines h =
 
 -- so are those of each script
 pub back_in_range : (script : ScriptValue) → ReadsBack script.kind script.lines → AreInRange script.lines
-back_in_range script h = lines_in_range script.kind (printed script.kind script.lines) script.lines h
+back_in_range script h = lines_in_range script.kind (printed script.kind script.lines) h
 
 -- so that there are no more of them than a text may have octets
 pub script_few : (of : ScriptKind) (text : List ℕ) (lines : List Line) → script_in of text ≡ Ok lines → length lines ≤ most_text
-script_few of text lines h = (lines_in_range of text lines h).few
+script_few of text lines h = (lines_in_range of text h).few

@@ -1,11 +1,12 @@
 -- The requests of a gateway to all nodes that it has a path to.
-use Rattle.std.proofs.Common.{◌≡◌, ◌∙◌, refl, sym, ap, subst, ℕ, zero, suc, ◌+◌, ◌%◌, ◌≤◌, ◌<◌, false, List, [], ◌∷◌, ◌++◌, All, length, map, take, Option, Some, None, option_and_then, option_map, slice_get, take_all, arith}
+use Rattle.std.proofs.Common.{◌≡◌, ◌∙◌, refl, ap, ℕ, suc, ◌+◌, ◌%◌, ◌≤◌, ◌<◌, false, List, [], ◌∷◌, ◌++◌, All, length, map, take, Option, Some, None, option_and_then, slice_get, take_all, arith}
 use Rattle.std.specs.List.{cons_option, filter_map}
 use Rattle.std.proofs.lemmas.List.Elements.{All-head, All-tail}
+use Rattle.std.proofs.lemmas.List.{map_push}
 use Rattle.area_disk.specs.declared.memory.MemoryArea.{MemoryArea}
 use Rattle.gateway_book.specs.Book.{value_of}
 use Rattle.gateway_index.specs.Limits.{most_nodes}
-use Rattle.gateway_answer.specs.Told.{path_of, paths_of}
+use Rattle.gateway_answer.specs.Told.{paths_of}
 use Rattle.gateway_answer.specs.Value.{BookValue, history_of}
 use Rattle.gateway_book.specs.declared.book.Book.{Book}
 use Rattle.gw_base.specs.Known.{known_nodes}
@@ -22,8 +23,8 @@ use Rattle.replay_gateway.specs.Moves.{HasMoved}
 use Rattle.replay_gateway.specs.Setup.{Setup}
 use Rattle.replay_gateway.specs.Standing.{MachineStands, SiteStands, area_tells}
 use Rattle.replay_gateway.specs.Machine.{Machine}
-use Rattle.replay_gateway.specs.declared.machine.Machine as real
 use Rattle.replay_gateway.specs.declared.site.Site.{Site}
+use Rattle.replay_gateway.proofs.ListLemmas.{mapped_from, mapped_none, none_beyond, take_next}
 use Rattle.replay_gateway.specs.declared.site.Site.TheVariants.{Up, Down}
 
 -- the request to the node with a path
@@ -35,11 +36,9 @@ abbrev pub AskedSoFar : ℕ → ℕ → ℕ → Option ℕ → Option Site → �
 AskedSoFar place cause number to site k messages = (v : BookValue) → book_in site ≡ Some v →
     messages ≡ map (asks_path place cause number to v) (take k (paths_of (history_of v)))
 
-pub one_more : {A B : Type 0} (f : A → B) (xs : List A) (k : ℕ) (x : A) → slice_get xs k ≡ Some x →
+pub one_more : {A B : Type 0} (f : A → B) (xs : List A) (k : ℕ) {x : _} → slice_get xs k ≡ Some x →
     map f (take (suc k) xs) ≡ map f (take k xs) ++ f x ∷ []
-one_more f [] k x is = absurd (cc)
-one_more f (y ∷ xs) zero x is = let same : y ≡ x = cc in ap (λ z. f z ∷ []) same
-one_more f (y ∷ xs) (suc k) x is = ap (λ l. f y ∷ l) (one_more f xs k x is)
+one_more f xs k {x} is = ap (map f) (take_next xs k is) ∙ map_push f (take k xs) x
 
 abbrev pub started : Addr → ℕ → Addr × ℕ
 started path start = (path, start)
@@ -47,61 +46,28 @@ started path start = (path, start)
 abbrev path_with : BookValue → Addr → Addr × ℕ
 path_with v p = (p, start_of p.ip (history_of v))
 
--- a path that was found
-found : (v : BookValue) (o : Option Addr) (path : Addr) (start : ℕ) → Some (started path start) ≡ option_map (path_with v) o →
-    (o ≡ Some path) × (start ≡ start_of path.ip (history_of v))
-found v None path start is = absurd (cc)
-found v (Some p) path start is =
-    let same : started path start ≡ path_with v p = cc in
-    let path_is : path ≡ p = ap (λ (q : Addr × ℕ). q.0) same in (
-      ap Some (sym path_is),
-      ap (λ (q : Addr × ℕ). q.1) same ∙ ap (λ (q : Addr). start_of q.ip (history_of v)) (sym path_is),
-    )
-
-gone : (v : BookValue) (o : Option Addr) → None ≡ option_map (path_with v) o → o ≡ None
-gone v None is = refl
-gone v (Some p) is = absurd (cc)
-
-none_beyond : {A : Type 0} (xs : List A) (k : ℕ) → slice_get xs k ≡ None → length xs ≤ k
-none_beyond [] k is = omega arith
-none_beyond (x ∷ xs) zero is = absurd (cc)
-none_beyond (x ∷ xs) (suc k) is = let later = none_beyond xs k is in omega (arith, later)
-
 module _ (place cause number : ℕ) (to : Option ℕ) (site : Option Site) where
-  pub asked_more : (k : ℕ) (before after : List Message) (path : Addr) (start : ℕ) →
-      AskedSoFar place cause number to site k before →
-      Some (started path start) ≡ option_and_then (λ v. path_in v k) (book_in site) →
-      after ≡ before ++ asking place cause number to (path, start) ∷ [] →
+  pub asked_more : (k : ℕ) (before : List Message) {after : _} (path : Addr) (start : ℕ) →
+      AskedSoFar place cause number to site k before → Some (started path start) ≡ option_and_then (λ v. path_in v k)
+      (book_in site) → after ≡ before ++ asking place cause number to (path, start) ∷ [] →
       AskedSoFar place cause number to site (k + 1) after
-  asked_more k before after path start inv finds grows v is =
-      let there = found v (slice_get (paths_of (history_of v)) k) path start
-      (finds ∙ ap (λ (o : Option BookValue). option_and_then (λ w. path_in w k) o) is) in
+  asked_more k before path start inv finds grows v is =
+      let there = mapped_from (path_with v) _ (finds ∙ ap (option_and_then (λ w. path_in w k)) is) in
       let next : suc k ≡ k + 1 = omega arith in
-      grows
-      ∙ ap (λ (ms : List Message). ms ++ asking place cause number to (path, start) ∷ []) (inv v is)
-      ∙ ap (λ (n : ℕ). map (asks_path place cause number to v) (take k (paths_of (history_of v)))
-      ++ asking place cause number to (path, n) ∷ []) there.1
-      ∙ sym (one_more (asks_path place cause number to v) (paths_of (history_of v)) k path there.0)
-      ∙ ap (λ (n : ℕ). map (asks_path place cause number to v) (take n (paths_of (history_of v)))) next
+      cc (inv v is, there.2, one_more (asks_path place cause number to v) _ k there.1)
 
   pub asked_all : (k : ℕ) (messages : List Message) → AskedSoFar place cause number to site k messages →
-      None ≡ option_and_then (λ v. path_in v k) (book_in site) → (v : BookValue) → book_in site ≡ Some v →
+      None ≡ option_and_then (λ v. path_in v k) (book_in site) → {v : _} → book_in site ≡ Some v →
       messages ≡ map (asks_path place cause number to v) (paths_of (history_of v))
-  asked_all k messages inv none v is =
-      let no_more = gone v (slice_get (paths_of (history_of v)) k)
-      (none ∙ ap (λ (o : Option BookValue). option_and_then (λ w. path_in w k) o) is) in
-      inv v is
-      ∙ ap (λ (paths : List Addr). map (asks_path place cause number to v) paths)
-      (take_all k (paths_of (history_of v)) (none_beyond (paths_of (history_of v)) k no_more))
+  asked_all k messages inv none {v} is =
+      let no_more = mapped_none (path_with v) _ (none ∙ ap (option_and_then (λ w. path_in w k)) is) in
+      cc (inv v is, take_all k (paths_of (history_of v)) (none_beyond _ k no_more))
 
   -- there are no more
   pub asked_few : (k : ℕ) (messages : List Message) → AskedSoFar place cause number to site k messages →
-      (v : BookValue) → book_in site ≡ Some v → length (paths_of (history_of v)) ≤ k →
+      {v : _} → book_in site ≡ Some v → length (paths_of (history_of v)) ≤ k →
       messages ≡ map (asks_path place cause number to v) (paths_of (history_of v))
-  asked_few k messages inv v is few =
-      inv v is
-      ∙ ap (λ (paths : List Addr). map (asks_path place cause number to v) paths)
-      (take_all k (paths_of (history_of v)) few)
+  asked_few k messages inv {v} is few = cc (inv v is, take_all k (paths_of (history_of v)) few)
 
 -- A gateway knows few nodes.
 
@@ -111,8 +77,8 @@ fewer_paths f (n ∷ nodes) = by (f n) (fewer_paths f nodes)
   where
     by : (o : Option Addr) → length (filter_map f nodes) ≤ length nodes →
         length (cons_option o (filter_map f nodes)) ≤ length (n ∷ nodes)
-    by None few = omega (arith, few)
-    by (Some a) few = omega (arith, few)
+    by None few = omega arith
+    by (Some a) few = omega arith
 
 -- what the law of a book's limits says of the nodes that it knows
 abbrev pub KnowsFew : Type 0
@@ -120,73 +86,45 @@ KnowsFew = (book : Book MemoryArea area_tells) → length (known_nodes (history_
 
 pub few_paths : KnowsFew → (setup : Setup) (place : ℕ) (g : Gateway) (m : Machine) (s : Option Site) →
     g.is_down ≡ false → SiteStands setup place g m s → length (paths_of (history_of g.book)) ≤ most_nodes
-few_paths law setup place g m None runs stands = absurd stands
-few_paths law setup place g m (Some (Up book)) runs stands =
-    subst (λ (v : BookValue). length (paths_of (history_of v)) ≤ most_nodes) stands.up.value
-    (let paths = fewer_paths (path_of (history_of (value_of book))) (known_nodes (history_of (value_of book))) in
-    omega (arith, paths, law book))
-few_paths law setup place g m (Some (Down fallen)) runs stands = absurd (cc (sym runs ∙ stands.stopped))
+few_paths law setup place g m s runs stands = grind (arith, fewer_paths)
 
 -- the book of one that runs
 pub book_there : (setup : Setup) (place : ℕ) (g : Gateway) (m : Machine) (s : Option Site) → g.is_down ≡ false →
     SiteStands setup place g m s → book_in s ≡ Some g.book
-book_there setup place g m None runs stands = absurd stands
 book_there setup place g m (Some (Up book)) runs stands = ap Some stands.up.value
-book_there setup place g m (Some (Down fallen)) runs stands = absurd (cc (sym runs ∙ stands.stopped))
+book_there setup place g m (Some (Down fallen)) runs stands = absurd (cc stands.stopped)
+book_there setup place g m None runs stands = absurd stands
 
 module _ (place cause number : ℕ) (to : Option ℕ) (g : Gateway) (is : number ≡ g.redirects % 65536) where
   -- the request to a node whose number is an octet
   asked_path : (path : Addr) → node_at path < 256 →
       asks_path place cause number to g.book path ≡ redirecting place cause to g path
   asked_path path near =
-      let whole : node_at path % 256 ≡ node_at path = omega (arith, near) in
-      ap (λ (n : ℕ). record (asks_path place cause number to g.book path) { node = n }) whole
-      ∙ ap (λ (n : ℕ). record (asks_path place cause n to g.book path) { node = node_at path }) is
+      let whole : node_at path % 256 ≡ node_at path = omega arith in
+      cc
 
   asked_paths : (paths : List Addr) → All (λ path. node_at path < 256) paths →
       map (asks_path place cause number to g.book) paths ≡ map (redirecting place cause to g) paths
   asked_paths [] near = refl
   asked_paths (path ∷ paths) near =
-      ap (λ (m : Message). m ∷ map (asks_path place cause number to g.book) paths)
-      (asked_path path (All-head (λ p. node_at p < 256) path paths near))
-      ∙ ap (λ (ms : List Message). redirecting place cause to g path ∷ ms)
-      (asked_paths paths (All-tail (λ p. node_at p < 256) path paths near))
+      cc (
+        asked_path path (All-head (λ p. node_at p < 256) path paths near),
+        asked_paths paths (All-tail (λ p. node_at p < 256) path paths near),
+      )
 
   pub asked_as : KnowsNear g →
       map (asks_path place cause number to g.book) (paths_of (history_of g.book)) ≡ (redirected place cause to g).sends
-  asked_as near = asked_paths (paths_of (history_of g.book)) near
+  asked_as near = asked_paths _ near
 
 -- Its count of redirections rises.
 
-site_counted : (setup : Setup) (place : ℕ) (g : Gateway) (m : Machine) (n : ℕ) (s : Option Site) →
-    SiteStands setup place g m s → SiteStands setup place (record g { redirects = n }) m s
-site_counted setup place g m n None stands = absurd stands
-site_counted setup place g m n (Some (Up book)) stands =
-    record { runs = stands.runs; up = stands.up; size = stands.size; open_time = stands.open_time }
-site_counted setup place g m n (Some (Down fallen)) stands = record {
-  stopped = stands.stopped;
-  down = stands.down;
-  is_armed = stands.is_armed;
-  unarmed = stands.unarmed;
-  silent = stands.silent;
-  size = stands.size;
-}
-
-wrapped : (n k : ℕ) → n ≡ k % 65536 → (n + 1) % 65536 ≡ (k + 1) % 65536
-wrapped n k is = ap (λ (j : ℕ). (j + 1) % 65536) is ∙ grind arith
-
-pub has_redirected : (setup : Setup) (place cause : ℕ) (to : Option ℕ) (g : Gateway) (m : Machine)
-    (messages : List Message) (old : real.Machine) (count : ℕ) → MachineStands setup place g m old →
+pub has_redirected : {setup place : _} (cause : ℕ) (to : Option ℕ) (g : Gateway) (m : Machine)
+    {messages old : _} (count : ℕ) → MachineStands setup place g m old →
     count ≡ (old.redirects + 1) % 65536 → messages ≡ (redirected place cause to g).sends →
     HasMoved setup place (redirected place cause to g) m messages (record old { redirects = count })
-has_redirected setup place cause to g m messages old count stands counts sends = record {
-  stands = record {
-    site = site_counted setup place g m (g.redirects + 1) old.site stands.site;
-    waiting = stands.waiting;
-    unreached = stands.unreached;
-    redirects = counts ∙ wrapped old.redirects g.redirects stands.redirects;
-    named = stands.named;
-    writes = stands.writes;
-  };
-  sends = sends;
-}
+has_redirected {setup} {place} cause to g m {old = old} count stands counts sends =
+    let moved = (redirected place cause to g).gateway in
+    let site : SiteStands setup place moved m old.site = grind (arith, stands.site) in
+    let redirects : count ≡ moved.redirects % 65536 =
+    counts ∙ ap (λ j. (j + 1) % 65536) stands.redirects ∙ grind arith in
+    record { stands = assumption; sends = sends }

@@ -1,40 +1,63 @@
--- The area and the shelf that a gateway hands out which has written all.
-use Rattle.std.proofs.Common.{◌≡◌, ◌∙◌, ◌⊎◌, inl, inr, ap, append-nil, subst, Bool, false, ℕ, ◌+◌, ◌<◌, ◌≤◌, List, [], ◌++◌, length, take, take_all, Option, None, arith}
+-- A gateway at rest: what it hands out, and what it filed, which is read.
+use Rattle.std.proofs.Common.{sym, ◌∙◌, append_assoc, append-nil, ◌≡◌, inl, inr, ap, subst, Bool, false, ℕ, ◌+◌, List, [], ◌++◌, length, take, take_all, Option, None, arith, refl, zero, suc, ◌<◌, ◌≤◌, ◌∷◌, map, All, Contains, Some, IfSome, codes, slice_get, Ok}
+use Rattle.std.proofs.lemmas.Bool.{cases_lt, cond_both}
 use Rattle.area_disk.specs.declared.memory.MemoryArea.{MemoryArea}
-use Rattle.cdr_shelf.specs.Files.{UnsealedFile}
+use Rattle.cdr_shelf.specs.Files.{UnsealedFile, SealedFile}
 use Rattle.cdr_shelf.specs.declared.memory.MemoryShelf.{MemoryShelf}
-use Rattle.file_rotate.specs.Items.{Filed}
+use Rattle.file_rotate.specs.Items.{Filed, AreLimits}
 use Rattle.file_writer.specs.Files.{AreFilesOf, stream_files}
 use Rattle.file_writer.specs.Leaving.{AreOpenFiles, IsOpenFile}
-use Rattle.file_writer.specs.Streams.{Settings, closed_of, stream_count}
+use Rattle.file_writer.specs.Streams.{Settings, closed_of, stream_count, stream_division, stream_record}
 use Rattle.gateway_answer.specs.Items.{items_of}
-use Rattle.gateway_book.specs.Opened.{StandsFitFor}
 use Rattle.gw_base.specs.declared.history.HistoryEntry.{HistoryEntry}
 use Rattle.gw_base.specs.declared.item.Item.{Item}
+use Rattle.gw_base.specs.declared.tag.Tag.{Tag}
 use Rattle.once_core.specs.Gateway.{Gateway}
-use Rattle.replay_gateway.specs.AtRest.{AreShut, IsAllWritten, IsAtRest}
+use Rattle.replay_gateway.specs.AtRest.{AreShut, IsAllWritten, IsAtRest, IsRead}
 use Rattle.replay_gateway.specs.HandedOut.{IsHandedOut, LeavesHistory}
 use Rattle.replay_gateway.specs.Machine.{Filing, Machine}
-use Rattle.replay_gateway.specs.Setup.{Setup, files_in}
-use Rattle.replay_gateway.specs.Standing.{area_tells, header_at}
+use Rattle.replay_gateway.specs.Setup.{Setup, files_in, after_setting, after_settings, default_setup, rules_said, setup_of}
 use Rattle.replay_gateway.specs.Written.{shelf_tells}
 use Rattle.replay_gateway.proofs.WriterLemmas.{files_count}
+use Rattle.std.proofs.lemmas.List.{length-map}
+use Rattle.std.proofs.lemmas.List.Elements.{All-append, All-cons, All-head, All-nil, All-tail}
+use Rattle.std.specs.Option.{option_map_or}
+use Rattle.std.specs.Str.{bytes_eq}
+use Rattle.std.specs.List.{flat_map}
+use Rattle.file_rotate.specs.Division.{ClosedRun}
+use Rattle.file_writer.specs.Places.{FilePlace, in_run, record_at, run_with}
+use Rattle.file_writer.specs.Reading.{ReadsAt}
+use Rattle.gate_journal.specs.Format.{most_octets}
+use Rattle.gateway_book.specs.Opened.{StandsFitFor}
+use Rattle.gateway_answer.specs.declared.filing.FiledRecord.{FiledRecord}
+use Rattle.jiff_core.specs.Calendar.{IsWithin}
+use Rattle.once_core.specs.FilePlaces.{placed}
+use Rattle.once_core.specs.Readable.{AreFileSettings}
+use Rattle.route_filter.specs.Rules.{any_or, format_in, last_stream, rule_by, rule_of, rule_said, tag_in}
+use Rattle.route_filter.specs.Words.{number_up_to, words_of, ◌>>=◌}
+use Rattle.route_filter.specs.declared.rule.Rule.{Rule}
+use Rattle.world_script.specs.Script.{script_in}
+use Rattle.world_script.specs.declared.kind.ScriptKind.{ScriptKind}
+use Rattle.world_script.specs.declared.line.Line.{Line}
+use Rattle.world_script.specs.declared.line.Line.TheVariants as line
+use Rattle.replay_gateway.specs.Settings.{IsInRange, rules_in_line}
+use Rattle.replay_gateway.specs.Standing.{area_tells, header_at}
+use Rattle.replay_gateway.proofs.RangeLemmas.{lines_in_range, number_within, pos_within}
+
+-- The area and the shelf that a gateway hands out which has written all.
 
 -- Where no file is open, none is unsealed.
 
 none_unsealed : (settings : Settings) (items : List Item) (unsealed : ℕ → Option UnsealedFile) →
     AreOpenFiles settings (λ s. 0) items unsealed → AreShut items → (s : ℕ) → unsealed s ≡ None
 none_unsealed settings items unsealed are shut s =
-    elim (either_way s stream_count) [
+    elim (cases_lt s stream_count) [
       | inl within ↦
           subst (λ (run : List (Filed (List ℕ))). IsOpenFile
           (record { stream = s; sequence = 0 + closed_of settings s items + 1 }) run (unsealed s)) (shut settings s)
           (are.each s within)
       | inr beyond ↦ are.beyond s beyond
     ]
-  where
-    either_way : (n k : ℕ) → (n < k) ⊎ (k ≤ n)
-    either_way n k = grind arith
 
 -- the area of a gateway that runs, all of whose entries are firm, stands for these
 left_firm : (g : Gateway) (h : List HistoryEntry) → LeavesHistory g.is_down g h → g.is_down ≡ false → g.book.rest ≡ [] →
@@ -63,21 +86,130 @@ module _ (setup : Setup) (place : ℕ) (g : Gateway) (m : Machine) (a : MemoryAr
   }
 
   all_open : AreOpenFiles settings (λ s. 0) items (shelf_tells.unsealed shelf)
-  all_open =
-      subst (λ (xs : List Item). AreOpenFiles settings (λ s. 0) xs (shelf_tells.unsealed shelf))
-      (take_all (length items) items (omega arith))
-      (is.unsealed (length items) (ap (λ (f : Filing). f.taken) settled.written))
+  all_open = rw (take_all (length items) items (omega arith)) at (is.unsealed (length items) (cc settled.written))
 
   pub gateway_at_rest : IsAtRest setup place g a shelf
-  gateway_at_rest = record {
-    runs = settled.runs;
-    whole = settled.whole;
-    firm = settled.firm;
-    area = subst (λ (h : List HistoryEntry). StandsFitFor (header_at setup place) (area_tells.octets a) h)
-        (left_firm g is.area.history is.area.kept settled.runs settled.firm) is.area.holds.stands;
-    size = is.area.size;
-    crash = is.area.crash settled.runs settled.whole;
-    files = all_files;
-    shut = settled.shut;
-    sealed = none_unsealed settings items (shelf_tells.unsealed shelf) all_open settled.shut;
-  }
+  gateway_at_rest =
+      let area = rw (left_firm g _ is.area.kept settled.runs settled.firm) at is.area.holds.stands in
+      let crash = is.area.crash settled.runs settled.whole in
+      let sealed = none_unsealed _ _ _ all_open settled.shut in
+      assumption all_files
+
+-- What a gateway at rest filed is read, where a script says its settings.
+
+-- ---- what scripts set
+
+abbrev IsLow : Rule → Type 0
+IsLow rule = rule.stream ≤ last_stream
+
+low_by : (words : List (List ℕ)) → IfSome (rule_by words) IsLow
+low_by (a ∷ b ∷ c ∷ []) = by (any_or tag_in a) (any_or format_in b) (number_up_to last_stream c) refl
+  where
+    by : (tag : Option (Option Tag)) (format : Option (Option ℕ)) (stream : Option ℕ) →
+        number_up_to last_stream c ≡ stream → IfSome (tag >>= λ t. format >>= λ f. stream >>= λ s.
+        Some (record { tag = t; format = f; stream = s })) IsLow
+    by (Some tag) (Some format) (Some stream) is = number_within last_stream c is
+    by _ _ _ is = tt
+low_by _ = tt
+
+low_said : (words : List (List ℕ)) → IfSome (rule_said words) IsLow
+low_said [] = tt
+low_said (word ∷ words) =
+    cond_both (bytes_eq word (codes "rule")) (rule_by words) None (λ o. IfSome o IsLow) (λ is. low_by words)
+    (λ other. tt)
+
+rules_low : (text : List ℕ) → All IsLow (rules_said text)
+rules_low text = by (rule_of text) (low_said (words_of text))
+  where
+    by : (o : Option Rule) → IfSome o IsLow → All IsLow (option_map_or (λ rule. rule ∷ []) o [])
+    by None low = All-nil IsLow
+    by (Some rule) low = All-cons IsLow rule [] low (All-nil IsLow)
+
+-- areas aren't too long, and files are such as are read
+record IsReadable (s : Setup) : Type 0 where
+  pub size : s.size ≤ most_octets
+  pub limits : AreLimits s.limits
+  pub offset : IsWithin 959 s.offset
+  pub streams : All IsLow s.rules
+
+by_default : IsReadable default_setup
+by_default = record {
+  size = omega arith;
+  limits = record { size_from = omega arith; size_to = omega arith; count_from = omega arith };
+  offset = pos_within 0 (omega arith);
+  streams = All-nil IsLow;
+}
+
+after_one : (s : Setup) (said : Line) → IsReadable s → IsInRange said → IsReadable (after_setting s said)
+after_one s (line.Rule text) is range = record {
+  size = is.size;
+  limits = is.limits;
+  offset = is.offset;
+  streams = All-append IsLow s.rules (rules_said text) is.streams (rules_low text);
+}
+after_one s _ is range = assumption
+
+-- a line adds the rules that it says
+one_ruled : (s : Setup) (said : Line) → (after_setting s said).rules ≡ s.rules ++ rules_in_line said
+one_ruled s said = grind (arith, append-nil)
+
+pub rules_after : (s : Setup) (lines : List Line) → (after_settings s lines).rules ≡ s.rules ++ flat_map rules_in_line lines
+rules_after s [] = sym (append-nil s.rules)
+rules_after s (said ∷ lines) =
+    rules_after (after_setting s said) lines ∙ ap (λ rules. rules ++ flat_map rules_in_line lines) (one_ruled s said)
+    ∙ append_assoc s.rules (rules_in_line said) (flat_map rules_in_line lines)
+
+after_all : {s : _} (lines : List Line) → IsReadable s → All IsInRange lines → IsReadable (after_settings s lines)
+after_all [] is range = is
+after_all {s} (said ∷ lines) is range =
+    after_all {s = after_setting s said} lines (after_one s said is (All-head IsInRange said lines range))
+    (All-tail IsInRange said lines range)
+
+-- ---- files that are closed
+
+before_last : (runs : List (List (Filed (List ℕ)))) (before index : ℕ) {filed : _} →
+    in_run index (slice_get (runs ++ [] ∷ []) before) ≡ Some filed → before < length runs
+before_last [] zero index there = cc
+before_last [] (suc before) index there = cc
+before_last (run ∷ runs) zero index there = omega arith
+before_last (run ∷ runs) (suc before) index there = omega (arith, before_last runs before index there)
+
+closed_there : (settings : Settings) (items : List Item) (place : FilePlace) {filed : _} → AreShut items →
+    record_at settings items place ≡ Some filed → place.sequence ≤ closed_of settings place.stream items
+closed_there settings items place {filed} shut there = by place.sequence (rw (shut settings place.stream) at there)
+  where
+    closed : List (ClosedRun (List ℕ))
+    closed = (stream_division settings place.stream items).closed
+
+    runs : List (List (Filed (List ℕ)))
+    runs = map (λ (c : ClosedRun (List ℕ)). c.run) closed
+
+    by : (sequence : ℕ) → in_run place.index (run_with sequence (runs ++ [] ∷ [])) ≡ Some filed → sequence ≤ length closed
+    by zero there = omega arith
+    by (suc before) there =
+        omega (arith, before_last runs before place.index there, length-map closed (λ (c : ClosedRun (List ℕ)). c.run))
+
+-- ---- what is read
+
+abbrev pub Reads : Type 0
+Reads = (settings : Settings) (header octets : List ℕ) (h : List HistoryEntry) (files : List SealedFile)
+    (place : FilePlace) (filing : FiledRecord) → AreFileSettings settings → StandsFitFor header octets h →
+    length octets ≤ most_octets → AreFilesOf settings (items_of h) files →
+    place.sequence ≤ closed_of settings place.stream (items_of h) → Contains (placed settings h) (place, filing) →
+    ReadsAt files place (stream_record settings.profile filing.kind filing.octets filing.moment)
+
+abbrev pub StandThere : Type 0
+StandThere = (settings : Settings) (h : List HistoryEntry) (place : FilePlace) (filing : FiledRecord) →
+    Contains (placed settings h) (place, filing) → record_at settings (items_of h) place
+    ≡ Some (stream_record settings.profile filing.kind filing.octets filing.moment)
+
+pub rest_read : Reads → StandThere → (of : ScriptKind) (text : List ℕ) (lines : List Line) (place : ℕ) (g : Gateway)
+    (a : MemoryArea) (shelf : MemoryShelf) → script_in of text ≡ Ok lines → IsAtRest (setup_of lines) place g a shelf →
+    IsRead (files_in (setup_of lines) place) g.book.firm shelf
+rest_read reads stand of text lines place g a shelf h rests at filing is =
+    let settings = files_in (setup_of lines) place in
+    let sound = after_all lines by_default (lines_in_range of text h).each in
+    reads settings (header_at (setup_of lines) place) (area_tells.octets a) g.book.firm (shelf_tells.files shelf) at
+    filing (record { limits = sound.limits; offset = sound.offset; streams = sound.streams }) rests.area
+    (omega (arith, rests.size, sound.size)) rests.files
+    (closed_there settings _ at rests.shut (stand settings g.book.firm at filing is)) is

@@ -1,5 +1,5 @@
 -- What a writer makes of items, by what is armed for its shelf.
-use Rattle.std.proofs.Common.{◌≡◌, ◌∙◌, refl, sym, ap, subst, ℕ, suc, ◌+◌, ◌-◌, ◌^◌, ◌<◌, ◌≤◌, ◌==◌, max, Bool, true, false, List, [], ◌∷◌, ◌++◌, length, take, drop, Result, Ok, Err, Option, Some, None, All, arith, append-nil, length-append, length-drop, length-take}
+use Rattle.std.proofs.Common.{◌≡◌, ◌∙◌, refl, sym, ap, subst, ℕ, ◌+◌, ◌-◌, ◌^◌, ◌<◌, ◌≤◌, ◌==◌, max, true, false, List, [], ◌∷◌, ◌++◌, length, take, drop, Result, Ok, Err, Option, Some, None, All, arith, append-nil, length-append, length-drop, length-take}
 use Rattle.std.proofs.lemmas.List.{take-append-drop, take-append-le, take_all}
 use Rattle.std.proofs.lemmas.List.Elements.{All-append, All-nil, All-weaker, filter-append}
 use Rattle.std.proofs.lemmas.Option.{same_Some}
@@ -16,16 +16,15 @@ use Rattle.file_writer.specs.Asking.{IsAsked}
 use Rattle.file_writer.specs.Calls.{Call, calls_of, seals}
 use Rattle.file_writer.specs.Files.{AreOfStreams, files_from, later_files, stream_files}
 use Rattle.file_writer.specs.Holding.{files_after}
-use Rattle.file_writer.specs.Leaving.{AreOpenFiles, AreShut, IsOpenFileOf, LeavesUnsealed, begun_after}
+use Rattle.file_writer.specs.Leaving.{AreOpenFiles, AreShut, LeavesUnsealed, begun_after}
 use Rattle.file_writer.specs.Making.{Comes, Failed, Went, done_at}
-use Rattle.file_writer.specs.Streams.{Settings, closed_of, stream_count, stream_division}
+use Rattle.file_writer.specs.Streams.{Settings, closed_of, stream_count}
 use Rattle.file_writer.specs.Writer as writer
 use Rattle.file_writer.specs.declared.fault.ShelfFault.{ShelfFault}
 use Rattle.file_writer.specs.declared.fault.ShelfFault.TheVariants.{Device, NoMemory}
 use Rattle.file_writer.specs.declared.writer.Writer.{Writer}
 use Rattle.gateway_answer.specs.Items.{IsWritable}
 use Rattle.gw_base.specs.declared.item.Item.{Item}
-use Rattle.gw_base.specs.declared.item.Item.TheVariants as item
 use Rattle.replay_gateway.specs.Filing.{all_filed, filed_by, filing_after, items_given, items_taken, shelf_calls, shelf_came}
 use Rattle.replay_gateway.specs.Machine.{Filing, resting}
 use Rattle.replay_gateway.specs.Written.{AreSealed, BreaksOff, FilesStand, HasTaken, HasWritten, IsOn, NothingIsLeft, ShelfHolds, WriterStands, shelf_tells, wrote_by}
@@ -68,22 +67,15 @@ ShutComeOpen = (settings : Settings) (closed sealed : ℕ → ℕ) (items : List
 pub files_length : (file : FileSettings) (s first : ℕ) (closed : List (ClosedRun (List ℕ))) →
     length (files_from file s first closed) ≡ length closed
 files_length file s first [] = refl
-files_length file s first (run ∷ closed) = ap (λ (n : ℕ). suc n) (files_length file s (first + 1) closed)
+files_length file s first (run ∷ closed) = cc (files_length file s (first + 1) closed)
 
 pub files_count : (settings : Settings) (s : ℕ) (items : List Item) →
     length (stream_files settings s items) ≡ closed_of settings s items
-files_count settings s items = files_length settings.file s 1 (stream_division settings s items).closed
+files_count settings s items = files_length _ s 1 _
 
 -- of items that are written more may be taken
-writable_fit : (i : Item) → IsWritable i → IsFit i
-writable_fit (item.Part kind tag octets moment) is = is
-writable_fit _ is = tt
-
 pub all_fit : (items : List Item) → All IsWritable items → All IsFit items
-all_fit items are = All-weaker IsWritable IsFit writable_fit items are
-
-last_of : (sealed n : ℕ) → sealed ≤ n → max sealed (0 + n) - 0 ≡ n
-last_of sealed n le = omega (arith, le)
+all_fit items are = All-weaker IsWritable IsFit (λ i is. grind arith) items are
 
 abbrev files_in : Writer MemoryShelf shelf_tells → List SealedFile
 files_in w = shelf_tells.files (writer.shelf_of w)
@@ -92,38 +84,36 @@ abbrev unsealed_in : Writer MemoryShelf shelf_tells → ℕ → Option UnsealedF
 unsealed_in w = shelf_tells.unsealed (writer.shelf_of w)
 
 -- What a shelf holds is kept where something else is armed for it, and where it is asked for its files.
-pub kept_holds : (settings : Settings) (sealed : ℕ → ℕ) (items : List Item) (old new : Writer MemoryShelf shelf_tells) →
+pub kept_holds : {settings sealed items old : _} (new : Writer MemoryShelf shelf_tells) →
     writer.settings_in new ≡ writer.settings_in old → files_in new ≡ files_in old →
     ((s : ℕ) → unsealed_in new s ≡ unsealed_in old s) → ShelfHolds shelf_tells settings sealed items old →
     ShelfHolds shelf_tells settings sealed items new
-kept_holds settings sealed items old new set files unsealed holds = record {
+kept_holds new set files unsealed holds = record {
   settings_are = set ∙ holds.settings_are;
-  files = subst (λ (fs : List SealedFile). AreSealed settings items sealed fs) (sym files) holds.files;
+  files = rw files holds.files;
   shut = record {
-    each = λ s small all. unsealed s
-        ∙ holds.shut.each s small (subst (λ (fs : List SealedFile). begun_after settings (λ stream. 0) items s ≤ greatest_in s fs) files all);
+    each = λ s small all. unsealed s ∙ holds.shut.each s small (rw files at all);
     beyond = λ s far. unsealed s ∙ holds.shut.beyond s far;
   };
   numbered = holds.numbered;
 }
 
-pub kept_stands : (settings : Settings) (f : Filing) (a : Armed) (items : List Item) (old new : Files) →
+pub kept_stands : {settings : Settings} (f : Filing) {a : Armed} {items : List Item} {old : Files} (new : Files) →
     writer.settings_in new.writer ≡ writer.settings_in old.writer → files_in new.writer ≡ files_in old.writer →
     ((s : ℕ) → unsealed_in new.writer s ≡ unsealed_in old.writer s) →
     ((s : ℕ) → writer.sealed_in new.writer s ≡ writer.sealed_in old.writer s) →
     ((closed : ℕ → ℕ) (items : List Item) → writer.IsAt old.writer closed items → writer.IsAt new.writer closed items) →
-    new.taken ≡ old.taken → IsArmed a (shelf_tells.plan (writer.shelf_of new.writer)) → FilesStand settings f items old →
-    FilesStand settings (record f { armed = a }) items new
-kept_stands settings f a items old new set files unsealed sealed at taken armed stands = record {
+    new.taken ≡ old.taken → IsArmed a (shelf_tells.plan (writer.shelf_of new.writer)) →
+    FilesStand settings f items old → FilesStand settings (record f { armed = a }) items new
+kept_stands f {items} new set files unsealed sealed at taken armed stands = record {
   writes = record {
-    holds = kept_holds settings f.sealed items old.writer new.writer set files unsealed stands.writes.holds;
+    holds = kept_holds _ set files unsealed stands.writes.holds;
     is_armed = armed;
     on = λ n has. let on = stands.writes.on n has in record {
       some = on.some;
       closed = on.closed;
       unsealed = record {
-        each = λ s small. subst (λ (u : Option UnsealedFile). IsOpenFileOf settings (λ s. 0) (take n items) s u)
-            (sym (unsealed s)) (on.unsealed.each s small);
+        each = λ s small. rw (unsealed s) (on.unsealed.each s small);
         beyond = λ s far. unsealed s ∙ on.unsealed.beyond s far;
       };
     };
@@ -132,26 +122,24 @@ kept_stands settings f a items old new set files unsealed sealed at taken armed 
   few = stands.few;
   goes_on = λ n has. let goes = stands.goes_on n has in record {
     at = at (λ s. 0) (take n items) goes.at;
-    sealed = λ s small. subst (λ (k : ℕ). k ≤ closed_of settings s (take n items)) (sym (sealed s)) (goes.sealed s small);
+    sealed = λ s small. rw (sealed s) (goes.sealed s small);
   };
 }
 
 -- A writer that has to recover, and for which nothing is armed.
-pub rests : (settings : Settings) (sealed : ℕ → ℕ) (items : List Item) (w : Writer MemoryShelf shelf_tells) (r : Files) →
+pub rests : {settings sealed items w : _} (r : Files) →
     r.writer ≡ w → r.taken ≡ None → IsArmed Nothing (shelf_tells.plan (writer.shelf_of w)) →
     ShelfHolds shelf_tells settings sealed items w → FilesStand settings (resting sealed) items r
-rests settings sealed items w r is taken armed holds = record {
-  writes = subst (λ (v : Writer MemoryShelf shelf_tells). WriterStands shelf_tells settings (resting sealed) items v) (sym is)
-      (record { holds = holds; is_armed = armed; on = λ n has. absurd (cc) });
+rests r is taken armed holds = record {
+  writes = rw is (record { holds = holds; is_armed = armed; on = λ n has. cc });
   taken = taken;
-  few = λ n has. absurd (cc);
-  goes_on = λ n has. absurd (cc);
+  few = λ n has. cc;
+  goes_on = λ n has. cc;
 }
 
 -- the settings are named otherwise
-pub by_settings : (p q : Settings) (items : List Item) (f : Filing) (w : Wrote) (r : Files) → p ≡ q →
-    HasWritten p items f w r → HasWritten q items f w r
-by_settings p q items f w r is written = subst (λ (s : Settings). HasWritten s items f w r) is written
+pub by_settings : {p q items f w r : _} → p ≡ q → HasWritten p items f w r → HasWritten q items f w r
+by_settings is written = rw is at written
 
 -- what is seen of what came of a write, and what it makes
 abbrev EndsBy : Settings → List Item → Filing → Came → Wrote → Files → Type 0
@@ -183,11 +171,9 @@ module _ (within : SealOfStreams) (items before later : List Item) (f : Filing)
   held : (s : ℕ) → s < stream_count → in_stream s (files_in old)
       ≡ take (max (writer.sealed_in old s) (0 + closed_of q s before) - 0) (stream_files q s ((before ++ later) ++ []))
   held s small =
-      let number : f.sealed s ≡ max (writer.sealed_in old s) (0 + closed_of q s before) - 0 = omega (arith, same s small) in
-      holds.files.each s small
-      ∙ ap (λ (k : ℕ). take k (stream_files q s items)) number
-      ∙ ap (λ (xs : List Item). take (max (writer.sealed_in old s) (0 + closed_of q s before) - 0) (stream_files q s xs))
-      (sym whole)
+      let number : f.sealed s ≡ max (writer.sealed_in old s) (0 + closed_of q s before) - 0 =
+      omega (arith, same s small) in
+      cc (holds.files.each s small, whole)
 
   held_before : writer.Holds old (λ s. 0) (λ s. []) ((before ++ later) ++ []) before
   held_before = held
@@ -198,37 +184,24 @@ module _ (within : SealOfStreams) (items before later : List Item) (f : Filing)
         in_stream s (files_in new)
         ≡ take (f.sealed s + length (in_stream s (seals (take k made)))) (stream_files q s items)
     each_after k s small are =
-        let keeps = done.keeps refl (λ s. []) [] held_before in
         let number : max (writer.sealed_in old s) (0 + closed_of q s before) - 0
         + length (in_stream s (seals (take k made))) ≡ f.sealed s + length (in_stream s (seals (take k made))) =
         omega (arith, same s small) in
-        ap (λ (fs : List SealedFile). in_stream s fs) are
-        ∙ keeps.at_any_moment k s small
-        ∙ ap (λ (n : ℕ). take n (stream_files q s ((before ++ later) ++ []))) number
-        ∙ ap (λ (xs : List Item). take (f.sealed s + length (in_stream s (seals (take k made)))) (stream_files q s xs)) whole
+        cc ((done.keeps refl (λ s. []) [] held_before).at_any_moment k s small, whole)
 
     most_after : (k s : ℕ) → s < stream_count → files_in new ≡ files_in old ++ seals (take k made) →
         f.sealed s + length (in_stream s (seals (take k made))) ≤ closed_of q s items
     most_after k s small are =
-        let more : List SealedFile = in_stream s (seals (take k made)) in
-        let all : List SealedFile = stream_files q s items in
-        let front = ap (λ (fs : List SealedFile). length fs) (holds.files.each s small) in
-        let both = ap (λ (fs : List SealedFile). length fs) (each_after k s small are) in
+        let more = in_stream s (seals (take k made)) in
+        let all = stream_files q s items in
         let parts : length (in_stream s (files_in new)) ≡ length (in_stream s (files_in old)) + length more =
-        ap (λ (fs : List SealedFile). length (in_stream s fs)) are
-        ∙ ap (λ (fs : List SealedFile). length fs)
-        (filter-append (λ (file : SealedFile). file.name.stream == s) (files_in old) (seals (take k made)))
+        ap (λ fs. length (in_stream s fs)) are
+        ∙ ap length (filter-append (λ (file : SealedFile). file.name.stream == s) (files_in old) (seals (take k made)))
         ∙ length-append (in_stream s (files_in old)) more in
-        omega (
-          arith,
-          front,
-          both,
-          parts,
-          length-take (f.sealed s) all,
-          length-take (f.sealed s + length more) all,
-          files_count q s items,
-          holds.files.most s small,
-        )
+        let before = ap length (holds.files.each s small) in
+        let after = ap length (each_after k s small are) in
+        let most = holds.files.most s small in
+        omega (arith, length-take (f.sealed s) all, length-take (f.sealed s + length more) all, files_count q s items)
 
     only_after : (k : ℕ) → files_in new ≡ files_in old ++ seals (take k made) → AreOfStreams (files_in new)
     only_after k are =
@@ -237,16 +210,14 @@ module _ (within : SealOfStreams) (items before later : List Item) (f : Filing)
 
     left_shut : NothingIsLeft shelf_tells q items (writer.shelf_of new)
     left_shut =
-        subst (λ (xs : List Item). NothingIsLeft shelf_tells q xs (writer.shelf_of new)) joined
-        (done.shut refl refl (begun_after q (λ s. 0) (before ++ later)) (λ s small. omega arith)
-        (subst (λ (xs : List Item). NothingIsLeft shelf_tells q xs (writer.shelf_of old)) (sym joined) holds.shut))
+        rw joined at
+        (done.shut refl refl (begun_after q (λ s. 0) (before ++ later)) (λ s small. omega arith) (rw joined holds.shut))
 
     -- what is on the shelf then
     pub held_after : (k : ℕ) → files_in new ≡ files_in old ++ seals (take k made) →
         ShelfHolds shelf_tells q (filed_by q items f k).sealed items new
     held_after k are =
-        subst (λ (cs : List Call). ShelfHolds shelf_tells q
-        (λ s. f.sealed s + length (in_stream s (seals (take k cs)))) items new) named (record {
+        rw (← named) (record {
           settings_are = stays;
           files = record {
             each = λ s small. each_after k s small are;
@@ -269,13 +240,13 @@ module _ (within : SealOfStreams) (items before later : List Item) (f : Filing)
         let after : writer.Holds new (λ s. 0) (λ s. []) ((before ++ later) ++ []) (before ++ later) =
         done.holds refl (λ s. []) [] held_before in
         after s small
-        ∙ ap (λ (p : Settings). take (max (writer.sealed_in new s) (0 + closed_of p s (before ++ later)) - 0)
+        ∙ ap
+        (λ p. take (max (writer.sealed_in new s) (0 + closed_of p s (before ++ later)) - 0)
         (files_after p (λ s. 0) s ((before ++ later) ++ []))) stays
-        ∙ ap (λ (xs : List Item). take (max (writer.sealed_in new s) (0 + closed_of q s xs) - 0)
-        (stream_files q s (xs ++ []))) joined
-        ∙ ap (λ (k : ℕ). take k (stream_files q s (items ++ [])))
-        (last_of (writer.sealed_in new s) (closed_of q s items) (later_sealed s small))
-        ∙ ap (λ (xs : List Item). take (closed_of q s items) (stream_files q s xs)) (append-nil items)
+        ∙ ap (λ xs. take (max (writer.sealed_in new s) (0 + closed_of q s xs) - 0) (stream_files q s (xs ++ []))) joined
+        ∙ ap (λ k. take k (stream_files q s (items ++ [])))
+        (omega (arith, (later_sealed s small), later_sealed s small))
+        ∙ ap (λ xs. take (closed_of q s items) (stream_files q s xs)) (append-nil items)
 
     all_taken : items ≡ take (length items) items
     all_taken = sym (take_all (length items) items (omega arith))
@@ -288,27 +259,20 @@ module _ (within : SealOfStreams) (items before later : List Item) (f : Filing)
         files = record {
           each = all_sealed;
           most = λ s small. omega arith;
-          only = only_after (Ok n) done (done.makes.sealed refl).count (done.makes.sealed refl).files;
+          only = only_after _ done _ (done.makes.sealed refl).files;
         };
-        shut = left_shut (Ok n) done;
+        shut = left_shut _ done;
         numbered = fits;
       };
       is_armed = is;
-      on = λ k has. subst (λ (j : ℕ). IsOn shelf_tells q items (λ s. closed_of q s items) j new) (same_Some (length items) k has)
-          (record {
-            some = omega arith;
-            closed = λ s small. ap (λ (xs : List Item). closed_of q s xs) all_taken;
-            unsealed = subst (λ (xs : List Item). AreOpenFiles q (λ s. 0) xs (unsealed_in new)) all_taken opens;
-          });
+      on = λ k has. rw (← (same_Some (length items) k has))
+          (record { some = omega arith; closed = λ s small. cc all_taken; unsealed = rw all_taken at opens });
     }
 
     pub all_gone_on : (k : ℕ) → Some (length items) ≡ Some k → HasTaken q (take k items) new
     all_gone_on k has =
-        subst (λ (j : ℕ). HasTaken q (take j items) new) (same_Some (length items) k has)
-        (subst (λ (xs : List Item). HasTaken q xs new) all_taken (record {
-          at = subst (λ (xs : List Item). writer.IsAt new (λ s. 0) xs) joined done.at;
-          sealed = later_sealed;
-        }))
+        rw (same_Some (length items) k has) at
+        (subst (λ xs. HasTaken q xs new) all_taken (record { at = rw joined at done.at; sealed = later_sealed }))
 
     ended_all : (r : Files) → r.writer ≡ new → r.taken ≡ Some (length items) → length items < 2 ^ 31 → (c : Came) →
         Comes shelf_tells made Went done.makes.tried (writer.shelf_of old) (writer.shelf_of new) c →
@@ -316,23 +280,20 @@ module _ (within : SealOfStreams) (items before later : List Item) (f : Filing)
     ended_all r is taken few (Ran a) comes = (
       refl,
       record {
-        writes = subst (λ (w : Writer MemoryShelf shelf_tells). WriterStands shelf_tells q (all_filed q items a) items w)
-            (sym is) (all_stands a comes.is_armed);
+        writes = rw is (all_stands a comes.is_armed);
         taken = taken;
-        few = λ k has. omega (arith, few, same_Some (length items) k has);
-        goes_on = λ k has. subst (λ (w : Writer MemoryShelf shelf_tells). HasTaken q (take k items) w) (sym is)
-            (all_gone_on k has);
+        few = λ k has. omega (arith, same_Some (length items) k has);
+        goes_on = λ k has. rw is (all_gone_on k has);
       },
     )
-    ended_all r is taken few _ comes = absurd (cc (comes.fails))
+    ended_all r is taken few _ comes = cc (comes.fails)
 
     pub all_written : (r : Files) → r.writer ≡ new → r.taken ≡ Some (length items) → length items < 2 ^ 31 →
         HasWritten q items f wrote.All r
     all_written r is taken few =
-        let came = done.makes.planned refl refl f.armed armed in
-        let ends = ended_all r is taken few (shelf_came q items f)
-        (subst (λ (cs : List Call). Comes shelf_tells made Went done.makes.tried (writer.shelf_of old) (writer.shelf_of new)
-        (calls_under f.armed (length cs))) named came) in
+        let ends = ended_all r is taken few _
+        (subst (λ cs. Comes shelf_tells made Went done.makes.tried (writer.shelf_of old) (writer.shelf_of new)
+        (calls_under f.armed (length cs))) named (done.makes.planned refl refl f.armed armed)) in
         record { ends = ends.0; stands = ends.1 }
 
   -- A call failed, and what is armed says which, and how.
@@ -340,40 +301,32 @@ module _ (within : SealOfStreams) (items before later : List Item) (f : Filing)
     ended_at : (before r : Files) (w : Wrote) → before.writer ≡ new → before.taken ≡ None →
         BreaksOff Device before w r → (c : Came) →
         Comes shelf_tells made Failed done.makes.tried (writer.shelf_of old) (writer.shelf_of new) c → EndsBy q items f c w r
-    ended_at first r w is taken breaks (Ran a) comes = absurd (cc (comes.runs))
+    ended_at first r w is taken breaks (Ran a) comes = cc (comes.runs)
     ended_at first r w is taken breaks (FailedAt k) comes =
         let armed = comes.is_armed in
-        let so = breaks.failed (ap (λ (v : Writer MemoryShelf shelf_tells). (shelf_tells.plan (writer.shelf_of v)).stopped) is
-        ∙ armed.running) in (
-          so.0,
-          subst (λ (x : Files). FilesStand q (filed_by q items f (k - 1)) items x) (sym so.1)
-              (rests q (filed_by q items f (k - 1)).sealed items new first is taken armed
-              (held_after (stopped_by Device) done (k - 1) (comes.sealed refl))),
-        )
+        let so = breaks.failed (cc armed.running) in
+        (so.0, rw so.1 (rests _ is taken armed (held_after _ done _ (comes.sealed refl))))
     ended_at first r w is taken breaks (StoppedAt k outcome) comes =
-        let stopped = ap (λ (v : Writer MemoryShelf shelf_tells). (shelf_tells.plan (writer.shelf_of v)).stopped) is
-        ∙ comes.stopped in
+        let stopped = ap (λ v. (shelf_tells.plan (writer.shelf_of v)).stopped) is ∙ comes.stopped in
         let sealed : ℕ → ℕ = (filed_by q items f (done_at k outcome)).sealed in (
           breaks.stopped stopped,
-          breaks.rests q sealed items stopped
-              (subst (λ (v : Writer MemoryShelf shelf_tells). ShelfHolds shelf_tells q sealed items v) (sym is)
-              (held_after (stopped_by Device) done (done_at k outcome) (comes.sealed refl))),
+          breaks.rests q sealed items stopped (rw is (held_after _ done _ (comes.sealed refl))),
         )
 
-    broken_there : (first r : Files) (w : Wrote) → first.writer ≡ new → first.taken ≡ None → BreaksOff Device first w r →
-        HasWritten q items f w r
-    broken_there first r w is taken breaks =
+    broken_there : {first : Files} (r : Files) (w : Wrote) → first.writer ≡ new → first.taken ≡ None →
+        BreaksOff Device first w r → HasWritten q items f w r
+    broken_there {first} r w is taken breaks =
         let came = done.makes.planned refl refl f.armed armed in
         let ends = ended_at first r w is taken breaks (shelf_came q items f)
-        (subst (λ (cs : List Call). Comes shelf_tells made Failed done.makes.tried (writer.shelf_of old)
+        (subst (λ cs. Comes shelf_tells made Failed done.makes.tried (writer.shelf_of old)
         (writer.shelf_of new) (calls_under f.armed (length cs))) named came) in
         record { ends = ends.0; stands = ends.1 }
 
   pub broken_off : (fault : ShelfFault) → Advances shelf_tells (λ s. 0) before later old new (stopped_by fault) →
-      (first r : Files) (w : Wrote) → first.writer ≡ new → first.taken ≡ None → BreaksOff fault first w r →
+      {first : Files} (r : Files) (w : Wrote) → first.writer ≡ new → first.taken ≡ None → BreaksOff fault first w r →
       HasWritten q items f w r
-  broken_off Device done first r w is taken breaks = broken_there done first r w is taken breaks
-  broken_off NoMemory done first r w is taken breaks = absurd (cc (breaks.cause))
+  broken_off Device done r w is taken breaks = broken_there done r w is taken breaks
+  broken_off NoMemory done r w is taken breaks = cc (breaks.cause)
 
 -- One that recovers, and one that goes on.
 module _ (counted : FilesCounted) (items : List Item) (f : Filing) (old mid : Writer MemoryShelf shelf_tells)
@@ -385,21 +338,24 @@ module _ (counted : FilesCounted) (items : List Item) (f : Filing) (old mid : Wr
 
   pub greatest_is : (s : ℕ) → s < stream_count → greatest_in s (files_in mid) ≡ f.sealed s
   greatest_is s small =
-      counted p s (f.sealed s) items (files_in mid)
-      (ap (λ (fs : List SealedFile). in_stream s fs) asked.files ∙ holds.files.each s small) (holds.files.most s small)
+      counted p s (f.sealed s) items (files_in mid) (cc (asked.files, holds.files.each s small))
+      (holds.files.most s small)
 
   pub sealed_is : (s : ℕ) → s < stream_count → writer.sealed_in mid s ≡ f.sealed s
   sealed_is s small = recovered.sealed refl s small ∙ greatest_is s small
 
   pub recovered_holds : ShelfHolds shelf_tells p f.sealed items mid
-  recovered_holds = kept_holds p f.sealed items old mid (sym holds.settings_are) asked.files asked.unsealed holds
+  recovered_holds = kept_holds mid (sym holds.settings_are) asked.files asked.unsealed holds
 
-  pub opens_anew : ShutComeOpen → (new : Writer MemoryShelf shelf_tells) (n : ℕ) →
+  pub opens_anew : ShutComeOpen → {new : _} (n : ℕ) →
       Advances shelf_tells (λ s. 0) [] items mid new (Ok n) → AreOpenFiles p (λ s. 0) items (unsealed_in new)
-  opens_anew law new n done =
+  opens_anew law {new} n done =
       law p (λ s. 0) (writer.sealed_in mid) items (files_in mid) (unsealed_in mid) (unsealed_in new)
-      (λ s small. (omega arith, omega (arith, sealed_is s small, holds.files.most s small), recovered.sealed refl s small))
-      recovered_holds.shut (done.leaves refl)
+      (λ s small. (
+        omega arith,
+        omega (arith, sealed_is s small, holds.files.most s small),
+        recovered.sealed refl s small,
+      )) recovered_holds.shut (done.leaves refl)
 
 module _ (goes : OpenGoOn) (items : List Item) (f : Filing) (n : ℕ) (old : Writer MemoryShelf shelf_tells)
     (on : IsOn shelf_tells (writer.settings_in old) items f.sealed n old)
@@ -410,21 +366,15 @@ module _ (goes : OpenGoOn) (items : List Item) (f : Filing) (n : ℕ) (old : Wri
   pub sealed_there : (s : ℕ) → s < stream_count → max (writer.sealed_in old s) (0 + closed_of o s (take n items)) ≡ f.sealed s
   sealed_there s small = omega (arith, taken.sealed s small, on.closed s small)
 
-  pub opens_behind : (new : Writer MemoryShelf shelf_tells) (k : ℕ) →
-      Advances shelf_tells (λ s. 0) (take n items) (drop n items) old new (Ok k) →
+  pub opens_behind : {new : _} (k : ℕ) → Advances shelf_tells (λ s. 0) (take n items) (drop n items) old new (Ok k) →
       AreOpenFiles o (λ s. 0) items (unsealed_in new)
-  opens_behind new k done =
-      let front : List Item = take n items in
-      let behind : List Item = drop n items in
-      let none : front ++ [] ≡ front = append-nil front in
-      subst (λ (xs : List Item). AreOpenFiles o (λ s. 0) xs (unsealed_in new))
-      (ap (λ (xs : List Item). xs ++ behind) none ∙ take-append-drop n items)
+  opens_behind {new} k done =
+      let front = take n items in
+      let behind = drop n items in
+      let none = append-nil front in
+      rw (ap (λ xs. xs ++ behind) none ∙ take-append-drop n items) at
       (goes o (λ s. 0) (writer.sealed_in old) front [] behind (unsealed_in old) (unsealed_in new)
-      (λ s small. subst (λ (xs : List Item). writer.sealed_in old s ≤ 0 + closed_of o s xs) (sym none)
-      (omega (arith, taken.sealed s small)))
-      (subst (λ (xs : List Item). AreOpenFiles o (λ s. 0) xs (unsealed_in old)) (sym none) on.unsealed)
-      (subst (λ (xs : List Item). LeavesUnsealed o (λ s. 0) (writer.sealed_in old) front (xs ++ behind)
-      (unsealed_in old) (unsealed_in new)) (sym none) (done.leaves refl)))
+      (λ s small. rw none (omega (arith, taken.sealed s small))) (rw none on.unsealed) (rw none (done.leaves refl)))
 
 -- A writer that goes on takes the items behind those that it has taken.
 module _ (within : SealOfStreams) (beyond : SameCalls) (goes : OpenGoOn) (items later : List Item) (f : Filing) (n : ℕ)
@@ -448,29 +398,23 @@ module _ (within : SealOfStreams) (beyond : SameCalls) (goes : OpenGoOn) (items 
   named_behind =
       beyond u (λ s. 0) (writer.sealed_in first.writer) f.sealed (take n items) (drop n items)
       (λ s small. omega (arith, taken_first.sealed s small, on.closed s small))
-      ∙ ap (λ (t : Option ℕ). calls_of u (λ s. 0) f.sealed (items_taken t items) (items_given t items)) (sym goes_on)
+      ∙ ap (λ t. calls_of u (λ s. 0) f.sealed (items_taken t items) (items_given t items)) (sym goes_on)
 
   pub gone_on : (k : ℕ) → Advances shelf_tells (λ s. 0) (take n items) later first.writer new (Ok k) → (r : Files) →
       r.writer ≡ new → r.taken ≡ Some (n + length later) → n + length later < 2 ^ 31 → HasWritten u items f wrote.All r
   gone_on k done r is taken few =
-      let all : n + length later ≡ length items =
-      omega (arith, ap (λ (xs : List Item). length xs) are, length-drop n items, on.some) in
-      let behind = subst (λ (xs : List Item). Advances shelf_tells (λ s. 0) (take n items) xs first.writer new (Ok k)) are done in
-      all_written within items (take n items) (drop n items) f first.writer new (take-append-drop n items)
-      stands.writes.is_armed stands.writes.holds
-      (sealed_there goes items f n first.writer on taken_first) named_behind stays fits k behind
-      (opens_behind goes items f n first.writer on taken_first new k behind) r is
-      (taken ∙ ap (λ (j : ℕ). Some j) all) (omega (arith, all, few))
+      let all : n + length later ≡ length items = omega (arith, ap length are, length-drop n items, on.some) in
+      let behind = rw are at done in
+      all_written within _ _ _ f _ new (take-append-drop n items) stands.writes.is_armed stands.writes.holds
+      (sealed_there goes _ f n _ on taken_first) named_behind stays fits k behind
+      (opens_behind goes _ f n _ on taken_first k behind) r is (cc) (omega arith)
 
-  pub broken_behind : (fault : ShelfFault) →
-      Advances shelf_tells (λ s. 0) (take n items) later first.writer new (stopped_by fault) → (mid r : Files) (w : Wrote) →
+  pub broken_behind : {fault : _} →
+      Advances shelf_tells (λ s. 0) (take n items) later first.writer new (stopped_by fault) → (mid : Files) {r w : _} →
       mid.writer ≡ new → mid.taken ≡ None → BreaksOff fault mid w r → HasWritten u items f w r
-  broken_behind fault done mid r w is taken breaks =
-      broken_off within items (take n items) (drop n items) f first.writer new (take-append-drop n items)
-      stands.writes.is_armed stands.writes.holds
-      (sealed_there goes items f n first.writer on taken_first) named_behind stays fits fault
-      (subst (λ (xs : List Item). Advances shelf_tells (λ s. 0) (take n items) xs first.writer new (stopped_by fault)) are done)
-      mid r w is taken breaks
+  broken_behind done mid {r} {w} is taken breaks =
+      broken_off within _ _ _ f _ new (take-append-drop n items) stands.writes.is_armed stands.writes.holds
+      (sealed_there goes _ f n _ on taken_first) named_behind stays fits _ (rw are at done) r w is taken breaks
 
 -- One that recovered takes all items.
 module _ (counted : FilesCounted) (within : SealOfStreams) (beyond : SameCalls) (come : ShutComeOpen) (items : List Item) (f : Filing)
@@ -490,33 +434,31 @@ module _ (counted : FilesCounted) (within : SealOfStreams) (beyond : SameCalls) 
   armed_still = (asked.planned refl f.armed stands.writes.is_armed).1
 
   holds_still : ShelfHolds shelf_tells v f.sealed items mid
-  holds_still = recovered_holds counted items f first.writer mid stands.writes.holds asked recovered
+  holds_still = recovered_holds counted _ f _ mid stands.writes.holds asked recovered
 
   sealed_still : (s : ℕ) → s < stream_count → writer.sealed_in mid s ≡ f.sealed s
-  sealed_still = sealed_is counted items f first.writer mid stands.writes.holds asked recovered
+  sealed_still = sealed_is counted _ f _ mid stands.writes.holds asked recovered
 
   -- of no items no file is closed
   sealed_first : (s : ℕ) → s < stream_count → max (writer.sealed_in mid s) (0 + closed_of v s []) ≡ f.sealed s
-  sealed_first s small = let none : closed_of v s [] ≡ 0 = refl in omega (arith, sealed_still s small, none)
+  sealed_first s small = let none : closed_of v s [] ≡ 0 = refl in omega (arith, sealed_still s small)
 
   named_all : calls shelf_tells (λ s. 0) [] items mid new ≡ shelf_calls v items f
   named_all =
-      beyond v (λ s. 0) (writer.sealed_in mid) f.sealed [] items
-      (λ s small. ap (λ (n : ℕ). max n (0 + closed_of v s [])) (sealed_still s small))
-      ∙ ap (λ (t : Option ℕ). calls_of v (λ s. 0) f.sealed (items_taken t items) (items_given t items)) (sym starts)
+      beyond v (λ s. 0) (writer.sealed_in mid) f.sealed [] items (λ s small. cc (sealed_still s small))
+      ∙ ap (λ t. calls_of v (λ s. 0) f.sealed (items_taken t items) (items_given t items)) (sym starts)
 
   pub begun_all : (k : ℕ) → Advances shelf_tells (λ s. 0) [] items mid new (Ok k) → (r : Files) →
       r.writer ≡ new → r.taken ≡ Some (length items) → length items < 2 ^ 31 → HasWritten v items f wrote.All r
   begun_all k done r is taken few =
-      all_written within items [] items f mid new refl armed_still holds_still sealed_first named_all stays fits k done
-      (opens_anew counted items f first.writer mid stands.writes.holds asked recovered come new k done) r is taken few
+      all_written within _ [] _ f mid new refl armed_still holds_still sealed_first named_all stays fits k done
+      (opens_anew counted _ f _ mid stands.writes.holds asked recovered come k done) r is taken few
 
-  pub broken_anew : (fault : ShelfFault) → Advances shelf_tells (λ s. 0) [] items mid new (stopped_by fault) →
-      (late r : Files) (w : Wrote) → late.writer ≡ new → late.taken ≡ None → BreaksOff fault late w r →
-      HasWritten v items f w r
-  broken_anew fault done late r w is taken breaks =
-      broken_off within items [] items f mid new refl armed_still holds_still sealed_first named_all stays fits fault done
-      late r w is taken breaks
+  pub broken_anew : {fault : _} → Advances shelf_tells (λ s. 0) [] items mid new (stopped_by fault) → (late : Files)
+      {r w : _} → late.writer ≡ new → late.taken ≡ None → BreaksOff fault late w r → HasWritten v items f w r
+  broken_anew done late {r} {w} is taken breaks =
+      broken_off within _ [] _ f mid new refl armed_still holds_still sealed_first named_all stays fits _ done r w is
+      taken breaks
 
 -- More items change nothing of what was written.
 
@@ -532,27 +474,27 @@ ShutStay = (settings : Settings) (closed : ℕ → ℕ) (items more : List Item)
 module _ (grow : FilesGrow) (stay : ShutStay) (settings : Settings) (items more : List Item) where
   more_closed : (s : ℕ) → closed_of settings s items ≤ closed_of settings s (items ++ more)
   more_closed s =
-      let first = files_count settings s items in
+      let fewer = files_count settings s items in
       let all = files_count settings s (items ++ more) in
-      let grown = ap (λ (fs : List SealedFile). length fs) (grow settings s items more) in
-      omega (arith, first, all, grown, length-append (stream_files settings s items) (later_files settings s items more))
+      let grown = ap length (grow settings s items more) in
+      omega (arith, length-append (stream_files settings s items) (later_files settings s items more))
 
-  more_sealed : (sealed : ℕ → ℕ) (files : List SealedFile) → AreSealed settings items sealed files →
+  more_sealed : {sealed files : _} → AreSealed settings items sealed files →
       AreSealed settings (items ++ more) sealed files
-  more_sealed sealed files are = record {
+  more_sealed {sealed} are = record {
     each = λ s small. are.each s small
         ∙ sym (take-append-le (sealed s) (stream_files settings s items) (later_files settings s items more)
         (omega (arith, are.most s small, files_count settings s items)))
-        ∙ ap (λ (fs : List SealedFile). take (sealed s) fs) (sym (grow settings s items more));
+        ∙ ap (take (sealed s)) (sym (grow settings s items more));
     most = λ s small. omega (arith, are.most s small, more_closed s);
     only = are.only;
   }
 
-  more_holds : (sealed : ℕ → ℕ) (w : Writer MemoryShelf shelf_tells) → ShelfHolds shelf_tells settings sealed items w →
+  more_holds : {sealed w : _} → ShelfHolds shelf_tells settings sealed items w →
       ShelfHolds shelf_tells settings sealed (items ++ more) w
-  more_holds sealed w holds = record {
+  more_holds {w} holds = record {
     settings_are = holds.settings_are;
-    files = more_sealed sealed (files_in w) holds.files;
+    files = more_sealed holds.files;
     shut = stay settings (λ s. 0) items more (files_in w) (unsealed_in w) holds.shut;
     numbered = holds.numbered;
   }
@@ -561,42 +503,40 @@ module _ (grow : FilesGrow) (stay : ShutStay) (settings : Settings) (items more 
   same_front : (n : ℕ) → n ≤ length items → take n items ≡ take n (items ++ more)
   same_front n some = sym (take-append-le n items more some)
 
-  more_on : (sealed : ℕ → ℕ) (n : ℕ) (w : Writer MemoryShelf shelf_tells) → IsOn shelf_tells settings items sealed n w →
+  more_on : {sealed : _} (n : ℕ) {w : _} → IsOn shelf_tells settings items sealed n w →
       IsOn shelf_tells settings (items ++ more) sealed n w
-  more_on sealed n w on = record {
-    some = omega (arith, on.some, length-append items more);
-    closed = λ s small. on.closed s small ∙ ap (λ (xs : List Item). closed_of settings s xs) (same_front n on.some);
-    unsealed = subst (λ (xs : List Item). AreOpenFiles settings (λ s. 0) xs (unsealed_in w)) (same_front n on.some)
-        on.unsealed;
+  more_on n on = record {
+    some = omega (arith, length-append items more);
+    closed = λ s small. cc (on.closed s small, same_front n on.some);
+    unsealed = rw (same_front n on.some) at on.unsealed;
   }
 
   pub more_stands : (f : Filing) (r : Files) → FilesStand settings f items r → FilesStand settings f (items ++ more) r
   more_stands f r stands = record {
     writes = record {
-      holds = more_holds f.sealed r.writer stands.writes.holds;
+      holds = more_holds stands.writes.holds;
       is_armed = stands.writes.is_armed;
-      on = λ n has. more_on f.sealed n r.writer (stands.writes.on n has);
+      on = λ n has. more_on n (stands.writes.on n has);
     };
     taken = stands.taken;
     few = stands.few;
-    goes_on = λ n has. subst (λ (xs : List Item). HasTaken settings xs r.writer) (same_front n (stands.writes.on n has).some)
-        (stands.goes_on n has);
+    goes_on = λ n has. rw (same_front n (stands.writes.on n has).some) at (stands.goes_on n has);
   }
 
 -- no read fails, whatever is armed for the calls
-pub asks_all : (a : Armed) (old new : MemoryShelf) (failed : Bool) → IsArmed a (shelf_tells.plan old) →
+pub asks_all : {a old new failed : _} → IsArmed a (shelf_tells.plan old) →
     IsAsked shelf_tells failed old new → failed ≡ true → ⊥
-asks_all a old new failed armed asked is =
-    let none : failed ≡ false = (asked.planned refl a armed).0 in absurd (cc (sym is ∙ none))
+asks_all {a} {failed} armed asked is =
+    let none : failed ≡ false = (asked.planned refl a armed).0 in cc
 
 -- One that is made has an empty shelf.
-pub made_stands : (settings : Settings) (w : Writer MemoryShelf shelf_tells) →
+pub made_stands : {settings : _} (w : Writer MemoryShelf shelf_tells) →
     writer.settings_in w ≡ settings → shelf_tells.files (writer.shelf_of w) ≡ [] → ((s : ℕ) → unsealed_in w s ≡ None) →
     (items : List Item) → ShelfHolds shelf_tells settings (λ s. 0) items w
-made_stands settings w settings_is empty none items = record {
+made_stands w settings_is empty none items = record {
   settings_are = settings_is;
   files = record {
-    each = λ s small. ap (λ (files : List SealedFile). in_stream s files) empty;
+    each = λ s small. cc;
     most = λ s small. omega arith;
     only = subst AreOfStreams (sym empty) (All-nil (λ (file : SealedFile). file.name.stream < stream_count));
   };

@@ -4,8 +4,7 @@ use Rattle.replay_gateway.proofs.calls.fail.Goals as goal
 
 pub returns : goal.returns
 returns c =
-    let responds : is_response c.args.w.message ≡ true =
-    sym c.is_response.ensures ∙ c.if-not-is_response.false in
+    let responds : is_response c.args.w.message ≡ true = sym c.is_response.ensures ∙ c.if-not-is_response.false in
     c.in_ok-push.ensures.items
     ∙ ap (λ (o : List ℕ). c.args.messages.now.items ++ record c.args.w.message { octets = o } ∷ [])
     (c.in_ok-message.ensures ∙ c.failure.ensures)

@@ -1,4 +1,4 @@
-use Rattle.replay_gateway.proofs.ReportedLemmas.{reports_all}
+use Rattle.replay_gateway.proofs.ReportLemmas.{reports_all}
 use Rattle.replay_gateway.proofs.RestLemmas.{gateway_at_rest}
 use Rattle.replay_gateway.proofs.laws.a_gateway_that_wrote_all_rests.Goals as goal
 

@@ -1,4 +1,4 @@
-use Rattle.replay_gateway.proofs.ShutLemmas.{shut_where_none_due}
+use Rattle.replay_gateway.proofs.FileLemmas.{shut_where_none_due}
 use Rattle.replay_gateway.proofs.laws.no_file_is_open_where_no_close_is_due.Goals as goal
 
 pub returns : goal.returns

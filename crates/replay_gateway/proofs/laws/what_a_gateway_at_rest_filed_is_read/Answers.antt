@@ -1,4 +1,4 @@
-use Rattle.replay_gateway.proofs.ReadableLemmas.{rest_read}
+use Rattle.replay_gateway.proofs.RestLemmas.{rest_read}
 use Rattle.replay_gateway.proofs.laws.what_a_gateway_at_rest_filed_is_read.Goals as goal
 
 pub returns : goal.returns

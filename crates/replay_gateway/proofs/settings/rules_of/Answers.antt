@@ -1,12 +1,11 @@
-use Rattle.std.proofs.Common.{◌≡◌, ◌+◌, ◌++◌, List, [], ◌∷◌, length, drop, ap, sym, ◌∙◌, arith, append_assoc, append-nil, length-append}
+use Rattle.std.proofs.Common.{◌+◌, ◌++◌, length, drop, ap, sym, ◌∙◌, arith, append_assoc, append-nil, length-append}
 use Rattle.std.proofs.lemmas.Option.{slice_get_within}
 use Rattle.std.specs.List.{flat_map}
-use Rattle.route_filter.specs.declared.rule.Rule.{Rule}
-use Rattle.world_script.specs.declared.line.Line.{Line}
 use Rattle.replay_gateway.specs.Settings.{IsInRange, rules_in_line}
 use Rattle.replay_gateway.specs.Setup.{default_setup}
 use Rattle.replay_gateway.proofs.RangeLemmas.{back_in_range}
-use Rattle.replay_gateway.proofs.SettingLemmas.{all_at, none_at, rest_at, rules_after}
+use Rattle.replay_gateway.proofs.ListLemmas.{all_at, none_at, rest_at}
+use Rattle.replay_gateway.proofs.RestLemmas.{rules_after}
 use Rattle.replay_gateway.proofs.settings.rules_of.Goals as goal
 
 pub overflow_add-k : goal.overflow_add-k
@@ -18,39 +17,35 @@ loop-line-smaller c = omega (arith, slice_get_within c.args.script.now.lines c.l
 
 pub add-requires-clause-range : goal.add-requires-clause-range
 add-requires-clause-range c =
-    all_at IsInRange c.args.script.now.lines c.loop-line.k c.in-Some.line.now
+    all_at IsInRange c.args.script.now.lines c.loop-line.k
     (back_in_range c.args.script.now c.kind-kind.ensures.reads).each (sym c.in-Some.ensures)
 
 pub add-requires-clause-room : goal.add-requires-clause-room
 add-requires-clause-room c =
-    let lines : List Line = c.args.script.now.lines in
-    let rest : drop c.loop-line.k lines ≡ c.in-Some.line.now ∷ drop (c.loop-line.k + 1) lines =
-    rest_at lines c.loop-line.k c.in-Some.line.now (sym c.in-Some.ensures) in
-    omega (
-      arith,
-      (back_in_range c.args.script.now c.kind-kind.ensures.reads).rules,
-      ap (λ (ls : List Rule). length ls) c.loop-line.invariant.rules,
-      length-append c.loop-line.rules (flat_map rules_in_line (drop c.loop-line.k lines)),
-      ap (λ (ls : List Line). length (flat_map rules_in_line ls)) rest,
-      length-append (rules_in_line c.in-Some.line.now) (flat_map rules_in_line (drop (c.loop-line.k + 1) lines)),
-    )
+    let lines = c.args.script.now.lines in
+    let later = flat_map rules_in_line (drop (c.loop-line.k + 1) lines) in
+    let most = (back_in_range c.args.script.now c.kind-kind.ensures.reads).rules in
+    let so_far = ap length c.loop-line.invariant.rules in
+    let rest = ap (λ ls. length (flat_map rules_in_line ls)) (rest_at lines c.loop-line.k (sym c.in-Some.ensures)) in
+    let parts = length-append c.loop-line.rules (flat_map rules_in_line (drop c.loop-line.k lines)) in
+    omega (arith, length-append (rules_in_line c.in-Some.line.now) later)
 
 pub loop-line-preserved : goal.loop-line-preserved
 loop-line-preserved c =
-    let lines : List Line = c.args.script.now.lines in
-    let later : List Line = drop (c.loop-line.k + 1) lines in
-    let rest : drop c.loop-line.k lines ≡ c.in-Some.line.now ∷ later =
-    rest_at lines c.loop-line.k c.in-Some.line.now (sym c.in-Some.ensures) in
+    let lines = c.args.script.now.lines in
+    let later = drop (c.loop-line.k + 1) lines in
     record {
-      rules = ap (λ (rules : List Rule). rules ++ flat_map rules_in_line later) c.in_ok-add.ensures
+      rules = ap (λ rules. rules ++ flat_map rules_in_line later) c.in_ok-add.ensures
           ∙ append_assoc c.loop-line.rules (rules_in_line c.in-Some.line.now) (flat_map rules_in_line later)
-          ∙ ap (λ (ls : List Line). c.loop-line.rules ++ flat_map rules_in_line ls) (sym rest) ∙ c.loop-line.invariant.rules;
+          ∙ ap (λ ls. c.loop-line.rules ++ flat_map rules_in_line ls)
+          (sym (rest_at lines c.loop-line.k (sym c.in-Some.ensures))) ∙ c.loop-line.invariant.rules;
       within = omega (arith, slice_get_within lines c.loop-line.k c.in-Some.line.now (sym c.in-Some.ensures));
     }
 
 pub returns : goal.returns
 returns c =
-    let lines : List Line = c.args.script.now.lines in
-    let none : drop c.loop-line.k lines ≡ [] = none_at lines c.loop-line.k (sym c.in_default.ensures) in
-    sym (append-nil c.loop-line.rules) ∙ ap (λ (ls : List Line). c.loop-line.rules ++ flat_map rules_in_line ls) (sym none)
+    let lines = c.args.script.now.lines in
+    sym (append-nil c.loop-line.rules)
+    ∙ ap (λ ls. c.loop-line.rules ++ flat_map rules_in_line ls)
+    (sym (none_at lines c.loop-line.k (sym c.in_default.ensures)))
     ∙ c.loop-line.invariant.rules ∙ sym (rules_after default_setup lines)

@@ -15,8 +15,8 @@ returns-in-Ok-open c = λ s place named sized.
 
 pub unreachable-requires : goal.unreachable-requires
 unreachable-requires c =
-    begun_runs c.args.setup.address c.args.size c.in-Ok.area c.calm-plan.result c.in-Err-Device-default.field-0-0
-    c.in-Err-Device-default.field-0-1 c.requires.long c.in-Ok.ensures.octets
+    begun_runs c.args.setup.address c.args.size c.in-Ok.area c.calm-plan.result c.in-Err-Device-default.field-0-1
+    c.requires.long c.in-Ok.ensures.octets
     (begun_armed c.args.setup.address c.args.size c.in-Ok.area c.calm-plan.result c.in-Ok.ensures.plan.schedule
     c.arms_nothing.ensures c.calm-plan.ensures.read_fail c.calm-plan.ensures.fail c.calm-plan.ensures.stop)
     (c.in-Err-Device-default.ensures.planned refl (ap is_memory_fault c.in-Err-Device-default.field-0-0-is))
@@ -24,6 +24,5 @@ unreachable-requires c =
 
 pub unreachable-requires-in-Err-NotOurs-default : goal.unreachable-requires-in-Err-NotOurs-default
 unreachable-requires-in-Err-NotOurs-default c =
-    begun_ours c.args.setup.address c.args.size c.in-Ok.area c.calm-plan.result c.in-Err-NotOurs-default.field-0-0
-    c.in-Err-NotOurs-default.field-0-1 c.in-Err-NotOurs-default.field-0-0-0 c.requires.long c.in-Ok.ensures.octets
-    c.what_stands_is_ours.ensures.others c.in-Err-NotOurs-default.ensures.err c.in-Err-NotOurs-default.field-0-0-is
+    begun_ours _ _ _ c.calm-plan.result c.requires.long c.in-Ok.ensures.octets c.what_stands_is_ours.ensures.others
+    c.in-Err-NotOurs-default.ensures.err c.in-Err-NotOurs-default.field-0-0-is

@@ -5,5 +5,5 @@ use Rattle.replay_gateway.proofs.site.opened.Goals as goal
 
 pub returns : goal.returns
 returns c = λ s place named sized.
-    firm_stands s place c.commit.new.book
+    firm_stands s _ _
     (c.commit.ensures s place (begun_gateway s) first_machine (c.in_ok-book.ensures s place named sized))

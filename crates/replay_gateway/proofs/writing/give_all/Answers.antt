@@ -1,5 +1,4 @@
-use Rattle.std.proofs.Common.{◌≡◌, ◌∙◌, refl, sym, ap, subst, ℕ, ◌+◌, List, length, length-drop, length-take, drop, take, take_all, Ok, Err, arith, rules}
-use Rattle.file_writer.specs.Advancing.{Advances}
+use Rattle.std.proofs.Common.{◌≡◌, ◌∙◌, refl, ap, subst, List, length, length-drop, length-take, drop, take, take_all, arith, rules}
 use Rattle.file_writer.specs.Parts.{HasAdvanced, part_of}
 use Rattle.gateway_answer.specs.Items.{items_of}
 use Rattle.gw_base.specs.declared.item.Item.{Item}
@@ -17,58 +16,51 @@ loop-count-init c = record {
     stands,
     c.parts_go_as_one.ensures.none (λ s. 0) c.args.writer.now at,
     omega arith,
-    λ less. absurd (omega (arith, less)),
+    λ less. absurd (omega arith),
   );
 }
 
 pub loop-count-preserved : goal.loop-count-preserved
 loop-count-preserved c =
-    let taken : ℕ = c.loop-count.taken in
-    let v = ap (λ (xs : List Item). length xs) c.deref.ensures.value in
+    let taken = c.loop-count.taken in
+    let v = ap length c.deref.ensures.value in
     let n : c.from-taken.result ≡ length c.deref.result.now =
-    omega (arith, c.from-taken.ensures, c.len-count.ensures, v, c.in_ok-items.items.ok.0) in
+    omega (arith, c.from-taken.ensures, c.len-count.ensures, c.in_ok-items.items.ok.0) in
     record {
       ready = search rules;
-      taken = omega (arith, c.in-Ok.ensures.count.2, c.loop-count.invariant.taken, n);
-      few = omega (arith, n, v, c.in_ok-items.ensures.few);
-      short = omega (arith, n, v, c.from-taken.ensures, c.in_ok-items.ensures.short);
+      taken = omega (arith, c.in-Ok.ensures.count.2, c.loop-count.invariant.taken);
+      few = omega (arith, c.in_ok-items.ensures.few);
+      short = omega (arith, c.from-taken.ensures, c.in_ok-items.ensures.short);
       settings = c.in-Ok.ensures.settings ∙ c.loop-count.invariant.settings;
       goes = λ setup place g m runs stands at.
-          let all : List Item = items_of g.book.firm in
+          let all = items_of g.book.firm in
           let i = c.loop-count.invariant.goes setup place g m runs stands at in
           let got = c.in_ok-items.ensures.items setup place g m runs i.0 in
           let is : c.deref.result.now ≡ part_of taken 64 all = c.deref.ensures.value ∙ got.0.is in
-          let count : c.from-taken.result ≡ length (part_of taken 64 all) = n ∙ ap (λ (xs : List Item). length xs) is in
+          let count : c.from-taken.result ≡ length (part_of taken 64 all) = cc in
           let long = length-take 64 (drop taken all) in
           let left = length-drop taken all in (
             got.1,
-            subst (λ (k : ℕ). HasAdvanced shelf_tells (λ s. 0) (take (taken + k) all) c.args.writer.now c.advance.new.self)
-                (sym count)
-                (c.parts_go_as_one.ensures.more (λ s. 0) all taken 64 c.in-Ok.field-0 c.args.writer.now c.loop-count.writer
-                c.advance.new.self c.loop-count.invariant.settings i.1
-                (subst (λ (xs : List Item).
-                Advances shelf_tells (λ s. 0) (take taken all) xs c.loop-count.writer c.advance.new.self
-                (Ok c.in-Ok.field-0)) is
-                (c.in-Ok.ensures.moves (λ s. 0) (take taken all) (i.1 0).at))),
-            omega (arith, count, long, left, i.2),
-            λ less. (omega (arith, less, count, long, left, i.2, c.from-taken.ensures), got.0.few),
+            rw count
+                (c.parts_go_as_one.ensures.more (λ s. 0) all taken 64 c.in-Ok.field-0 c.args.writer.now
+                c.loop-count.writer c.advance.new.self c.loop-count.invariant.settings i.1
+                (rw is at (c.in-Ok.ensures.moves (λ s. 0) (take taken all) (i.1 0).at))),
+            omega arith,
+            λ less. (omega (arith, c.from-taken.ensures), got.0.few),
           );
     }
 
 pub returns-in-Err-clause-given : goal.returns-in-Err-clause-given
 returns-in-Err-clause-given c = λ setup place g m runs stands at.
-    let taken : ℕ = c.loop-count.taken in
-    let all : List Item = items_of g.book.firm in
+    let taken = c.loop-count.taken in
+    let all = items_of g.book.firm in
     let i = c.loop-count.invariant.goes setup place g m runs stands at in
     let got = c.in_ok-items.ensures.items setup place g m runs i.0 in (
       record {
         few = got.0.few;
         goes = c.parts_go_as_one.ensures.broken (λ s. 0) all taken 64 c.args.writer.now c.loop-count.writer
             c.advance.new.self c.in-Err.fault c.loop-count.invariant.settings i.1
-            (subst (λ (xs : List Item).
-            Advances shelf_tells (λ s. 0) (take taken all) xs c.loop-count.writer c.advance.new.self
-            (Err c.in-Err.fault)) (c.deref.ensures.value ∙ got.0.is)
-            (c.in-Err.ensures.moves (λ s. 0) (take taken all) (i.1 0).at));
+            (rw (c.deref.ensures.value ∙ got.0.is) at (c.in-Err.ensures.moves (λ s. 0) (take taken all) (i.1 0).at));
         count = tt;
       },
       got.1,
@@ -76,13 +68,12 @@ returns-in-Err-clause-given c = λ setup place g m runs stands at.
 
 pub returns-clause-given : goal.returns-clause-given
 returns-clause-given c = λ setup place g m runs stands at.
-    let all : List Item = items_of g.book.firm in
     let i = c.loop-count.invariant.goes setup place g m runs stands at in
     let last = i.3 (omega (arith, c.loop-count.invariant.short, c.loop-count-test.false)) in (
       record {
         few = last.1;
         goes = subst (λ (xs : List Item). HasAdvanced shelf_tells (λ s. 0) xs c.args.writer.now c.loop-count.writer)
-            (take_all c.loop-count.taken all (omega (arith, last.0))) i.1 c.loop-count.taken;
+            (take_all c.loop-count.taken (items_of g.book.firm) (omega arith)) i.1 c.loop-count.taken;
         count = last.0;
       },
       i.0,

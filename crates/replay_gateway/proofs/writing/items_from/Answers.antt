@@ -4,50 +4,39 @@ use Rattle.gateway_answer.specs.Items.{items_between, items_of}
 use Rattle.gateway_answer.specs.Value.{BookValue}
 use Rattle.replay_gateway.specs.Standing.{header_at}
 use Rattle.replay_gateway.proofs.WriterLemmas.{all_fit}
-use Rattle.replay_gateway.proofs.WritingLemmas.{few_from, stays_up}
+use Rattle.replay_gateway.proofs.CallLemmas.{few_from, stays_up}
 use Rattle.replay_gateway.proofs.writing.items_from.Goals as goal
 
 pub returns-in-Ok-clause-items : goal.returns-in-Ok-clause-items
 returns-in-Ok-clause-items c = λ setup place g m up.
-    let all : length (items_of (value_of c.args.book.now).firm) < 2 ^ 31 =
-    omega (
-      arith,
-      c.a_book_is_within_the_limits.ensures.items (refl, refl) c.args.book.now,
-      c.a_book_is_within_the_limits.ensures.short c.args.book.now,
-    ) in (
+    let items = c.a_book_is_within_the_limits.ensures.items (refl, refl) c.args.book.now in
+    let short = c.a_book_is_within_the_limits.ensures.short c.args.book.now in
+    let all : length (items_of (value_of c.args.book.now).firm) < 2 ^ 31 = omega arith in (
       record {
         is = c.in-Ok.ensures.items (refl, refl)
             ∙ ap (λ (v : BookValue). items_between c.args.from c.args.most v.firm) up.up.value;
         few = subst (λ (v : BookValue). length (items_of v.firm) < 2 ^ 31) up.up.value all;
       },
-      stays_up setup place g m c.args.book.now c.items.new.self up c.in-Ok.ensures.unchanged
-          (c.a_gateway_stays_up_as_it_is_read.ensures.up (refl, refl) refl (header_at setup place) g.book m.armed m.at_last
-          c.args.book.now c.items.new.self up.up c.in-Ok.ensures.unchanged c.in-Ok.ensures.area
+      stays_up g m up c.in-Ok.ensures.unchanged
+          (c.a_gateway_stays_up_as_it_is_read.ensures.up (refl, refl) refl (header_at setup place) g.book m.armed
+          m.at_last c.args.book.now c.items.new.self up.up c.in-Ok.ensures.unchanged c.in-Ok.ensures.area
           (c.in-Ok.ensures.planned refl).stands),
     )
 
 pub returns-in-Ok-clause-few : goal.returns-in-Ok-clause-few
 returns-in-Ok-clause-few c =
-    let all : length (items_of (value_of c.args.book.now).firm) < 2 ^ 31 =
-    omega (
-      arith,
-      c.a_book_is_within_the_limits.ensures.items (refl, refl) c.args.book.now,
-      c.a_book_is_within_the_limits.ensures.short c.args.book.now,
-    ) in
-    few_from c.args.from c.args.most c.in-Ok.items.items (items_of (value_of c.args.book.now).firm)
-    (c.in-Ok.ensures.items (refl, refl)) all c.requires
+    let items = c.a_book_is_within_the_limits.ensures.items (refl, refl) c.args.book.now in
+    let short = c.a_book_is_within_the_limits.ensures.short c.args.book.now in
+    let all : length (items_of (value_of c.args.book.now).firm) < 2 ^ 31 = omega arith in
+    few_from _ _ _ (c.in-Ok.ensures.items (refl, refl)) all c.requires
 
 pub returns-in-Ok-clause-short : goal.returns-in-Ok-clause-short
 returns-in-Ok-clause-short c =
-    let is = c.in-Ok.ensures.items (refl, refl) in
-    omega (
-      arith,
-      ap length is,
-      length-take c.args.most (drop c.args.from (items_of (value_of c.args.book.now).firm)),
-    )
+    let many = ap length (c.in-Ok.ensures.items (refl, refl)) in
+    omega (arith, length-take c.args.most (drop c.args.from (items_of (value_of c.args.book.now).firm)))
 
 pub returns-in-Ok-clause-fit : goal.returns-in-Ok-clause-fit
-returns-in-Ok-clause-fit c = all_fit c.in-Ok.items.items c.in-Ok.ensures.writable
+returns-in-Ok-clause-fit c = all_fit _ c.in-Ok.ensures.writable
 
 pub returns-in-Err-Device-clause-items : goal.returns-in-Err-Device-clause-items
 returns-in-Err-Device-clause-items c = λ setup place g m up.

@@ -1,13 +1,8 @@
-use Rattle.std.proofs.Common.{◌∙◌, refl, sym, ap, subst, ℕ, Result, Some, true}
+use Rattle.std.proofs.Common.{◌∙◌, refl}
 use Rattle.std.proofs.lemmas.Result.{IfOk-weaker}
-use Rattle.file_writer.specs.Streams.{Settings}
-use Rattle.file_writer.specs.Writer.{settings_in, shelf_of}
-use Rattle.file_writer.specs.declared.fault.ShelfFault.{ShelfFault}
+use Rattle.file_writer.specs.Writer.{settings_in}
 use Rattle.gateway_answer.specs.Items.{items_of}
-use Rattle.replay_gateway.specs.Parts.{IsGivenAll}
-use Rattle.replay_gateway.specs.Written.{FilesStand, HasWritten}
-use Rattle.replay_gateway.specs.declared.files.Wrote.TheVariants.{All}
-use Rattle.replay_gateway.proofs.CountedLemmas.{numbers_fit}
+use Rattle.replay_gateway.proofs.FileLemmas.{numbers_fit}
 use Rattle.replay_gateway.proofs.WriterLemmas.{asks_all, begun_all, broken_anew, by_settings}
 use Rattle.replay_gateway.proofs.files.Files.begin.Goals as goal
 
@@ -16,42 +11,38 @@ pub returns-in-Ok-2 : goal.returns-in-Ok-2
 returns-in-Ok-2 c = λ setup place g m settings f runs site stands.
     let all = items_of g.book.firm in
     let set = c.in-Ok.ensures.settings ∙ stands.writes.holds.settings_are in
-    let there = subst (λ (q : Settings). FilesStand q f all c.args.self.now) (sym set) stands in
+    let there = rw (← set) at stands in
     let got = c.in_ok-taken.ensures.given setup place g m runs site c.in-Ok.ensures.recovered.at in
-    let given = subst (λ (r : Result ℕ ShelfFault). IsGivenAll all c.recover.new.self c.give_all.new.writer r)
-    c.in-Ok-2.is got.0 in (
-      by_settings (settings_in c.recover.new.self) settings all f All _ set
+    let given = rw c.in-Ok-2.is at got.0 in (
+      by_settings set
           (begun_all c.first_files_are_counted.ensures c.calls_seal_files_of_streams.ensures
-          c.sealed_files_get_no_call.ensures c.shut_streams_come_to_open_files.ensures all f c.args.self.now
-          c.recover.new.self c.give_all.new.writer
+          c.sealed_files_get_no_call.ensures c.shut_streams_come_to_open_files.ensures all f _ _ _
           (λ s small. numbers_fit (settings_in c.recover.new.self) s all given.few) there c.requires.taken
           c.in-Ok.ensures.asked c.in-Ok.ensures.recovered c.give_all.ensures.settings _ given.goes _ refl
-          (ap (λ (n : ℕ). Some n) given.count) given.few),
+          (cc given.count) given.few),
       got.1,
     )
 
 -- no read is planned to fail
 pub returns-in-Err : goal.returns-in-Err
 returns-in-Err c = λ setup place g m settings f runs site stands.
-    IfOk-weaker c.broken.result _ _ (λ wrote breaks. absurd (asks_all f.armed (shelf_of c.args.self.now.writer)
-    (shelf_of c.recover.new.self) true stands.writes.is_armed c.in-Err.ensures.asked refl)) c.broken.ensures
+    IfOk-weaker c.broken.result _ _
+    (λ wrote breaks. absurd (asks_all stands.writes.is_armed c.in-Err.ensures.asked refl)) c.broken.ensures
 
 -- a call failed
 pub returns-in-Err-2 : goal.returns-in-Err-2
 returns-in-Err-2 c = λ setup place g m settings f runs site stands.
     let all = items_of g.book.firm in
     let set = c.in-Ok.ensures.settings ∙ stands.writes.holds.settings_are in
-    let there = subst (λ (q : Settings). FilesStand q f all c.args.self.now) (sym set) stands in
+    let there = rw (← set) at stands in
     let got = c.in_ok-taken.ensures.given setup place g m runs site c.in-Ok.ensures.recovered.at in
-    let given = subst (λ (r : Result ℕ ShelfFault). IsGivenAll all c.recover.new.self c.give_all.new.writer r)
-    c.in-Err-2.is got.0 in
+    let given = rw c.in-Err-2.is at got.0 in
     IfOk-weaker c.broken-in-Err-2.result _ _ (λ wrote breaks. (
-      subst (λ (q : Settings). HasWritten q all f wrote c.broken-in-Err-2.new.self) set
+      by_settings set
           (broken_anew c.first_files_are_counted.ensures c.calls_seal_files_of_streams.ensures
-          c.sealed_files_get_no_call.ensures c.shut_streams_come_to_open_files.ensures all f c.args.self.now
-          c.recover.new.self c.give_all.new.writer
+          c.sealed_files_get_no_call.ensures c.shut_streams_come_to_open_files.ensures all f _ _ _
           (λ s small. numbers_fit (settings_in c.recover.new.self) s all given.few) there c.requires.taken
-          c.in-Ok.ensures.asked c.in-Ok.ensures.recovered c.give_all.ensures.settings c.in-Err-2.fault given.goes _
-          c.broken-in-Err-2.new.self wrote refl c.requires.taken breaks),
+          c.in-Ok.ensures.asked c.in-Ok.ensures.recovered c.give_all.ensures.settings given.goes _ refl c.requires.taken
+          breaks),
       got.1,
     )) c.broken-in-Err-2.ensures

@@ -1,11 +1,10 @@
 use Rattle.std.proofs.Common.{refl}
 use Rattle.gateway_answer.specs.Items.{items_of}
 use Rattle.replay_gateway.specs.Setup.{files_in}
-use Rattle.replay_gateway.proofs.WritingLemmas.{files_set}
+use Rattle.replay_gateway.proofs.CallLemmas.{files_set}
 use Rattle.replay_gateway.proofs.machine.Machine.arm_shelf.Goals as goal
 
 pub returns : goal.returns
 returns c = λ setup place g m armed arms runs stands.
-    files_set setup place g m (record m.filing { armed = armed }) c.args.self.now
-    (record c.args.self.now { files = c.arm.new.self }) stands runs refl
+    files_set _ stands runs refl
     (c.arm.ensures (files_in setup place) armed m.filing (items_of g.book.firm) arms stands.writes)

@@ -1,9 +1,8 @@
 use Rattle.std.proofs.lemmas.Result.{IfOk-weaker}
 use Rattle.gateway_book.specs.Up.{fortune_by}
-use Rattle.replay_gateway.specs.Asking.{asked_by, asked_move, asked_value}
+use Rattle.replay_gateway.specs.Asking.{asked_by, asked_value}
 use Rattle.replay_gateway.specs.Device.{sequel_on}
-use Rattle.replay_gateway.proofs.AskedLemmas.{asked_is}
-use Rattle.replay_gateway.proofs.GoesLemmas.{goes_as_armed}
+use Rattle.replay_gateway.proofs.GoesLemmas.{asked_is, goes_as_armed}
 use Rattle.replay_gateway.proofs.machine.Machine.ask.Goals as goal
 
 pub returns : goal.returns
@@ -12,7 +11,7 @@ returns c = λ setup place g m stands runs.
     let s = sequel_on m asked in
     let v = asked_value setup c.args.now c.args.call (fortune_by m.at_last s) g.book in
     let called = c.asked.ensures setup place g m stands runs in
-    IfOk-weaker c.after_call.result _ _ (λ sent after_it. goes_as_armed setup place g m asked (asked_move setup c.args.now c.args.call)
-    v c.asked.new.self sent c.after_call.new.self called
+    IfOk-weaker _ _ _
+    (λ sent after_it. goes_as_armed _ _ g m _ _ v _ called
     (λ is. asked_is setup c.args.now g m c.args.call stands.unreached) after_it)
     (c.after_call.ensures setup place g m v s called)

@@ -1,10 +1,8 @@
-use Rattle.std.proofs.Common.{refl, subst, Option, Some}
+use Rattle.std.proofs.Common.{refl}
 use Rattle.gateway_book.specs.Up.{fortune_by}
 use Rattle.replay_gateway.specs.Asking.{asked_by, asked_value}
 use Rattle.replay_gateway.specs.Device.{sequel_on}
-use Rattle.replay_gateway.specs.Standing.{SiteStands}
-use Rattle.replay_gateway.specs.declared.site.Site.{Site}
-use Rattle.replay_gateway.proofs.AskedLemmas.{asked_grows, asked_keeps}
+use Rattle.replay_gateway.proofs.GoesLemmas.{asked_grows, asked_keeps}
 use Rattle.replay_gateway.proofs.CallLemmas.{is_called}
 use Rattle.replay_gateway.proofs.machine.Machine.asked.Goals as goal
 
@@ -12,10 +10,8 @@ pub returns-in-Some : goal.returns-in-Some
 returns-in-Some c = λ setup place g m stands runs.
     let s = sequel_on m (asked_by c.args.call g.book) in
     let v = asked_value setup c.args.now c.args.call (fortune_by m.at_last s) g.book in
-    let there = subst (λ (x : Option Site). SiteStands setup place g m x) c.in-Some.is stands.site in
-    is_called setup place g m v s c.args.self.now
-    (record c.args.self.now { site = Some c.ask.new.self }) c.ask.new.self c.filed_records_stay.ensures.items
-    c.what_was_written_stays.ensures stands runs
+    let there = rw c.in-Some.is at stands.site in
+    is_called setup place g m v s _ _ c.filed_records_stay.ensures.items c.what_was_written_stays.ensures stands runs
     refl (c.ask.ensures setup place g m runs there)
     (asked_grows setup c.args.now g m c.args.call (fortune_by m.at_last s))
     (asked_keeps setup c.args.now g m c.args.call)

@@ -5,9 +5,8 @@ use Rattle.replay_gateway.proofs.machine.Machine.deliver.Goals as goal
 
 pub returns-then-is_down : goal.returns-then-is_down
 returns-then-is_down c = λ setup place g m stands.
-    comes_down setup place g m c.args.now c.args.message.now c.args.self.now c.quiet.result stands
-    (sym (c.is_down.ensures setup place g m stands) ∙ c.if-is_down.true) c.quiet.ensures.none c.quiet.ensures.came
-    c.quiet.ensures.told
+    comes_down _ _ g m _ _ _ stands (sym (c.is_down.ensures setup place g m stands) ∙ c.if-is_down.true)
+    c.quiet.ensures.none c.quiet.ensures.came c.quiet.ensures.told
 
 pub returns-then-is_broken : goal.returns-then-is_broken
 returns-then-is_broken c = λ setup place g m stands.
@@ -18,15 +17,15 @@ returns-then-is_broken c = λ setup place g m stands.
 pub returns-then-is_late : goal.returns-then-is_late
 returns-then-is_late c = λ setup place g m stands.
     let runs = sym (c.is_down.ensures setup place g m stands) ∙ c.if-is_down.false in
-    comes_late setup place g m c.args.now c.args.message.now runs
-    (sym (c.is_broken.ensures setup place g m stands runs) ∙ c.if-is_broken.false) c.args.self.now c.quiet-then-is_late.result stands
-    (sym (c.is_late.ensures setup place g m stands runs) ∙ c.if-is_late.true) c.quiet-then-is_late.ensures.none c.quiet-then-is_late.ensures.came
-    c.quiet-then-is_late.ensures.told
+    comes_late _ _ g m _ _ runs (sym (c.is_broken.ensures setup place g m stands runs) ∙ c.if-is_broken.false) _ stands
+    (sym (c.is_late.ensures setup place g m stands runs) ∙ c.if-is_late.true) c.quiet-then-is_late.ensures.none
+    c.quiet-then-is_late.ensures.came c.quiet-then-is_late.ensures.told
 
 pub returns : goal.returns
 returns c = λ setup place g m stands.
     let runs = sym (c.is_down.ensures setup place g m stands) ∙ c.if-is_down.false in
     let whole = sym (c.is_broken.ensures setup place g m stands runs) ∙ c.if-is_broken.false in
-    IfOk-weaker c.take.result _ _ (λ delivery taken. comes_in_time setup place g m c.args.now c.args.message.now runs whole
-    c.take.new.self delivery (sym (c.is_late.ensures setup place g m stands runs) ∙ c.if-is_late.false) taken)
+    IfOk-weaker _ _ _
+    (λ delivery taken. comes_in_time _ _ g m _ _ runs whole
+    (sym (c.is_late.ensures setup place g m stands runs) ∙ c.if-is_late.false) taken)
     (c.take.ensures setup place g m stands runs whole)

@@ -1,21 +1,20 @@
-use Rattle.std.proofs.Common.{◌≡◌, ◌∙◌, sym, subst}
+use Rattle.std.proofs.Common.{◌≡◌, ◌∙◌, sym}
 use Rattle.area_disk.specs.Armed.Armed.{Nothing}
-use Rattle.replay_gateway.specs.Standing.{MachineStands}
-use Rattle.replay_gateway.specs.Machine.{Machine, unarmed}
+use Rattle.replay_gateway.specs.Machine.{unarmed}
 use Rattle.replay_gateway.proofs.OpeningLemmas.{down_tells}
 use Rattle.replay_gateway.proofs.machine.Machine.disarm.Goals as goal
 
 pub returns-then-is_down : goal.returns-then-is_down
 returns-then-is_down c = λ setup place g m stands.
     let down = sym (c.is_down.ensures setup place g m stands) ∙ c.if-is_down.true in
-    let tells = (down_tells setup place g m c.args.self.now.site down stands.site).0 in
+    let tells = (down_tells _ _ g m _ down stands.site).0 in
     let same : m ≡ unarmed m =
     λ i. record {
       armed = tells.0 i;
       at_last = m.at_last;
       filing = record { armed = tells.1 i; taken = m.filing.taken; sealed = m.filing.sealed };
     } in
-    subst (λ (n : Machine). MachineStands setup place g n c.args.self.now) same stands
+    rw same at stands
 
 pub returns : goal.returns
 returns c = λ setup place g m stands.

@@ -1,5 +1,5 @@
 use Rattle.std.proofs.Common.{◌∙◌, sym}
-use Rattle.replay_gateway.proofs.MetLemmas.{met_broken, met_down, met_late, met_taken}
+use Rattle.replay_gateway.proofs.DeliveredLemmas.{met_broken, met_down, met_late, met_taken}
 use Rattle.replay_gateway.proofs.machine.Machine.met.Goals as goal
 
 pub returns-then-is_down : goal.returns-then-is_down

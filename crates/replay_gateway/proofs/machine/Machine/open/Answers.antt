@@ -16,5 +16,5 @@ returns-clause-up c = λ setup place g m stands runs.
 
 pub returns-clause-opens : goal.returns-clause-opens
 returns-clause-opens c = λ setup place g m stands down.
-    opened_machine setup place g m c.filed_records_stay.ensures.items c.what_was_written_stays.ensures c.args.self.now c.open_book.new.self stands down
+    opened_machine _ _ g m c.filed_records_stay.ensures.items c.what_was_written_stays.ensures stands down
     (c.in_ok-open_book.ensures setup place g m stands down)

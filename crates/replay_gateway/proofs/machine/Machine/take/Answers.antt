@@ -1,7 +1,6 @@
 use Rattle.std.proofs.Common.{◌∙◌, refl, sym}
 use Rattle.std.proofs.lemmas.Result.{IfOk-weaker}
 use Rattle.gateway_book.specs.Comes.{asked_to_ready}
-use Rattle.gateway_book.specs.Up.{Sequel}
 use Rattle.replay_gateway.specs.Called.{taken_of}
 use Rattle.replay_gateway.specs.Device.{sequel_on}
 use Rattle.replay_gateway.proofs.AnsweredLemmas.{taken_answered, taken_dropped}
@@ -9,19 +8,17 @@ use Rattle.replay_gateway.proofs.machine.Machine.take.Goals as goal
 
 pub returns-in-Drop : goal.returns-in-Drop
 returns-in-Drop c = λ setup place g m stands runs whole.
-    let s : Sequel = sequel_on m (asked_to_ready g.book) in
+    let s = sequel_on m (asked_to_ready g.book) in
     let got = c.outcome-made.ensures setup place g m stands runs in
-    taken_dropped setup place g m c.args.now c.args.message.now stands.unreached runs whole c.in-Drop.why
-    c.outcome-made.new.self c.after_call.new.self _ _ (sym got.1 ∙ c.in-Drop.is) got.0
+    taken_dropped _ _ g m _ _ stands.unreached runs whole _ _ (sym got.1 ∙ c.in-Drop.is) got.0
     (c.in_ok-sent.ensures setup place g m (taken_of setup m g c.args.message.now c.args.now s).value s got.0) refl
     c.ending_of.ensures
 
 pub returns-in-Answer : goal.returns-in-Answer
 returns-in-Answer c = λ setup place g m stands runs whole.
-    let s : Sequel = sequel_on m (asked_to_ready g.book) in
+    let s = sequel_on m (asked_to_ready g.book) in
     let got = c.outcome-made.ensures setup place g m stands runs in
-    IfOk-weaker c.answer.result _ _ (λ delivery answered. taken_answered setup place g m c.args.now c.args.message.now stands.unreached
-    runs whole c.in-Answer.receipt c.outcome-made.new.self c.after_call.new.self c.answer.new.self _ delivery
-    (sym got.1 ∙ c.in-Answer.is) got.0
+    IfOk-weaker _ _ _
+    (λ delivery answered. taken_answered _ _ g m _ _ stands.unreached runs whole _ (sym got.1 ∙ c.in-Answer.is) got.0
     (c.in_ok-sent.ensures setup place g m (taken_of setup m g c.args.message.now c.args.now s).value s got.0) answered)
     c.answer.ensures

@@ -1,10 +1,9 @@
-use Rattle.std.proofs.Common.{◌≡◌, refl, ◌+◌, List, [], ◌∷◌, drop, ap, subst, sym, ◌∙◌, arith}
+use Rattle.std.proofs.Common.{◌≡◌, refl, ap, sym, ◌∙◌, arith}
 use Rattle.std.proofs.lemmas.Option.{slice_get_within}
-use Rattle.world_script.specs.declared.line.Line.{Line}
-use Rattle.replay_gateway.specs.Settings.{AreSet, IsInRange}
-use Rattle.replay_gateway.specs.Setup.{Setup, after_setting, after_settings, default_setup, setup_of}
+use Rattle.replay_gateway.specs.Settings.{IsInRange}
+use Rattle.replay_gateway.specs.Setup.{after_setting, after_settings, default_setup, setup_of}
 use Rattle.replay_gateway.proofs.RangeLemmas.{back_in_range}
-use Rattle.replay_gateway.proofs.SettingLemmas.{all_at, none_at, rest_at}
+use Rattle.replay_gateway.proofs.ListLemmas.{all_at, none_at, rest_at}
 use Rattle.replay_gateway.proofs.settings.Settings.of.Goals as goal
 
 pub overflow_add-k : goal.overflow_add-k
@@ -16,14 +15,12 @@ loop-line-smaller c = omega (arith, slice_get_within c.args.script.now.lines c.l
 
 pub loop-line-preserved : goal.loop-line-preserved
 loop-line-preserved c =
-    let lines : List Line = c.args.script.now.lines in
-    let rest : drop c.loop-line.k lines ≡ c.in-Some.line.now ∷ drop (c.loop-line.k + 1) lines =
-    rest_at lines c.loop-line.k c.in-Some.line.now (sym c.in-Some.ensures) in
+    let lines = c.args.script.now.lines in
     let before = c.loop-line.invariant.set in
     record {
       set = (
         after_setting before.0 c.in-Some.line.now,
-        ap (λ (ls : List Line). after_settings before.0 ls) (sym rest) ∙ before.1,
+        ap (λ ls. after_settings before.0 ls) (sym (rest_at lines c.loop-line.k (sym c.in-Some.ensures))) ∙ before.1,
         c.set.ensures.set before.0 before.2,
       );
       sound = c.set.ensures.sound;
@@ -32,12 +29,11 @@ loop-line-preserved c =
 
 pub returns-clause-set : goal.returns-clause-set
 returns-clause-set c =
-    let lines : List Line = c.args.script.now.lines in
-    let none : drop c.loop-line.k lines ≡ [] = none_at lines c.loop-line.k (sym c.in_default.ensures) in
+    let lines = c.args.script.now.lines in
     let before = c.loop-line.invariant.set in
     let same : before.0 ≡ setup_of lines =
-    ap (λ (ls : List Line). after_settings before.0 ls) (sym none) ∙ before.1 in
-    subst (λ (s : Setup). AreSet s c.loop-line.settings) same before.2
+    ap (λ ls. after_settings before.0 ls) (sym (none_at lines c.loop-line.k (sym c.in_default.ensures))) ∙ before.1 in
+    rw same at before.2
 
 pub loop-line-init : goal.loop-line-init
 loop-line-init c = record {
@@ -48,5 +44,5 @@ loop-line-init c = record {
 
 pub set-requires-clause-range : goal.set-requires-clause-range
 set-requires-clause-range c =
-    all_at IsInRange c.args.script.now.lines c.loop-line.k c.in-Some.line.now
+    all_at IsInRange c.args.script.now.lines c.loop-line.k
     (back_in_range c.args.script.now c.kind-kind.ensures.reads).each (sym c.in-Some.ensures)
