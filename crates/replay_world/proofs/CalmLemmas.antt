@@ -1,34 +1,30 @@
 -- Steps at gateways for whose areas and shelves nothing is armed.
-use Rattle.std.proofs.Common.{◌≡◌, ◌∙◌, refl, sym, ap, subst, ℕ, zero, suc, ◌-◌, ◌≤◌, ◌<◌, ◌||◌, Bool, true, false, if◌then◌else◌, List, [], ◌∷◌, All, length, set, Option, Some, None, slice_get, arith, length-set}
-use Rattle.std.specs.Option.{option_map_or, option_or}
+use Rattle.std.proofs.Common.{◌≡◌, ◌∙◌, refl, subst, ℕ, zero, suc, ◌-◌, ◌≤◌, ◌<◌, Bool, false, List, [], ◌∷◌, length, set, Some, None, slice_get, arith, length-set}
+use Rattle.std.specs.Option.{option_map_or}
 use Rattle.std.proofs.lemmas.List.Elements.{All-set}
 use Rattle.std.proofs.lemmas.Option.{get_or_from_slice_get, slice_get_within}
-use Rattle.area_disk.specs.Armed.{Armed}
 use Rattle.area_disk.specs.Armed.Armed.{Nothing}
-use Rattle.gateway_answer.specs.Answered.{no_caller}
 use Rattle.gateway_book.specs.Comes.{Asked, AsksCommit, AsksNothing, AsksReopening}
-use Rattle.gateway_book.specs.Up.{Sequel, GoesOn, fortune_by, sequel_of}
-use Rattle.gateway_answer.specs.Value.{BookValue, Fortune, history_of, recorded}
+use Rattle.gateway_book.specs.Up.{GoesOn, fortune_by, sequel_of}
+use Rattle.gateway_answer.specs.Value.{Fortune, history_of}
 use Rattle.gw_base.specs.History.{is_close_due}
 use Rattle.gw_base.specs.declared.history.HistoryAct.TheVariants.{Close}
 use Rattle.once_core.specs.Answers.{making_close, marked}
-use Rattle.once_core.specs.Gateway.{Gateway, Moved, Rules, book_committing, committing, giving_up, readying, settling, still}
-use Rattle.once_core.specs.Turn.{is_down_in, no_running_gateway, refusing}
+use Rattle.once_core.specs.Gateway.{Gateway, Moved, Rules}
+use Rattle.once_core.specs.Turn.{no_running_gateway}
 use Rattle.once_core.specs.World.{World}
 use Rattle.once_core.specs.declared.event.Event.{Event}
-use Rattle.once_core.specs.declared.event.WorldKind.TheVariants.{NoGateway, Stopped}
 use Rattle.replay_world.specs.Events.{asked_of}
-use Rattle.replay_gateway.specs.Device.{is_stop, machine_after, machine_with, sequel_on}
-use Rattle.replay_gateway.specs.Moves.{moved_by}
+use Rattle.replay_gateway.specs.Device.{machine_after, machine_with, sequel_on}
 use Rattle.replay_world.specs.Settling.{AreUnarmed, IsIdle, Stays}
-use Rattle.replay_world.specs.Steps.{Site, Step, Plays, after_step, ends_line, machines_at, machines_in, sequel_at, site_of}
+use Rattle.replay_world.specs.Steps.{Step, Plays, after_step, ends_line, machines_at, machines_in, site_of}
 use Rattle.replay_gateway.specs.Machine.{Machine}
 use Rattle.replay_world.specs.Value.{ReplayValue}
 use Rattle.once_core.specs.declared.message.Message.{Message}
-use Rattle.replay_world.proofs.MovedLemmas.{machines_are, moved}
-use Rattle.replay_world.proofs.SetLemmas.{Sets}
-use Rattle.replay_world.proofs.StepLemmas.{IsAt, site_is, world_moved}
+use Rattle.replay_world.proofs.GatewayEventLemmas.{machines_are, moved, IsAt, site_is, world_moved}
+use Rattle.replay_world.proofs.StandsLemmas.{Sets}
 use Rattle.replay_world.proofs.TakenSteps.{is_there}
+use Rattle.replay_world.proofs.TakenWorlds.{marked_stays, recorded_stays}
 
 -- Lists of which one element is set.
 
@@ -37,17 +33,18 @@ get_other [] k j x other = refl
 get_other (y ∷ xs) zero zero x other = absurd (other refl)
 get_other (y ∷ xs) zero (suc j) x other = refl
 get_other (y ∷ xs) (suc k) zero x other = refl
-get_other (y ∷ xs) (suc k) (suc j) x other = get_other xs k j x (λ same. other (ap (λ n. suc n) same))
+get_other (y ∷ xs) (suc k) (suc j) x other = get_other xs k j x (λ same. other (cc))
 
-pub get_same : {A : Type 0} (xs : List A) (k : ℕ) (x y : A) → slice_get xs k ≡ Some y → slice_get (set xs k x) k ≡ Some x
-get_same [] k x y is = absurd (cc)
-get_same (z ∷ xs) zero x y is = refl
-get_same (z ∷ xs) (suc k) x y is = get_same xs k x y is
+pub get_same : {A : Type 0} (xs : List A) (k : ℕ) (x : A) {y : _} → slice_get xs k ≡ Some y →
+    slice_get (set xs k x) k ≡ Some x
+get_same [] k x is = cc
+get_same (z ∷ xs) zero x is = refl
+get_same (z ∷ xs) (suc k) x is = get_same xs k x is
 
 pub found : {A : Type 0} (xs : List A) (k : ℕ) → k < length xs → (x : A) × (slice_get xs k ≡ Some x)
-found [] k less = absurd (omega (arith, less))
+found [] k less = absurd (omega arith)
 found (x ∷ xs) zero less = (x, refl)
-found (x ∷ xs) (suc k) less = found xs k (omega (arith, less))
+found (x ∷ xs) (suc k) less = found xs k (omega arith)
 
 -- of each machine nothing is armed
 pub unarmed_there : (v : ReplayValue) (k : ℕ) (m : Machine) → slice_get v.machines k ≡ Some m → AreUnarmed v →
@@ -61,15 +58,14 @@ module _ (v : ReplayValue) (step : Step) (k : ℕ) (g : Gateway) (m : Machine) (
     (sets : Sets v step k g m sends) where
   pub stays_set : IsIdle m → AreUnarmed v → Stays v (after_step v step) k
   stays_set is unarmed = record {
-    unarmed = subst (λ (ms : List Machine). All IsIdle ms) (sym sets.machines)
-        (All-set IsIdle v.machines k m is unarmed);
-    count = ap (λ (w : World). length w.gateways) sets.world ∙ length-set v.world.gateways k g;
-    others = λ j other. ap (λ (w : World). slice_get w.gateways j) sets.world ∙ get_other v.world.gateways k j g other;
+    unarmed = rw sets.machines (All-set IsIdle v.machines k m is unarmed);
+    count = cc (sets.world, length-set v.world.gateways k g);
+    others = λ j other. cc (sets.world, get_other v.world.gateways k j g other);
   }
 
   pub there_then : (h : Gateway) → slice_get v.world.gateways k ≡ Some h →
       slice_get (after_step v step).world.gateways k ≡ Some g
-  there_then h has = ap (λ (w : World). slice_get w.gateways k) sets.world ∙ get_same v.world.gateways k g h has
+  there_then h has = cc (sets.world, get_same _ k g has)
 
 pub stays_none : (v : ReplayValue) (k : ℕ) → AreUnarmed v → Stays v v k
 stays_none v k unarmed = record { unarmed = unarmed; count = refl; others = λ j other. refl }
@@ -84,12 +80,7 @@ stays_then v u w k first later = record {
 -- a gateway that is there and isn't down runs
 pub running_there : (w : World) (number : ℕ) (g : Gateway) → 1 ≤ number → number ≤ length w.gateways →
     slice_get w.gateways (number - 1) ≡ Some g → g.is_down ≡ false → no_running_gateway w number ≡ None
-running_there w number g some few has runs =
-    let there = is_there (length w.gateways) number some few in
-    let up : is_down_in w number ≡ false =
-    ap (λ (o : Option Gateway). option_map_or (λ (h : Gateway). h.is_down) o true) has ∙ runs in
-    ap (λ (b : Bool). option_or (refusing b NoGateway) (refusing (is_down_in w number) Stopped)) there
-    ∙ ap (λ (b : Bool). refusing b Stopped) up
+running_there w number g some few has runs = cc (is_there (length w.gateways) number some few)
 
 -- What comes of a call where nothing is armed.
 
@@ -98,46 +89,21 @@ nothing_on AsksNothing at_last = refl
 nothing_on _ at_last = refl
 
 pub goes_on_then : (m : Machine) (asked : Asked) → m.armed ≡ Nothing → sequel_on m asked ≡ GoesOn Nothing
-goes_on_then m asked is = ap (λ (a : Armed). sequel_of asked a m.at_last) is ∙ nothing_on asked m.at_last
+goes_on_then m asked is = cc (nothing_on asked m.at_last)
 
-idle_with : (m : Machine) (s : Sequel) → s ≡ GoesOn Nothing → IsIdle m → IsIdle (machine_with m s)
-idle_with m s is idle = (
-  ap (λ (t : Sequel). (machine_with m t).armed) is,
-  ap (λ (t : Sequel). (machine_with m t).filing.armed) is ∙ idle.1,
-)
+idle_with : (m : Machine) {s : _} → s ≡ GoesOn Nothing → IsIdle m → IsIdle (machine_with m s)
+idle_with m is idle = (cc, cc idle.1)
 
 pub unarmed_after : (asked : Asked) (m : Machine) → IsIdle m → IsIdle (machine_after asked m)
 unarmed_after AsksNothing m is = is
-unarmed_after AsksCommit m is = idle_with m (sequel_on m AsksCommit) (goes_on_then m AsksCommit is.0) is
-unarmed_after AsksReopening m is = idle_with m (sequel_on m AsksReopening) (goes_on_then m AsksReopening is.0) is
+unarmed_after AsksCommit m is = idle_with m (goes_on_then m AsksCommit is.0) is
+unarmed_after AsksReopening m is = idle_with m (goes_on_then m AsksReopening is.0) is
 
--- a commit, or a Close, leaves the gateway up
-with_by : (b : Bool) (w : BookValue) (g : Gateway) →
-    (if b then giving_up (record g { book = w }) else settling (record g { book = w })).gateway.is_down ≡ g.is_down
-with_by true w g = refl
-with_by false w g = refl
-
-pub commit_stays_up : (f : Fortune) (g : Gateway) → (committing f g).gateway.is_down ≡ g.is_down
-commit_stays_up f g = with_by (book_committing f g.book).is_broken (book_committing f g.book) g
-
-ready_by : (b : Bool) (f : Fortune) (g : Gateway) → (if b then committing f g else still g).gateway.is_down ≡ g.is_down
-ready_by true f g = commit_stays_up f g
-ready_by false f g = refl
-
-close_made : (b : Bool) (now : ℕ) (h : Gateway) →
-    (if b then still (record h { book = recorded h.book now no_caller Close }) else still h).gateway.is_down ≡ h.is_down
-close_made true now h = refl
-close_made false now h = refl
-
-close_by : (b : Bool) (now : ℕ) (h : Gateway) → (if b then still h else making_close now h).gateway.is_down ≡ h.is_down
-close_by true now h = refl
-close_by false now h = close_made (is_close_due (history_of h.book)) now h
-
+-- a Close leaves the gateway up
 pub close_stays_up : (rules : Rules) (f : Fortune) (now : ℕ) (g : Gateway) →
     (marked rules f (making_close now) g).gateway.is_down ≡ g.is_down
-close_stays_up rules f now g =
-    let h : Gateway = (readying rules f g).gateway in
-    close_by h.book.is_broken now h ∙ ready_by (g.book.is_broken || rules.is_full g.book) f g
+close_stays_up rules f now =
+    marked_stays rules f (making_close now) (λ h. recorded_stays (is_close_due (history_of h.book)) now Close h)
 
 -- An event at a gateway for whose area nothing is armed.
 module _ (v : ReplayValue) (e : Event) (number : ℕ) (g : Gateway) (m : Machine) (move : Fortune → Gateway → Moved)
@@ -147,35 +113,26 @@ module _ (v : ReplayValue) (e : Event) (number : ℕ) (g : Gateway) (m : Machine
   asked = asked_of v.world g e
 
   abbrev done : Moved
-  done = moved v e number g m move at
+  done = moved v e _ g m _ at
 
   pub sets_at : Sets v (Plays e) (number - 1) done.gateway (machine_after asked m) done.sends
-  sets_at = record {
-    world = world_moved v e number g m move at;
-    machines = machines_are v e number g m move at same;
-  }
+  sets_at = record { world = world_moved v e _ g m _ at; machines = machines_are v e _ g m _ at same }
 
   pub line_goes_on : ends_line v (Plays e) ≡ false
-  line_goes_on =
-      ap (λ (o : Option Site). option_map_or (λ site. is_stop (sequel_at v e site)) o false) (site_is v e number g m move at)
-      ∙ ap is_stop (goes_on_then m asked unarmed.0)
+  line_goes_on = cc (site_is v e number g m _ at, goes_on_then m asked unarmed.0)
 
   pub stays_at : AreUnarmed v → Stays v (after_step v (Plays e)) (number - 1)
-  stays_at all =
-      stays_set v (Plays e) (number - 1) done.gateway (machine_after asked m) done.sends sets_at
-      (unarmed_after asked m unarmed) all
+  stays_at all = stays_set v _ _ _ _ _ sets_at (unarmed_after _ m unarmed) all
 
   -- it is up as before
   pub up_at : ((f : Fortune) → (move f g).gateway.is_down ≡ g.is_down) → done.gateway.is_down ≡ g.is_down
-  up_at stays =
-      ap (λ (s : Sequel). (moved_by s move m g).gateway.is_down) (goes_on_then m asked unarmed.0)
-      ∙ stays (fortune_by m.at_last (GoesOn Nothing))
+  up_at stays = cc (goes_on_then m asked unarmed.0, stays (fortune_by m.at_last (GoesOn Nothing)))
 
   pub runs_after : 1 ≤ number → number ≤ length v.world.gateways → g.is_down ≡ false → AreUnarmed v →
       ((f : Fortune) → (move f g).gateway.is_down ≡ g.is_down) →
       no_running_gateway (after_step v (Plays e)).world number ≡ None
   runs_after some few runs all stays =
       let after = stays_at all in
-      running_there (after_step v (Plays e)).world number done.gateway some (omega (arith, few, after.count))
+      running_there (after_step v (Plays e)).world number done.gateway some (omega (arith, after.count))
       (there_then v (Plays e) (number - 1) done.gateway (machine_after asked m) done.sends sets_at g at.has_gateway)
       (up_at stays ∙ runs)

@@ -1,14 +1,26 @@
--- The areas and the shelves that gateways hand out.
-use Rattle.std.proofs.Common.{◌≡◌, refl, sym, ap, subst, ℕ, zero, suc, ◌+◌, ◌<◌, ◌≤◌, List, [], ◌∷◌, ◌++◌, length, take, Option, Some, None, MatchOption, slice_get, arith, length-take}
+-- What gateways hand out, and what they filed is read once each is at rest.
+use Rattle.std.proofs.Common.{◌≡◌, refl, ℕ, zero, suc, ◌+◌, ◌<◌, ◌≤◌, List, [], ◌∷◌, ◌++◌, length, take, Option, Some, None, MatchOption, slice_get, arith, length-take, ◌∙◌, ap, subst, Contains}
 use Rattle.area_disk.specs.declared.memory.MemoryArea.{MemoryArea}
 use Rattle.cdr_shelf.specs.declared.memory.MemoryShelf.{MemoryShelf}
 use Rattle.once_core.specs.Gateway.{Gateway}
-use Rattle.replay_gateway.specs.AtRest.{IsAllWritten, IsAtRest}
+use Rattle.replay_gateway.specs.AtRest.{IsAllWritten, IsAtRest, IsRead}
 use Rattle.replay_gateway.specs.HandedOut.{IsHandedOut}
 use Rattle.replay_gateway.specs.Machine.{Machine}
 use Rattle.replay_world.specs.Played.{EachHandedOut}
-use Rattle.replay_world.specs.Settled.{EachAtRest}
+use Rattle.replay_world.specs.Settled.{EachAtRest, AreRead, HasPlayedOut}
 use Rattle.replay_gateway.specs.Setup.{Setup, files_in}
+use Rattle.std.specs.Option.{option_map_or}
+use Rattle.gw_base.specs.declared.history.HistoryEntry.{HistoryEntry}
+use Rattle.once_core.specs.FilePlaces.{placed}
+use Rattle.once_core.specs.Once.{firm_in}
+use Rattle.world_script.specs.declared.line.Line.{Line}
+use Rattle.replay_world.specs.Lines.{line_after}
+use Rattle.replay_world.specs.Report.{lines_after}
+use Rattle.replay_world.specs.Value.{ReplayValue}
+use Rattle.replay_world.specs.declared.replay.Played.{Played}
+use Rattle.replay_world.proofs.LineLemmas.{line_setup}
+
+-- The areas and the shelves that gateways hand out.
 
 module _ (setup : Setup) where
   -- as many as there are gateways
@@ -18,13 +30,8 @@ module _ (setup : Setup) where
   handed_lengths place [] [] [] [] each = (refl, refl)
   handed_lengths place (g ∷ gs) (m ∷ ms) (a ∷ areas) (s ∷ shelves) each =
       let later = handed_lengths (suc place) gs ms areas shelves each.1 in
-      (ap (λ n. suc n) later.0, ap (λ n. suc n) later.1)
-  handed_lengths place [] [] [] (s ∷ shelves) each = absurd each
-  handed_lengths place [] [] (a ∷ areas) shelves each = absurd each
-  handed_lengths place [] (m ∷ ms) areas shelves each = absurd each
-  handed_lengths place (g ∷ gs) [] areas shelves each = absurd each
-  handed_lengths place (g ∷ gs) (m ∷ ms) [] shelves each = absurd each
-  handed_lengths place (g ∷ gs) (m ∷ ms) (a ∷ areas) [] each = absurd each
+      (cc later.0, cc later.1)
+  handed_lengths place _ _ _ _ each = absurd each
 
   -- one more
   pub handed_more : (place : ℕ) (gs : List Gateway) (ms : List Machine) (k : ℕ) (g : Gateway) (m : Machine)
@@ -32,42 +39,29 @@ module _ (setup : Setup) where
       EachHandedOut setup place (take k gs) (take k ms) areas shelves → slice_get gs k ≡ Some g → slice_get ms k ≡ Some m →
       IsHandedOut setup (place + k) g m a s →
       EachHandedOut setup place (take (suc k) gs) (take (suc k) ms) (areas ++ a ∷ []) (shelves ++ s ∷ [])
-  handed_more place [] ms k g m areas shelves a s each has_gateway has_machine is = absurd (cc)
-  handed_more place (f ∷ gs) [] k g m areas shelves a s each has_gateway has_machine is = absurd (cc)
+  handed_more place [] ms k g m areas shelves a s each has_gateway has_machine is = cc
+  handed_more place (f ∷ gs) [] k g m areas shelves a s each has_gateway has_machine is = cc
   handed_more place (f ∷ gs) (n ∷ ms) zero g m [] [] a s each has_gateway has_machine is =
       let gateway : g ≡ f = cc in
       let machine : m ≡ n = cc in
-      let here : place + 0 ≡ place = omega arith in (
-        subst (λ (p : ℕ). IsHandedOut setup p f n a s) here
-            (subst (λ (h : Gateway). IsHandedOut setup (place + 0) h n a s) gateway
-            (subst (λ (o : Machine). IsHandedOut setup (place + 0) g o a s) machine is)),
-        tt,
-      )
-  handed_more place (f ∷ gs) (n ∷ ms) zero g m [] (t ∷ shelves) a s each has_gateway has_machine is = absurd each
-  handed_more place (f ∷ gs) (n ∷ ms) zero g m (b ∷ areas) shelves a s each has_gateway has_machine is = absurd each
-  handed_more place (f ∷ gs) (n ∷ ms) (suc k) g m [] shelves a s each has_gateway has_machine is = absurd each
-  handed_more place (f ∷ gs) (n ∷ ms) (suc k) g m (b ∷ areas) [] a s each has_gateway has_machine is = absurd each
+      let here : place + 0 ≡ place = omega arith in
+      (rw here at (rw gateway at (rw machine at is)), tt)
   handed_more place (f ∷ gs) (n ∷ ms) (suc k) g m (b ∷ areas) (t ∷ shelves) a s each has_gateway has_machine is =
       let here : place + suc k ≡ suc place + k = omega arith in (
         each.0,
-        handed_more (suc place) gs ms k g m areas shelves a s each.1 has_gateway has_machine
-            (subst (λ (p : ℕ). IsHandedOut setup p g m a s) here is),
+        handed_more (suc place) gs ms k g m areas shelves a s each.1 has_gateway has_machine (rw here at is),
       )
+  handed_more place _ _ _ g m _ _ a s each has_gateway has_machine is = absurd each
 
   -- the same of lists that are so
-  pub handed_next : (gs : List Gateway) (ms : List Machine) (n k : ℕ) (g : Gateway) (m : Machine)
-      (areas more_areas : List MemoryArea) (shelves more_shelves : List MemoryShelf) (a : MemoryArea) (s : MemoryShelf) →
-      suc n ≡ k → more_areas ≡ areas ++ a ∷ [] → more_shelves ≡ shelves ++ s ∷ [] →
-      EachHandedOut setup 0 (take n gs) (take n ms) areas shelves → slice_get gs n ≡ Some g → slice_get ms n ≡ Some m →
-      IsHandedOut setup (0 + n) g m a s →
+  pub handed_next : (gs : List Gateway) (ms : List Machine) (n k : ℕ) {g m : _} (areas : List MemoryArea)
+      {more_areas : _} (shelves : List MemoryShelf) {more_shelves a s : _} → suc n ≡ k → more_areas ≡ areas ++ a ∷ [] →
+      more_shelves ≡ shelves ++ s ∷ [] → EachHandedOut setup 0 (take n gs) (take n ms) areas shelves →
+      slice_get gs n ≡ Some g → slice_get ms n ≡ Some m → IsHandedOut setup (0 + n) g m a s →
       EachHandedOut setup 0 (take k gs) (take k ms) more_areas more_shelves
-  handed_next gs ms n k g m areas more_areas shelves more_shelves a s next areas_are shelves_are each has_gateway has_machine
-      is =
-      subst (λ (j : ℕ). EachHandedOut setup 0 (take j gs) (take j ms) more_areas more_shelves) next
-      (subst (λ (xs : List MemoryArea). EachHandedOut setup 0 (take (suc n) gs) (take (suc n) ms) xs more_shelves)
-      (sym areas_are)
-      (subst (λ (ss : List MemoryShelf). EachHandedOut setup 0 (take (suc n) gs) (take (suc n) ms) (areas ++ a ∷ []) ss)
-      (sym shelves_are) (handed_more 0 gs ms n g m areas shelves a s each has_gateway has_machine is)))
+  handed_next gs ms n k {g} {m} areas shelves {a} {s} next areas_are shelves_are each has_gateway has_machine is =
+      rw next at
+      (rw (← areas_are) at (rw (← shelves_are) at (handed_more 0 gs ms n g m _ _ a s each has_gateway has_machine is)))
 
   -- the area that a gateway has
   pub area_there : (place : ℕ) (g : Gateway) (m : Machine) (o : Option MemoryArea) (s : MemoryShelf) →
@@ -93,17 +87,11 @@ gateways_at_rest : Rests → (setup : Setup) (place : ℕ) (gs : List Gateway) (
     IsAllWritten (files_in setup (place + k)) g m) → EachAtRest setup place gs areas shelves
 gateways_at_rest rests setup place [] [] [] [] each settled = tt
 gateways_at_rest rests setup place (g ∷ gs) (m ∷ ms) (a ∷ areas) (shelf ∷ shelves) each settled = (
-  rests setup place g m a shelf
-      (subst (λ (p : ℕ). IsAllWritten (files_in setup p) g m) (first place) (settled 0 g m refl refl)) each.0,
-  gateways_at_rest rests setup (suc place) gs ms areas shelves each.1 (λ k f n has is.
-      subst (λ (p : ℕ). IsAllWritten (files_in setup p) f n) (next place k) (settled (suc k) f n has is)),
+  rests setup place g m a shelf (rw (first place) at (settled 0 g m refl refl)) each.0,
+  gateways_at_rest rests setup (suc place) gs ms areas shelves each.1
+      (λ k f n has is. rw (next place k) at (settled (suc k) f n has is)),
 )
-gateways_at_rest rests setup place [] [] [] (s ∷ shelves) each settled = absurd each
-gateways_at_rest rests setup place [] [] (a ∷ areas) shelves each settled = absurd each
-gateways_at_rest rests setup place [] (m ∷ ms) areas shelves each settled = absurd each
-gateways_at_rest rests setup place (g ∷ gs) [] areas shelves each settled = absurd each
-gateways_at_rest rests setup place (g ∷ gs) (m ∷ ms) [] shelves each settled = absurd each
-gateways_at_rest rests setup place (g ∷ gs) (m ∷ ms) (a ∷ areas) [] each settled = absurd each
+gateways_at_rest rests setup place _ _ _ _ each settled = absurd each
 
 -- the same of all gateways
 from_none : (k : ℕ) → k ≡ 0 + k
@@ -114,10 +102,54 @@ pub all_at_rest : Rests → (setup : Setup) (gs : List Gateway) (ms : List Machi
     ((k : ℕ) (g : Gateway) (m : Machine) → slice_get gs k ≡ Some g → slice_get ms k ≡ Some m →
     IsAllWritten (files_in setup k) g m) → EachAtRest setup 0 gs areas shelves
 all_at_rest rests setup gs ms areas shelves each settled =
-    gateways_at_rest rests setup 0 gs ms areas shelves each (λ k g m has is.
-    subst (λ (p : ℕ). IsAllWritten (files_in setup p) g m) (from_none k) (settled k g m has is))
+    gateways_at_rest rests _ 0 gs ms _ _ each (λ k g m has is. rw (from_none k) at (settled k g m has is))
 
 -- there is room for one more
 pub room_left : {A B : Type 0} (n most capacity : ℕ) (gs : List A) (kept : List B) → length kept ≡ length (take n gs) →
     n < most → most ≤ capacity → length kept < capacity
-room_left n most capacity gs kept count less room = omega (arith, count, less, room, length-take n gs)
+room_left n most capacity gs kept count less room = omega (arith, length-take n gs)
+
+-- What the gateways of a replay filed is read, once each is at rest.
+
+pub lines_setup : (v : ReplayValue) (lines : List Line) → (lines_after v lines).setup ≡ v.setup
+lines_setup v [] = refl
+lines_setup v (said ∷ later) = lines_setup (line_after v said) later ∙ line_setup v said
+
+-- The gateway at rest whose shelf this is.
+
+record RestsThere (setup : Setup) (gs : List Gateway) (place k : ℕ) (shelf : MemoryShelf) : Type 0 where
+  gateway : Gateway
+  area : MemoryArea
+  has : slice_get gs k ≡ Some gateway
+  rests : IsAtRest setup place gateway area shelf
+
+rests_there : (setup : Setup) (place : ℕ) (gs : List Gateway) (areas : List MemoryArea) (shelves : List MemoryShelf)
+    (k : ℕ) (shelf : MemoryShelf) → EachAtRest setup place gs areas shelves → slice_get shelves k ≡ Some shelf →
+    RestsThere setup gs (place + k) k shelf
+rests_there setup place [] [] [] k shelf each has = absurd (cc)
+rests_there setup place (g ∷ gs) (a ∷ areas) (s ∷ shelves) zero shelf each has =
+    let same : s ≡ shelf = cc in
+    let here : place ≡ place + 0 = omega arith in
+    record { gateway = g; area = a; has = refl; rests = rw here at (rw same at each.0) }
+rests_there setup place (g ∷ gs) (a ∷ areas) (s ∷ shelves) (suc k) shelf each has =
+    let later = rests_there setup (suc place) gs areas shelves k shelf each.1 has in
+    let here : suc place + k ≡ place + suc k = omega arith in
+    record { gateway = later.gateway; area = later.area; has = later.has; rests = rw here at later.rests }
+rests_there setup place _ _ _ _ shelf each has = absurd each
+
+-- What such a gateway filed is read.
+abbrev pub RestIsRead : Setup → Type 0
+RestIsRead setup = (place : ℕ) (g : Gateway) (area : MemoryArea) (shelf : MemoryShelf) →
+    IsAtRest setup place g area shelf → IsRead (files_in setup place) g.book.firm shelf
+
+pub all_read : (setup : Setup) → RestIsRead setup → (v : ReplayValue) (played : Played) → v.setup ≡ setup →
+    HasPlayedOut v played → AreRead (files_in setup) v.world played.shelves.items
+all_read setup read v played same out gateway shelf has place filing is =
+    let there = rests_there v.setup 0 v.world.gateways played.areas.items played.shelves.items gateway shelf out.gateways has in
+    let firm : firm_in v.world gateway ≡ there.gateway.book.firm =
+    ap (λ (o : Option Gateway). option_map_or (λ (g : Gateway). g.book.firm) o []) there.has in
+    let here : 0 + gateway ≡ gateway = omega arith in
+    read gateway there.gateway there.area shelf
+    (subst (λ (s : Setup). IsAtRest s gateway there.gateway there.area shelf) same
+    (subst (λ (p : ℕ). IsAtRest v.setup p there.gateway there.area shelf) here there.rests)) place filing
+    (subst (λ (h : List HistoryEntry). Contains (placed (files_in setup gateway) h) (place, filing)) firm is)

@@ -1,11 +1,11 @@
 -- Steps and lines move the world as their turns.
-use Rattle.std.proofs.Common.{◌≡◌, ◌∙◌, refl, sym, ap, Bool, true, false, if◌then◌else◌, List, [], ◌∷◌, ◌++◌}
+use Rattle.std.proofs.Common.{◌≡◌, ◌∙◌, refl, sym, ap, Bool, if◌then◌else◌, List, [], ◌∷◌, ◌++◌, true, false}
 use Rattle.once_core.specs.Gateway.{Rules}
 use Rattle.once_core.specs.Turn.{Turn, turn, turns}
 use Rattle.once_core.specs.World.{World}
 use Rattle.replay_world.specs.Lines.{after_steps, line_after, steps_of, turns_by, turns_of}
 use Rattle.replay_world.specs.Report.{lines_after, turns_from}
-use Rattle.replay_gateway.specs.Setup.{Setup, rules_in}
+use Rattle.replay_gateway.specs.Setup.{rules_in}
 use Rattle.replay_world.specs.Steps.{Step, after_step, ends_line, step_turns}
 use Rattle.replay_world.specs.Value.{ReplayValue}
 use Rattle.world_script.specs.declared.line.Line.{Line}
@@ -52,7 +52,6 @@ pub lines_world : (v : ReplayValue) (lines : List Line) →
 lines_world v [] = refl
 lines_world v (said ∷ later) =
     lines_world (line_after v said) later
-    ∙ ap (λ (s : Setup). turns (rules_in s) (line_after v said).world (turns_from (line_after v said) later))
-    (line_setup v said)
-    ∙ ap (λ (w : World). turns (rules_in v.setup) w (turns_from (line_after v said) later)) (line_world v said)
+    ∙ ap (λ s. turns (rules_in s) (line_after v said).world (turns_from (line_after v said) later)) (line_setup v said)
+    ∙ ap (λ w. turns (rules_in v.setup) w (turns_from (line_after v said) later)) (line_world v said)
     ∙ sym (turns_append (rules_in v.setup) v.world (turns_of v said) (turns_from (line_after v said) later))

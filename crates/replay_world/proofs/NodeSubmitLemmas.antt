@@ -1,37 +1,182 @@
--- What a packet that is submitted makes of a replay.
-use Rattle.std.proofs.Common.{◌≡◌, ◌∙◌, refl, sym, ap, subst, ℕ, suc, ◌-◌, ◌==◌, ◌&&◌, Bool, true, false, not, if◌then◌else◌, List, [], ◌∷◌, ◌++◌, length, map, set, Option, Some, None, option_and_then, Ok, slice_get, arith, append-nil, append_assoc}
-use Rattle.std.specs.Prelude.{nat_lt}
-use Rattle.std.specs.List.{enumerate_from}
+-- What a tick and a packet that is submitted make of a replay.
+use Rattle.std.proofs.Common.{◌≡◌, ℕ, zero, suc, ◌+◌, ◌<◌, ◌≤◌, List, [], ◌∷◌, map, Option, Some, refl, ap, ◌∙◌, arith, sym, ◌-◌, true, length, set, None, append-nil, ◌≢◌, drop, get_or, Err, drop-cons, subst, false, if◌then◌else◌, ◌++◌, Ok, append_assoc}
+use Rattle.std.proofs.lemmas.Option.{slice_get-map}
 use Rattle.std.specs.Option.{option_map_or}
-use Rattle.gtpp_message.specs.Packet.{IsPacket, PacketForm, packet_of}
-use Rattle.gtpp_message.specs.PacketWriting.{with_record}
-use Rattle.node_core.specs.Drafts.{addition_fault, is_without_records, packet_anew, packet_of_form, value_octets, value_octets_of}
-use Rattle.node_core.specs.Log.{LogEntry, Submitted}
-use Rattle.node_core.specs.Reached.{Submit, entries_halted, entries_running, most_submissions, submit_entries}
-use Rattle.node_core.specs.Submitting.{refusal}
-use Rattle.node_core.specs.Value.{CanFollowAll, NodeValue, befallen, befell, logged}
-use Rattle.node_core.specs.declared.fault.DraftFault.{DraftFault}
-use Rattle.node_core.specs.declared.fault.SubmitFault.{SubmitFault}
-use Rattle.once_core.specs.Turn.{at_node, no_running_node, node_called, unless_refused}
-use Rattle.once_core.specs.World.{Called, World, called, draft_of, is_draft, is_fault_free, node_value, submitting, submitting_form, takes_all}
+use Rattle.std.specs.Prelude.{slice_get, slice_set, nat_lt}
+use Rattle.gw_base.specs.declared.address.Addr.{Addr}
+use Rattle.node_core.specs.Log.{LogEntry, Submitted, Appointed, Ticked, Heard, peers_of, runs}
+use Rattle.node_core.specs.Octets.{gateway_of, outgoing}
+use Rattle.node_core.specs.Peers.{address_at, all_drawn, at_place, drawn, peer_anew}
+use Rattle.node_core.specs.declared.peer.Peer.{Peer}
+use Rattle.node_core.specs.declared.sending.Sending.{Sending}
+use Rattle.once_core.specs.Addresses.{addresses_from, gateway_at}
+use Rattle.once_core.specs.Expired.{starts_in}
+use Rattle.once_core.specs.NodeMoves.{message_kept}
+use Rattle.once_core.specs.World.{message_of, node_value, log_at, ticking, Called, World, called, draft_of, is_draft, submitting, takes_all}
+use Rattle.node_core.specs.Ticks.{due, tick_entries}
+use Rattle.node_core.specs.Value.{NodeValue, befallen, logged, CanFollowAll, befell}
+use Rattle.once_core.specs.Turn.{at_node, log_in, no_running_node, unless_refused}
 use Rattle.once_core.specs.declared.event.Event.TheVariants as event
-use Rattle.once_core.specs.declared.event.WorldKind.{WorldKind}
-use Rattle.replay_world.specs.Does.{Does, DoesAll}
 use Rattle.once_core.specs.declared.message.Message.{Message}
-use Rattle.replay_world.specs.Notices.{Notice, Refused, Took, notice_line, notice_lines, submit_fault_name}
+use Rattle.replay_world.specs.Does.{Does, DoesAll}
 use Rattle.replay_world.specs.Sending.{HasSent}
-use Rattle.replay_world.specs.Packets.{drafted, unless_fault, with_records}
-use Rattle.replay_world.specs.Stands.{CountsStarts, Stands}
-use Rattle.replay_world.specs.Steps.{Step, Plays, Tells, after_step, ends_line, sent_by}
-use Rattle.replay_world.specs.Telling.{notices_last, step_notices, submit_notices, submitted_notice, submitted_notices}
+use Rattle.replay_world.specs.Stands.{Stands, CountsStarts}
+use Rattle.replay_world.specs.Steps.{Plays, Tells, after_step, ends_line}
 use Rattle.replay_world.specs.Value.{ReplayValue}
 use Rattle.replay_world.specs.declared.replay.Replay.{Replay}
-use Rattle.replay_world.proofs.NodeEventLemmas.{NodeLaw, does_node, log_there}
-use Rattle.replay_world.proofs.NodeHearLemmas.{does_nothing, drop_all, set_same}
-use Rattle.replay_world.proofs.NodeStepLemmas.{IsAtNode, counts_plain}
-use Rattle.replay_world.proofs.NodeTickLemmas.{running_log}
+use Rattle.replay_world.proofs.NodeEventLemmas.{NodeLaw, does_node, log_there, none_both, plain_tick, does_nothing, drop_all, set_same}
+use Rattle.replay_world.proofs.NodeStepLemmas.{IsAtNode, counter_is, counts_plain, follow_all}
 use Rattle.replay_world.proofs.RefusalLemmas.{NodeAt, node_at}
-use Rattle.replay_world.proofs.SentLemmas.{sent_none}
+use Rattle.gtpp_message.specs.Packet.{PacketForm, IsPacket, packet_of}
+use Rattle.gtpp_message.specs.PacketWriting.{with_record}
+use Rattle.node_core.specs.Drafts.{addition_fault, addition_fault_of, is_without_records, packet_anew, packet_of_form, value_octets}
+use Rattle.node_core.specs.declared.fault.DraftFault.{DraftFault}
+use Rattle.node_core.specs.declared.fault.DraftFault.TheVariants.{NoMemory}
+use Rattle.replay_world.specs.Packets.{with_records, drafted, unless_fault}
+use Rattle.std.proofs.lemmas.Bool.Decides.{nat_tests}
+use Rattle.node_core.specs.Reached.{Submit, entries_halted, entries_running, most_submissions, submit_entries}
+use Rattle.node_core.specs.Submitting.{refusal}
+use Rattle.node_core.specs.declared.fault.SubmitFault.{SubmitFault}
+use Rattle.replay_world.specs.Notices.{Notice, Refused, Took, notice_line, notice_lines, submit_fault_name}
+use Rattle.replay_world.specs.Telling.{notices_last, step_notices, submit_notices, submitted_notice, submitted_notices}
+use Rattle.replay_world.proofs.StepsLemmas.{sent_none}
+
+-- The messages of a tick go to the gateways of the network, whose places an octet holds.
+
+-- The addresses of a node's gateways stay.
+
+abbrev addresses : List Peer → List Addr
+addresses peers = map (λ (p : Peer). p.address) peers
+
+the_same : (p : Peer) {old : _} → Some p ≡ Some old → p.address ≡ old.address
+the_same p {old} is = let e : p ≡ old = cc in cc
+
+peer_same : (peers : List Peer) (k : ℕ) (old new : Peer) → slice_get peers k ≡ Some old → new.address ≡ old.address → addresses (slice_set peers k new) ≡ addresses peers
+peer_same [] k old new is same = refl
+peer_same (p ∷ peers) zero old new is same = cc (the_same p is)
+peer_same (p ∷ peers) (suc k) old new is same = cc (peer_same peers k old new is same)
+
+at_place_same : (f : Peer → Peer) → ((p : Peer) → (f p).address ≡ p.address) → (k : ℕ) (peers : List Peer) → addresses (at_place k f peers) ≡ addresses peers
+at_place_same f same k peers = grind (arith, peer_same)
+
+drawn_same : (s : Sending) (peers : List Peer) → addresses (drawn s peers) ≡ addresses peers
+drawn_same s peers = grind (arith, at_place_same)
+
+all_drawn_same : (ss : List Sending) (peers : List Peer) → addresses (all_drawn ss peers) ≡ addresses peers
+all_drawn_same [] peers = refl
+all_drawn_same (s ∷ ss) peers = all_drawn_same ss (drawn s peers) ∙ drawn_same s peers
+
+anew_same : (gateways : List Addr) → addresses (map peer_anew gateways) ≡ gateways
+anew_same [] = refl
+anew_same (a ∷ gateways) = cc (anew_same gateways)
+
+peers_same : (gateways : List Addr) (log : List LogEntry) → addresses (peers_of gateways log) ≡ gateways
+peers_same gateways (Submitted form ∷ log) = peers_same gateways log
+peers_same gateways (Appointed gateway ∷ log) = peers_same gateways log
+peers_same gateways (Ticked sendings ∷ log) = all_drawn_same sendings (peers_of gateways log) ∙ peers_same gateways log
+peers_same gateways (Heard port gateway saying ∷ log) = peers_same gateways log
+peers_same gateways _ = anew_same _
+
+-- They are near.
+
+abbrev nowhere : Addr
+nowhere = record { ip = 0; port = 0 }
+
+abbrev or_nowhere : Option Addr → Addr
+or_nowhere o = option_map_or (λ (a : Addr). a) o nowhere
+
+near_from : (first count k : ℕ) → first + count ≤ 256 → gateway_at (or_nowhere (slice_get (addresses_from first count) k)) < 256
+near_from first zero k few = grind arith
+near_from first (suc count) zero few = omega arith
+near_from first (suc count) (suc k) few = near_from (suc first) count k (omega arith)
+
+address_is : (peers : List Peer) (k : ℕ) → address_at peers k ≡ or_nowhere (slice_get (addresses peers) k)
+address_is peers k = grind (arith, slice_get-map)
+
+near : (gateways k : ℕ) (log : List LogEntry) → gateways ≤ 256 → gateway_at (address_at (peers_of (addresses_from 0 gateways) log) k) < 256
+near gateways k log few =
+    let is : address_at (peers_of (addresses_from 0 gateways) log) k
+    ≡ or_nowhere (slice_get (addresses_from 0 gateways) k) =
+    address_is (peers_of (addresses_from 0 gateways) log) k
+    ∙ ap (λ all. or_nowhere (slice_get all k)) (peers_same (addresses_from 0 gateways) log) in
+    rw is (near_from 0 gateways k (omega arith))
+
+-- So the place of the gateway that a message goes to is said by an octet.
+module _ (gateways place : ℕ) (few : gateways ≤ 255) (log : List LogEntry) where
+  same_message : (s : Sending) → message_kept place (starts_in log) (outgoing (node_value gateways place log) s)
+      ≡ message_of place log (outgoing (node_value gateways place log) s)
+  same_message s =
+      ap (λ g. record (message_of place log (outgoing (node_value gateways place log) s)) { gateway = g })
+      (omega (arith, (near gateways (gateway_of s) log (omega arith)), near gateways (gateway_of s) log (omega arith)))
+
+  pub same_messages : (ss : List Sending) →
+      map (message_kept place (starts_in log)) (map (outgoing (node_value gateways place log)) ss)
+      ≡ map (λ s. message_of place log (outgoing (node_value gateways place log) s)) ss
+  same_messages [] = refl
+  same_messages (s ∷ ss) = λ i. same_message s i ∷ same_messages ss i
+
+-- What a tick makes of a replay, and a node that runs.
+
+-- the log of a node that is called has a node that runs
+pub running_log : (v : ReplayValue) (number place : ℕ) (n : NodeValue) → number - 1 ≡ place →
+    no_running_node v.world number ≡ None → (there : NodeAt v place n) → runs there.log ≡ true
+running_log v number place n is none there =
+    let log_is : log_in v.world number ≡ there.log = ap (log_at v.world) is ∙ log_there v.world _ there.has_log in
+    sym (ap runs log_is) ∙ none_both _ _ none
+
+pub node_running : (v : ReplayValue) (number place : ℕ) (n : NodeValue) (old : Replay) → Stands v old →
+    number - 1 ≡ place → no_running_node v.world number ≡ None → slice_get old.nodes.items place ≡ Some n →
+    n.is_running ≡ true
+node_running v number place n old stands is none has =
+    let there = node_at v old stands _ has in
+    cc (there.is, running_log v _ _ n is none there)
+
+pub ticked : NodeLaw → (v : ReplayValue) (number place : ℕ) (n : NodeValue) (messages : List Message)
+    (before after : List ℕ) (old mid new : Replay) → Stands v old →
+    number - 1 ≡ place → no_running_node v.world number ≡ None → slice_get old.nodes.items place ≡ Some n →
+    mid ≡ record old { nodes = mid.nodes } →
+    mid.nodes.items ≡ set old.nodes.items place (befallen (tick_entries n) n) →
+    messages ≡ map (message_kept place n.paths.counter) (map (outgoing n) (due n)) →
+    HasSent messages before after mid new → Does v (Plays (event.Tick number)) before after new
+ticked law v number place n messages before after old mid new stands is none has rest nodes told sends =
+    let there : NodeAt v place n = node_at v old stands place {n = n} has in
+    let gateways : ℕ = length v.world.gateways in
+    let log : List LogEntry = there.log in
+    let value : NodeValue = node_value gateways place log in
+    let sends_are : messages ≡ (ticking gateways place log).sends =
+    told ∙ ap (λ (m : NodeValue). map (message_kept place m.paths.counter) (map (outgoing m) (due m))) there.is
+    ∙ ap (λ (k : ℕ). map (message_kept place k) (map (outgoing value) (due value)))
+    (counter_is gateways place {log = log} there.counts)
+    ∙ same_messages gateways place stands.few_gateways log (due value) in
+    let log_is : (ticking gateways place log).log ≡ logged (tick_entries n) log =
+    cc (running_log v number place n is none there, there.is) in
+    let here : IsAtNode v (event.Tick number) place log (ticking gateways place) =
+    assumption (ap (λ (k : ℕ). at_node v.world k (ticking gateways k)) is) in
+    does_node law v (event.Tick number) place n there (ticking gateways place) (tick_entries n) here log_is
+    (follow_all (tick_entries n) log (plain_tick n))
+    (counts_plain (tick_entries n) {log = log} (plain_tick n) there.counts) before after after old mid new stands rest
+    nodes (rw sends_are at sends) (sym (append-nil after))
+
+-- Records that a draft takes, one after the other.
+
+left_is : (rs : List (List ℕ)) (k : ℕ) {r : _} → k < length rs → r ≡ get_or rs k r → drop k rs ≡ r ∷ drop (suc k) rs
+left_is rs k {r} less is = cc (drop-cons rs k r less)
+
+pub more_taken : (form : PacketForm) (rs : List (List ℕ)) (k : ℕ) (r : List ℕ) → k < length rs → r ≡ get_or rs k r →
+    addition_fault form r ≡ None → with_records form (drop k rs) ≡ with_records (with_record form r) (drop (k + 1) rs)
+more_taken form rs k r less is none =
+    let next : suc k ≡ k + 1 = omega arith in
+    cc (left_is rs k less is)
+
+pub fault_is : (fault : DraftFault) → fault ≢ NoMemory → addition_fault_of fault ≡ Some fault
+fault_is fault not = grind arith
+
+pub fault_taken : (form : PacketForm) (rs : List (List ℕ)) (k : ℕ) (r : List ℕ) (fault : DraftFault) → k < length rs →
+    r ≡ get_or rs k r → addition_fault_of fault ≡ addition_fault form r → fault ≢ NoMemory →
+    with_records form (drop k rs) ≡ Err fault
+fault_taken form rs k r fault less is told not = cc (left_is rs k less is, fault_is fault not)
+
+-- What a packet that is submitted makes of a replay.
 
 -- The packet.
 
@@ -46,12 +191,7 @@ takes_records : (form : PacketForm) (records : List (List ℕ)) (out : PacketFor
     with_records form records ≡ Ok out → Takes form records out
 takes_records form [] out is =
     let same : form ≡ out = cc in
-    record {
-      takes = refl;
-      format = ap (λ (f : PacketForm). f.format) (sym same);
-      version = ap (λ (f : PacketForm). f.version) (sym same);
-      all = ap (λ (f : PacketForm). f.records) (sym same) ∙ sym (append-nil form.records);
-    }
+    record { takes = refl; format = cc; version = cc; all = cc (append-nil form.records) }
 takes_records form (octets ∷ records) out is =
     by (addition_fault form octets) refl is (takes_records (with_record form octets) records out)
   where
@@ -62,81 +202,62 @@ takes_records form (octets ∷ records) out is =
     by None e is taken =
         let later : Takes (with_record form octets) records out = taken is in
         record {
-          takes = ap (λ (o : Option DraftFault).
-              if is_fault_free o then takes_all (with_record form octets) records else false) e ∙ later.takes;
+          takes = cc later.takes;
           format = later.format;
           version = later.version;
           all = later.all ∙ append_assoc form.records (octets ∷ []) records;
         }
-    by (Some fault) e is taken = absurd cc
+    by (Some fault) e is taken = cc
 
 -- a draft that took these records, of which there are some, is a packet that is read back
-pub draft_read : (format version : ℕ) (records : List (List ℕ)) (out : PacketForm) →
-    drafted format version records ≡ Ok out → is_without_records out ≡ false → IsPacket (packet_of_form out) →
-    draft_of (value_octets out) ≡ Some out
-draft_read format version records out is some whole = by out.records refl
+pub draft_read : (format version : ℕ) (records : List (List ℕ)) {out : _} → drafted format version records ≡ Ok out →
+    is_without_records out ≡ false → IsPacket (packet_of_form out) → draft_of (value_octets out) ≡ Some out
+draft_read format version records {out} is some whole = by out.records refl
   where
     taken : Takes (packet_anew format version) records out
-    taken = takes_records (packet_anew format version) records out is
+    taken = takes_records _ _ out is
 
     takes_own : takes_all (packet_anew out.format out.version) out.records ≡ true
-    takes_own =
-        ap (λ (f : ℕ). takes_all (packet_anew f out.version) out.records) taken.format
-        ∙ ap (λ (n : ℕ). takes_all (packet_anew format n) out.records) taken.version
-        ∙ ap (λ (rs : List (List ℕ)). takes_all (packet_anew format version) rs) taken.all ∙ taken.takes
+    takes_own = cc (taken.format, taken.version, taken.all, taken.takes)
 
     is_one : is_draft out ≡ true
-    is_one =
-        ap (λ (b : Bool). not b && takes_all (packet_anew out.format out.version) out.records) some ∙ takes_own
+    is_one = cc takes_own
 
     by : (rs : List (List ℕ)) → out.records ≡ rs → draft_of (value_octets out) ≡ Some out
-    by [] e =
-        let none : is_without_records out ≡ true = ap (λ (rs : List (List ℕ)). is_without_records (record out { records = rs })) e in
-        absurd cc
+    by [] e = cc
     by (r ∷ rs) e =
         let read : packet_of (value_octets out) ≡ Some out =
         subst (λ (f : PacketForm). IsPacket (packet_of_form f) → packet_of (value_octets f) ≡ Some f)
         (λ i. record { format = out.format; version = out.version; records = sym e i })
         (λ (w : IsPacket (packet_of_form (record out { records = r ∷ rs }))). w) whole in
-        ap (λ (o : Option PacketForm). option_and_then (λ form. if is_draft form then Some form else None) o) read
-        ∙ ap (λ (b : Bool). if b then Some out else None) is_one
+        cc is_one
 
 -- Steps.
 
 -- one step that doesn't end the line
-pub one_step : (v : ReplayValue) (step : Step) (before after : List ℕ) (r : Replay) → ends_line v step ≡ false →
+pub one_step : {v step before after r : _} → ends_line v step ≡ false →
     Does v step before after r → DoesAll v (step ∷ []) before after r true
-one_step v step before after r goes does = record {
-  makes = record {
-    stands = subst (λ (b : Bool). Stands (if b then after_step v step else after_step v step) r) (sym goes) does.stands;
-    prints = does.prints
-        ∙ ap (λ (ns : List Notice). before ++ notice_lines ns) (sym (append-nil (step_notices v step)))
-        ∙ ap (λ (b : Bool). before ++ notice_lines (step_notices v step ++ (if b then [] else []))) (sym goes);
-  };
-  goes = ap (λ (b : Bool). if b then false else true) (sym goes);
+one_step {v} {step} goes does = record {
+  makes = record { stands = rw goes does.stands; prints = cc (does.prints, append-nil (step_notices v step)) };
+  goes = cc;
 }
 
 -- what prints nothing prints nothing behind a text
-pub does_behind : (v : ReplayValue) (step : Step) (text : List ℕ) (r : Replay) → Does v step [] [] r → Does v step text text r
-does_behind v step text r done = record {
-  stands = done.stands;
-  prints = sym (append-nil text) ∙ ap (λ (t : List ℕ). text ++ t) done.prints;
-}
+pub does_behind : {v step : _} (text : List ℕ) {r : _} → Does v step [] [] r → Does v step text text r
+does_behind text done = record { stands = done.stands; prints = cc (append-nil text, done.prints) }
 
 -- a step that only tells something changes nothing
 tells_only : (v : ReplayValue) (notice : Notice) → after_step v (Tells notice) ≡ v
 tells_only v notice =
-    let none : sent_by v (Tells notice) ≡ [] =
-    ap (λ (ms : _). enumerate_from (suc (length v.world.messages)) ms) (drop_all v.world.messages) in
     let waits : (after_step v (Tells notice)).waiting ≡ v.waiting =
-    ap (λ (ss : _). v.waiting ++ map (λ (s : _). s.0) ss) none ∙ append-nil v.waiting in
+    cc (drop_all v.world.messages, append-nil v.waiting) in
     λ i. record { setup = v.setup; world = v.world; machines = v.machines; waiting = waits i }
 
-pub does_tell : (v : ReplayValue) (notice : Notice) (before after : List ℕ) (r : Replay) → Stands v r →
+pub does_tell : {v : _} (notice : Notice) (before : List ℕ) {after r : _} → Stands v r →
     after ≡ before ++ notice_line notice → Does v (Tells notice) before after r
-does_tell v notice before after r stands tells = record {
-  stands = subst (λ (u : ReplayValue). Stands u r) (sym (tells_only v notice)) stands;
-  prints = tells ∙ ap (λ (text : List ℕ). before ++ text) (sym (append-nil (notice_line notice)));
+does_tell {v} notice before stands tells = record {
+  stands = rw (tells_only v notice) stands;
+  prints = cc (append-nil (notice_line notice));
 }
 
 -- A packet that is submitted to a node that runs.
@@ -145,138 +266,101 @@ module _ (v : ReplayValue) (number place : ℕ) (n : NodeValue) (old : Replay) (
     (is : number - 1 ≡ place) (none : no_running_node v.world number ≡ None) (has : slice_get old.nodes.items place ≡ Some n)
     (form : PacketForm) (octets : List ℕ) (read : draft_of octets ≡ Some form) where
   there : NodeAt v place n
-  there = node_at v old stands place n has
+  there = node_at v old stands _ has
 
   abbrev gateways : ℕ
   gateways = length v.world.gateways
 
   here : IsAtNode v (event.Submit number octets) place there.log (submitting gateways place octets)
-  here = record {
-    no_site = refl;
-    machines = refl;
-    has_log = there.has_log;
-    allowed = none;
-    moves = ap (λ k. at_node v.world k (submitting gateways k octets)) is;
-  }
+  here = record { no_site = refl; machines = refl; has_log = there.has_log; allowed = none; moves = cc }
 
   call_is : submitting gateways place octets there.log ≡ called gateways place (Submit form) there.log
-  call_is = ap (λ (o : Option PacketForm). submitting_form gateways place o there.log) read
+  call_is = cc
 
   log_is : (submitting gateways place octets there.log).log ≡ logged (submit_entries n (refusal n form) form) there.log
   log_is =
       ap (λ (c : Called). c.log) call_is
-      ∙ ap (λ (b : Bool). logged (if b then entries_running (node_value gateways place there.log) (Submit form)
+      ∙ ap (λ b. logged (if b then entries_running (node_value gateways place there.log) (Submit form)
       else entries_halted (Submit form)) there.log) (running_log v number place n is none there)
-      ∙ ap (λ (k : NodeValue). logged (submit_entries k (refusal k form) form) there.log) (sym there.is)
+      ∙ ap (λ k. logged (submit_entries k (refusal k form) form) there.log) (sym there.is)
 
   sends_are : [] ≡ (submitting gateways place octets there.log).sends
-  sends_are = sym (ap (λ (c : Called). c.sends) call_is)
+  sends_are = cc call_is
 
   last_is : notices_last v (event.Submit number octets) ≡ submitted_notices place n (refusal n form)
-  last_is =
-      ap (λ (k : ℕ). submit_notices v k (draft_of octets)) is
-      ∙ ap (λ (o : Option PacketForm). submit_notices v place o) read
-      ∙ ap (λ (log : List LogEntry).
-      submitted_notices place (node_value gateways place log) (refusal (node_value gateways place log) form))
-      (log_there v.world place there.log there.has_log)
-      ∙ ap (λ (k : NodeValue). submitted_notices place k (refusal k form)) (sym there.is)
+  last_is = cc (log_there v.world _ there.has_log, there.is)
 
   -- these entries befell the node, and this is told of it
-  follows_by : NodeLaw → (entries : List LogEntry) (before told : List ℕ) (new : Replay) →
+  follows_by : NodeLaw → (entries : List LogEntry) (before : List ℕ) {told : _} (new : Replay) →
       submit_entries n (refusal n form) form ≡ entries → CanFollowAll entries there.log →
       CountsStarts (logged entries there.log) → new ≡ record old { nodes = new.nodes } →
       new.nodes.items ≡ set old.nodes.items place (befallen entries n) →
       told ≡ before ++ notice_lines (submitted_notices place n (refusal n form)) →
       Does v (Plays (event.Submit number octets)) before told new
-  follows_by law entries before told new entries_are follow counts rest nodes tells =
-      does_node law v (event.Submit number octets) place n there (submitting gateways place octets) entries here
-      (log_is ∙ ap (λ (es : List LogEntry). logged es there.log) entries_are) follow counts before before told old new new
-      stands rest nodes
-      (subst (λ (ms : List Message). HasSent ms before before new new) sends_are (sent_none before new))
-      (tells ∙ ap (λ (ns : List Notice). before ++ notice_lines ns) (sym last_is))
+  follows_by law entries before new entries_are follow counts rest nodes tells =
+      does_node law v _ _ n there _ _ here (log_is ∙ ap (λ es. logged es there.log) entries_are) follow counts _ _ _ old
+      new new stands rest nodes (rw sends_are at (sent_none before new))
+      (tells ∙ ap (λ ns. before ++ notice_lines ns) (sym last_is))
 
   -- what is told, on this side of the most packets
-  told_by : (before : List ℕ) (b : Bool) → nat_lt n.submissions most_submissions ≡ b →
+  told_by : (before : List ℕ) {b : _} → nat_lt n.submissions most_submissions ≡ b →
       before ++ notice_lines (if b then submitted_notice place n (refusal n form) ∷ [] else [])
       ≡ before ++ notice_lines (submitted_notices place n (refusal n form))
-  told_by before b side =
-      ap (λ (c : Bool). before ++ notice_lines (if c then submitted_notice place n (refusal n form) ∷ [] else []))
-      (sym side)
+  told_by before side = cc
 
   told_below : (before : List ℕ) → nat_lt n.submissions most_submissions ≡ true →
       before ++ notice_lines (submitted_notice place n (refusal n form) ∷ [])
       ≡ before ++ notice_lines (submitted_notices place n (refusal n form))
-  told_below before few = told_by before true few
+  told_below before few = told_by _ few
 
-  pub submitted : NodeLaw → (before told : List ℕ) (new : Replay) → refusal n form ≡ None →
+  pub submitted : NodeLaw → (before : List ℕ) {told : _} (new : Replay) → refusal n form ≡ None →
       nat_lt n.submissions most_submissions ≡ true → new ≡ record old { nodes = new.nodes } →
       new.nodes.items ≡ set old.nodes.items place (befell (Submitted form) n) →
       told ≡ before ++ notice_line (Took place (suc n.submissions)) →
       Does v (Plays (event.Submit number octets)) before told new
-  submitted law before told new taken few rest nodes tells =
-      follows_by law (Submitted form ∷ []) before told new
-      (ap (λ (o : Option SubmitFault). submit_entries n o form) taken
-      ∙ ap (λ (b : Bool). if b then Submitted form ∷ [] else []) few)
-      (tt, tt) (counts_plain (Submitted form ∷ []) there.log refl there.counts) rest nodes
-      (tells ∙ ap (λ (text : List ℕ). before ++ text) (sym (append-nil (notice_line (Took place (suc n.submissions)))))
-      ∙ ap (λ (o : Option SubmitFault). before ++ notice_lines (submitted_notice place n o ∷ [])) (sym taken)
-      ∙ told_below before few)
+  submitted law before {told} new taken few rest nodes tells =
+      follows_by law (Submitted form ∷ []) before {told = told} new (cc) (tt, tt)
+      (counts_plain (Submitted form ∷ []) {log = there.log} refl there.counts) rest nodes
+      (cc (append-nil (notice_line (Took place (suc n.submissions))), told_below before few))
 
-  pub refused : NodeLaw → (before told : List ℕ) (new : Replay) (fault : SubmitFault) → refusal n form ≡ Some fault →
-      nat_lt n.submissions most_submissions ≡ true → new ≡ record old { nodes = new.nodes } → new.nodes.items ≡ set old.nodes.items place n →
-      told ≡ before ++ notice_line (Refused (submit_fault_name fault)) →
+  pub refused : NodeLaw → (before : List ℕ) {told : _} (new : Replay) {fault : _} → refusal n form ≡ Some fault →
+      nat_lt n.submissions most_submissions ≡ true → new ≡ record old { nodes = new.nodes } →
+      new.nodes.items ≡ set old.nodes.items place n → told ≡ before ++ notice_line (Refused (submit_fault_name fault)) →
       Does v (Plays (event.Submit number octets)) before told new
-  refused law before told new fault is_refused few rest nodes tells =
-      follows_by law [] before told new (ap (λ (o : Option SubmitFault). submit_entries n o form) is_refused)
-      tt there.counts rest nodes
-      (tells ∙ ap (λ (text : List ℕ). before ++ text) (sym (append-nil (notice_line (Refused (submit_fault_name fault)))))
-      ∙ ap (λ (o : Option SubmitFault). before ++ notice_lines (submitted_notice place n o ∷ [])) (sym is_refused)
-      ∙ told_below before few)
+  refused law before new {fault} is_refused few rest nodes tells =
+      follows_by law [] _ new (cc) tt there.counts rest nodes
+      (tells ∙ ap (λ text. before ++ text) (sym (append-nil (notice_line (Refused (submit_fault_name fault)))))
+      ∙ ap (λ o. before ++ notice_lines (submitted_notice place n o ∷ [])) (sym is_refused) ∙ told_below before few)
 
   -- past the most packets none is taken
   pub full : NodeLaw → (before : List ℕ) → nat_lt n.submissions most_submissions ≡ false →
       Does v (Plays (event.Submit number octets)) before before old
   full law before all =
-      follows_by law [] before before old (nothing (refusal n form)) tt there.counts refl
-      (sym (set_same old.nodes.items place n has)) (sym (append-nil before) ∙ told_by before false all)
+      follows_by law [] _ old (nothing (refusal n form)) tt there.counts refl (sym (set_same _ _ has))
+      (sym (append-nil before) ∙ told_by before all)
     where
       nothing : (o : Option SubmitFault) → submit_entries n o form ≡ []
-      nothing None = ap (λ (b : Bool). if b then Submitted form ∷ [] else []) all
+      nothing None = cc
       nothing (Some fault) = refl
 
 -- A draft without records is no packet, and does nothing.
 
 octets_none : (form : PacketForm) → is_without_records form ≡ true → draft_of (value_octets form) ≡ None
-octets_none form none = by form.records refl
-  where
-    by : (rs : List (List ℕ)) → form.records ≡ rs → draft_of (value_octets form) ≡ None
-    by [] e = ap (λ (rs : List (List ℕ)). draft_of (value_octets_of rs form)) e
-    by (r ∷ rs) e =
-        let some : is_without_records form ≡ false = ap (λ (l : List (List ℕ)). length l == 0) e ∙ grind arith in
-        absurd cc
+octets_none form none = grind (arith, nat_tests)
 
 same_log : (w : World) (k gateways : ℕ) (octets : List ℕ) → draft_of octets ≡ None →
     at_node w k (submitting gateways k octets) ≡ w
-same_log w k gateways octets none = by (slice_get w.nodes k) refl
-  where
-    by : (o : Option (List LogEntry)) → slice_get w.nodes k ≡ o →
-        option_map_or (λ log. node_called w k (submitting gateways k octets log)) o w ≡ w
-    by None is = refl
-    by (Some log) is =
-        let nodes : set w.nodes k log ≡ w.nodes = set_same w.nodes k log is in
-        let messages : w.messages ++ [] ≡ w.messages = append-nil w.messages in
-        ap (λ (o : Option PacketForm). node_called w k (submitting_form gateways k o log)) none
-        ∙ (λ i. record { gateways = w.gateways; nodes = nodes i; now = w.now; messages = messages i })
+same_log w k gateways octets none = grind (arith, append-nil, set_same)
 
-pub emptied : (v : ReplayValue) (number : ℕ) (form : PacketForm) (before : List ℕ) (old : Replay) → Stands v old →
+pub emptied : (v : ReplayValue) (number : ℕ) (form : PacketForm) (before : List ℕ) {old : _} → Stands v old →
     no_running_node v.world number ≡ None → is_without_records form ≡ true →
     Does v (Plays (event.Submit number (value_octets form))) before before old
-emptied v number form before old stands none empty =
-    let octets : List ℕ = value_octets form in
-    let no_draft : draft_of octets ≡ None = octets_none form empty in
-    does_nothing v (event.Submit number octets) refl refl
-    (ap (λ (o : Option WorldKind). unless_refused o v.world
+emptied v number form before stands none empty =
+    let octets = value_octets form in
+    let no_draft = octets_none _ empty in
+    does_nothing v _ refl refl
+    (ap
+    (λ o. unless_refused o v.world
     (at_node v.world (number - 1) (submitting (length v.world.gateways) (number - 1) octets))) none
-    ∙ same_log v.world (number - 1) (length v.world.gateways) octets no_draft) before before old stands
-    (sym (append-nil before)
-    ∙ ap (λ (o : Option PacketForm). before ++ notice_lines (submit_notices v (number - 1) o)) (sym no_draft))
+    ∙ same_log v.world (number - 1) (length v.world.gateways) octets no_draft) _ stands
+    (sym (append-nil before) ∙ ap (λ o. before ++ notice_lines (submit_notices v (number - 1) o)) (sym no_draft))

@@ -1,13 +1,12 @@
 -- What a replay that stands for a value tells of the gateways and the nodes of its world.
-use Rattle.std.proofs.Common.{◌≡◌, ◌∙◌, refl, sym, ap, subst, ℕ, ◌+◌, Bool, true, false, List, [], length, Option, Some, None, option_map, slice_get, arith}
+use Rattle.std.proofs.Common.{◌≡◌, ◌∙◌, refl, ap, subst, ℕ, ◌+◌, Bool, true, false, List, ◌<◌, get_or, length, Option, Some, None, option_map, slice_get, arith, ◌++◌, IfSome, MatchOption}
 use Rattle.std.specs.Option.{option_map_or}
-use Rattle.std.proofs.lemmas.Option.{get_or_from_slice_get, slice_get_within}
+use Rattle.std.proofs.lemmas.Option.{get_or_from_slice_get, slice_get_read, slice_get_within}
 use Rattle.node_core.specs.Log.{LogEntry, runs}
 use Rattle.node_core.specs.Value.{NodeValue}
 use Rattle.once_core.specs.Expired.{starts_in}
 use Rattle.once_core.specs.Gateway.{Gateway}
 use Rattle.once_core.specs.World.{log_at, node_value}
-use Rattle.once_core.specs.declared.message.Message.{Message}
 use Rattle.replay_world.specs.Stands.{CountsStarts, Stands}
 use Rattle.replay_gateway.specs.Standing.{MachineStands}
 use Rattle.replay_gateway.specs.Machine.{Machine}
@@ -17,6 +16,17 @@ use Rattle.replay_gateway.specs.declared.machine.Machine as real
 use Rattle.replay_world.specs.declared.replay.Replay.{Replay}
 use Rattle.replay_world.proofs.NodeStepLemmas.{counter_is}
 use Rattle.replay_world.proofs.StandsLemmas.{StandsAt, each_at, each_lengths, nodes_get, nodes_length}
+use Rattle.replay_world.specs.Notices.{Refused, notice_line}
+
+-- What stands in a place that was read.
+pub read_at : {A : Type 0} (xs : List A) {place : _} {index : ℕ} {x : A} → index ≡ place → index < length xs →
+    x ≡ get_or xs index x → slice_get xs place ≡ Some x
+read_at xs {index} {x} is less read = rw is at (slice_get_read xs (length xs) index x refl less read)
+
+-- the same, where the list was borrowed
+pub read_in : {A : Type 0} {ys place : _} {xs : List A} {index : ℕ} {x : A} → xs ≡ ys → index ≡ place →
+    index < length xs → x ≡ get_or xs index x → slice_get ys place ≡ Some x
+read_in {xs} same is less read = rw same at (read_at xs is less read)
 
 -- A node of a replay, and the log that it stands for.
 pub record NodeAt (v : ReplayValue) (k : ℕ) (n : NodeValue) : Type 0 where
@@ -27,17 +37,16 @@ pub record NodeAt (v : ReplayValue) (k : ℕ) (n : NodeValue) : Type 0 where
 
 module _ (v : ReplayValue) (r : Replay) (stands : Stands v r) where
   pub gateways_count : length r.gateways.items ≡ length v.world.gateways
-  gateways_count = (each_lengths v.setup 0 v.world.gateways v.machines r.gateways.items stands.gateways).1
+  gateways_count = (each_lengths _ 0 _ _ _ stands.gateways).1
 
   pub nodes_count : length r.nodes.items ≡ length v.world.nodes
-  nodes_count =
-      ap (λ (ns : List NodeValue). length ns) stands.nodes ∙ nodes_length (length v.world.gateways) 0 v.world.nodes
+  nodes_count = cc (stands.nodes, nodes_length (length v.world.gateways) 0 v.world.nodes)
 
   pub messages_count : length r.messages.items ≡ length v.world.messages
-  messages_count = ap (λ (ms : List Message). length ms) stands.messages
+  messages_count = cc stands.messages
 
-  pub node_at : (k : ℕ) (n : NodeValue) → slice_get r.nodes.items k ≡ Some n → NodeAt v k n
-  node_at k n is = by (slice_get v.world.nodes k) refl
+  pub node_at : (k : ℕ) {n : _} → slice_get r.nodes.items k ≡ Some n → NodeAt v k n
+  node_at k {n} is = by (slice_get v.world.nodes k) refl
     where
       get_is : slice_get r.nodes.items k
           ≡ option_map (node_value (length v.world.gateways) k) (slice_get v.world.nodes k)
@@ -49,12 +58,10 @@ module _ (v : ReplayValue) (r : Replay) (stands : Stands v r) where
 
       by : (o : Option (List LogEntry)) → slice_get v.world.nodes k ≡ o → NodeAt v k n
       by None e =
-          let none : slice_get r.nodes.items k ≡ None =
-          get_is ∙ ap (λ (l : Option (List LogEntry)). option_map (node_value (length v.world.gateways) k) l) e in
+          let none : slice_get r.nodes.items k ≡ None = cc get_is in
           absurd cc
       by (Some log) e =
-          let some : slice_get r.nodes.items k ≡ Some (node_value (length v.world.gateways) k log) =
-          get_is ∙ ap (λ (l : Option (List LogEntry)). option_map (node_value (length v.world.gateways) k) l) e in
+          let some : slice_get r.nodes.items k ≡ Some (node_value (length v.world.gateways) k log) = cc get_is in
           record {
             log = log;
             has_log = e;
@@ -64,50 +71,47 @@ module _ (v : ReplayValue) (r : Replay) (stands : Stands v r) where
           }
 
   no_log : (k : ℕ) → slice_get r.nodes.items k ≡ None → slice_get v.world.nodes k ≡ None
-  no_log k is = by (slice_get v.world.nodes k) refl
-    where
-      get_is : slice_get r.nodes.items k
-          ≡ option_map (node_value (length v.world.gateways) (0 + k)) (slice_get v.world.nodes k)
-      get_is =
-          ap (λ (ns : List NodeValue). slice_get ns k) stands.nodes
-          ∙ nodes_get (length v.world.gateways) 0 v.world.nodes k
-
-      by : (o : Option (List LogEntry)) → slice_get v.world.nodes k ≡ o → slice_get v.world.nodes k ≡ None
-      by None e = e
-      by (Some log) e =
-          let some : slice_get r.nodes.items k ≡ Some (node_value (length v.world.gateways) (0 + k) log) =
-          get_is ∙ ap (λ (l : Option (List LogEntry)). option_map (node_value (length v.world.gateways) (0 + k)) l) e in
-          absurd cc
+  no_log k is = grind (arith, nodes_get)
 
   pub node_runs : (k : ℕ) (n : NodeValue) → slice_get r.nodes.items k ≡ Some n → n.is_running ≡ runs (log_at v.world k)
   node_runs k n is =
-      let here : NodeAt v k n = node_at k n is in
-      ap (λ (m : NodeValue). m.is_running) here.is
-      ∙ sym (ap (λ (o : Option (List LogEntry)). runs (option_map_or (λ log. log) o [])) here.has_log)
+      let here = node_at k is in
+      cc (here.is, here.has_log)
 
   pub no_node_runs : (k : ℕ) → slice_get r.nodes.items k ≡ None → runs (log_at v.world k) ≡ false
-  no_node_runs k is = ap (λ (o : Option (List LogEntry)). runs (option_map_or (λ log. log) o [])) (no_log k is)
+  no_node_runs k is = cc (no_log k is)
 
   pub node_starts : (k : ℕ) (n : NodeValue) → slice_get r.nodes.items k ≡ Some n →
       n.paths.counter ≡ starts_in (log_at v.world k)
   node_starts k n is =
-      let here : NodeAt v k n = node_at k n is in
-      ap (λ (m : NodeValue). m.paths.counter) here.is
-      ∙ counter_is (length v.world.gateways) k here.log here.counts
-      ∙ sym (ap (λ (o : Option (List LogEntry)). starts_in (option_map_or (λ log. log) o [])) here.has_log)
+      let here = node_at k is in
+      cc (here.is, counter_is (length v.world.gateways) k here.counts, here.has_log)
 
   pub no_node_starts : (k : ℕ) → slice_get r.nodes.items k ≡ None → starts_in (log_at v.world k) ≡ 0
-  no_node_starts k is = ap (λ (o : Option (List LogEntry)). starts_in (option_map_or (λ log. log) o [])) (no_log k is)
+  no_node_starts k is = cc (no_log k is)
 
-  pub gateway_at : (k : ℕ) (m : real.Machine) → slice_get r.gateways.items k ≡ Some m →
+  pub gateway_at : (k : ℕ) {m : _} → slice_get r.gateways.items k ≡ Some m →
       StandsAt v.setup 0 v.world.gateways v.machines k m
-  gateway_at k m is = each_at v.setup 0 v.world.gateways v.machines r.gateways.items stands.gateways k m is
+  gateway_at k is = each_at _ 0 _ _ _ stands.gateways k is
 
   -- what a machine tells of every gateway that it stands for
   pub gateway_down : (k : ℕ) (m : real.Machine) (b : Bool) → slice_get r.gateways.items k ≡ Some m →
       ((setup : Setup) (place : ℕ) (g : Gateway) (w : Machine) → MachineStands setup place g w m → b ≡ g.is_down) →
       b ≡ option_map_or (λ (g : Gateway). g.is_down) (slice_get v.world.gateways k) true
   gateway_down k m b is told =
-      let here : StandsAt v.setup 0 v.world.gateways v.machines k m = gateway_at k m is in
-      told v.setup (0 + k) here.gateway here.machine here.stands
-      ∙ sym (ap (λ (o : Option Gateway). option_map_or (λ (g : Gateway). g.is_down) o true) here.has_gateway)
+      let here = gateway_at k is in
+      cc (told v.setup (0 + k) here.gateway here.machine here.stands, here.has_gateway)
+
+-- The reason of a refusal that is told.
+
+pub reason_told : {N : Type 0} (name : Option N) (now : N → List ℕ) (reason before after : List ℕ) →
+    IfSome name (λ n. now n ≡ reason) → MatchOption name ⊥ (λ n. after ≡ before ++ notice_line (Refused (now n))) →
+    after ≡ before ++ notice_line (Refused reason)
+reason_told None now reason before after named told = absurd told
+reason_told (Some n) now reason before after named told =
+    told ∙ ap (λ r. before ++ notice_line (Refused r)) named
+
+-- what is said of one that is there
+pub reason_there : {N P : Type 0} (Q : N → Type 0) (name : Option N) → IfSome name (λ n. P) → MatchOption name ⊥ Q → P
+reason_there Q None said told = absurd told
+reason_there Q (Some n) said told = said

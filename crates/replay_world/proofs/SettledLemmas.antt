@@ -1,26 +1,23 @@
 -- What a settling leaves of each gateway.
-use Rattle.std.proofs.Common.{◌≡◌, ◌∙◌, refl, sym, ap, subst, ℕ, zero, suc, ◌+◌, ◌-◌, ◌==◌, ◌≤◌, ◌<◌, ◌||◌, Bool, true, false, true≢false, if◌then◌else◌, List, [], ◌∷◌, ◌++◌, length, set, Option, Some, None, slice_get, arith, append_assoc, length-set, eq-eqb, eqb-true}
+use Rattle.std.proofs.Common.{◌≡◌, ◌∙◌, refl, sym, ap, subst, ℕ, zero, suc, ◌+◌, ◌-◌, ◌==◌, ◌≤◌, ◌<◌, ◌||◌, Bool, true, false, if◌then◌else◌, List, [], ◌∷◌, ◌++◌, length, set, Option, Some, None, slice_get, arith, append_assoc, length-set, eq-eqb, eqb-true}
 use Rattle.std.specs.List.{flat_map, range_with_len}
 use Rattle.std.specs.Option.{option_map_or}
 use Rattle.std.proofs.lemmas.Option.{slice_get_within}
 use Rattle.area_disk.specs.Armed.Armed.{Nothing}
-use Rattle.gateway_answer.specs.Answered.{entry_by, no_caller}
-use Rattle.gateway_book.specs.Comes.{Asked}
+use Rattle.gateway_answer.specs.Answered.{no_caller}
 use Rattle.gateway_answer.specs.Items.{items_of}
-use Rattle.gateway_book.specs.Up.{Sequel, GoesOn, fortune_by}
+use Rattle.gateway_book.specs.Up.{GoesOn, fortune_by}
 use Rattle.gateway_answer.specs.Value.{BookValue, Fortune, Gone, Whole, committed, history_of, recorded, reopened}
 use Rattle.gw_base.specs.EntryLaws.{is_close_due-append}
 use Rattle.gw_base.specs.History.{is_close_due}
 use Rattle.gw_base.specs.declared.history.HistoryAct.TheVariants.{Close}
 use Rattle.gw_base.specs.declared.history.HistoryEntry.{HistoryEntry}
 use Rattle.once_core.specs.Answers.{making_close, marked}
-use Rattle.once_core.specs.Gateway.{Gateway, Moved, Rules, book_committing, committing, giving_up, opened, readying, settling, still}
-use Rattle.once_core.specs.Turn.{is_down_in, no_gateway, no_running_gateway, refusing}
+use Rattle.once_core.specs.Gateway.{Gateway, Rules, book_committing, committing, opened, readying, still}
+use Rattle.once_core.specs.Turn.{is_down_in, no_gateway, no_running_gateway}
 use Rattle.once_core.specs.World.{World}
 use Rattle.once_core.specs.declared.event.Event.{Event}
 use Rattle.once_core.specs.declared.event.Event.TheVariants as event
-use Rattle.once_core.specs.declared.event.WorldKind.TheVariants.{NoGateway}
-use Rattle.once_core.specs.declared.message.Message.{Message}
 use Rattle.replay_world.specs.Events.{asked_of}
 use Rattle.replay_gateway.specs.Device.{machine_after, sequel_on}
 use Rattle.replay_world.specs.Does.{goes_on}
@@ -29,17 +26,18 @@ use Rattle.replay_gateway.specs.Moves.{moved_by}
 use Rattle.replay_gateway.specs.AtRest.{AreShut, IsAllWritten}
 use Rattle.replay_world.specs.Settled.{AreWritten, HaveMachines}
 use Rattle.replay_world.specs.Settling.{AreUnarmed, IsIdle}
-use Rattle.replay_gateway.specs.Setup.{Setup, files_in, rules_in}
+use Rattle.replay_gateway.specs.Setup.{files_in, rules_in}
 use Rattle.replay_world.specs.Steps.{Step, Disarms, Plays, Writes, after_step, ends_line, machines_at, machines_in, site_of}
-use Rattle.replay_gateway.specs.Machine.{Filing, Machine, unarmed as unarmed_one}
+use Rattle.replay_gateway.specs.Machine.{Machine, unarmed as unarmed_one}
 use Rattle.replay_world.specs.Value.{ReplayValue}
-use Rattle.replay_world.proofs.CalmLemmas.{commit_stays_up, close_stays_up, found, get_other, get_same, line_goes_on, running_there, sets_at, stays_set, there_then, unarmed_after, unarmed_there, goes_on_then}
+use Rattle.replay_world.proofs.CalmLemmas.{close_stays_up, found, get_other, get_same, line_goes_on, running_there, sets_at, stays_set, there_then, unarmed_after, unarmed_there, goes_on_then}
 use Rattle.replay_world.proofs.QuietLemmas.{filed_machine, machines_stay, plays, writes}
-use Rattle.replay_world.proofs.SetLemmas.{Sets}
-use Rattle.replay_world.proofs.SettleLemmas.{calm_filing, disarmed_world, disarms, lesser, may_open, unarmed_from}
-use Rattle.replay_world.proofs.StepLemmas.{IsAt}
+use Rattle.replay_world.proofs.StandsLemmas.{Sets}
+use Rattle.replay_world.proofs.SettleLemmas.{calm_filing, closes_at, commits_at, disarmed_world, disarms, lesser, may_open, unarmed_from}
+use Rattle.replay_world.proofs.GatewayEventLemmas.{IsAt}
 use Rattle.replay_world.proofs.StepsLemmas.{after_append, goes_append}
 use Rattle.replay_world.proofs.TakenSteps.{is_there}
+use Rattle.replay_world.proofs.TakenWorlds.{committing_stays}
 
 -- Steps that are all made, and what they come to.
 record Runs (v : ReplayValue) (steps : List Step) (u : ReplayValue) : Type 0 where
@@ -49,20 +47,15 @@ record Runs (v : ReplayValue) (steps : List Step) (u : ReplayValue) : Type 0 whe
 runs_none : (v : ReplayValue) → Runs v [] v
 runs_none v = record { goes = refl; after = refl }
 
-runs_step : (v : ReplayValue) (step : Step) (later : List Step) (u : ReplayValue) → ends_line v step ≡ false →
+runs_step : (v : ReplayValue) (step : Step) {later u : _} → ends_line v step ≡ false →
     Runs (after_step v step) later u → Runs v (step ∷ later) u
-runs_step v step later u ends runs =
-    let w : ReplayValue = after_step v step in
-    record {
-      goes = ap (λ (b : Bool). if b then false else goes_on w later) ends ∙ runs.goes;
-      after = ap (λ (b : Bool). if b then w else after_steps w later) ends ∙ runs.after;
-    }
+runs_step v step ends runs =
+    record { goes = cc runs.goes; after = cc runs.after }
 
-runs_append : (v : ReplayValue) (first later : List Step) (u w : ReplayValue) → Runs v first u → Runs u later w →
-    Runs v (first ++ later) w
-runs_append v first later u w did does = record {
-  goes = goes_append v first later did.goes ∙ ap (λ (x : ReplayValue). goes_on x later) did.after ∙ does.goes;
-  after = after_append v first later did.goes ∙ ap (λ (x : ReplayValue). after_steps x later) did.after ∙ does.after;
+runs_append : (v : ReplayValue) {first later u w : _} → Runs v first u → Runs u later w → Runs v (first ++ later) w
+runs_append v {later} did does = record {
+  goes = cc (goes_append v _ later did.goes, did.after, does.goes);
+  after = cc (after_append v _ later did.goes, did.after, does.after);
 }
 
 -- Nothing but the gateway in a place, and what it runs on, has changed; nothing is armed.
@@ -73,8 +66,8 @@ record Alone (v u : ReplayValue) (k : ℕ) : Type 0 where
   pub other_gateways : (j : ℕ) → (j ≡ k → ⊥) → slice_get u.world.gateways j ≡ slice_get v.world.gateways j
   pub other_machines : (j : ℕ) → (j ≡ k → ⊥) → slice_get u.machines j ≡ slice_get v.machines j
 
-alone_then : (v u w : ReplayValue) (k : ℕ) → Alone v u k → Alone u w k → Alone v w k
-alone_then v u w k first later = record {
+alone_then : {v u w k : _} → Alone v u k → Alone u w k → Alone v w k
+alone_then first later = record {
   gateways = later.gateways ∙ first.gateways;
   machines = later.machines ∙ first.machines;
   unarmed = later.unarmed;
@@ -82,17 +75,15 @@ alone_then v u w k first later = record {
   other_machines = λ j other. later.other_machines j other ∙ first.other_machines j other;
 }
 
-alone_set : (v : ReplayValue) (step : Step) (k : ℕ) (g : Gateway) (m : Machine) (sends : List Message) →
-    Sets v step k g m sends → IsIdle m → AreUnarmed v → Alone v (after_step v step) k
-alone_set v step k g m sends sets idle unarmed =
-    let stays = stays_set v step k g m sends sets idle unarmed in
+alone_set : {v step k g m sends : _} → Sets v step k g m sends → IsIdle m → AreUnarmed v → Alone v (after_step v step) k
+alone_set {v} {k} {g} {m} sets idle unarmed =
+    let stays = stays_set v _ k g m _ sets idle unarmed in
     record {
       gateways = stays.count;
-      machines = ap (λ (ms : List Machine). length ms) sets.machines ∙ length-set v.machines k m;
+      machines = cc (sets.machines, length-set v.machines k m);
       unarmed = stays.unarmed;
       other_gateways = stays.others;
-      other_machines = λ j other.
-          ap (λ (ms : List Machine). slice_get ms j) sets.machines ∙ get_other v.machines k j m other;
+      other_machines = λ j other. cc (sets.machines, get_other v.machines k j m other);
     }
 
 -- The gateway with a number is this, and runs on this, and nothing is armed for any.
@@ -103,29 +94,23 @@ record At (v : ReplayValue) (number : ℕ) (g : Gateway) (m : Machine) : Type 0 
   pub machine : slice_get v.machines (number - 1) ≡ Some m
   pub unarmed : AreUnarmed v
 
-idle_at : (v : ReplayValue) (number : ℕ) (g : Gateway) (m : Machine) → At v number g m → IsIdle m
-idle_at v number g m at = unarmed_there v (number - 1) m at.machine at.unarmed
+idle_at : {v number g m : _} → At v number g m → IsIdle m
+idle_at {v} {m} at = unarmed_there v _ m at.machine at.unarmed
 
-runs_at : (v : ReplayValue) (number : ℕ) (g : Gateway) (m : Machine) → At v number g m → g.is_down ≡ false →
-    no_running_gateway v.world number ≡ None
-runs_at v number g m at runs = running_there v.world number g at.from_one at.few at.gateway runs
-
-gateway_is_there : (v : ReplayValue) (number : ℕ) → 1 ≤ number → number ≤ length v.world.gateways →
-    no_gateway v.world number ≡ None
-gateway_is_there v number some few =
-    ap (λ (b : Bool). refusing b NoGateway) (is_there (length v.world.gateways) number some few)
+runs_at : {v number g m : _} → At v number g m → g.is_down ≡ false → no_running_gateway v.world number ≡ None
+runs_at {v} {g} at runs = running_there v.world _ g at.from_one at.few at.gateway runs
 
 -- A step that sets it.
-at_set : (v : ReplayValue) (step : Step) (number : ℕ) (h g : Gateway) (n m : Machine) (sends : List Message) →
+at_set : {v step number h g n m sends : _} →
     At v number h n → Sets v step (number - 1) g m sends → IsIdle m → At (after_step v step) number g m
-at_set v step number h g n m sends at sets idle =
-    let k : ℕ = number - 1 in
-    let alone = alone_set v step k g m sends sets idle at.unarmed in
+at_set {v} {number} {h} {g} {m} at sets idle =
+    let k = number - 1 in
+    let alone = alone_set sets idle at.unarmed in
     record {
       from_one = at.from_one;
-      few = omega (arith, at.few, alone.gateways);
-      gateway = there_then v step k g m sends sets h at.gateway;
-      machine = ap (λ (ms : List Machine). slice_get ms k) sets.machines ∙ get_same v.machines k m n at.machine;
+      few = omega arith;
+      gateway = there_then v _ k g m _ sets h at.gateway;
+      machine = cc (sets.machines, get_same _ k m at.machine);
       unarmed = alone.unarmed;
     }
 
@@ -141,24 +126,20 @@ record MovedTo (v : ReplayValue) (e : Event) (number : ℕ) (g : Gateway) : Type
   pub alone : Alone v (after_step v (Plays e)) (number - 1)
   pub goes : ends_line v (Plays e) ≡ false
 
-moves_to : (v : ReplayValue) (e : Event) (number : ℕ) (g : Gateway) (m : Machine) (move : Fortune → Gateway → Moved)
-    (is : IsAt v e number g m move) → machines_in v e ≡ option_map_or (machines_at v e) (site_of v e) v.machines →
-    At v number g m → MovedTo v e number (move (calm_fortune m) g).gateway
-moves_to v e number g m move is same at =
-    let idle = idle_at v number g m at in
-    let asked : Asked = asked_of v.world g e in
-    let n : Machine = machine_after asked m in
-    let moved : moved_by (sequel_on m asked) move m g ≡ move (calm_fortune m) g =
-    ap (λ (s : Sequel). moved_by s move m g) (goes_on_then m asked idle.0) in
-    let done : Moved = moved_by (sequel_on m asked) move m g in
-    let sets : Sets v (Plays e) (number - 1) done.gateway n done.sends = sets_at v e number g m move is same idle in
+moves_to : {v e number g m move : _} (is : IsAt v e number g m move) → machines_in v e ≡ option_map_or (machines_at v e)
+    (site_of v e) v.machines → At v number g m → MovedTo v e number (move (calm_fortune m) g).gateway
+moves_to {v} {e} {g} {m} {move} is same at =
+    let idle = idle_at at in
+    let asked = asked_of v.world g e in
+    let n = machine_after asked m in
+    let moved : moved_by (sequel_on m asked) move m g ≡ move (calm_fortune m) g = cc (goes_on_then m asked idle.0) in
+    let sets = sets_at v e _ g m _ is same idle in
     let calm = unarmed_after asked m idle in
     record {
       machine = n;
-      at = subst (λ (x : Moved). At (after_step v (Plays e)) number x.gateway n) moved
-          (at_set v (Plays e) number g done.gateway m n done.sends at sets calm);
-      alone = alone_set v (Plays e) (number - 1) done.gateway n done.sends sets calm at.unarmed;
-      goes = line_goes_on v e number g m move is same idle;
+      at = rw moved at (at_set at sets calm);
+      alone = alone_set sets calm at.unarmed;
+      goes = line_goes_on v e _ g m _ is same idle;
     }
 
 -- Books after a commit that doesn't fail.
@@ -170,34 +151,26 @@ book_by true true b is = (refl, refl)
 book_by true false b is = (refl, refl)
 book_by false at_last b is = (is, refl)
 
-firm_by : (broken at_last : Bool) (b : BookValue) → broken ≡ false →
+firm_by : {broken : _} (at_last : Bool) (b : BookValue) → broken ≡ false →
     (if broken then reopened b (if at_last then Whole else Gone) else committed b).firm
     ≡ (if broken then b.firm else b.firm ++ b.rest)
-firm_by true at_last b is = absurd (true≢false is)
-firm_by false at_last b is = refl
-
-book_with : (b : Bool) (w : BookValue) (g : Gateway) →
-    (if b then giving_up (record g { book = w }) else settling (record g { book = w })).gateway.book ≡ w
-book_with true w g = refl
-book_with false w g = refl
+firm_by at_last b is = grind arith
 
 module _ (m : Machine) (g : Gateway) where
   abbrev after_commit : Gateway
   after_commit = (committing (calm_fortune m) g).gateway
 
   commit_book : after_commit.book ≡ book_committing (calm_fortune m) g.book
-  commit_book =
-      book_with (book_committing (calm_fortune m) g.book).is_broken (book_committing (calm_fortune m) g.book) g
+  commit_book = grind arith
 
   commit_whole : after_commit.book.is_broken ≡ false
-  commit_whole = ap (λ (b : BookValue). b.is_broken) commit_book ∙ (book_by g.book.is_broken m.at_last g.book refl).0
+  commit_whole = cc (commit_book, (book_by g.book.is_broken m.at_last g.book refl).0)
 
   commit_firm : after_commit.book.rest ≡ []
-  commit_firm = ap (λ (b : BookValue). b.rest) commit_book ∙ (book_by g.book.is_broken m.at_last g.book refl).1
+  commit_firm = cc (commit_book, (book_by g.book.is_broken m.at_last g.book refl).1)
 
   commit_all : g.book.is_broken ≡ false → after_commit.book.firm ≡ history_of g.book
-  commit_all whole =
-      ap (λ (b : BookValue). b.firm) commit_book ∙ firm_by g.book.is_broken m.at_last g.book whole
+  commit_all whole = cc (commit_book, firm_by m.at_last g.book whole)
 
 -- A gateway that made a Close, where one was due.
 
@@ -213,60 +186,29 @@ record IsClosed (g : Gateway) : Type 0 where
 closed_where : (due : Bool) (now : ℕ) (g : Gateway) → g.book.is_broken ≡ false →
     is_close_due (history_of g.book) ≡ due →
     IsClosed (if due then still (record g { book = recorded g.book now no_caller Close }) else still g).gateway
-closed_where false now g whole is = record { whole = whole; none_due = is }
-closed_where true now g whole is =
-    let e : HistoryEntry = entry_by (history_of g.book) now no_caller Close in
-    let joined : history_of (recorded g.book now no_caller Close) ≡ (g.book.firm ++ g.book.rest) ++ e ∷ [] =
-    ap (λ (b : Bool). if b then g.book.firm else g.book.firm ++ (g.book.rest ++ e ∷ [])) whole
-    ∙ sym (append_assoc g.book.firm g.book.rest (e ∷ [])) in
-    record {
-      whole = whole;
-      none_due = ap is_close_due joined ∙ is_close_due-append (g.book.firm ++ g.book.rest) e;
-    }
+closed_where due now g whole is = grind (arith, append_assoc, is_close_due-append)
 
-closed_unless : (b : Bool) (now : ℕ) (g : Gateway) → b ≡ false → g.book.is_broken ≡ false →
+closed_unless : {b : _} (now : ℕ) (g : Gateway) → b ≡ false → g.book.is_broken ≡ false →
     IsClosed (if b then still g else making_close now g).gateway
-closed_unless true now g is whole = absurd (true≢false is)
-closed_unless false now g is whole = closed_where (is_close_due (history_of g.book)) now g whole refl
+closed_unless now g is whole = grind (arith, closed_where)
 
 close_closed : (rules : Rules) (now : ℕ) (m : Machine) (g : Gateway) → g.book.is_broken ≡ false →
     IsClosed (marked rules (calm_fortune m) (making_close now) g).gateway
 close_closed rules now m g whole =
     let h : Gateway = (readying rules (calm_fortune m) g).gateway in
-    let ready : h.book.is_broken ≡ false = ready_whole (g.book.is_broken || rules.is_full g.book) m g whole in
-    closed_unless h.book.is_broken now h ready ready
+    let ready = ready_whole (g.book.is_broken || rules.is_full g.book) m g whole in
+    closed_unless now h ready ready
 
 -- One gateway settles.
 
-commits : (v : ReplayValue) (number : ℕ) (g : Gateway) (m : Machine) → At v number g m → g.is_down ≡ false →
+commits : {v number g m : _} → At v number g m → g.is_down ≡ false →
     MovedTo v (event.Commit number) number (committing (calm_fortune m) g).gateway
-commits v number g m at runs =
-    let none = runs_at v number g m at runs in
-    moves_to v (event.Commit number) number g m committing (record {
-      asks = refl;
-      from_one = at.from_one;
-      has_gateway = at.gateway;
-      has_machine = at.machine;
-      allowed = none;
-      runs = λ stops. none;
-      moves = λ f. refl;
-    }) refl at
+commits {v} {g} {m} at runs = moves_to (commits_at v _ g m at.from_one at.gateway at.machine (runs_at at runs)) refl at
 
-closes : (v : ReplayValue) (number : ℕ) (g : Gateway) (m : Machine) → At v number g m → g.is_down ≡ false →
+closes : {v number g m : _} → At v number g m → g.is_down ≡ false →
     MovedTo v (event.Close number) number
     (marked (rules_in v.setup) (calm_fortune m) (making_close v.world.now) g).gateway
-closes v number g m at runs =
-    let none = runs_at v number g m at runs in
-    let move : Fortune → Gateway → Moved = λ f. marked (rules_in v.setup) f (making_close v.world.now) in
-    moves_to v (event.Close number) number g m move (record {
-      asks = refl;
-      from_one = at.from_one;
-      has_gateway = at.gateway;
-      has_machine = at.machine;
-      allowed = none;
-      runs = λ stops. none;
-      moves = λ f. refl;
-    }) refl at
+closes {v} {g} {m} at runs = moves_to (closes_at v _ g m at.from_one at.gateway at.machine (runs_at at runs)) refl at
 
 -- It is settled now, and the others are as they were.
 record SettledAt (v : ReplayValue) (steps : List Step) (number : ℕ) : Type 0 where
@@ -281,46 +223,43 @@ record SettledAt (v : ReplayValue) (steps : List Step) (number : ℕ) : Type 0 w
 
 module _ (shut : (h : List HistoryEntry) → is_close_due h ≡ false → AreShut (items_of h)) where
   -- one that runs
-  settles_up : (v : ReplayValue) (number : ℕ) (g : Gateway) (m : Machine) → At v number g m → g.is_down ≡ false →
+  settles_up : {v number g m : _} → At v number g m → g.is_down ≡ false →
       SettledAt v (Plays (event.Commit number) ∷ Plays (event.Close number) ∷ Plays (event.Commit number)
       ∷ Writes (number - 1) ∷ []) number
-  settles_up v number g m at runs =
-      let k : ℕ = number - 1 in
-      let first = commits v number g m at runs in
-      let v1 : ReplayValue = after_step v (Plays (event.Commit number)) in
+  settles_up {v} {number} {g} {m} at runs =
+      let k = number - 1 in
+      let first = commits at runs in
+      let v1 = after_step v (Plays (event.Commit number)) in
       let g1 : Gateway = (committing (calm_fortune m) g).gateway in
-      let runs1 : g1.is_down ≡ false = commit_stays_up (calm_fortune m) g ∙ runs in
-      let second = closes v1 number g1 first.machine first.at runs1 in
-      let v2 : ReplayValue = after_step v1 (Plays (event.Close number)) in
+      let runs1 : g1.is_down ≡ false = committing_stays (calm_fortune m) g ∙ runs in
+      let second = closes first.at runs1 in
+      let v2 = after_step v1 (Plays (event.Close number)) in
       let g2 : Gateway =
       (marked (rules_in v1.setup) (calm_fortune first.machine) (making_close v1.world.now) g1).gateway in
       let runs2 : g2.is_down ≡ false =
       close_stays_up (rules_in v1.setup) (calm_fortune first.machine) v1.world.now g1 ∙ runs1 in
       let closed = close_closed (rules_in v1.setup) v1.world.now first.machine g1 (commit_whole m g) in
-      let third = commits v2 number g2 second.machine second.at runs2 in
-      let v3 : ReplayValue = after_step v2 (Plays (event.Commit number)) in
+      let third = commits second.at runs2 in
+      let v3 = after_step v2 (Plays (event.Commit number)) in
       let g3 : Gateway = (committing (calm_fortune second.machine) g2).gateway in
-      let runs3 : g3.is_down ≡ false = commit_stays_up (calm_fortune second.machine) g2 ∙ runs2 in
-      let idle = idle_at v3 number g3 third.machine third.at in
+      let runs3 : g3.is_down ≡ false = committing_stays (calm_fortune second.machine) g2 ∙ runs2 in
+      let idle = idle_at third.at in
       let filed = calm_filing (files_in v3.setup k) (items_of g3.book.firm) third.machine.filing idle.1 in
-      let n : Machine = filed_machine v3 k g3 third.machine in
-      let calm : IsIdle n = (idle.0, ap (λ (f : Filing). f.armed) filed) in
-      let sets = writes v3 k g3 third.machine third.at.gateway third.at.machine in
-      let v4 : ReplayValue = after_step v3 (Writes k) in
-      let last = alone_set v3 (Writes k) k g3 n [] sets calm third.at.unarmed in
+      let n = filed_machine v3 k g3 third.machine in
+      let calm : IsIdle n = (idle.0, cc) in
+      let sets = writes v3 k g3 _ third.at.gateway third.at.machine in
+      let v4 = after_step v3 (Writes k) in
       let none_due : is_close_due g3.book.firm ≡ false =
       ap is_close_due (commit_all second.machine g2 closed.whole) ∙ closed.none_due in
       record {
         u = v4;
-        runs = runs_step v (Plays (event.Commit number)) _ v4 first.goes
-            (runs_step v1 (Plays (event.Close number)) _ v4 second.goes
-            (runs_step v2 (Plays (event.Commit number)) _ v4 third.goes
-            (runs_step v3 (Writes k) [] v4 refl (runs_none v4))));
-        alone = alone_then v v1 v4 k first.alone
-            (alone_then v1 v2 v4 k second.alone (alone_then v2 v3 v4 k third.alone last));
+        runs = runs_step v _ first.goes
+            (runs_step v1 _ second.goes (runs_step v2 _ third.goes (runs_step v3 _ refl (runs_none v4))));
+        alone = alone_then first.alone
+            (alone_then second.alone (alone_then third.alone (alone_set sets calm third.at.unarmed)));
         g = g3;
         m = n;
-        at = at_set v3 (Writes k) number g3 g3 third.machine n [] third.at sets calm;
+        at = at_set third.at sets calm;
         setup = refl;
         is = record {
           runs = runs3;
@@ -332,25 +271,24 @@ module _ (shut : (h : List HistoryEntry) → is_close_due h ≡ false → AreShu
       }
 
   -- one that may be stopped
-  settles_any : (b : Bool) (v : ReplayValue) (number : ℕ) (g : Gateway) (m : Machine) → At v number g m →
+  settles_any : (b : Bool) (v : ReplayValue) {number : _} (g : Gateway) (m : Machine) → At v number g m →
       no_gateway v.world number ≡ None → is_down_in v.world number ≡ b → g.is_down ≡ b →
-      SettledAt v ((if b then Plays (event.Open number) ∷ [] else [])
-      ++ Plays (event.Commit number) ∷ Plays (event.Close number) ∷ Plays (event.Commit number)
-      ∷ Writes (number - 1) ∷ []) number
-  settles_any false v number g m at there down is = settles_up v number g m at is
-  settles_any true v number g m at there down is =
-      let k : ℕ = number - 1 in
-      let e : Event = event.Open number in
-      let again : Gateway = opened (rules_in v.setup) g in
+      SettledAt v
+      ((if b then Plays (event.Open number) ∷ [] else []) ++ Plays (event.Commit number) ∷ Plays (event.Close number)
+      ∷ Plays (event.Commit number) ∷ Writes (number - 1) ∷ []) number
+  settles_any false v g m at there down is = settles_up at is
+  settles_any true v {number} g m at there down is =
+      let k = number - 1 in
+      let e = event.Open number in
       let sets = plays v k g m at.gateway at.machine e (λ h. still (opened (rules_in v.setup) h)) refl
-      (may_open v number there down) refl m (machines_stay v k g m at.gateway at.machine) in
-      let idle = idle_at v number g m at in
-      let u : ReplayValue = after_step v (Plays e) in
-      let later = settles_up u number again m (at_set v (Plays e) number g again m m [] at sets idle) refl in
+      (may_open v _ there down) refl m (machines_stay v k g m at.gateway at.machine) in
+      let idle = idle_at at in
+      let u = after_step v (Plays e) in
+      let later = settles_up (at_set at sets idle) refl in
       record {
         u = later.u;
-        runs = runs_step v (Plays e) _ later.u refl later.runs;
-        alone = alone_then v u later.u k (alone_set v (Plays e) k again m [] sets idle at.unarmed) later.alone;
+        runs = runs_step v _ refl later.runs;
+        alone = alone_then (alone_set sets idle at.unarmed) later.alone;
         g = later.g;
         m = later.m;
         at = later.at;
@@ -358,20 +296,15 @@ module _ (shut : (h : List HistoryEntry) → is_close_due h ≡ false → AreShu
         is = later.is;
       }
 
-  down_is : (v : ReplayValue) (number : ℕ) (g : Gateway) (m : Machine) → At v number g m →
-      is_down_in v.world number ≡ g.is_down
-  down_is v number g m at =
-      ap (λ (o : Option Gateway). option_map_or (λ (h : Gateway). h.is_down) o true) at.gateway
-
   -- All gateways settle, one after the other.
 
   abbrev SettledTo : ReplayValue → ℕ → Type 0
   SettledTo u k = (j : ℕ) (g : Gateway) (m : Machine) → j < k →
       slice_get u.world.gateways j ≡ Some g → slice_get u.machines j ≡ Some m → IsAllWritten (files_in u.setup j) g m
 
-  settled_more : (u : ReplayValue) (k : ℕ) (steps : List Step) → SettledTo u k → (did : SettledAt u steps (k + 1)) →
+  settled_more : (u : ReplayValue) (k : ℕ) {steps : _} → SettledTo u k → (did : SettledAt u steps (k + 1)) →
       SettledTo did.u (k + 1)
-  settled_more u k steps before did j g m less has_gateway has_machine = by (j == k) refl
+  settled_more u k before did j g m less has_gateway has_machine = by (j == k) refl
     where
       back : k + 1 - 1 ≡ k
       back = omega arith
@@ -379,20 +312,13 @@ module _ (shut : (h : List HistoryEntry) → is_close_due h ≡ false → AreShu
       by : (b : Bool) → (j == k) ≡ b → IsAllWritten (files_in did.u.setup j) g m
       by true e =
           let here : j ≡ k + 1 - 1 = eqb-true j k e ∙ sym back in
-          let gateway : slice_get did.u.world.gateways j ≡ Some did.g =
-          ap (λ (i : ℕ). slice_get did.u.world.gateways i) here ∙ did.at.gateway in
-          let machine : slice_get did.u.machines j ≡ Some did.m =
-          ap (λ (i : ℕ). slice_get did.u.machines i) here ∙ did.at.machine in
           let same_gateway : did.g ≡ g = cc in
           let same_machine : did.m ≡ m = cc in
-          subst (λ (i : ℕ). IsAllWritten (files_in did.u.setup i) g m) (sym here)
-          (subst (λ (x : Gateway). IsAllWritten (files_in did.u.setup (k + 1 - 1)) x m) same_gateway
-          (subst (λ (x : Machine). IsAllWritten (files_in did.u.setup (k + 1 - 1)) did.g x) same_machine did.is))
+          rw here (rw same_gateway at (rw same_machine at did.is))
       by false e =
-          let apart : j ≡ k → ⊥ = λ same. absurd (true≢false (sym (eq-eqb j k same) ∙ e)) in
+          let apart : j ≡ k → ⊥ = λ same. cc (eq-eqb j k same) in
           let other : j ≡ k + 1 - 1 → ⊥ = λ same. apart (same ∙ back) in
-          subst (λ (x : Setup). IsAllWritten (files_in x j) g m) (sym did.setup)
-          (before j g m (lesser j k less apart) (sym (did.alone.other_gateways j other) ∙ has_gateway)
+          rw did.setup (before j g m (lesser less apart) (sym (did.alone.other_gateways j other) ∙ has_gateway)
           (sym (did.alone.other_machines j other) ∙ has_machine))
 
   record SettledFrom (v u : ReplayValue) (k n : ℕ) : Type 0 where
@@ -401,20 +327,10 @@ module _ (shut : (h : List HistoryEntry) → is_close_due h ≡ false → AreShu
     pub count : length w.world.gateways ≡ length u.world.gateways
     pub all : SettledTo w (k + n)
 
-  -- the others are as before
-  counted_after : (u : ReplayValue) (steps : List Step) (n k : ℕ) (did : SettledAt u steps (k + 1)) →
-      k + suc n ≡ length u.world.gateways → k + 1 + n ≡ length did.u.world.gateways
-  counted_after u steps n k did whole = omega (arith, whole, did.alone.gateways)
-
-  paired_after : (u : ReplayValue) (steps : List Step) (number : ℕ) (did : SettledAt u steps number) →
-      length u.machines ≡ length u.world.gateways → length did.u.machines ≡ length did.u.world.gateways
-  paired_after u steps number did pairs = did.alone.machines ∙ pairs ∙ sym did.alone.gateways
-
-  same_after : (v u : ReplayValue) (steps : List Step) (k : ℕ) (did : SettledAt u steps (k + 1)) →
+  same_after : (v u : ReplayValue) {steps : _} (k : ℕ) (did : SettledAt u steps (k + 1)) →
       ((j : ℕ) → k ≤ j → slice_get u.world.gateways j ≡ slice_get v.world.gateways j) →
       (j : ℕ) → k + 1 ≤ j → slice_get did.u.world.gateways j ≡ slice_get v.world.gateways j
-  same_after v u steps k did same j le =
-      did.alone.other_gateways j (λ is. absurd (omega (arith, is, le))) ∙ same j (omega (arith, le))
+  same_after v u k did same j le = did.alone.other_gateways j (λ is. absurd (omega arith)) ∙ same j (omega arith)
 
   -- one settles, and then the others
   settled_with : (n k : ℕ) (v u : ReplayValue) (did : SettledAt u (settling_steps v (k + 1)) (k + 1)) →
@@ -423,10 +339,9 @@ module _ (shut : (h : List HistoryEntry) → is_close_due h ≡ false → AreShu
       let sum : k + 1 + n ≡ k + suc n = omega arith in
       record {
         w = rest.w;
-        runs = runs_append u (settling_steps v (k + 1))
-            (flat_map (settling_steps v) (range_with_len (k + 1 + 1) n)) did.u rest.w did.runs rest.runs;
+        runs = runs_append u did.runs rest.runs;
         count = rest.count ∙ did.alone.gateways;
-        all = subst (λ (i : ℕ). SettledTo rest.w i) sum rest.all;
+        all = rw sum at rest.all;
       }
 
   settle_from : (n k : ℕ) (v u : ReplayValue) → k + n ≡ length u.world.gateways →
@@ -439,12 +354,12 @@ module _ (shut : (h : List HistoryEntry) → is_close_due h ≡ false → AreShu
         w = u;
         runs = runs_none u;
         count = refl;
-        all = subst (λ (i : ℕ). SettledTo u i) none before;
+        all = rw none at before;
       }
   settle_from (suc n) k v u whole pairs unarmed same before =
-      let few : k + 1 ≤ length u.world.gateways = omega (arith, whole) in
-      let g = found u.world.gateways (k + 1 - 1) (omega (arith, whole)) in
-      let m = found u.machines (k + 1 - 1) (omega (arith, whole, pairs)) in
+      let few : k + 1 ≤ length u.world.gateways = omega arith in
+      let g = found u.world.gateways (k + 1 - 1) (omega arith) in
+      let m = found u.machines (k + 1 - 1) (omega arith) in
       let at : At u (k + 1) g.0 m.0 = record {
         from_one = omega arith;
         few = few;
@@ -452,15 +367,14 @@ module _ (shut : (h : List HistoryEntry) → is_close_due h ≡ false → AreShu
         machine = m.1;
         unarmed = unarmed;
       } in
-      let down = down_is u (k + 1) g.0 m.0 at in
-      let down_same : is_down_in u.world (k + 1) ≡ is_down_in v.world (k + 1) =
-      ap (λ (o : Option Gateway). option_map_or (λ (h : Gateway). h.is_down) o true) (same (k + 1 - 1) (omega arith)) in
-      let there : no_gateway u.world (k + 1) ≡ None = gateway_is_there u (k + 1) (omega arith) few in
-      let did : SettledAt u (settling_steps v (k + 1)) (k + 1) =
-      settles_any (is_down_in v.world (k + 1)) u (k + 1) g.0 m.0 at there down_same (sym down ∙ down_same) in
-      settled_with n k v u did (settle_from n (k + 1) v did.u (counted_after u (settling_steps v (k + 1)) n k did whole)
-      (paired_after u (settling_steps v (k + 1)) (k + 1) did pairs) did.alone.unarmed
-      (same_after v u (settling_steps v (k + 1)) k did same) (settled_more u k (settling_steps v (k + 1)) before did))
+      let down_same : is_down_in u.world (k + 1) ≡ is_down_in v.world (k + 1) = cc (same (k + 1 - 1) (omega arith)) in
+      let there : no_gateway u.world (k + 1) ≡ None =
+      cc (is_there (length u.world.gateways) (k + 1) (omega arith) few) in
+      let did = settles_any _ u g.0 m.0 at there down_same
+      (sym (ap (λ o. option_map_or (λ (h : Gateway). h.is_down) o true) at.gateway) ∙ down_same) in
+      settled_with n k v u did
+      (settle_from n (k + 1) v did.u (omega arith) (did.alone.machines ∙ pairs ∙ sym did.alone.gateways)
+      did.alone.unarmed (same_after v u k did same) (settled_more u k before did))
 
   -- What was armed is armed no more, and then all settle.
 
@@ -487,10 +401,11 @@ module _ (shut : (h : List HistoryEntry) → is_close_due h ≡ false → AreShu
       let unarmed : AreUnarmed u =
       unarmed_from (length v.world.gateways) 0 v (omega (arith, pairs)) (λ j m less is. absurd (omega (arith, less))) in
       let counted : length u.world.gateways ≡ length v.world.gateways = ap (λ (w : World). length w.gateways) world in
-      let from = settle_from (length v.world.gateways) 0 v u (omega (arith, counted)) (disarms_count v gateways ∙ pairs ∙ sym counted) unarmed
+      let from = settle_from (length v.world.gateways) 0 v u (omega (arith, counted))
+      (disarms_count v gateways ∙ pairs ∙ sym counted) unarmed
       (λ j le. ap (λ (w : World). slice_get w.gateways j) world) (λ j g m less is has. absurd (omega (arith, less))) in
       let runs : Runs v (settle_steps v) from.w =
-      runs_append v (disarms gateways) (flat_map (settling_steps v) gateways) u from.w
+      runs_append v {first = disarms gateways} {later = flat_map (settling_steps v) gateways} {u = u} {w = from.w}
       (record { goes = disarms_go v gateways; after = refl }) from.runs in
       subst AreWritten (sym runs.after) (λ place g m has_gateway has_machine.
       let within : place < length from.w.world.gateways = slice_get_within from.w.world.gateways place g has_gateway in

@@ -1,29 +1,26 @@
 -- The lines that a world surely takes: none is refused, each of their turns is allowed, and the replay stays as they say.
-use Rattle.std.proofs.Common.{◌≡◌, ⊎_elim, ℕ, zero, suc, ◌+◌, ◌-◌, ◌%◌, ◌≤◌, ◌<◌, ◌==◌, ◌&&◌, not, nat_le, nat_lt, Bool, true, false, if◌then◌else◌, List, [], ◌∷◌, ◌++◌, length, map, Option, Some, None, slice_get, slice_set, refl, sym, ap, subst, ◌∙◌, arith, append-nil, eqb-true, eq-eqb, eq-or-lt_of_le, le-leb, leb-true, ltb-true, length-set}
+use Rattle.std.proofs.Common.{◌≡◌, ⊎_elim, ℕ, zero, suc, ◌+◌, ◌-◌, ◌%◌, ◌≤◌, ◌<◌, ◌==◌, ◌&&◌, nat_le, nat_lt, Bool, true, false, if◌then◌else◌, List, [], ◌∷◌, ◌++◌, length, map, Option, Some, None, slice_get, slice_set, refl, sym, ap, ◌∙◌, arith, append-nil, eq-eqb, eq-or-lt_of_le, le-leb, leb-true, ltb-true, length-set}
+use Rattle.std.proofs.lemmas.Bool.Decides.{nat_tests}
 use Rattle.std.proofs.lemmas.Bool.{and_from, and_parts, eqb-false, ne_eqb, not-false}
 use Rattle.std.specs.List.{AllByRecursion, flat_map, range_with_len}
-use Rattle.std.specs.Option.{option_map_or, option_or}
+use Rattle.std.specs.Option.{option_map_or}
 use Rattle.area_disk.specs.Armed.{Came}
 use Rattle.area_disk.specs.Armed.Came.{Ran, FailedAt, StoppedAt}
-use Rattle.node_core.specs.Log.{runs}
 use Rattle.once_core.specs.Gateway.{Gateway, Moved, cut, opened, still}
-use Rattle.once_core.specs.Turn.{at_gateway, gateway_moved, is_down_in, is_none_of, log_in, no_gateway, no_running_gateway, no_running_node, refusal_of, refusing}
+use Rattle.once_core.specs.Turn.{at_gateway, gateway_moved, is_down_in, is_none_of, no_gateway, no_running_gateway, no_running_node, refusal_of, refusing}
 use Rattle.once_core.specs.World.{World}
 use Rattle.once_core.specs.declared.event.Event.TheVariants as event
-use Rattle.once_core.specs.declared.message.Message.{Message}
-use Rattle.once_core.specs.declared.event.WorldKind.TheVariants.{Earlier, Halted, NoGateway, NoMessage, NoNode, Running, Stopped}
+use Rattle.once_core.specs.declared.event.WorldKind.TheVariants.{NoMessage}
 use Rattle.rand_pcg.specs.Lcg.{Lcg}
 use Rattle.rand_pcg.specs.Pcg.{pcg32}
 use Rattle.replay_gateway.specs.Filing.{shelf_calls}
 use Rattle.replay_world.specs.Lines.{came_of_write, came_steps, delivers, lot_steps, mixed_steps, settling_steps, write_steps}
-use Rattle.replay_world.specs.Notices.{ShelfFaulted}
 use Rattle.replay_gateway.specs.Setup.{files_in, rules_in}
-use Rattle.replay_world.specs.Steps.{Disarms, Loses, Plays, Step, Tells, Writes, items_firm}
+use Rattle.replay_world.specs.Steps.{Disarms, Loses, Plays, Step, Writes, items_firm}
 use Rattle.replay_world.specs.Taken.{IsAsSaid}
-use Rattle.replay_gateway.specs.Machine.{Machine, disarmed}
+use Rattle.replay_gateway.specs.Machine.{Machine}
 use Rattle.replay_world.specs.Value.{ReplayValue}
-use Rattle.replay_world.proofs.TakenPasses.{Facts, Holds, HoldsOf, Passes, calm_passes, disarms_passes, loses_passes, passes_none, quiet_passes, tells_passes, within, writes_passes}
-use Rattle.replay_world.proofs.TakenSteps.{Unarmed, all_get, calls_calm, is_calm, is_there, with_unarmed}
+use Rattle.replay_world.proofs.TakenSteps.{Facts, Holds, HoldsOf, Passes, calm_passes, disarms_passes, loses_passes, passes_none, quiet_passes, tells_passes, within, writes_passes, all_get, calls_calm, is_calm, is_there, with_unarmed}
 use Rattle.world_script.specs.World.{Scene, is_stopped}
 
 -- ---- what a scene says of a replay
@@ -33,80 +30,52 @@ facts s messages down =
     record { gateways = s.gateways; nodes = s.nodes; moment = s.moment; messages = messages; down = down }
 
 pub said_holds : (s : Scene) (v : ReplayValue) → IsAsSaid s v → Holds (facts s (length v.world.messages) (is_stopped s)) v
-said_holds s v is = record {
-  world = record {
-    gateways = is.gateways;
-    nodes = is.nodes;
-    moment = is.moment;
-    messages = omega arith;
-    down = is.stopped;
-    running = is.running;
-  };
-  sent = is.sent;
-  unarmed = is.unarmed;
-}
+said_holds s v is = let some : length v.world.messages ≤ length v.world.messages = omega arith in assumption
 
 pub holds_said : (s : Scene) (messages : ℕ) (down : ℕ → Bool) (v : ReplayValue)
     → ((gateway : ℕ) → within s.gateways gateway ≡ true → down gateway ≡ is_stopped s gateway) → Holds (facts s messages down) v → IsAsSaid s v
-holds_said s messages down v same h = record {
-  gateways = h.world.gateways;
-  nodes = h.world.nodes;
-  moment = h.world.moment;
-  stopped = λ gateway is. h.world.down gateway is ∙ same gateway is;
-  running = h.world.running;
-  sent = h.sent;
-  unarmed = h.unarmed;
-}
+holds_said s messages down v same h =
+    let stopped : (gateway : ℕ) → within s.gateways gateway ≡ true → is_down_in v.world gateway ≡ is_stopped s gateway =
+    λ gateway is. h.world.down gateway is ∙ same gateway is in
+    assumption
 
 -- ---- refusals that don't come
 
-count_there : (count length_is number : ℕ) → length_is ≡ count → within count number ≡ true → is_none_of length_is number ≡ false
-count_there count length_is number e h =
+count_there : {count length_is : _} (number : ℕ) → length_is ≡ count → within count number ≡ true →
+    is_none_of length_is number ≡ false
+count_there {count} number e h =
     let parts = and_parts (nat_le 1 number) (nat_le number count) h in
-    is_there length_is number (leb-true 1 number parts.0) (omega (arith, leb-true number count parts.1, e))
+    is_there _ _ (leb-true 1 number parts.0) (omega (arith, leb-true number count parts.1))
 
 not_earlier : (a b : ℕ) → a ≤ b → nat_lt b a ≡ false
-not_earlier a b h = by (nat_lt b a) refl
-  where
-    by : (c : Bool) → nat_lt b a ≡ c → c ≡ false
-    by true e = absurd (omega (arith, h, ltb-true b a e))
-    by false e = refl
+not_earlier a b h = grind (arith, nat_tests)
 
 module _ (f : Facts) (w : World) (h : HoldsOf f w) where
   gateway_there : (gateway : ℕ) → within f.gateways gateway ≡ true → no_gateway w gateway ≡ None
-  gateway_there gateway is =
-      ap (λ (b : Bool). refusing b NoGateway) (count_there f.gateways (length w.gateways) gateway h.gateways is)
+  gateway_there gateway is = cc (count_there _ h.gateways is)
 
   pub gateway_runs : (gateway : ℕ) → within f.gateways gateway ≡ true → f.down gateway ≡ false → no_running_gateway w gateway ≡ None
-  gateway_runs gateway is up =
-      ap (λ o. option_or o (refusing (is_down_in w gateway) Stopped)) (gateway_there gateway is)
-      ∙ ap (λ (b : Bool). refusing b Stopped) (h.down gateway is ∙ up)
+  gateway_runs gateway is up = cc (gateway_there _ is, h.down gateway is)
 
   pub gateway_opens : (gateway : ℕ) → within f.gateways gateway ≡ true → f.down gateway ≡ true → refusal_of w (event.Open gateway) ≡ None
-  gateway_opens gateway is down =
-      ap (λ o. option_or o (refusing (not (is_down_in w gateway)) Running)) (gateway_there gateway is)
-      ∙ ap (λ (b : Bool). refusing (not b) Running) (h.down gateway is ∙ down)
+  gateway_opens gateway is down = cc (gateway_there _ is, h.down gateway is)
 
   pub node_runs : (node : ℕ) → within f.nodes node ≡ true → no_running_node w node ≡ None
-  node_runs node is =
-      ap (λ o. option_or o (refusing (not (runs (log_in w node))) Halted))
-      (ap (λ (b : Bool). refusing b NoNode) (count_there f.nodes (length w.nodes) node h.nodes is))
-      ∙ ap (λ (b : Bool). refusing (not b) Halted) (h.running node is)
+  node_runs node is = cc (count_there _ h.nodes is, h.running node is)
 
   message_there : (message : ℕ) → is_none_of f.messages message ≡ false → is_none_of (length w.messages) message ≡ false
   message_there message e =
       let parts = and_parts (nat_lt 0 message) (nat_le message f.messages) (not-false (nat_lt 0 message && nat_le message f.messages) e) in
-      is_there (length w.messages) message (omega (arith, ltb-true 0 message parts.0)) (omega (arith, h.messages, leb-true message f.messages parts.1))
+      is_there (length w.messages) message (omega (arith, ltb-true 0 message parts.0)) (omega (arith, leb-true message f.messages parts.1))
 
   pub moment_comes : (moment : ℕ) → nat_le f.moment moment ≡ true → refusal_of w (event.Moment moment) ≡ None
-  moment_comes moment e =
-      ap (λ (b : Bool). refusing b Earlier) (not_earlier w.now moment (omega (arith, h.moment, leb-true f.moment moment e)))
+  moment_comes moment e = cc (not_earlier w.now moment (omega (arith, leb-true f.moment moment e)))
 
 -- ---- a gateway that stops or opens
 
 set_here : {A B : Type 0} (get : A → B) (d : B) (xs : List A) (p : ℕ) (x y : A) → slice_get xs p ≡ Some x
     → option_map_or get (slice_get (slice_set xs p y) p) d ≡ get y
-set_here get d [] p x y e = absurd (cc)
+set_here get d [] p x y e = cc
 set_here get d (z ∷ xs) zero x y e = refl
 set_here get d (z ∷ xs) (suc p) x y e = set_here get d xs p x y e
 
@@ -120,26 +89,15 @@ set_other get d (z ∷ xs) (suc p) (suc q) y other = set_other get d xs p q y (�
 
 set_changed : {A B : Type 0} (get : A → B) (d : B) (xs : List A) (p q : ℕ) (x y : A) → slice_get xs p ≡ Some x
     → option_map_or get (slice_get (slice_set xs p y) q) d ≡ (if p == q then get y else option_map_or get (slice_get xs q) d)
-set_changed get d xs p q x y e = by (p == q) refl
-  where
-    by : (b : Bool) → (p == q) ≡ b
-        → option_map_or get (slice_get (slice_set xs p y) q) d ≡ (if b then get y else option_map_or get (slice_get xs q) d)
-    by true is =
-        subst (λ (k : ℕ). option_map_or get (slice_get (slice_set xs p y) k) d ≡ get y) (eqb-true p q is)
-        (set_here get d xs p x y e)
-    by false is = set_other get d xs p q y (eqb-false p q is)
+set_changed get d xs p q x y e = grind (arith, nat_tests, set_here, set_other)
 
 some_at : {A : Type 0} (xs : List A) (p : ℕ) → p < length xs → slice_get xs p ≡ None → ⊥
-some_at [] p h e = omega (arith, h)
+some_at [] p h e = omega arith
 some_at (x ∷ xs) zero h e = cc
-some_at (x ∷ xs) (suc p) h e = some_at xs p (omega (arith, h)) e
+some_at (x ∷ xs) (suc p) h e = some_at xs p (omega arith) e
 
 same_place : (a b : ℕ) → 1 ≤ a → 1 ≤ b → (a - 1 == b - 1) ≡ (a == b)
-same_place a b h k = by (a == b) refl
-  where
-    by : (c : Bool) → (a == b) ≡ c → (a - 1 == b - 1) ≡ c
-    by true e = eq-eqb (a - 1) (b - 1) (ap (λ n. n - 1) (eqb-true a b e))
-    by false e = ne_eqb (a - 1) (b - 1) (λ same. eqb-false a b e (omega (arith, same, h, k)))
+same_place a b h k = grind (arith, nat_tests)
 
 abbrev pub changed : ℕ → Bool → (ℕ → Bool) → ℕ → Bool
 changed gateway is_down down other = if gateway == other then is_down else down other
@@ -167,18 +125,19 @@ module _ (s : Scene) (messages : ℕ) (down : ℕ → Bool) (w : World) (h : Hol
       by None e = absurd (some_at w.gateways (gateway - 1) (omega (arith, low, high, h.gateways)) e)
       by (Some g) e =
           let same : w.messages ++ (move g).sends ≡ w.messages =
-          ap (λ (ms : List Message). w.messages ++ ms) (sends g) ∙ append-nil w.messages in
+          ap (λ ms. w.messages ++ ms) (sends g) ∙ append-nil w.messages in
           let long : length (w.messages ++ (move g).sends) ≡ length w.messages = ap length same in (
             record {
               gateways = length-set w.gateways (gateway - 1) (move g).gateway ∙ h.gateways;
               nodes = h.nodes;
               moment = h.moment;
               messages = omega (arith, h.messages, long);
-              down = λ other within_is.
-                  set_changed (λ (g : Gateway). g.is_down) true w.gateways (gateway - 1) (other - 1) g (move g).gateway e
+              down = λ other within_is. set_changed (λ (g : Gateway). g.is_down) true w.gateways (gateway - 1)
+                  (other - 1) g (move g).gateway e
                   ∙ ap (λ (b : Bool). if gateway - 1 == other - 1 then b else is_down_in w other) (becomes g)
                   ∙ ap (λ (b : Bool). if b then is_down else is_down_in w other)
-                  (same_place gateway other low (leb-true 1 other (and_parts (nat_le 1 other) (nat_le other s.gateways) within_is).0))
+                  (same_place gateway other low
+                  (leb-true 1 other (and_parts (nat_le 1 other) (nat_le other s.gateways) within_is).0))
                   ∙ by_same other (gateway == other) (h.down other within_is);
               running = h.running;
             },
@@ -187,17 +146,16 @@ module _ (s : Scene) (messages : ℕ) (down : ℕ → Bool) (w : World) (h : Hol
 
 -- ---- messages that come
 
-delivers_passes : (f : Facts) (v : ReplayValue) (message : ℕ) (later : List Step) (P : ReplayValue → Type 0) → is_none_of f.messages message ≡ false
+delivers_passes : {f : Facts} {v : ReplayValue} (message : ℕ) (later : List Step) (P : ReplayValue → Type 0) → is_none_of f.messages message ≡ false
     → Holds f v → ((u : ReplayValue) → Holds f u → Passes u later P) → Passes v (delivers message ∷ later) P
-delivers_passes f v message later P there h rest =
-    quiet_passes f v (event.Deliver message) later P refl
-    (ap (λ (b : Bool). refusing b NoMessage) (message_there f v.world h.world message there)) h rest
+delivers_passes {f} message later P there h rest =
+    quiet_passes _ _ P refl (ap (λ b. refusing b NoMessage) (message_there f _ h.world _ there)) h rest
 
 pub flow_passes : (f : Facts) (v : ReplayValue) (waiting : List ℕ) (P : ReplayValue → Type 0) → AllByRecursion (λ message. is_none_of f.messages message ≡ false) waiting
     → Holds f v → ((u : ReplayValue) → Holds f u → P u) → Passes v (map delivers waiting) P
 flow_passes f v [] P there h done = passes_none v P (done v h)
 flow_passes f v (message ∷ waiting) P there h done =
-    delivers_passes f v message (map delivers waiting) P there.0 h (λ u k. flow_passes f u waiting P there.1 k done)
+    delivers_passes _ _ P there.0 h (λ u k. flow_passes f u waiting P there.1 k done)
 
 lot_passes : (f : Facts) (v : ReplayValue) (lot message : ℕ) (later : List Step) (P : ReplayValue → Type 0) → is_none_of f.messages message ≡ false
     → Holds f v → ((u : ReplayValue) → Holds f u → Passes u later P) → Passes v (lot_steps lot message ++ later) P
@@ -205,11 +163,10 @@ lot_passes f v lot message later P there h rest = by (lot == 0) (lot == 1) (lot 
   where
     by : (none twice waits : Bool) → Passes v ((if none then Loses message ∷ [] else if twice then delivers message ∷ delivers message ∷ []
         else if waits then [] else delivers message ∷ []) ++ later) P
-    by true twice waits = loses_passes f v message later P h rest
-    by false true waits =
-        delivers_passes f v message (delivers message ∷ later) P there h (λ u k. delivers_passes f u message later P there k rest)
+    by true twice waits = loses_passes f v _ P h rest
+    by false true waits = delivers_passes _ _ P there h (λ u k. delivers_passes _ _ P there k rest)
     by false false true = rest v h
-    by false false false = delivers_passes f v message later P there h rest
+    by false false false = delivers_passes _ _ P there h rest
 
 pub mix_passes : (f : Facts) (v : ReplayValue) (g : Lcg) (waiting : List ℕ) (P : ReplayValue → Type 0) → AllByRecursion (λ message. is_none_of f.messages message ≡ false) waiting
     → Holds f v → ((u : ReplayValue) → Holds f u → P u) → Passes v (mixed_steps g waiting) P
@@ -225,21 +182,21 @@ came_passes : (f : Facts) (v : ReplayValue) (gateway : ℕ) (c : Came) (P : Repl
     → ((u : ReplayValue) → Holds f u → P u) → Passes v (came_steps gateway c) P
 came_passes f v gateway (Ran a) P calm h done = passes_none v P (done v h)
 came_passes f v gateway (FailedAt k) P calm h done =
-    tells_passes f v (Tells (ShelfFaulted (gateway - 1))) [] P refl refl refl h (λ u held. passes_none u P (done u held))
-came_passes f v gateway (StoppedAt k outcome) P calm h done = absurd (cc)
+    tells_passes _ [] P refl refl refl h (λ u held. passes_none u P (done u held))
+came_passes f v gateway (StoppedAt k outcome) P calm h done = cc
 
 pub write_passes : (f : Facts) (v : ReplayValue) (gateway : ℕ) (P : ReplayValue → Type 0) → Holds f v
     → ((u : ReplayValue) → Holds f u → P u) → Passes v (write_steps v gateway) P
 write_passes f v gateway P h done =
-    writes_passes f v (gateway - 1) _ P h (λ u held. by u held (slice_get v.machines (gateway - 1)) refl)
+    writes_passes _ _ P h (λ u held. by u held (slice_get v.machines (gateway - 1)) refl)
   where
     by : (u : ReplayValue) → Holds f u → (o : Option Machine) → slice_get v.machines (gateway - 1) ≡ o
         → Passes u (option_map_or (λ m. came_steps gateway (came_of_write v (gateway - 1) m)) o []) P
     by u held None is = passes_none u P (done u held)
     by u held (Some m) is =
-        came_passes f u gateway (came_of_write v (gateway - 1) m) P
-        (calls_calm m.filing.armed (length (shelf_calls (files_in v.setup (gateway - 1)) (items_firm v (gateway - 1)) m.filing))
-        (all_get Unarmed v.machines (gateway - 1) m is h.unarmed).1) held done
+        came_passes f u _ _ P
+        (calls_calm _ (length (shelf_calls (files_in v.setup (gateway - 1)) (items_firm v (gateway - 1)) m.filing))
+        (all_get _ _ _ m is h.unarmed).1) held done
 
 -- ---- gateways that settle
 
@@ -247,63 +204,49 @@ pub disarms_all : (f : Facts) (v : ReplayValue) (gateways : List ℕ) (later : L
     → ((u : ReplayValue) → Holds f u → Passes u later P) → Passes v (map (λ gateway. Disarms (gateway - 1)) gateways ++ later) P
 disarms_all f v [] later P h rest = rest v h
 disarms_all f v (gateway ∷ gateways) later P h rest =
-    disarms_passes f v (gateway - 1) (map (λ gateway. Disarms (gateway - 1)) gateways ++ later) P h
-    (λ u k. disarms_all f u gateways later P k rest)
+    disarms_passes f v _ _ P h (λ u k. disarms_all f u gateways later P k rest)
 
-weaker_holds : (s : Scene) (messages : ℕ) (down other : ℕ → Bool) (v : ReplayValue)
+weaker_holds : (s : Scene) (messages : ℕ) (down other : ℕ → Bool) {v : _}
     → ((gateway : ℕ) → within s.gateways gateway ≡ true → down gateway ≡ other gateway) → Holds (facts s messages down) v → Holds (facts s messages other) v
-weaker_holds s messages down other v same h = record {
-  world = record {
-    gateways = h.world.gateways;
-    nodes = h.world.nodes;
-    moment = h.world.moment;
-    messages = h.world.messages;
-    down = λ gateway is. h.world.down gateway is ∙ same gateway is;
-    running = h.world.running;
-  };
-  sent = h.sent;
-  unarmed = h.unarmed;
-}
+weaker_holds s messages down other {v} same h =
+    let as_other : (gateway : ℕ) → within s.gateways gateway ≡ true → is_down_in v.world gateway ≡ other gateway =
+    λ gateway is. h.world.down gateway is ∙ same gateway is in
+    assumption
 
 changed_here : (gateway : ℕ) (b : Bool) (down : ℕ → Bool) → changed gateway b down gateway ≡ b
-changed_here gateway b down = ap (λ (c : Bool). if c then b else down gateway) (eq-eqb gateway gateway refl)
+changed_here gateway b down = cc (eq-eqb gateway gateway refl)
 
-unchanged : (gateway : ℕ) (down : ℕ → Bool) (b : Bool) → down gateway ≡ b → (other : ℕ) → down other ≡ changed gateway b down other
-unchanged gateway down b is other = by (gateway == other) refl
-  where
-    by : (c : Bool) → (gateway == other) ≡ c → down other ≡ (if c then b else down other)
-    by true e = ap down (sym (eqb-true gateway other e)) ∙ is
-    by false e = refl
+unchanged : (gateway : ℕ) (down : ℕ → Bool) {b : _} → down gateway ≡ b → (other : ℕ) → down other ≡ changed gateway b down other
+unchanged gateway down is other = grind (arith, nat_tests)
 
 module _ (s : Scene) (messages : ℕ) where
   pub opens_passes : (down : ℕ → Bool) (v : ReplayValue) (gateway : ℕ) (later : List Step) (P : ReplayValue → Type 0) → within s.gateways gateway ≡ true
       → down gateway ≡ true → Holds (facts s messages down) v
       → ((u : ReplayValue) → Holds (facts s messages (changed gateway false down)) u → Passes u later P) → Passes v (Plays (event.Open gateway) ∷ later) P
   opens_passes down v gateway later P is stopped h rest =
-      let moves = changes s messages down v.world h.world gateway (λ g. still (opened (rules_in v.setup) g)) false is (λ g. refl) (λ g. refl) in
-      calm_passes (facts s messages down) (facts s messages (changed gateway false down)) v (event.Open gateway) later P refl
-      (gateway_opens (facts s messages down) v.world h.world gateway is stopped) h.unarmed moves.0 moves.1 h rest
+      let moves = changes s _ _ _ h.world _ (λ g. still (opened (rules_in v.setup) g)) false is (λ g. refl)
+      (λ g. refl) in
+      calm_passes _ _ P refl (gateway_opens _ _ h.world _ is stopped) h.unarmed moves.0 moves.1 h rest
 
   pub stops_passes : (down : ℕ → Bool) (v : ReplayValue) (gateway : ℕ) (later : List Step) (P : ReplayValue → Type 0) → within s.gateways gateway ≡ true
       → down gateway ≡ false → Holds (facts s messages down) v
       → ((u : ReplayValue) → Holds (facts s messages (changed gateway true down)) u → Passes u later P) → Passes v (Plays (event.Cut gateway 0) ∷ later) P
   stops_passes down v gateway later P is up h rest =
-      let moves = changes s messages down v.world h.world gateway (λ g. still (cut 0 g)) true is (λ g. refl) (λ g. refl) in
-      calm_passes (facts s messages down) (facts s messages (changed gateway true down)) v (event.Cut gateway 0) later P refl
-      (gateway_runs (facts s messages down) v.world h.world gateway is up)
-      (with_unarmed v (gateway - 1) disarmed (λ m k. (refl, refl)) h.unarmed) moves.0 moves.1 h rest
+      let moves = changes s _ _ _ h.world _ (λ g. still (cut 0 g)) true is (λ g. refl) (λ g. refl) in
+      calm_passes _ _ P refl (gateway_runs _ _ h.world _ is up) (with_unarmed v _ _ (λ m k. (refl, refl)) h.unarmed)
+      moves.0 moves.1 h rest
 
   -- a gateway that runs commits, closes its files, commits again and writes
-  runs_settling : (down : ℕ → Bool) (v : ReplayValue) (gateway : ℕ) (later : List Step) (P : ReplayValue → Type 0) → within s.gateways gateway ≡ true
+  runs_settling : (down : ℕ → Bool) {v : _} (gateway : ℕ) {later : _} (P : ReplayValue → Type 0) → within
+      s.gateways gateway ≡ true
       → down gateway ≡ false → Holds (facts s messages down) v
       → ((u : ReplayValue) → Holds (facts s messages down) u → Passes u later P)
       → Passes v (Plays (event.Commit gateway) ∷ Plays (event.Close gateway) ∷ Plays (event.Commit gateway) ∷ Writes (gateway - 1) ∷ later) P
-  runs_settling down v gateway later P is up h rest =
+  runs_settling down gateway P is up h rest =
       let f = facts s messages down in
-      quiet_passes f v (event.Commit gateway) _ P refl (gateway_runs f v.world h.world gateway is up) h (λ a ha.
-      quiet_passes f a (event.Close gateway) _ P refl (gateway_runs f a.world ha.world gateway is up) ha (λ b hb.
-      quiet_passes f b (event.Commit gateway) _ P refl (gateway_runs f b.world hb.world gateway is up) hb (λ c hc.
-      writes_passes f c (gateway - 1) later P hc rest)))
+      quiet_passes _ _ P refl (gateway_runs f _ h.world _ is up) h
+      (λ a ha. quiet_passes _ _ P refl (gateway_runs f _ ha.world _ is up) ha
+      (λ b hb. quiet_passes _ _ P refl (gateway_runs f _ hb.world _ is up) hb (λ c hc. writes_passes _ _ P hc rest)))
 
   settles_one : (from : ReplayValue) (down : ℕ → Bool) (v : ReplayValue) (gateway : ℕ) (later : List Step) (P : ReplayValue → Type 0)
       → within s.gateways gateway ≡ true → is_down_in from.world gateway ≡ down gateway → Holds (facts s messages down) v
@@ -312,10 +255,15 @@ module _ (s : Scene) (messages : ℕ) where
     where
       by : (b : Bool) → down gateway ≡ b → Passes v (((if b then Plays (event.Open gateway) ∷ [] else [])
           ++ Plays (event.Commit gateway) ∷ Plays (event.Close gateway) ∷ Plays (event.Commit gateway) ∷ Writes (gateway - 1) ∷ []) ++ later) P
-      by true e = opens_passes down v gateway _ P is e h (λ u k. runs_settling (changed gateway false down) u gateway later P is (changed_here gateway false down) k rest)
+      by true e =
+          opens_passes down v gateway _ P is e h
+          (λ u k. runs_settling (changed gateway false down) {v = u} gateway {later = later} P is
+          (changed_here gateway false down) k rest)
       by false e =
-          runs_settling (changed gateway false down) v gateway later P is (changed_here gateway false down)
-          (weaker_holds s messages down (changed gateway false down) v (λ other within_is. unchanged gateway down false e other) h) rest
+          runs_settling (changed gateway false down) {v = v} gateway {later = later} P is
+          (changed_here gateway false down)
+          (weaker_holds s messages down (changed gateway false down) {v = v}
+          (λ other within_is. unchanged gateway down {b = false} e other) h) rest
 
   pub settles_from : (from : ReplayValue) (a n : ℕ) (down : ℕ → Bool) (v : ReplayValue) (P : ReplayValue → Type 0) → 1 ≤ a → a + n ≡ suc s.gateways
       → ((gateway : ℕ) → 1 ≤ gateway → gateway < a → down gateway ≡ false)
@@ -323,9 +271,9 @@ module _ (s : Scene) (messages : ℕ) where
       → Holds (facts s messages down) v → ((u : ReplayValue) → Holds (facts s messages (λ gateway. false)) u → P u)
       → Passes v (flat_map (settling_steps from) (range_with_len a n)) P
   settles_from from a zero down v P low all up same h done =
-      passes_none v P (done v (weaker_holds s messages down (λ gateway. false) v (λ gateway is.
+      passes_none v P (done v (weaker_holds s _ _ _ (λ gateway is.
       let parts = and_parts (nat_le 1 gateway) (nat_le gateway s.gateways) is in
-      up gateway (leb-true 1 gateway parts.0) (omega (arith, leb-true gateway s.gateways parts.1, all))) h))
+      up gateway (leb-true 1 gateway parts.0) (omega (arith, leb-true gateway s.gateways parts.1))) h))
   settles_from from a (suc n) down v P low all up same h done =
       settles_one from down v a (flat_map (settling_steps from) (range_with_len (a + 1) n)) P here (same a (omega arith) (omega (arith, all))) h
       (λ u k. settles_from from (a + 1) n (changed a false down) u P (omega arith) (omega (arith, all)) lower higher k done)

@@ -1,33 +1,28 @@
 -- What a turn leaves of a world: how many gateways and nodes there are, which of them run, and the moment.
-use Rattle.std.proofs.Common.{◌≡◌, ℕ, zero, suc, ◌≤◌, ◌-◌, ◌&&◌, ◌||◌, not, nat_lt, Bool, true, false, if◌then◌else◌, List, [], ◌∷◌, ◌++◌, length, Option, Some, None, slice_get, slice_set, refl, sym, ap, subst, ◌∙◌, arith, length-append, length-set}
+use Rattle.std.proofs.Common.{take, ◌≡◌, ℕ, zero, suc, ◌≤◌, ◌-◌, ◌||◌, not, Bool, true, false, if◌then◌else◌, List, [], ◌∷◌, ◌++◌, length, Option, Some, None, slice_get, slice_set, refl, sym, ap, ◌∙◌, arith, length-append, length-set}
+use Rattle.std.proofs.lemmas.Bool.Decides.{nat_tests}
 use Rattle.std.proofs.lemmas.List.{length-take}
 use Rattle.std.specs.Option.{option_map_or}
+use Rattle.std.proofs.lemmas.Bool.{cond_both}
 use Rattle.gateway_answer.specs.Answer.{Decided, Silent, Says, decided, failure_answer}
 use Rattle.gateway_answer.specs.Preparing.{prepared_of}
-use Rattle.gateway_answer.specs.Value.{BookValue, Fortune, history_of}
+use Rattle.gateway_answer.specs.Value.{Fortune, history_of}
 use Rattle.gtpp_message.specs.Packet.{PacketForm}
 use Rattle.gw_base.specs.declared.address.Addr.{Addr}
 use Rattle.gw_base.specs.declared.history.HistoryAct.{HistoryAct}
-use Rattle.gw_base.specs.declared.history.HistoryAct.TheVariants.{Tick, Close}
-use Rattle.gw_base.specs.History.{is_close_due}
-use Rattle.gw_base.specs.TickDue.{is_tick_due}
 use Rattle.node_core.specs.Hearing.{Taken, entries_from, taken, taken_entries}
 use Rattle.node_core.specs.Hearing as heard
-use Rattle.node_core.specs.Log.{LogEntry, Submitted, Ticked, Heard, runs}
-use Rattle.node_core.specs.Moving.{appointing, moved_at_tick, moved_by}
+use Rattle.node_core.specs.Log.{LogEntry, runs}
 use Rattle.node_core.specs.Peers.{place_of}
-use Rattle.node_core.specs.Reached.{call_entries, most_submissions, submit_entries}
+use Rattle.node_core.specs.Reached.{call_entries}
 use Rattle.node_core.specs.Reached as call
-use Rattle.node_core.specs.Submitting.{refusal}
-use Rattle.node_core.specs.Ticks.{due}
 use Rattle.node_core.specs.Value.{NodeValue, logged}
-use Rattle.node_core.specs.declared.fault.SubmitFault.{SubmitFault}
 use Rattle.node_core.specs.declared.port.Port.{Port}
 use Rattle.once_core.specs.Addresses.{gateway_address}
-use Rattle.once_core.specs.Answers.{acting, answer_at, answered, closing, delivered, delivered_broken, delivered_running, failed, failed_by, if_broken, making_close, making_tick, marked, recorded_where, unless_expired}
+use Rattle.once_core.specs.Answers.{acting, answer_at, answered, closing, delivered, delivered_broken, delivered_running, failed, failed_by, if_broken, making_tick, marked, recorded_where, unless_expired}
 use Rattle.once_core.specs.Expired.{is_expired, is_expired_at_node}
-use Rattle.once_core.specs.Gateway.{Gateway, Moved, Rules, book_committing, committing, followed, giving_up, readying, settling, still}
-use Rattle.once_core.specs.Turn.{Turn, at_gateway, at_node, delivering, gateway_moved, is_down_in, log_in, lost_if, node_called, refusal_of, turn, turn_by, unless_refused}
+use Rattle.once_core.specs.Gateway.{Gateway, Moved, Rules, book_committing, committing, followed, readying, still}
+use Rattle.once_core.specs.Turn.{Turn, at_gateway, at_node, delivering, is_down_in, log_in, lost_if, node_called, refusal_of, turn, turn_by, unless_refused}
 use Rattle.once_core.specs.World.{Called, World, delivered_to_node, draft_of, hearing, node_value, submitting, submitting_form, ticking}
 use Rattle.once_core.specs.declared.event.Event.{Event}
 use Rattle.once_core.specs.declared.event.Event.TheVariants as event
@@ -36,33 +31,26 @@ use Rattle.once_core.specs.declared.message.Message.{Message}
 
 -- ---- gateways that move, and stay up or down
 
-abbrev Stays : (Gateway → Moved) → Type 0
+abbrev pub Stays : (Gateway → Moved) → Type 0
 Stays move = (g : Gateway) → (move g).gateway.is_down ≡ g.is_down
 
-committing_stays : (f : Fortune) → Stays (committing f)
-committing_stays f g = by (book_committing f g.book) (book_committing f g.book).is_broken
-  where
-    by : (book : BookValue) (b : Bool)
-        → (if b then giving_up (record g { book = book }) else settling (record g { book = book })).gateway.is_down ≡ g.is_down
-    by book true = refl
-    by book false = refl
+-- by a test
+if_stays : (b : Bool) (first next : Moved) (down : Bool) → first.gateway.is_down ≡ down → next.gateway.is_down ≡ down →
+    (if b then first else next).gateway.is_down ≡ down
+if_stays true first next down is other = is
+if_stays false first next down is other = other
+
+pub committing_stays : (f : Fortune) → Stays (committing f)
+committing_stays f g = if_stays (book_committing f g.book).is_broken _ _ _ refl refl
 
 followed_stays : (first next : Gateway → Moved) → Stays first → Stays next → Stays (λ g. followed (first g) next)
 followed_stays first next a b g = b (first g).gateway ∙ a g
 
 readying_stays : (rules : Rules) (f : Fortune) → Stays (readying rules f)
-readying_stays rules f g = by (g.book.is_broken || rules.is_full g.book)
-  where
-    by : (b : Bool) → (if b then committing f g else still g).gateway.is_down ≡ g.is_down
-    by true = committing_stays f g
-    by false = refl
+readying_stays rules f g = if_stays (g.book.is_broken || rules.is_full g.book) _ _ _ (committing_stays f g) refl
 
 broken_stays : (breaks goes_on : Gateway → Moved) → Stays breaks → Stays goes_on → Stays (if_broken breaks goes_on)
-broken_stays breaks goes_on a b g = by g.book.is_broken
-  where
-    by : (broken : Bool) → (if broken then breaks g else goes_on g).gateway.is_down ≡ g.is_down
-    by true = a g
-    by false = b g
+broken_stays breaks goes_on a b g = if_stays g.book.is_broken _ _ _ (a g) (b g)
 
 answered_stays : (rules : Rules) (now : ℕ) (m : Message) → Stays (answered rules now m)
 answered_stays rules now m g = by (answer_at rules (history_of g.book) m)
@@ -79,14 +67,12 @@ failed_stays m g = by (decided (failure_answer (prepared_of m.octets)))
     by (Says octets act) = refl
 
 expired_stays : (m : Message) (deliver : Gateway → Moved) → Stays deliver → Stays (unless_expired m deliver)
-expired_stays m deliver stays g = by (is_expired (history_of g.book) m)
-  where
-    by : (b : Bool) → (if b then still g else deliver g).gateway.is_down ≡ g.is_down
-    by true = refl
-    by false = stays g
+expired_stays m deliver stays g = if_stays (is_expired (history_of g.book) m) _ _ _ refl (stays g)
 
 delivered_stays : (rules : Rules) (now : ℕ) (f : Fortune) (m : Message) → Stays (delivered rules now f m)
-delivered_stays rules now f m g = by g.is_down refl
+delivered_stays rules now f m g =
+    if_stays g.is_down _ _ _ refl
+    (broken_stays (delivered_broken rules now f m) (delivered_running rules now f m) broken running g)
   where
     running : Stays (delivered_running rules now f m)
     running =
@@ -100,58 +86,25 @@ delivered_stays rules now f m g = by g.is_down refl
         (broken_stays still (unless_expired m (answered rules now m)) (λ g. refl)
         (expired_stays m (answered rules now m) (answered_stays rules now m)))
 
-    by : (b : Bool) → g.is_down ≡ b → (if b then still g
-        else if_broken (delivered_broken rules now f m) (delivered_running rules now f m) g).gateway.is_down ≡ g.is_down
-    by true e = refl
-    by false e = broken_stays (delivered_broken rules now f m) (delivered_running rules now f m) broken running g
-
-recorded_stays : (is_due : Bool) (now : ℕ) (act : HistoryAct) → Stays (recorded_where is_due now act)
+pub recorded_stays : (is_due : Bool) (now : ℕ) (act : HistoryAct) → Stays (recorded_where is_due now act)
 recorded_stays true now act g = refl
 recorded_stays false now act g = refl
 
 closing_stays : (rules : Rules) (now : ℕ) → Stays (closing rules now)
-closing_stays rules now g = by (rules.may_close (history_of g.book))
-  where
-    by : (b : Bool) → (if b then making_close now g else still g).gateway.is_down ≡ g.is_down
-    by true = recorded_stays (is_close_due (history_of g.book)) now Close g
-    by false = refl
+closing_stays rules now g = if_stays (rules.may_close (history_of g.book)) _ _ _ (recorded_stays _ now _ g) refl
 
-marked_stays : (rules : Rules) (f : Fortune) (mark : Gateway → Moved) → Stays mark → Stays (marked rules f mark)
+pub marked_stays : (rules : Rules) (f : Fortune) (mark : Gateway → Moved) → Stays mark → Stays (marked rules f mark)
 marked_stays rules f mark stays =
     followed_stays (readying rules f) (if_broken still mark) (readying_stays rules f)
     (broken_stays still mark (λ g. refl) stays)
 
 -- ---- nodes that are called, and still run or don't
 
-appointed_runs : (o : Option ℕ) (log : List LogEntry) → runs (logged (appointing o) log) ≡ runs log
-appointed_runs None log = refl
-appointed_runs (Some gateway) log = refl
-
 submit_runs : (v : NodeValue) (form : PacketForm) (log : List LogEntry) → runs (logged (call_entries v (call.Submit form)) log) ≡ runs log
-submit_runs v form log = by v.is_running
-  where
-    by_number : (b : Bool) → runs (logged (if b then Submitted form ∷ [] else []) log) ≡ runs log
-    by_number true = refl
-    by_number false = refl
-
-    by_fault : (o : Option SubmitFault) → runs (logged (submit_entries v o form) log) ≡ runs log
-    by_fault None = by_number (nat_lt v.submissions most_submissions)
-    by_fault (Some fault) = refl
-
-    by : (b : Bool) → runs (logged (if b then submit_entries v (refusal v form) form else []) log) ≡ runs log
-    by true = by_fault (refusal v form)
-    by false = refl
+submit_runs v form log = grind (arith, nat_tests)
 
 tick_runs : (v : NodeValue) (log : List LogEntry) → runs (logged (call_entries v call.Tick) log) ≡ runs log
-tick_runs v log = by v.is_running
-  where
-    by_move : (o : Option ℕ) → runs (logged (appointing o ++ Ticked (due v) ∷ []) log) ≡ runs log
-    by_move None = refl
-    by_move (Some gateway) = refl
-
-    by : (b : Bool) → runs (logged (if b then appointing (moved_at_tick v) ++ Ticked (due v) ∷ [] else []) log) ≡ runs log
-    by true = by_move (moved_at_tick v)
-    by false = refl
+tick_runs v log = grind arith
 
 hear_runs : (v : NodeValue) (port : Port) (from : Addr) (octets : List ℕ) (log : List LogEntry)
     → runs (logged (call_entries v (call.Hear port from octets)) log) ≡ runs log
@@ -159,8 +112,7 @@ hear_runs v port from octets log = by v.is_running
   where
     by_taken : (gateway : ℕ) (what : Taken) → runs (logged (taken_entries v port gateway what) log) ≡ runs log
     by_taken gateway (heard.Dropped why) = refl
-    by_taken gateway (heard.Says saying reply) =
-        appointed_runs (moved_by v port gateway saying) (Heard port gateway saying ∷ log)
+    by_taken gateway (heard.Says saying reply) = grind arith
 
     by_place : (o : Option ℕ) → runs (logged (entries_from v port o octets) log) ≡ runs log
     by_place None = refl
@@ -178,7 +130,7 @@ submitting_goes gateways node octets log = by (draft_of octets)
   where
     by : (o : Option PacketForm) → runs (submitting_form gateways node o log).log ≡ runs log
     by None = refl
-    by (Some form) = submit_runs (node_value gateways node log) form log
+    by (Some form) = submit_runs (node_value gateways node log) _ log
 
 ticking_goes : (gateways node : ℕ) → Goes (ticking gateways node)
 ticking_goes gateways node log = tick_runs (node_value gateways node log) log
@@ -195,14 +147,14 @@ delivered_goes gateways node m log = by (not (runs log) || is_expired_at_node lo
 -- what is asked of each element stays where one is replaced by another that answers the same
 pub set_same : {A B : Type 0} (f : A → B) (d : B) (xs : List A) (p q : ℕ) (x y : A) → slice_get xs p ≡ Some x → f y ≡ f x
     → option_map_or f (slice_get (slice_set xs p y) q) d ≡ option_map_or f (slice_get xs q) d
-set_same f d [] p q x y e h = absurd (cc)
+set_same f d [] p q x y e h = cc
 set_same f d (z ∷ xs) zero zero x y e h = let same : z ≡ x = cc in h ∙ ap f (sym same)
 set_same f d (z ∷ xs) zero (suc q) x y e h = refl
 set_same f d (z ∷ xs) (suc p) zero x y e h = refl
 set_same f d (z ∷ xs) (suc p) (suc q) x y e h = set_same f d xs p q x y e h
 
 longer : {A : Type 0} (xs ys : List A) → length xs ≤ length (xs ++ ys)
-longer xs ys = subst (λ (n : ℕ). length xs ≤ n) (sym (length-append xs ys)) (omega arith)
+longer xs ys = rw (length-append xs ys) (omega arith)
 
 -- ---- worlds of which much is the same
 
@@ -215,28 +167,10 @@ pub record Same (w after : World) : Type 0 where
   pub messages : length w.messages ≤ length after.messages
 
 same_world : (w : World) → Same w w
-same_world w = record {
-  gateways = refl;
-  nodes = refl;
-  moment = refl;
-  down = λ gateway. refl;
-  running = λ node. refl;
-  messages = omega arith;
-}
+same_world w = let some : length w.messages ≤ length w.messages = omega arith in assumption
 
 gateway_same : (w : World) (p : ℕ) (move : Gateway → Moved) → Stays move → Same w (at_gateway w p move)
-gateway_same w p move stays = by (slice_get w.gateways p) refl
-  where
-    by : (o : Option Gateway) → slice_get w.gateways p ≡ o → Same w (option_map_or (λ g. gateway_moved w p (move g)) o w)
-    by None e = same_world w
-    by (Some g) e = record {
-      gateways = length-set w.gateways p (move g).gateway;
-      nodes = refl;
-      moment = refl;
-      down = λ q. set_same (λ (g : Gateway). g.is_down) true w.gateways p (q - 1) g (move g).gateway e (stays g);
-      running = λ node. refl;
-      messages = longer w.messages (move g).sends;
-    }
+gateway_same w p move stays = grind (arith, length-set, longer, same_world, set_same)
 
 log_runs : (o : Option (List LogEntry)) → runs (option_map_or (λ log. log) o []) ≡ option_map_or runs o false
 log_runs None = refl
@@ -252,10 +186,8 @@ node_same w p call goes = by (slice_get w.nodes p) refl
       nodes = length-set w.nodes p (call log).log;
       moment = refl;
       down = λ gateway. refl;
-      running = λ q.
-          log_runs (slice_get (slice_set w.nodes p (call log).log) (q - 1))
-          ∙ set_same runs false w.nodes p (q - 1) log (call log).log e (goes log)
-          ∙ sym (log_runs (slice_get w.nodes (q - 1)));
+      running = λ q. log_runs (slice_get (slice_set w.nodes p (call log).log) (q - 1))
+          ∙ set_same runs false _ p (q - 1) log _ e (goes log) ∙ sym (log_runs (slice_get w.nodes (q - 1)));
       messages = longer w.messages (call log).sends;
     }
 
@@ -272,47 +204,36 @@ is_quiet (event.Close gateway) = true
 is_quiet _ = false
 
 delivering_same : (rules : Rules) (f : Fortune) (w : World) (m : Message) → Same w (delivering rules f w m)
-delivering_same rules f w m = by m.to_gateway
-  where
-    by : (b : Bool) → Same w (if b then at_gateway w m.gateway (delivered rules w.now f m)
-        else at_node w m.node (delivered_to_node (length w.gateways) m.node m))
-    by true = gateway_same w m.gateway (delivered rules w.now f m) (delivered_stays rules w.now f m)
-    by false = node_same w m.node (delivered_to_node (length w.gateways) m.node m) (delivered_goes (length w.gateways) m.node m)
+delivering_same rules f w m =
+    cond_both m.to_gateway _ _ (Same w) (λ is. gateway_same w _ _ (delivered_stays rules w.now f m))
+    (λ is. node_same w _ _ (delivered_goes (length w.gateways) m.node m))
 
 event_same : (rules : Rules) (w : World) (t : Turn) (e : Event) → is_quiet e ≡ true → Same w (turn_by rules w t e)
 event_same rules w t (event.Submit node packet) q =
-    node_same w (node - 1) (submitting (length w.gateways) (node - 1) packet) (submitting_goes (length w.gateways) (node - 1) packet)
-event_same rules w t (event.Tick node) q =
-    node_same w (node - 1) (ticking (length w.gateways) (node - 1)) (ticking_goes (length w.gateways) (node - 1))
+    node_same w _ _ (submitting_goes (length w.gateways) (node - 1) packet)
+event_same rules w t (event.Tick node) q = node_same w _ _ (ticking_goes (length w.gateways) (node - 1))
 event_same rules w t (event.Deliver message) q = by (slice_get w.messages (message - 1))
   where
     by : (o : Option Message) → Same w (option_map_or (delivering rules t.fortune w) o w)
     by None = same_world w
     by (Some m) = delivering_same rules t.fortune w m
-event_same rules w t (event.Commit gateway) q =
-    gateway_same w (gateway - 1) (committing t.fortune) (committing_stays t.fortune)
+event_same rules w t (event.Commit gateway) q = gateway_same w _ _ (committing_stays t.fortune)
 event_same rules w t (event.Mark gateway) q =
-    gateway_same w (gateway - 1) (marked rules t.fortune (making_tick rules w.now))
-    (marked_stays rules t.fortune (making_tick rules w.now)
-    (λ g. recorded_stays (is_tick_due rules.open_time w.now (history_of g.book) && rules.room (history_of g.book) Tick) w.now Tick g))
+    gateway_same w _ _ (marked_stays rules t.fortune (making_tick rules w.now) (λ g. recorded_stays _ _ _ g))
 event_same rules w t (event.Close gateway) q =
     gateway_same w (gateway - 1) (marked rules t.fortune (closing rules w.now))
     (marked_stays rules t.fortune (closing rules w.now) (closing_stays rules w.now))
-event_same rules w t _ q = absurd (cc)
+event_same rules w t _ q = cc
 
 pub turn_same : (rules : Rules) (w : World) (t : Turn) → is_quiet t.event ≡ true → Same w (turn rules w t)
 turn_same rules w t q = by (refusal_of w t.event)
   where
     by_loss : (b : Bool) → Same w (turn_by rules w t t.event) → Same w (lost_if b w (turn_by rules w t t.event))
-    by_loss true same = record {
-      gateways = same.gateways;
-      nodes = same.nodes;
-      moment = same.moment;
-      down = same.down;
-      running = same.running;
-      messages = let sent : List Message = (turn_by rules w t t.event).messages in
-          omega (arith, length-take (length w.messages) sent, same.messages);
-    }
+    by_loss true same =
+        let sent = (turn_by rules w t t.event).messages in
+        let few : length w.messages ≤ length (take (length w.messages) sent) =
+        omega (arith, length-take (length w.messages) sent, same.messages) in
+        assumption
     by_loss false same = same
 
     by : (o : Option WorldKind) → Same w (unless_refused o w (lost_if t.is_lost w (turn_by rules w t t.event)))

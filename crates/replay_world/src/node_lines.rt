@@ -127,7 +127,7 @@ impl Replay {
     }
 
     /// A node sends what is due.
-    #[tactic(auto, using(crate::proofs::NodeTickLemmas::ticked, crate::proofs::NodeTickLemmas::node_running))]
+    #[tactic(auto, using(crate::proofs::NodeSubmitLemmas::ticked, crate::proofs::NodeSubmitLemmas::node_running))]
     pub(crate) fn tick(
         &mut self,
         alloc: Global,
@@ -252,7 +252,7 @@ fn is_expired_at_node(node: &Node, message: &Message) -> bool
 }
 
 /// The draft that takes these records, one after the other, or why one of them isn't taken.
-#[tactic(auto, using(crate::proofs::DraftLemmas::more_taken, crate::proofs::DraftLemmas::fault_taken))]
+#[tactic(auto, using(crate::proofs::NodeSubmitLemmas::more_taken, crate::proofs::NodeSubmitLemmas::fault_taken))]
 fn drafted(alloc: Global, format: u8, version: u16, records: &[Octets]) -> Result<Draft, DraftFault>
     ensures ok { IfOk result (λ draft. drafted format version records.now ≡ Ok draft) }
     ensures err { IfErr result (λ fault. fault ≢ draft_fault.NoMemory →

@@ -1,8 +1,6 @@
 use Rattle.std.proofs.Common.{sym, subst}
 use Rattle.once_core.specs.Once.{Once, firm_in}
-use Rattle.once_core.specs.StandsOnce.{StandsOnce}
 use Rattle.once_core.specs.Turn.{turns}
-use Rattle.once_core.specs.World.{World}
 use Rattle.replay_world.specs.Report.{lines_after, turns_from}
 use Rattle.replay_gateway.specs.Setup.{files_in, rules_in}
 use Rattle.replay_world.specs.Value.{begun}
@@ -17,9 +15,11 @@ returns-clause-filed c = λ setup lines some.
 
 pub returns-clause-stands : goal.returns-clause-stands
 returns-clause-stands c = λ setup lines some.
-    subst (λ (w : World). StandsOnce (files_in setup) w) (sym (lines_world (begun setup) lines))
-    (c.each_record_stands_once.ensures (files_in setup) (turns (rules_in setup) (begun setup).world (turns_from (begun setup) lines))
-    (c.turns_reach_worlds.ensures.alike (rules_in setup) setup.gateways setup.nodes (turns_from (begun setup) lines) some))
+    rw (lines_world (begun setup) lines)
+    (c.each_record_stands_once.ensures (files_in setup)
+    (turns (rules_in setup) (begun setup).world (turns_from (begun setup) lines))
+    (c.turns_reach_worlds.ensures.alike (rules_in setup) setup.gateways setup.nodes (turns_from (begun setup) lines)
+    some))
 
 pub returns-clause-there : goal.returns-clause-there
 returns-clause-there c = λ setup lines. record {

@@ -1,5 +1,5 @@
 use Rattle.replay_world.specs.Value.{begun}
-use Rattle.replay_world.proofs.MachineLemmas.{begun_has, lines_have}
+use Rattle.replay_world.proofs.BeginningLemmas.{begun_has, lines_have}
 use Rattle.replay_world.proofs.SettledLemmas.{all_settled}
 use Rattle.replay_world.proofs.laws.a_settling_writes_all_files.Goals as goal
 

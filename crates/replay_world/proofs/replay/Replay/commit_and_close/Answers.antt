@@ -7,12 +7,10 @@ use Rattle.replay_world.proofs.replay.Replay.commit_and_close.Goals as goal
 
 pub returns : goal.returns
 returns c = λ v number stands unarmed is none.
-    let calm = commit_calm v number c.args.self.now stands unarmed none in
-    let first = settles_one v (Plays (event.Commit number)) number c.args.out.now c.at_gateway.new.out c.at_gateway.new.self _
-    (c.in_ok-at_gateway.ensures v number stands is none) calm.0 calm.1 calm.2 in
+    let calm = commit_calm _ stands unarmed none in
+    let first = settles_one _ _ (c.in_ok-at_gateway.ensures v number stands is none) calm.0 calm.1 calm.2 in
     let u = after_steps v (Plays (event.Commit number) ∷ []) in
-    let calm_then = close_calm u number c.at_gateway.new.self first.does.makes.stands first.stays.unarmed first.runs in
-    let second = settles_one u (Plays (event.Close number)) number c.at_gateway.new.out c.at_gateway-2.new.out c.at_gateway-2.new.self _
-    (c.in_ok-at_gateway-2.ensures u number first.does.makes.stands is first.runs) calm_then.0 calm_then.1 calm_then.2 in
-    settles_then v (Plays (event.Commit number) ∷ []) (Plays (event.Close number) ∷ []) number c.args.out.now
-    c.at_gateway.new.out c.at_gateway-2.new.out c.at_gateway.new.self c.at_gateway-2.new.self first second
+    let calm_then = close_calm u _ first.does.makes.stands first.stays.unarmed first.runs in
+    let second = settles_one _ _ (c.in_ok-at_gateway-2.ensures u number first.does.makes.stands is first.runs)
+    calm_then.0 calm_then.1 calm_then.2 in
+    settles_then first second

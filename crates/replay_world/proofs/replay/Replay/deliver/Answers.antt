@@ -1,13 +1,9 @@
-use Rattle.std.proofs.Common.{subst, Some}
-use Rattle.replay_world.specs.Receiving.{IsReceiver}
-use Rattle.replay_world.specs.declared.delivering.Receiver.{Receiver}
 use Rattle.replay_world.proofs.replay.Replay.deliver.Goals as goal
 
 pub returns-in-Some-Gateway : goal.returns-in-Some-Gateway
 returns-in-Some-Gateway c = λ v stands none.
     let there = c.pass.ensures v stands in
-    let to = subst (λ (r : Receiver). IsReceiver v c.args.number (Some r)) c.in-Some-Gateway.field-0-is
-    (c.in-Some-Gateway.ensures v there none) in
+    let to = rw c.in-Some-Gateway.field-0-is at (c.in-Some-Gateway.ensures v there none) in
     c.deliver_to_gateway.ensures v there to
 
 pub returns-in-None : goal.returns-in-None

@@ -1,7 +1,7 @@
-use Rattle.std.proofs.Common.{◌≡◌, ◌∙◌, refl, subst, ℕ, ◌+◌, ◌-◌, ◌<◌, [], ◌∷◌, List, length, true, arith}
+use Rattle.std.proofs.Common.{◌≡◌, ◌∙◌, refl, ◌+◌, ◌-◌, ◌<◌, [], ◌∷◌, length, true, arith, subst}
 use Rattle.std.specs.List.{range_with_len}
 use Rattle.replay_world.specs.Lines.{after_steps}
-use Rattle.replay_world.specs.Steps.{Step, Disarms}
+use Rattle.replay_world.specs.Steps.{Disarms}
 use Rattle.replay_world.proofs.GatewayEventLemmas.{machines_count}
 use Rattle.replay_world.proofs.SettleLemmas.{disarms, disarms_next}
 use Rattle.replay_world.proofs.StepsLemmas.{SoFar, does_one, so_far_does, so_far_more, so_far_none}
@@ -11,34 +11,31 @@ pub loop-index-init : goal.loop-index-init
 loop-index-init c = record {
   count = refl;
   done = λ v stands.
-      let n : ℕ = length v.world.gateways in
+      let n = length v.world.gateways in
       let whole : n ≡ n - 0 = omega arith in
-      subst (λ (k : ℕ). SoFar v (disarms (range_with_len 1 n)) (disarms (range_with_len 1 k)) [] [] c.args.self.now) whole
-      (so_far_none v (disarms (range_with_len 1 n)) [] c.args.self.now stands);
+      subst (λ k. SoFar v (disarms (range_with_len 1 n)) (disarms (range_with_len 1 k)) [] [] c.args.self.now) whole
+      (so_far_none v (disarms (range_with_len 1 n)) [] stands);
 }
 
 pub loop-index-preserved : goal.loop-index-preserved
 loop-index-preserved c = record {
   count = c.disarm.ensures.count ∙ c.loop-index.invariant.count;
   done = λ v stands.
-      let n : ℕ = length v.world.gateways in
-      let i : ℕ = c.loop-index.index in
+      let n = length v.world.gateways in
+      let i = c.loop-index.index in
       let less : i < n =
-      omega (arith, c.len-index-end.ensures, c.args.self.now.gateways.ok.0, machines_count v c.args.self.now stands) in
-      let all : List Step = disarms (range_with_len 1 n) in
-      let left : List Step = disarms (range_with_len (i + 1 + 1) (n - (i + 1))) in
-      let so = subst (λ (ss : List Step). SoFar v all ss [] [] c.loop-index.self) (disarms_next i n less)
-      (c.loop-index.invariant.done v stands) in
-      so_far_more v all [] (Disarms i ∷ []) left [] [] c.loop-index.self c.disarm.new.self so
-      (does_one (after_steps v so.front) (Disarms i) [] [] c.disarm.new.self true
-      (record { does = c.disarm.ensures.does (after_steps v so.front) so.does.makes.stands; goes = refl }));
+      omega (arith, c.len-index-end.ensures, c.args.self.now.gateways.ok.0, machines_count v _ stands) in
+      let all = disarms (range_with_len 1 n) in
+      let so = rw (disarms_next i n less) at (c.loop-index.invariant.done v stands) in
+      so_far_more v all [] (Disarms i ∷ []) (disarms (range_with_len (i + 1 + 1) (n - (i + 1)))) [] [] c.loop-index.self
+      c.disarm.new.self so
+      (does_one {v = after_steps v so.front} {step = Disarms i} {before = []} {after = []} {r = c.disarm.new.self}
+      {on = true} (record { does = c.disarm.ensures.does (after_steps v so.front) so.does.makes.stands; goes = refl }));
 }
 
 pub returns : goal.returns
 returns c = λ v stands.
-    let n : ℕ = length v.world.gateways in
+    let n = length v.world.gateways in
     let none : n - c.loop-index.index ≡ 0 =
-    omega (arith, c.len-index-end.ensures, c.args.self.now.gateways.ok.0, machines_count v c.args.self.now stands) in
-    so_far_does v (disarms (range_with_len 1 n)) [] [] c.loop-index.self
-    (subst (λ (k : ℕ). SoFar v (disarms (range_with_len 1 n)) (disarms (range_with_len (c.loop-index.index + 1) k)) [] []
-    c.loop-index.self) none (c.loop-index.invariant.done v stands))
+    omega (arith, c.len-index-end.ensures, c.args.self.now.gateways.ok.0, machines_count v _ stands) in
+    so_far_does v (rw none at (c.loop-index.invariant.done v stands))

@@ -14,9 +14,7 @@ returns-clause-played c = λ v stands. record {
 
 pub returns-clause-at_rest : goal.returns-clause-at_rest
 returns-clause-at_rest c = λ v stands are. record {
-  gateways = all_at_rest c.a_gateway_that_wrote_all_rests.ensures.rests v.setup v.world.gateways v.machines
-      c.hand_out-areas.result.0.items
-      c.hand_out-areas.result.1.items
+  gateways = all_at_rest c.a_gateway_that_wrote_all_rests.ensures.rests _ _ _ _ _
       (c.hand_out-areas.ensures v.setup v.world.gateways v.machines stands.gateways (record {
         no_areas = stands.room.no_areas;
         no_shelves = stands.room.no_shelves;

@@ -1,21 +1,19 @@
-use Rattle.std.proofs.Common.{◌≡◌, ◌∙◌, subst, ℕ, List}
+use Rattle.std.proofs.Common.{◌≡◌, ◌∙◌, subst}
 use Rattle.std.proofs.lemmas.Result.{on_ok_weaker}
 use Rattle.replay_world.specs.Does.{Makes}
 use Rattle.replay_world.specs.Lines.{mixed_steps}
-use Rattle.rand_pcg.specs.Lcg.{Lcg}
 use Rattle.world_script.specs.Sample.{seeded}
-use Rattle.replay_world.proofs.FlowLemmas.{waiting_sent}
-use Rattle.replay_world.proofs.MixLemmas.{is_seeded}
+use Rattle.replay_world.proofs.DeliverLemmas.{waiting_sent, is_seeded}
 use Rattle.replay_world.proofs.replay.Replay.mix.Goals as goal
 
 pub returns : goal.returns
 returns c = λ v stands.
     let keys : c.deref.result.now ≡ c.args.self.now.waiting.keys =
-    c.deref.ensures.value ∙ c.in_ok-numbers.ensures.items_if_clones_equal (λ x y same. same) ∙ c.as_slice.ensures.keys in
-    let rng : c.seed_from_u64-rng.result ≡ seeded c.args.seed =
-    is_seeded c.args.seed c.seed_from_u64-rng.result c.seed_from_u64-rng.ensures in
-    on_ok_weaker c.draw_all.result (λ done. subst (λ (ks : List ℕ). Makes v (mixed_steps (seeded c.args.seed) ks) c.args.out.now
-    c.draw_all.new.out c.draw_all.new.self) (keys ∙ stands.waits)
-    (subst (λ (g : Lcg). Makes v (mixed_steps g c.deref.result.now) c.args.out.now c.draw_all.new.out c.draw_all.new.self)
-    rng done))
-    (c.draw_all.ensures v stands (waiting_sent v c.args.self.now c.deref.result.now stands keys))
+    c.deref.ensures.value ∙ c.in_ok-numbers.ensures.items_if_clones_equal (λ x y same. same)
+    ∙ c.as_slice.ensures.keys in
+    let rng = is_seeded c.args.seed c.seed_from_u64-rng.ensures in
+    on_ok_weaker c.draw_all.result (λ done.
+    subst (λ ks. Makes v (mixed_steps (seeded c.args.seed) ks) c.args.out.now c.draw_all.new.out c.draw_all.new.self)
+    (keys ∙ stands.waits)
+    (subst (λ g. Makes v (mixed_steps g c.deref.result.now) c.args.out.now c.draw_all.new.out c.draw_all.new.self) rng
+    done)) (c.draw_all.ensures v stands (waiting_sent stands keys))

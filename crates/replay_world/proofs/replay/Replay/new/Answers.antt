@@ -1,9 +1,8 @@
-use Rattle.std.proofs.Common.{◌≡◌, ◌∙◌, sym, ap, subst, ℕ, ◌≤◌, [], ◌∷◌, rules}
+use Rattle.std.proofs.Common.{◌≡◌, ◌∙◌, sym, ap, [], ◌∷◌, rules}
 use Rattle.node_core.specs.Log.{Began}
-use Rattle.once_core.specs.Beginning.{first_gateway, times_of}
+use Rattle.once_core.specs.Beginning.{times_of}
 use Rattle.replay_gateway.specs.Setup.{rules_in, setup_of}
-use Rattle.replay_world.specs.Stands.{EachStands, nodes_from}
-use Rattle.replay_gateway.specs.Machine.{first_machine}
+use Rattle.replay_world.specs.Stands.{nodes_from}
 use Rattle.replay_world.proofs.BeginningLemmas.{begun_stands}
 use Rattle.replay_world.proofs.replay.Replay.new.Goals as goal
 
@@ -11,17 +10,15 @@ pub returns-clause-stands : goal.returns-clause-stands
 returns-clause-stands c =
     let s = setup_of c.args.script.now.lines in
     let set = c.of-settings.ensures.set in
-    let each = subst (λ (n : ℕ). EachStands s 0 (times_of n (first_gateway (rules_in s))) (times_of n first_machine)
-    c.in_ok-gateways.gateways.items) (sym set.gateways) (c.in_ok-gateways.ensures set) in
+    let each = rw (← set.gateways) at (c.in_ok-gateways.ensures set) in
     let nodes : c.in_ok-nodes.nodes.items ≡ nodes_from s.gateways 0 (times_of s.nodes (Began ∷ [])) =
     c.in_ok-nodes.ensures c.of-settings.result.gateways (c.deref.ensures.value ∙ c.in_ok-addresses.ensures.addresses)
-    ∙ ap (λ (n : ℕ). nodes_from n 0 (times_of c.of-settings.result.nodes (Began ∷ []))) (sym set.gateways)
-    ∙ ap (λ (n : ℕ). nodes_from s.gateways 0 (times_of n (Began ∷ []))) (sym set.nodes) in
+    ∙ ap (λ n. nodes_from n 0 (times_of c.of-settings.result.nodes (Began ∷ []))) (sym set.gateways)
+    ∙ ap (λ n. nodes_from s.gateways 0 (times_of n (Began ∷ []))) (sym set.nodes) in
     let reached = c.turns_reach_worlds.ensures.alike (rules_in s) s.gateways s.nodes []
-    (subst (λ (n : ℕ). 1 ≤ n) (sym set.gateways) c.of-settings.ensures.sound.some) in
+    (rw set.gateways c.of-settings.ensures.sound.some) in
     begun_stands s _ reached each (search rules) (search rules) nodes (search rules) (search rules) (search rules)
     (search rules) (search rules) (search rules) (search rules) (search rules)
 
 pub returns-clause-gateways : goal.returns-clause-gateways
-returns-clause-gateways c =
-    subst (λ (n : ℕ). 1 ≤ n) (sym c.of-settings.ensures.set.gateways) c.of-settings.ensures.sound.some
+returns-clause-gateways c = rw c.of-settings.ensures.set.gateways c.of-settings.ensures.sound.some

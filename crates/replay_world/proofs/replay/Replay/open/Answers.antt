@@ -1,38 +1,31 @@
-use Rattle.std.proofs.Common.{◌≡◌, ◌∙◌, refl, sym, ap, ℕ, ◌-◌, ◌<◌, length, set, Some, slice_get, arith}
-use Rattle.std.proofs.lemmas.Option.{slice_get_read}
+use Rattle.std.proofs.Common.{refl, ◌-◌, arith}
 use Rattle.std.proofs.lemmas.Result.{on_ok_weaker}
 use Rattle.once_core.specs.Gateway.{opened, still}
-use Rattle.once_core.specs.declared.event.Event.TheVariants as event
 use Rattle.replay_gateway.specs.Setup.{rules_in}
 use Rattle.replay_gateway.specs.Standing.{MachineStands}
-use Rattle.replay_world.specs.Steps.{Plays}
+use Rattle.once_core.specs.declared.event.Event.TheVariants as event
 use Rattle.replay_world.proofs.GatewayEventLemmas.{called_stands, machine_at}
 use Rattle.replay_world.proofs.QuietLemmas.{does_quietly, down_there, is_there_down, machines_stay, no_machine_down, plays, told_sent}
+use Rattle.replay_world.proofs.RefusalLemmas.{read_at}
 use Rattle.replay_world.proofs.replay.Replay.open.Goals as goal
 
 pub returns-then-index-len : goal.returns-then-index-len
 returns-then-index-len c = λ v number stands is none.
-    no_machine_down v number c.args.place c.args.self.now stands is none
+    no_machine_down v _ stands is none
     (omega (arith, c.if-index-len.true, c.len.ensures, c.from-index.ensures, c.args.self.now.gateways.ok.0))
 
 pub returns : goal.returns
 returns c = λ v number stands is none.
-    let within : c.from-index.result < length c.args.self.now.gateways.items =
-    omega (arith, c.if-index-len.false, c.len.ensures, c.args.self.now.gateways.ok.0) in
-    let has : slice_get c.args.self.now.gateways.items c.args.place ≡ Some c.index_mut.result.now =
-    ap (λ (k : ℕ). slice_get c.args.self.now.gateways.items k) (sym c.from-index.ensures)
-    ∙ slice_get_read c.args.self.now.gateways.items (length c.args.self.now.gateways.items) c.from-index.result
-    c.index_mut.result.now refl within c.index_mut.ensures.value in
-    let here = machine_at v c.args.self.now stands number c.args.place c.index_mut.result.now is has in
-    let there = called_stands v number c.index_mut.result.now here in
-    let down = down_there v.world number here.gateway here.has_gateway (is_there_down v.world number none).2 in
+    let has = read_at _ c.from-index.ensures
+    (omega (arith, c.if-index-len.false, c.len.ensures, c.args.self.now.gateways.ok.0)) c.index_mut.ensures.value in
+    let here = machine_at v _ stands _ is has in
+    let down = down_there v.world number here.has_gateway (is_there_down v.world number none).2 in
     on_ok_weaker {P = MachineStands v.setup (number - 1) (opened (rules_in v.setup) here.gateway) here.machine c.open.new.self}
-    c.open.result (λ stood. does_quietly v (Plays (event.Open number)) (number - 1)
-    (opened (rules_in v.setup) here.gateway) here.machine c.open.new.self c.args.self.now _
-    (plays v (number - 1) here.gateway here.machine here.has_gateway here.has_machine (event.Open number)
-    (λ g. still (opened (rules_in v.setup) g)) refl none refl here.machine
-    (machines_stay v (number - 1) here.gateway here.machine here.has_gateway here.has_machine))
-    (told_sent v (number - 1) here.gateway here.machine here.has_gateway here.has_machine (event.Open number)
-    (λ g. still (opened (rules_in v.setup) g)) refl none refl refl) stands stood refl
-    (ap (λ (k : ℕ). set c.args.self.now.gateways.items k c.open.new.self) (c.from-index.ensures ∙ sym is)))
-    (c.open.ensures.opens v.setup (number - 1) here.gateway here.machine there down)
+    c.open.result
+    (λ stood. does_quietly _
+    (plays v _ _ _ here.has_gateway here.has_machine (event.Open number) (λ g. still (opened (rules_in v.setup) g)) refl
+    none refl _
+    (machines_stay v _ _ _ here.has_gateway here.has_machine))
+    (told_sent v _ _ _ here.has_gateway here.has_machine (event.Open number) (λ g. still (opened (rules_in v.setup) g)) refl
+    none refl refl) stands stood refl (cc c.from-index.ensures))
+    (c.open.ensures.opens v.setup (number - 1) here.gateway here.machine (called_stands v _ here) down)

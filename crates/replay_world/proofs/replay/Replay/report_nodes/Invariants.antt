@@ -2,7 +2,7 @@ use Rattle.std.proofs.Common.{◌≡◌, ◌++◌}
 use Rattle.std.specs.List.{flat_map, range_with_len}
 use Rattle.replay_world.specs.Stands.{Stands}
 use Rattle.replay_world.specs.Value.{ReplayValue}
-use Rattle.replay_world.proofs.AllLemmas.{node_lines}
+use Rattle.replay_world.proofs.SummaryLemmas.{node_lines}
 use Rattle.replay_world.proofs.replay.Replay.report_nodes.Given as goal
 
 -- the nodes so far were reported

@@ -1,6 +1,5 @@
-use Rattle.std.proofs.Common.{◌∙◌, sym, subst}
+use Rattle.std.proofs.Common.{◌∙◌, sym}
 use Rattle.std.proofs.lemmas.Result.{on_ok_weaker}
-use Rattle.replay_world.specs.Stands.{Stands}
 use Rattle.replay_world.proofs.RunLemmas.{went_on}
 use Rattle.replay_world.proofs.replay.Replay.run.Goals as goal
 
@@ -11,6 +10,5 @@ pub returns : goal.returns
 returns c = λ v stands none.
     let first = c.in_ok-ran.ensures v stands none in
     let kept = first.kept c.if-ran.false in
-    on_ok_weaker c.run_elsewhere.result (λ ran. went_on v c.args.line.now c.args.out.now _ c.run_elsewhere.new.out
-    c.run_elsewhere.new.self kept.1 ran)
-    (c.run_elsewhere.ensures v (subst (λ r. Stands v r) (sym kept.0) stands) none (sym first.kind ∙ c.if-ran.false))
+    on_ok_weaker _ (λ ran. went_on kept.1 ran)
+    (c.run_elsewhere.ensures v (rw kept.0 stands) none (sym first.kind ∙ c.if-ran.false))

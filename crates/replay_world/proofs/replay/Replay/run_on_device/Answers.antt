@@ -1,21 +1,16 @@
 use Rattle.std.proofs.Common.{◌∙◌, refl, sym, ◌-◌, ◌<◌, [], rules}
 use Rattle.area_disk.specs.Armed.Armed.{Stop}
-use Rattle.once_core.specs.declared.event.Event.TheVariants as event
 use Rattle.replay_world.specs.Does.{is_on_device}
 use Rattle.replay_world.specs.Lines.{outcome_in}
-use Rattle.replay_world.specs.Steps.{Arms, ArmsShelf, Plays}
-use Rattle.world_script.specs.declared.line.Line.TheVariants as line
 use Rattle.replay_world.proofs.RunLemmas.{arms_stop, gateway_place, line_does, such_line}
 use Rattle.replay_world.proofs.replay.Replay.run_on_device.Goals as goal
 
 pub returns-in-Stop : goal.returns-in-Stop
 returns-in-Stop c = λ v stands none.
     let number = c.in-Stop.gateway in
-    such_line v is_on_device c.args.line.now (line.Stop number) [] [] c.args.self.now c.stop.new.self c.in-Stop.is refl
-    none (λ allowed.
-    let is = gateway_place v c.args.self.now number stands allowed ∙ sym c.place.ensures in
-    line_does v (line.Stop number) (Plays (event.Cut number 0)) [] [] c.stop.new.self allowed refl refl
-    (c.stop.ensures v number stands is allowed))
+    such_line v is_on_device [] [] _ _ c.in-Stop.is refl none (λ allowed.
+    let is = gateway_place _ stands allowed ∙ sym c.place.ensures in
+    line_does _ allowed refl refl (c.stop.ensures v number stands is allowed))
 
 pub returns-in-Arm : goal.returns-in-Arm
 returns-in-Arm c = λ v stands none.
@@ -24,14 +19,12 @@ returns-in-Arm c = λ v stands none.
     let mode = c.in-Arm.mode in
     let few : call - 1 < 18446744073709551615 = search rules in
     let armed = Stop (call - 1) (outcome_in mode) in
-    such_line v is_on_device c.args.line.now (line.Arm number call mode) [] [] c.args.self.now c.arm.new.self c.in-Arm.is
-    refl none (λ allowed.
-    let is = gateway_place v c.args.self.now number stands allowed ∙ sym c.place-in-Arm.ensures in
-    line_does v (line.Arm number call mode) (Arms (number - 1) armed) [] [] c.arm.new.self allowed refl refl
+    such_line v is_on_device [] [] _ _ c.in-Arm.is refl none (λ allowed.
+    let is = gateway_place _ stands allowed ∙ sym c.place-in-Arm.ensures in
+    line_does _ allowed refl refl
     (c.arm.ensures v number armed
-    (arms_stop call (outcome_in mode) c.from_one.result c.outcome_of.result c.stopping-plan.result few c.from_one.ensures
-    c.outcome_of.ensures c.stopping-plan.ensures.read_fail c.stopping-plan.ensures.fail c.stopping-plan.ensures.stop)
-    stands is allowed))
+    (arms_stop _ _ few c.from_one.ensures c.outcome_of.ensures c.stopping-plan.ensures.read_fail
+    c.stopping-plan.ensures.fail c.stopping-plan.ensures.stop) stands is allowed))
 
 pub returns-in-ArmShelf : goal.returns-in-ArmShelf
 returns-in-ArmShelf c = λ v stands none.
@@ -40,11 +33,10 @@ returns-in-ArmShelf c = λ v stands none.
     let mode = c.in-ArmShelf.mode in
     let few : call - 1 < 18446744073709551615 = search rules in
     let armed = Stop (call - 1) (outcome_in mode) in
-    such_line v is_on_device c.args.line.now (line.ArmShelf number call mode) [] [] c.args.self.now c.arm_shelf.new.self c.in-ArmShelf.is
-    refl none (λ allowed.
-    let is = gateway_place v c.args.self.now number stands allowed ∙ sym c.place-in-ArmShelf.ensures in
-    line_does v (line.ArmShelf number call mode) (ArmsShelf (number - 1) armed) [] [] c.arm_shelf.new.self allowed refl refl
+    such_line v is_on_device [] [] _ _ c.in-ArmShelf.is refl none (λ allowed.
+    let is = gateway_place _ stands allowed ∙ sym c.place-in-ArmShelf.ensures in
+    line_does _ allowed refl refl
     (c.arm_shelf.ensures v number armed
-    (arms_stop call (outcome_in mode) c.from_one-in-ArmShelf.result c.outcome_of-in-ArmShelf.result c.stopping-plan-in-ArmShelf.result few c.from_one-in-ArmShelf.ensures
-    c.outcome_of-in-ArmShelf.ensures c.stopping-plan-in-ArmShelf.ensures.read_fail c.stopping-plan-in-ArmShelf.ensures.fail c.stopping-plan-in-ArmShelf.ensures.stop)
-    stands is allowed))
+    (arms_stop _ _ few c.from_one-in-ArmShelf.ensures c.outcome_of-in-ArmShelf.ensures
+    c.stopping-plan-in-ArmShelf.ensures.read_fail c.stopping-plan-in-ArmShelf.ensures.fail
+    c.stopping-plan-in-ArmShelf.ensures.stop) stands is allowed))

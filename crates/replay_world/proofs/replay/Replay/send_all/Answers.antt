@@ -1,15 +1,14 @@
-use Rattle.std.proofs.Common.{[], ◌∷◌, rules, map-id}
+use Rattle.std.proofs.Common.{rules, map-id}
 use Rattle.std.proofs.lemmas.Iterator.Adapters.{YieldsList-from_vec}
 use Rattle.std.proofs.lemmas.Iterator.Consumers.{YieldsList-end}
-use Rattle.replay_world.proofs.SentLemmas.{sent_both, sent_none}
+use Rattle.replay_world.proofs.StepsLemmas.{sent_both, sent_none}
 use Rattle.replay_world.proofs.replay.Replay.send_all.Goals as goal
 
 pub loop-message-init : goal.loop-message-init
-loop-message-init c = sent_none c.args.out.now c.args.self.now
+loop-message-init c = sent_none _ _
 
 pub loop-message-preserved : goal.loop-message-preserved
-loop-message-preserved c =
-    sent_both c.loop-message.yielded (c.in-Some.message ∷ []) _ _ _ _ _ _ c.loop-message.invariant c.in_ok-send.ensures
+loop-message-preserved c = sent_both _ _ _ _ _ _ _ _ c.loop-message.invariant c.in_ok-send.ensures
 
 pub returns : goal.returns
 returns c =

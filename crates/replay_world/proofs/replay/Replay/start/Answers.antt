@@ -1,34 +1,22 @@
-use Rattle.std.proofs.Common.{◌≡◌, ◌∙◌, refl, sym, ap, ℕ, ◌<◌, true≢false, length, set, Some, slice_get, arith}
-use Rattle.std.proofs.lemmas.Option.{slice_get_read}
-use Rattle.node_core.specs.Value.{NodeValue}
+use Rattle.std.proofs.Common.{refl, arith}
 use Rattle.replay_world.proofs.NodeEventLemmas.{no_start_beyond, start_halted, started}
+use Rattle.replay_world.proofs.RefusalLemmas.{read_at}
 use Rattle.replay_world.proofs.replay.Replay.start.Goals as goal
 
 pub returns-then-index-len : goal.returns-then-index-len
 returns-then-index-len c = λ v number stands is none.
-    no_start_beyond v number c.args.place c.args.self.now stands is none
+    no_start_beyond v _ stands is none
     (omega (arith, c.if-index-len.true, c.len.ensures, c.from-index.ensures, c.args.self.now.nodes.ok.0))
 
 pub returns-then-runs : goal.returns-then-runs
 returns-then-runs c = λ v number stands is none.
-    let within : c.from-index.result < length c.args.self.now.nodes.items =
-    omega (arith, c.if-index-len.false, c.len.ensures, c.args.self.now.nodes.ok.0) in
-    let has : slice_get c.args.self.now.nodes.items c.args.place ≡ Some c.index.result.now =
-    ap (λ (k : ℕ). slice_get c.args.self.now.nodes.items k) (sym c.from-index.ensures)
-    ∙ slice_get_read c.args.self.now.nodes.items (length c.args.self.now.nodes.items) c.from-index.result c.index.result.now refl
-    within c.index.ensures in
-    absurd (true≢false (sym c.if-runs.true ∙ c.runs.ensures
-    ∙ start_halted v number c.args.place c.index.result.now c.args.self.now stands is none has))
+    let has = read_at _ c.from-index.ensures
+    (omega (arith, c.if-index-len.false, c.len.ensures, c.args.self.now.nodes.ok.0)) c.index.ensures in
+    cc (c.if-runs.true, c.runs.ensures, start_halted v _ _ _ _ stands is none has)
 
 pub returns : goal.returns
 returns c = λ v number stands is none.
-    let within : c.from-index.result < length c.args.self.now.nodes.items =
-    omega (arith, c.if-index-len.false, c.len.ensures, c.args.self.now.nodes.ok.0) in
-    let has : slice_get c.args.self.now.nodes.items c.args.place ≡ Some c.index_mut.result.now =
-    ap (λ (k : ℕ). slice_get c.args.self.now.nodes.items k) (sym c.from-index.ensures)
-    ∙ slice_get_read c.args.self.now.nodes.items (length c.args.self.now.nodes.items) c.from-index.result c.index_mut.result.now refl
-    within c.index_mut.ensures.value in
-    started c.a_node_stands_for_its_log.ensures v number c.args.place c.index_mut.result.now c.args.self.now _ stands is none
-    has refl
-    (ap (λ (k : ℕ). set c.args.self.now.nodes.items k c.start.new.self) c.from-index.ensures
-    ∙ ap (λ (n : NodeValue). set c.args.self.now.nodes.items c.args.place n) c.start.ensures)
+    let has = read_at _ c.from-index.ensures
+    (omega (arith, c.if-index-len.false, c.len.ensures, c.args.self.now.nodes.ok.0)) c.index_mut.ensures.value in
+    started c.a_node_stands_for_its_log.ensures v _ _ _ _ _ stands is none has refl
+    (cc (c.from-index.ensures, c.start.ensures))

@@ -1,10 +1,9 @@
-use Rattle.std.proofs.Common.{◌≡◌, refl, sym, subst, ℕ, ◌+◌, length, Option, Some, slice_get, length-set, arith}
+use Rattle.std.proofs.Common.{◌≡◌, refl, ◌+◌, length, Some, slice_get, length-set, arith, sym, subst}
 use Rattle.std.proofs.lemmas.Option.{slice_get_read}
 use Rattle.std.proofs.lemmas.Result.{IfOk-weaker}
-use Rattle.once_core.specs.Gateway.{Gateway}
 use Rattle.replay_gateway.specs.Standing.{MachineStands}
 use Rattle.replay_world.specs.Summary.{TalliesIf}
-use Rattle.replay_world.proofs.AllLemmas.{stands_same}
+use Rattle.replay_world.proofs.SummaryLemmas.{stands_same}
 use Rattle.replay_world.proofs.RefusalLemmas.{gateway_at}
 use Rattle.replay_world.proofs.replay.Replay.tally_gateway.Goals as goal
 
@@ -13,16 +12,15 @@ returns-clause-count c = length-set c.args.self.now.gateways.items c.args.index 
 
 pub returns-clause-tallies : goal.returns-clause-tallies
 returns-clause-tallies c = λ v stands.
-    let k : ℕ = c.args.index in
+    let k = c.args.index in
     let has : slice_get c.args.self.now.gateways.items k ≡ Some c.index_mut.result.now =
     slice_get_read c.args.self.now.gateways.items (length c.args.self.now.gateways.items) k c.index_mut.result.now refl
     c.requires c.index_mut.ensures.value in
-    let here = gateway_at v c.args.self.now stands k c.index_mut.result.now has in
+    let here = gateway_at v _ stands k has in
     let same : 0 + k ≡ k = omega arith in
-    let there = subst (λ (p : ℕ). MachineStands v.setup p here.gateway here.machine c.index_mut.result.now) same
+    let there = subst (λ p. MachineStands v.setup p here.gateway here.machine c.index_mut.result.now) same
     here.stands in
     IfOk-weaker c.tally.result _ _ (λ tally done. (
-      stands_same v k here.gateway here.machine c.args.self.now _ c.tally.new.self stands done.1 here.has_gateway
-          here.has_machine refl refl,
-      subst (λ (o : Option Gateway). TalliesIf o tally) (sym here.has_gateway) done.0,
+      stands_same _ stands done.1 here.has_gateway here.has_machine refl refl,
+      subst (λ o. TalliesIf o tally) (sym here.has_gateway) done.0,
     )) (c.tally.ensures v.setup k here.gateway here.machine there)

@@ -1,8 +1,8 @@
-use Rattle.std.proofs.Common.{refl, sym, subst, [], ◌∷◌, ◌-◌, List}
+use Rattle.std.proofs.Common.{refl, ◌-◌, sym, subst}
 use Rattle.std.proofs.lemmas.Result.{on_ok_weaker}
-use Rattle.replay_world.specs.Does.{Makes}
-use Rattle.replay_world.specs.Steps.{Step, Writes, after_step}
+use Rattle.replay_world.specs.Steps.{Writes, after_step}
 use Rattle.replay_world.specs.Sending.{steps_behind}
+use Rattle.replay_world.specs.Does.{Makes}
 use Rattle.replay_world.proofs.NodeSubmitLemmas.{does_behind, one_step}
 use Rattle.replay_world.proofs.StepsLemmas.{makes_then}
 use Rattle.replay_world.proofs.replay.Replay.write_line.Goals as goal
@@ -10,11 +10,8 @@ use Rattle.replay_world.proofs.replay.Replay.write_line.Goals as goal
 pub returns : goal.returns
 returns c = λ v number stands is none.
     let did = c.in_ok-wrote.ensures.writes v number stands is none in
-    let behind = steps_behind number c.in_ok-wrote.wrote in
-    on_ok_weaker c.end_write.result (λ makes. subst (λ (steps : List Step). Makes v steps c.args.out.now c.end_write.new.out
-    c.end_write.new.self) (sym (c.in_ok-wrote.ensures.came v number stands is none))
-    (makes_then v (Writes (number - 1) ∷ []) behind c.args.out.now c.args.out.now c.write.new.self c.end_write.new.out
-    c.end_write.new.self
-    (one_step v (Writes (number - 1)) c.args.out.now c.args.out.now c.write.new.self refl
-    (does_behind v (Writes (number - 1)) c.args.out.now c.write.new.self did)) makes))
-    (c.end_write.ensures (after_step v (Writes (number - 1))) number did.stands is none)
+    on_ok_weaker c.end_write.result (λ makes.
+    subst (λ steps. Makes v steps c.args.out.now c.end_write.new.out c.end_write.new.self)
+    (sym (c.in_ok-wrote.ensures.came v number stands is none))
+    (makes_then v _ (steps_behind number c.in_ok-wrote.wrote) _ _ _ (one_step refl (does_behind c.args.out.now did))
+    makes)) (c.end_write.ensures (after_step v (Writes (number - 1))) number did.stands is none)
