@@ -37,7 +37,7 @@ front_is cdr (Err fault) cdrs e = absurd cc
 -- What is spelled is read.
 
 -- an extension that is there where this holds
-extension_again : (holds : Bool) (extension : Option ℕ) (octet : ℕ) (rest : List ℕ) → IsExtension holds extension →
+pub extension_again : (holds : Bool) (extension : Option ℕ) (octet : ℕ) (rest : List ℕ) → IsExtension holds extension →
     (holds ≡ true → octet ≡ slice_index (extension_octets extension ++ rest) 0) → extension_if holds octet ≡ extension
 extension_again true None octet rest is there = absurd cc
 extension_again true (Some extension) octet rest is there = ap (λ (o : ℕ). Some o) (there refl)

@@ -1,7 +1,7 @@
 -- The header of a file, its routeing filter and its private extension, are read exactly where octets spell them.
 use Rattle.std.proofs.Common.{◌≡◌, ◌≢◌, ℕ, ◌+◌, ◌<◌, ◌≤◌, ◌^◌, List, [], ◌∷◌, ◌++◌, length, take, drop, Bool, true, false, true≢false, if◌then◌else◌, Option, None, Some, refl, ap, sym, subst, ◌∙◌, arith, append_assoc}
 use Rattle.std.specs.Prelude.{◌==◌, ◌&&◌, ◌||◌, not, slice_index, is_some}
-use Rattle.std.proofs.lemmas.Bool.{le-ltb, eq-eqb, ne_eqb}
+use Rattle.std.proofs.lemmas.Bool.{and_parts, le-ltb, eq-eqb, ne_eqb}
 use Rattle.std.proofs.lemmas.List.{take_at, drop_at, get_or-drop, length-append, drop-drop}
 use Rattle.byteorder.specs.Endian.{big_bytes, big_number}
 use Rattle.byteorder.specs.Numbers.{big_number-reads_back}
@@ -11,7 +11,7 @@ use Rattle.cdr_file.specs.Reading.{HasHeader, extends_in, extension_end, extensi
 use Rattle.cdr_file.specs.SharedOctet.{shared_octet}
 use Rattle.cdr_file.specs.Spelling.{AreOctets}
 use Rattle.cdr_file.specs.declared.file_header.FileHeader.{FileHeader}
-use Rattle.cdr_file.proofs.CdrLemmas.{extension_fits, extension_is}
+use Rattle.cdr_file.proofs.CdrLemmas.{count_again, extension_again, extension_fits, extension_is}
 use Rattle.cdr_file.proofs.FileLemmas.{length-field_octets}
 use Rattle.cdr_file.proofs.NumberLemmas.{high_again, length_of_part, low_again, number_fits, number_from_2, number_from_4, octet_from, octet_past, part_from, past_front, shared_from}
 
@@ -122,91 +122,64 @@ pub record Extended (octets : List ℕ) (h : FileHeader) : Type 0 where
   pub extends : extends_in octets ≡ extends h
   pub count : release_count octets ≡ length (release_octets h)
 
--- by whether there are any
+-- there are any where octets follow the private extension
+extends_by_length : (e : ℕ) (high low : Option ℕ) → not (e == e + length
+    (extension_octets high ++ extension_octets low)) ≡ is_some high || is_some low
+extends_by_length e None None = ap not (eq-eqb e (e + 0) (omega arith))
+extends_by_length e None (Some b) = ap not (ne_eqb e (e + 1) (omega arith))
+extends_by_length e (Some a) low = ap not (ne_eqb e (e + length (a ∷ extension_octets low)) (omega arith))
+
+sevens_if : (e a b : Bool) → (if e then one_if a + one_if b else 0) ≡ one_if (e && a) + one_if (e && b)
+sevens_if true a b = refl
+sevens_if false a b = refl
+
 pub extended_by : (octets : List ℕ) (h : FileHeader) (rest : List ℕ) (e : ℕ) → extension_end octets ≡ e →
     drop e octets ≡ release_octets h ++ rest → header_end octets ≡ e + length (release_octets h) →
-    is_seven 8 octets ≡ (h.high_release == 7) → is_seven 9 octets ≡ (h.low_release == 7) →
-    (high low : Option ℕ) → h.high_extension ≡ high → h.low_extension ≡ low → IsFileHeader h → Extended octets h
-extended_by octets h rest e at past end high_seven low_seven high low is_high is_low fits =
-    by high low is_high is_low (subst (λ (x : Option ℕ). IsExtension (extends h && (h.high_release == 7)) x) is_high fits.high_extension)
-    (subst (λ (x : Option ℕ). IsExtension (extends h && (h.low_release == 7)) x) is_low fits.low_extension)
+    is_seven 8 octets ≡ (h.high_release == 7) → is_seven 9 octets ≡ (h.low_release == 7) → IsFileHeader h →
+        Extended octets h
+extended_by octets h rest e at past end high_seven low_seven fits = record {
+  high = (λ i. extension_if (same i && high_seven i) (slice_index octets (extension_end octets)))
+      ∙ extension_again (extends h && (h.high_release == 7)) h.high_extension
+          (slice_index octets (extension_end octets)) (low ++ rest)
+      fits.high_extension (λ holds. there (extension_end octets) 0 (omega (arith, at)));
+  low = (λ i. extension_if (same i && low_seven i) (slice_index octets
+      (extension_end octets + one_if (is_seven 8 octets))))
+      ∙ extension_again (extends h && (h.low_release == 7)) h.low_extension
+          (slice_index octets (extension_end octets + one_if (is_seven 8 octets))) rest
+      fits.low_extension (λ holds. there (extension_end octets + one_if (is_seven 8 octets)) (length high) (next holds)
+          ∙ octet_past (length high) high (low ++ rest) refl);
+  extends = same;
+  count = (λ i. if same i then one_if (high_seven i) + one_if (low_seven i) else 0) ∙
+      sevens_if (extends h) (h.high_release == 7) (h.low_release == 7)
+      ∙ (λ i. sym high_count i + sym low_count i) ∙ sym (length-append high low);
+}
   where
-    count : (high low : Option ℕ) → h.high_extension ≡ high → h.low_extension ≡ low →
-        length (release_octets h) ≡ length (extension_octets high) + length (extension_octets low)
-    count high low is_high is_low =
-        length-append (extension_octets h.high_extension) (extension_octets h.low_extension)
-        ∙ (λ i. length (extension_octets (is_high i)) + length (extension_octets (is_low i)))
+    high : List ℕ
+    high = extension_octets h.high_extension
 
-    there : (high low : Option ℕ) → h.high_extension ≡ high → h.low_extension ≡ low →
-        drop e octets ≡ (extension_octets high ++ extension_octets low) ++ rest
-    there high low is_high is_low = past ∙ (λ i. (extension_octets (is_high i) ++ extension_octets (is_low i)) ++ rest)
+    low : List ℕ
+    low = extension_octets h.low_extension
 
-    first : (k : ℕ) → slice_index octets (e + k) ≡ slice_index (drop e octets) k
-    first k = sym (get_or-drop e octets k 0)
+    same : extends_in octets ≡ extends h
+    same = (λ i. not (at i == end i)) ∙ extends_by_length e h.high_extension h.low_extension
 
-    by : (high low : Option ℕ) → h.high_extension ≡ high → h.low_extension ≡ low →
-        IsExtension (extends h && (h.high_release == 7)) high → IsExtension (extends h && (h.low_release == 7)) low → Extended octets h
-    by None None is_high is_low high_is low_is =
-        let none : extends h ≡ false = λ i. is_some (is_high i) || is_some (is_low i) in
-        let same : extension_end octets ≡ header_end octets = omega (arith, at, end, count None None is_high is_low) in
-        let extends_none : extends_in octets ≡ false = ap not (eq-eqb (extension_end octets) (header_end octets) same) in
-        record {
-          high = ap (λ (b : Bool). extension_if (b && is_seven 8 octets) (slice_index octets (extension_end octets))) extends_none ∙ sym is_high;
-          low = ap (λ (b : Bool). extension_if (b && is_seven 9 octets) (slice_index octets (extension_end octets + one_if (is_seven 8 octets)))) extends_none ∙ sym is_low;
-          extends = extends_none ∙ sym none;
-          count = ap (λ (b : Bool). if b then sevens octets else 0) extends_none ∙ sym (count None None is_high is_low);
-        }
-    by (Some a) None is_high is_low high_is low_is =
-        let some : extends h ≡ true = λ i. is_some (is_high i) || is_some h.low_extension in
-        let high_holds : (h.high_release == 7) ≡ true = ap (λ (b : Bool). b && (h.high_release == 7)) (sym some) ∙ high_is.0 in
-        let low_holds : (h.low_release == 7) ≡ false = ap (λ (b : Bool). b && (h.low_release == 7)) (sym some) ∙ low_is in
-        let differs : extends_in octets ≡ true =
-        ap not (ne_eqb (extension_end octets) (header_end octets) (λ same. absurd (omega (arith, same, at, end, count (Some a) None is_high is_low)))) in
-        let here : extension_end octets ≡ e + 0 = omega (arith, at) in
-        let octet : slice_index octets (extension_end octets) ≡ a =
-        ap (slice_index octets) here ∙ first 0 ∙ ap (λ (o : List ℕ). slice_index o 0) (there (Some a) None is_high is_low) in
-        record {
-          high = (λ i. extension_if (differs i && (high_seven ∙ high_holds) i) (octet i)) ∙ sym is_high;
-          low = (λ i. extension_if (differs i && (low_seven ∙ low_holds) i) (slice_index octets (extension_end octets + one_if (is_seven 8 octets)))) ∙ sym is_low;
-          extends = differs ∙ sym some;
-          count = (λ i. if differs i then one_if ((high_seven ∙ high_holds) i) + one_if ((low_seven ∙ low_holds) i) else 0)
-              ∙ sym (count (Some a) None is_high is_low);
-        }
-    by None (Some b) is_high is_low high_is low_is =
-        let some : extends h ≡ true = λ i. is_some (is_high i) || is_some (is_low i) in
-        let high_holds : (h.high_release == 7) ≡ false = ap (λ (b : Bool). b && (h.high_release == 7)) (sym some) ∙ high_is in
-        let low_holds : (h.low_release == 7) ≡ true = ap (λ (b : Bool). b && (h.low_release == 7)) (sym some) ∙ low_is.0 in
-        let differs : extends_in octets ≡ true =
-        ap not (ne_eqb (extension_end octets) (header_end octets) (λ same. absurd (omega (arith, same, at, end, count None (Some b) is_high is_low)))) in
-        let place : extension_end octets + one_if (is_seven 8 octets) ≡ e + 0 = λ i. at i + one_if ((high_seven ∙ high_holds) i) in
-        let octet : slice_index octets (extension_end octets + one_if (is_seven 8 octets)) ≡ b =
-        ap (slice_index octets) place ∙ first 0 ∙ ap (λ (o : List ℕ). slice_index o 0) (there None (Some b) is_high is_low) in
-        record {
-          high = (λ i. extension_if (differs i && (high_seven ∙ high_holds) i) (slice_index octets (extension_end octets))) ∙ sym is_high;
-          low = (λ i. extension_if (differs i && (low_seven ∙ low_holds) i) (octet i)) ∙ sym is_low;
-          extends = differs ∙ sym some;
-          count = (λ i. if differs i then one_if ((high_seven ∙ high_holds) i) + one_if ((low_seven ∙ low_holds) i) else 0)
-              ∙ sym (count None (Some b) is_high is_low);
-        }
-    by (Some a) (Some b) is_high is_low high_is low_is =
-        let some : extends h ≡ true = λ i. is_some (is_high i) || is_some h.low_extension in
-        let high_holds : (h.high_release == 7) ≡ true = ap (λ (b : Bool). b && (h.high_release == 7)) (sym some) ∙ high_is.0 in
-        let low_holds : (h.low_release == 7) ≡ true = ap (λ (b : Bool). b && (h.low_release == 7)) (sym some) ∙ low_is.0 in
-        let differs : extends_in octets ≡ true =
-        ap not (ne_eqb (extension_end octets) (header_end octets) (λ same. absurd (omega (arith, same, at, end, count (Some a) (Some b) is_high is_low)))) in
-        let here : extension_end octets ≡ e + 0 = omega (arith, at) in
-        let octet : slice_index octets (extension_end octets) ≡ a =
-        ap (slice_index octets) here ∙ first 0 ∙ ap (λ (o : List ℕ). slice_index o 0) (there (Some a) (Some b) is_high is_low) in
-        let place : extension_end octets + one_if (is_seven 8 octets) ≡ e + 1 = λ i. at i + one_if ((high_seven ∙ high_holds) i) in
-        let other : slice_index octets (extension_end octets + one_if (is_seven 8 octets)) ≡ b =
-        ap (slice_index octets) place ∙ first 1 ∙ ap (λ (o : List ℕ). slice_index o 1) (there (Some a) (Some b) is_high is_low) in
-        record {
-          high = (λ i. extension_if (differs i && (high_seven ∙ high_holds) i) (octet i)) ∙ sym is_high;
-          low = (λ i. extension_if (differs i && (low_seven ∙ low_holds) i) (other i)) ∙ sym is_low;
-          extends = differs ∙ sym some;
-          count = (λ i. if differs i then one_if ((high_seven ∙ high_holds) i) + one_if ((low_seven ∙ low_holds) i) else 0)
-              ∙ sym (count (Some a) (Some b) is_high is_low);
-        }
+    high_count : length high ≡ one_if (extends h && (h.high_release == 7))
+    high_count = count_again (extends h && (h.high_release == 7)) h.high_extension fits.high_extension
+
+    low_count : length low ≡ one_if (extends h && (h.low_release == 7))
+    low_count = count_again (extends h && (h.low_release == 7)) h.low_extension fits.low_extension
+
+    there : (place k : ℕ) → place ≡ e + k → slice_index octets place ≡ slice_index (high ++ (low ++ rest)) k
+    there place k is =
+        ap (slice_index octets) is ∙ sym (get_or-drop e octets k 0)
+        ∙ ap (λ (o : List ℕ). slice_index o k) (past ∙ append_assoc high low rest)
+
+    next : extends h && (h.low_release == 7) ≡ true → extension_end octets + one_if (is_seven 8 octets)
+        ≡ e + length high
+    next holds =
+        let some : extends h ≡ true = (and_parts (extends h) (h.low_release == 7) holds).0 in
+        (λ i. at i + one_if (high_seven i)) ∙ ap (λ (n : ℕ). e + n)
+            (sym (high_count ∙ ap (λ (b : Bool). one_if (b && (h.high_release == 7))) some))
 
 -- a header that is whole has no fault
 pub no_header_fault : (octets : List ℕ) → HasHeader octets → header_fault octets ≡ None
@@ -323,34 +296,27 @@ plain_is octets fit has =
 -- and after these come the extensions of releases
 releases_are : (octets : List ℕ) → AreOctets octets → HasHeader octets →
     drop (extension_end octets) octets ≡ (extension_octets (high_extension_in octets) ++ extension_octets (low_extension_in octets)) ++ drop (header_end octets) octets
-releases_are octets fit has = by (extends_in octets) refl
+releases_are octets fit has = by (extends_in octets) has.extension
   where
     place : ℕ
     place = extension_end octets
 
-    by : (e : Bool) → extends_in octets ≡ e →
-        drop place octets ≡ (extension_octets (high_extension_in octets) ++ extension_octets (low_extension_in octets)) ++ drop (header_end octets) octets
-    by false e =
-        let none : release_count octets ≡ 0 = ap (λ (b : Bool). if b then sevens octets else 0) e in
-        let same : place ≡ header_end octets = omega (arith, none, has.extension) in
-        let high : high_extension_in octets ≡ None = ap (λ (b : Bool). extension_if (b && is_seven 8 octets) (slice_index octets place)) e in
-        let low : low_extension_in octets ≡ None = ap (λ (b : Bool). extension_if (b && is_seven 9 octets) (slice_index octets (place + one_if (is_seven 8 octets)))) e in
-        ap (λ (n : ℕ). drop n octets) same ∙ sym (λ i. (extension_octets (high i) ++ extension_octets (low i)) ++ drop (header_end octets) octets)
-    by true e =
-        let all : release_count octets ≡ sevens octets = ap (λ (b : Bool). if b then sevens octets else 0) e in
-        let next : ℕ = place + one_if (is_seven 8 octets) in
-        let end : next + one_if (is_seven 9 octets) ≡ header_end octets = omega (arith, all, has.extension) in
+    next : ℕ
+    next = place + one_if (is_seven 8 octets)
+
+    by : (e : Bool) → place + (if e then sevens octets else 0) ≡ header_end octets → drop place octets ≡
+        (extension_octets (extension_if (e && is_seven 8 octets) (slice_index octets place))
+        ++ extension_octets (extension_if (e && is_seven 9 octets) (slice_index octets next))) ++ drop
+            (header_end octets) octets
+    by false total = let same : place ≡ header_end octets = omega (arith, total) in ap (λ (n : ℕ). drop n octets) same
+    by true total =
+        let end : next + one_if (is_seven 9 octets) ≡ header_end octets = omega (arith, total) in
         let high = extension_is (is_seven 8 octets) place octets fit (omega (arith, end, has.within)) in
         let low = extension_is (is_seven 9 octets) next octets fit (omega (arith, end, has.within)) in
-        let high_there : extension_if (is_seven 8 octets) (slice_index octets place) ≡ high_extension_in octets =
-        ap (λ (b : Bool). extension_if (b && is_seven 8 octets) (slice_index octets place)) (sym e) in
-        let low_there : extension_if (is_seven 9 octets) (slice_index octets next) ≡ low_extension_in octets =
-        ap (λ (b : Bool). extension_if (b && is_seven 9 octets) (slice_index octets next)) (sym e) in
-        let last : drop next octets ≡ extension_octets (low_extension_in octets) ++ drop (header_end octets) octets =
-        low.1 ∙ (λ i. extension_octets (low_there i) ++ drop (end i) octets) in
-        high.1
-        ∙ (λ i. extension_octets (high_there i) ++ last i)
-        ∙ sym (append_assoc (extension_octets (high_extension_in octets)) (extension_octets (low_extension_in octets)) (drop (header_end octets) octets))
+        let high_octets : List ℕ = extension_octets (extension_if (is_seven 8 octets) (slice_index octets place)) in
+        let low_octets : List ℕ = extension_octets (extension_if (is_seven 9 octets) (slice_index octets next)) in
+        high.1 ∙ ap (λ (o : List ℕ). high_octets ++ o) (low.1 ∙ ap (λ (n : ℕ). low_octets ++ drop n octets) end)
+        ∙ sym (append_assoc high_octets low_octets (drop (header_end octets) octets))
 
 -- so octets begin with the header that they are read as
 pub header_is : (octets : List ℕ) → AreOctets octets → HasHeader octets →
@@ -366,13 +332,12 @@ header_is octets fit has =
 -- how many octets the extensions have that are read
 pub releases_count : (octets : List ℕ) → length (extension_octets (high_extension_in octets) ++ extension_octets (low_extension_in octets)) ≡ release_count octets
 releases_count octets =
-    length-append (extension_octets (high_extension_in octets)) (extension_octets (low_extension_in octets)) ∙ by (extends_in octets) (is_seven 8 octets) (is_seven 9 octets)
+    length-append (extension_octets (high_extension_in octets)) (extension_octets (low_extension_in octets))
+    ∙ (λ i. count (extends_in octets && is_seven 8 octets) (slice_index octets (extension_end octets)) i
+    + count (extends_in octets && is_seven 9 octets) (slice_index octets
+        (extension_end octets + one_if (is_seven 8 octets))) i)
+    ∙ sym (sevens_if (extends_in octets) (is_seven 8 octets) (is_seven 9 octets))
   where
-    by : (e a b : Bool) → length (extension_octets (extension_if (e && a) (slice_index octets (extension_end octets))))
-        + length (extension_octets (extension_if (e && b) (slice_index octets (extension_end octets + one_if (is_seven 8 octets)))))
-        ≡ (if e then one_if a + one_if b else 0)
-    by false a b = refl
-    by true true true = refl
-    by true true false = refl
-    by true false true = refl
-    by true false false = refl
+    count : (holds : Bool) (octet : ℕ) → length (extension_octets (extension_if holds octet)) ≡ one_if holds
+    count true octet = refl
+    count false octet = refl

@@ -4,7 +4,7 @@ use Rattle.std.specs.Prelude.{slice_index}
 use Rattle.std.proofs.lemmas.List.{drop_at, take-append-drop, length-take, length-drop, drop-drop}
 use Rattle.std.proofs.lemmas.Nat.{be_bytes_2, be_bytes_4}
 use Rattle.byteorder.specs.Endian.{big_bytes, big_number}
-use Rattle.byteorder.specs.Numbers.{big_from-lt}
+use Rattle.byteorder.specs.Numbers.{big_from-lt, big_from-take}
 use Rattle.cdr_file.specs.Reading.{high_at, low_at, number_at}
 use Rattle.cdr_file.specs.SharedOctet.{shared_octet}
 use Rattle.cdr_file.specs.Spelling.{AreOctets}
@@ -18,30 +18,27 @@ AreOctets-drop _ _ fit = fit
 pub past_front : (place : ℕ) (octets front back : List ℕ) → octets ≡ front ++ back → length front ≡ place → drop place octets ≡ back
 past_front place octets front back is long = ap (λ (o : List ℕ). drop place o) is ∙ drop_at front back place long
 
+AreOctets-take : (n : ℕ) (octets : List ℕ) → AreOctets octets → (k : ℕ) → get_or (take n octets) k 0 < 256
+AreOctets-take (suc n) (octet ∷ octets) fit zero = fit 0
+AreOctets-take (suc n) (octet ∷ octets) fit (suc k) = AreOctets-take n octets (λ j. fit (suc j)) k
+AreOctets-take _ _ fit k = omega arith
+
 -- octets are those of the number that they begin with, and what follows them
 pub number_front_4 : (octets : List ℕ) → AreOctets octets → 4 ≤ length octets → octets ≡ big_bytes 4 (big_number 4 octets) ++ drop 4 octets
-number_front_4 (a ∷ b ∷ c ∷ d ∷ rest) fit long =
-    ap (λ (front : List ℕ). front ++ rest)
-    (sym (be_bytes_4 (a ∷ b ∷ c ∷ d ∷ []) (big_number 4 (a ∷ b ∷ c ∷ d ∷ [])) refl (four a b c d rest fit) (omega arith)))
-  where
-    four : (a b c d : ℕ) (rest : List ℕ) → AreOctets (a ∷ b ∷ c ∷ d ∷ rest) → (k : ℕ) → get_or (a ∷ b ∷ c ∷ d ∷ []) k 0 < 256
-    four a b c d rest fit zero = fit 0
-    four a b c d rest fit (suc zero) = fit 1
-    four a b c d rest fit (suc (suc zero)) = fit 2
-    four a b c d rest fit (suc (suc (suc zero))) = fit 3
-    four a b c d rest fit (suc (suc (suc (suc k)))) = omega arith
-number_front_4 _ fit long = absurd (omega arith)
+number_front_4 octets fit long =
+    let front : List ℕ = take 4 octets in
+    let back = be_bytes_4 front (big_number 4 front) (omega (arith, length-take 4 octets))
+        (AreOctets-take 4 octets fit) (omega arith) in
+    sym (take-append-drop 4 octets) ∙ ap (λ (o : List ℕ). o ++ drop 4 octets) (sym back)
+    ∙ ap (λ (n : ℕ). big_bytes 4 n ++ drop 4 octets) (big_from-take 0 4 4 octets (omega arith))
 
 pub number_front_2 : (octets : List ℕ) → AreOctets octets → 2 ≤ length octets → octets ≡ big_bytes 2 (big_number 2 octets) ++ drop 2 octets
-number_front_2 (a ∷ b ∷ rest) fit long =
-    ap (λ (front : List ℕ). front ++ rest)
-    (sym (be_bytes_2 (a ∷ b ∷ []) (big_number 2 (a ∷ b ∷ [])) refl (two a b rest fit) (omega arith)))
-  where
-    two : (a b : ℕ) (rest : List ℕ) → AreOctets (a ∷ b ∷ rest) → (k : ℕ) → get_or (a ∷ b ∷ []) k 0 < 256
-    two a b rest fit zero = fit 0
-    two a b rest fit (suc zero) = fit 1
-    two a b rest fit (suc (suc k)) = omega arith
-number_front_2 _ fit long = absurd (omega arith)
+number_front_2 octets fit long =
+    let front : List ℕ = take 2 octets in
+    let back = be_bytes_2 front (big_number 2 front) (omega (arith, length-take 2 octets))
+        (AreOctets-take 2 octets fit) (omega arith) in
+    sym (take-append-drop 2 octets) ∙ ap (λ (o : List ℕ). o ++ drop 2 octets) (sym back)
+    ∙ ap (λ (n : ℕ). big_bytes 2 n ++ drop 2 octets) (big_from-take 0 2 2 octets (omega arith))
 
 -- the same from a place on
 pub number_from_4 : (place : ℕ) (octets : List ℕ) → AreOctets octets → place + 4 ≤ length octets →

@@ -40,7 +40,7 @@ file_again file is =
     let extended : Extended octets h =
     extended_by octets h cdrs (length front) at (ap (λ (n : ℕ). drop n octets) (sym at) ∙ parts.past) (end ∙ header)
     (ap (λ (h : FileHeader). h.high_release == 7) (fields parts)) (ap (λ (h : FileHeader). h.low_release == 7) (fields parts))
-    h.high_extension h.low_extension refl refl is.header in
+    is.header in
     let has : HasHeader octets = record {
       least = omega (arith, all, header, plain);
       stated = stated;

@@ -10,7 +10,7 @@ use Rattle.dup_buffer.specs.Copies.{Copies, with_copy, without_copy}
 use Rattle.dup_buffer.specs.Stored.{AreFrom, AreHeld, AreStored, HaveSame, IsFound, IsOnce, all_held, copies_of, held_in, is_copy_of, place_of, rank}
 use Rattle.dup_buffer.specs.declared.copy.HeldCopy.{HeldCopy}
 use Rattle.dup_buffer.proofs.OrderLemmas.{key_of, none_found}
-use Rattle.dup_buffer.proofs.StoredLemmas.{copies_of-one_more, copies_of-same, count-append, count-filter, count_all, count_by-pass, count_parts, find-filter, first_here, held_all, held_are, none_if_none, none_of_none, once_more, once_same, stored, taken_again}
+use Rattle.dup_buffer.proofs.StoredLemmas.{copies_of-one_more, copies_of-same, count-append, count-filter, count_all, count_by-pass, count_parts, find-filter, first_here, held_all, held_are, none_if_none, none_of_none, once_same, stored, taken_again}
 
 -- ---- finding
 
@@ -80,21 +80,6 @@ held_room others i d lt h =
 
 pub same_length : (xs ys : List HeldCopy) → HaveSame xs ys → length xs ≡ length ys
 same_length xs ys same = sym (count_all xs) ∙ same (λ x. true) ∙ count_all ys
-
--- what holds of the copies with one more
-pub record IsMore (one : HeldCopy) (old new : List HeldCopy) : Type 0 where
-  pub once : IsOnce new
-  pub copies : copies_of (stored new) ≡ with_copy one.node one.number (place_of one) (copies_of (stored old))
-  pub count : length new ≡ length old + 1
-
-pub one_more : (one : HeldCopy) (old new : List HeldCopy) → find (is_copy_of one.node one.number) old ≡ None → IsOnce old → HaveSame (one ∷ old) new → IsMore one old new
-one_more one old new none once same =
-    let all : IsOnce (one ∷ old) = once_more old one none once in
-    record {
-      once = once_same (one ∷ old) new same all;
-      copies = sym (copies_of-same (one ∷ old) new same all) ∙ copies_of-one_more one old;
-      count = omega (arith, same_length (one ∷ old) new same);
-    }
 
 -- what holds of the copies with one less
 pub record IsLess (one : HeldCopy) (node number : ℕ) (old new : List HeldCopy) : Type 0 where

@@ -8,8 +8,8 @@ use Rattle.std.proofs.lemmas.List.Folds.{find-append}
 use Rattle.dup_buffer.specs.Copies.{with_copy, without_node}
 use Rattle.dup_buffer.specs.Stored.{AreFrom, AreHeld, AreStored, HaveSame, IsOnce, all_held, copies_of, held_in, is_copy_of, is_of, most_late, place_of}
 use Rattle.dup_buffer.specs.declared.copy.HeldCopy.{HeldCopy}
-use Rattle.dup_buffer.proofs.StoredLemmas.{copies_of-node_out, count-append, count_by-is_of, count_by-pass, count_parts, filter-filter, found_counts, held_all, held_are, none_if_none, none_of_none, others, stored}
-use Rattle.dup_buffer.proofs.HeldLemmas.{IsLess, IsMore, less_before, more_behind, one_less, one_more, same_length}
+use Rattle.dup_buffer.proofs.StoredLemmas.{copies_of-node_out, copies_of-one_more, copies_of-same, count-append, count_by-is_of, count_by-pass, count_parts, filter-filter, found_counts, held_all, held_are, none_if_none, none_of_none, once_more, once_same, others, stored}
+use Rattle.dup_buffer.proofs.HeldLemmas.{IsLess, less_before, more_behind, one_less, same_length}
 use Rattle.dup_buffer.proofs.OrderLemmas.{from-filter}
 
 -- ---- finding
@@ -57,17 +57,17 @@ pub held_one : (one : HeldCopy) (old kept late new : List HeldCopy) → HaveSame
     → one.held ≡ true → AreStored kept late → length late < most_late → AreFrom 0 new → HaveSame (one ∷ late) new → IsHeld one old kept new
 held_one one old kept late new same none once held is room order more =
     let grown : HaveSame (one ∷ old) (all_held kept new) = (λ p. omega (arith, same p, sum_by-cons (λ c. if p c then 1 else 0) one old, sum_by-cons (λ c. if p c then 1 else 0) one (all_held kept late), more_behind one (held_in kept) late new more p)) in
-    let all : IsMore one old (all_held kept new) = one_more one old (all_held kept new) none once grown in
+    let all = once_more old one none once in
     record {
       lists = record {
         kept_order = is.kept_order;
         late_order = order;
         held = omega (arith, is.held, more (λ c. not c.held), count_by-pass (λ c. not c.held) one late false (ap not held));
         few = omega (arith, room, same_length (one ∷ late) new more);
-        once = all.once;
+        once = once_same (one ∷ old) (all_held kept new) grown all;
       };
-      copies = all.copies;
-      count = all.count;
+      copies = sym (copies_of-same (one ∷ old) (all_held kept new) grown all) ∙ copies_of-one_more one old;
+      count = omega (arith, same_length (one ∷ old) (all_held kept new) grown);
     }
 
 pub no_place : (o : Option HeldCopy) → option_map place_of o ≡ None → o ≡ None
@@ -132,18 +132,13 @@ left_all node kept late held =
     ∙ (λ i. others node (held_in kept) ++ others node (held_all late held i))
     ∙ sym (filter-append (λ c. not (c.node == node)) (held_in kept) late)
 
--- how many are left
-pub left_count : (node : ℕ) (kept late : List HeldCopy) → AreHeld late
-    → length (left_in node kept) + length (left_in node late) + count_by (is_of node) (all_held kept late) ≡ length (all_held kept late)
-left_count node kept late held =
-    let all = left_length node kept late in
-    omega (arith, all, ap (λ (l : List HeldCopy). length l) (left_all node kept late held), count_by-is_of node (all_held kept late))
-
 -- how many there were, where the lists are those that are left
 pub gone_count : (node : ℕ) (kept late new_kept new_late : List HeldCopy) → AreHeld late → new_kept ≡ left_in node kept → new_late ≡ left_in node late
     → length new_kept + length new_late + count_by (is_of node) (all_held kept late) ≡ length (all_held kept late)
 gone_count node kept late new_kept new_late held k l =
-    (λ i. length (k i) + length (l i) + count_by (is_of node) (all_held kept late)) ∙ left_count node kept late held
+    let size : List HeldCopy → ℕ = λ xs. length xs in
+    omega (arith, ap size k, ap size l, left_length node kept late, ap size (left_all node kept late held),
+        count_by-is_of node (all_held kept late))
 
 once_filter : (q : HeldCopy → Bool) (xs : List HeldCopy) → IsOnce xs → IsOnce (filter q xs)
 once_filter q xs once n k = omega (arith, once n k, count_parts (is_copy_of n k) q xs)

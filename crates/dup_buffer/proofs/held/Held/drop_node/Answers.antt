@@ -1,6 +1,7 @@
-use Rattle.std.proofs.Common.{arith, ◌≡◌, ◌+◌, length}
+use Rattle.std.proofs.Common.{arith, ◌≡◌, ◌+◌, length, ap, List}
 use Rattle.dup_buffer.specs.Stored.{all_held, is_of}
-use Rattle.dup_buffer.proofs.StepLemmas.{gone_count, left_copies, left_count, left_length, left_stored}
+use Rattle.dup_buffer.specs.declared.copy.HeldCopy.{HeldCopy}
+use Rattle.dup_buffer.proofs.StepLemmas.{gone_count, left_copies, left_length, left_stored}
 use Rattle.dup_buffer.proofs.held.Held.drop_node.Goals as goal
 use Rattle.std.specs.List.{count_by}
 
@@ -23,8 +24,8 @@ invariant_of-self c =
     let late = c.self.inside.late.items in (
       rw (c.drop_copies.ensures.items, c.drop_copies-2.ensures.items) (left_stored c.args.node.0 kept late c.self.invariant.0),
       rw (c.drop_copies.ensures.items, c.drop_copies-2.ensures.items)
-          (omega (arith, gone c, left_count c.args.node.0 kept late c.self.invariant.0.held,
-          left_length c.args.node.0 kept late)),
+      (omega (arith, left_length c.args.node.0 kept late, ap (λ (l : List HeldCopy). length l)
+          c.drop_copies.ensures.items, ap (λ (l : List HeldCopy). length l) c.drop_copies-2.ensures.items)),
       omega (arith, gone c, c.self.invariant.1, c.self.invariant.2),
       omega (arith, gone c, c.self.invariant.1, c.self.invariant.3),
       omega (arith, c.self.invariant.4),
