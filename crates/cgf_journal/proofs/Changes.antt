@@ -1,5 +1,5 @@
 -- What a change of sorted keys makes of those that are held.
-use Rattle.std.proofs.Common.{inl, inr, ◌≡◌, ◌⊎◌, ℕ, ◌+◌, ◌<◌, ◌≤◌, ◌==◌, ◌&&◌, ◌||◌, not, Bool, true, false, List, [], ◌∷◌, ◌++◌, length, take, drop, filter, refl, sym, ap, ◌∙◌, arith, zero, suc}
+use Rattle.std.proofs.Common.{inl, inr, ◌≡◌, ◌⊎◌, ℕ, ◌+◌, ◌<◌, ◌≤◌, ◌==◌, ◌&&◌, ◌||◌, not, Bool, true, false, List, [], ◌∷◌, ◌++◌, length, take, drop, filter, refl, sym, ap, ◌∙◌, arith, zero, suc, rules}
 use Rattle.std.specs.Prelude.{slice_index_or, slice_set}
 use Rattle.std.specs.List.{list_any}
 use Rattle.std.proofs.lemmas.Bool.{and_parts, and_right, cases_eq, cases_lt, eq-eqb, eqb-true, ne_eqb, true≢false, cases_Bool, not-false}
@@ -16,7 +16,7 @@ use Rattle.gw_base.specs.HeldKeys.{held_by}
 use Rattle.gw_base.specs.View.{stays_held}
 use Rattle.cgf_journal.specs.Keys.{IsAbsent, IsFirstOf, IsFound, changed_key, counted_keys, counts, is_named, key_of}
 use Rattle.cgf_journal.specs.Sorted.{GrowsBy, IsChanged, firm_keys, live_keys}
-use Rattle.cgf_journal.specs.Tally.{held_after, held_with, key_in_order, keys_in_order}
+use Rattle.cgf_journal.specs.Tally.{held_after, held_with, key_in_order}
 use Rattle.cgf_journal.specs.declared.key.KeptKey.{KeptKey}
 use Rattle.cgf_journal.specs.declared.sorted.SortedKeys.{SortedKeys}
 use Rattle.cgf_journal.specs.Rank.{rank_of}
@@ -29,11 +29,7 @@ new_key n x r = record { node = n; number = x; was_held = false; is_held = true;
 -- ---- one key changed
 
 key_is : (n : NodeId) (x : ℕ) (key : HeldKey) → is_named n.0 x key ≡ true → key ≡ record { node = n; number = x }
-key_is n x key named =
-    let b = and_parts (n.0 == key.node.0) (x == key.number) named in
-    let node = sym (eqb-true n.0 key.node.0 b.0) in
-    let number = sym (eqb-true x key.number b.1) in
-    λ i. record { node = record { 0 = node i }; number = number i }
+key_is n x key named = grind (arith, eqb-true)
 
 pub live_after : (old new : SortedKeys) (at : ℕ) (held : Bool) (n : NodeId) (x : ℕ) → IsChanged at held old new → IsFound old.keys.items at n.0 x
     → live_keys new ≡ with_change held n x (live_keys old)
@@ -88,10 +84,7 @@ live_more n x r keys now at absent is =
 
 pub length_more : (n : NodeId) (x r : ℕ) (keys now : List KeptKey) (at : ℕ) → IsAbsent keys at n.0 x → now ≡ take at keys ++ new_key n x r ∷ drop at keys
     → length (counted_keys false r now) ≡ length (counted_keys false r keys) + 1
-length_more n x r keys now at absent is =
-    ap (λ (l : List KeptKey). length (counted_keys false r l)) is
-    ∙ ap (λ (l : List HeldKey). length l) (live-inserted (record { node = n; number = x }) r keys at (new_key n x r) absent.inside refl refl absent.before absent.later)
-    ∙ length-key_in_order (record { node = n; number = x }) (counted_keys false r keys)
+length_more n x r keys now at absent is = grind (arith, live-inserted, length-key_in_order)
 
 pub firm_more : (n : NodeId) (x r : ℕ) (keys now : List KeptKey) (at : ℕ) → now ≡ take at keys ++ new_key n x r ∷ drop at keys → counted_keys true r now ≡ counted_keys true r keys
 firm_more n x r keys now at is = ap (λ (l : List KeptKey). counted_keys true r l) is ∙ firm-inserted r keys at (new_key n x r) (rw (eq-eqb r r refl) refl)
@@ -103,14 +96,11 @@ both_pass p q r same [] = refl
 both_pass p q r same (key ∷ keys) = grind (arith, same key, both_pass p q r same keys)
 
 one_of_more : (a b c : Bool) → not (a && (b || (c || false))) ≡ (not (a && b) && not (a && c))
-one_of_more true false true = refl
-one_of_more _ _ _ = refl
+one_of_more a b c = grind arith
 
 pub next_named : (n : NodeId) (x : ℕ) (xs : List ℕ) (keys : List HeldKey)
     → filter (λ (key : HeldKey). stays_held (Seal n x) key) (filter (λ (key : HeldKey). stays_held (Release n xs) key) keys) ≡ filter (λ (key : HeldKey). stays_held (Release n (xs ++ x ∷ [])) key) keys
-next_named n x xs keys =
-    both_pass (λ (key : HeldKey). stays_held (Seal n x) key) (λ (key : HeldKey). stays_held (Release n xs) key) (λ (key : HeldKey). stays_held (Release n (xs ++ x ∷ [])) key)
-    (λ key. ap (λ (b : Bool). not ((n.0 == key.node.0) && b)) (list_any-append (λ (y : ℕ). y == key.number) xs (x ∷ [])) ∙ one_of_more (n.0 == key.node.0) (list_any (λ (y : ℕ). y == key.number) xs) (x == key.number)) keys
+next_named n x xs keys = grind (arith, both_pass, list_any-append, one_of_more)
 
 pub all_stay : (act : HistoryAct) → ((key : HeldKey) → stays_held act key ≡ true) → (keys : List HeldKey) → filter (λ (key : HeldKey). stays_held act key) keys ≡ keys
 all_stay act stay [] = refl
@@ -191,25 +181,17 @@ goes_on n begun s next at end more change so_far =
 
 pub ends_free : (n : NodeId) (begun s : SortedKeys) (at end : ℕ) → end ≤ at → IsLettingGo n begun s at end
     → live_keys s ≡ filter (λ (key : HeldKey). of_others n key) (live_keys begun)
-ends_free n begun s at end done so_far =
-    sym (all_kept (λ (key : HeldKey). of_others n key) false s.round s.keys.items (λ j d lt held. elim (cases_lt j at) [
-      | inl below ↦ so_far.gone j d below held
-      | inr past ↦ other_passes n (key_of (slice_index_or s.keys.items j d)) (so_far.past j d (omega (arith, done, past)) lt)
-    ])) ∙ so_far.live
+ends_free n begun s at end done so_far = grind (arith, all_kept, other_passes)
 
 -- ---- entries that name nothing
 
 pub names_none : (act : Act) → (act ≡ lent.Start) ⊎ ((act ≡ lent.Tick) ⊎ (act ≡ lent.Close))
     → ((key : HeldKey) → stays_held (act_view act) key ≡ true) × (held_by (act_view act) [] ≡ [])
-names_none act (inl is) = rw is ((λ key. refl), refl)
-names_none act (inr (inl is)) = rw is ((λ key. refl), refl)
-names_none act (inr (inr is)) = rw is ((λ key. refl), refl)
+names_none act is = grind arith
 
 pub after_none : (act : Act) → (act ≡ lent.Start) ⊎ ((act ≡ lent.Tick) ⊎ (act ≡ lent.Close)) → (keys : List HeldKey)
     → keys ≡ held_after (act_view act) keys
-after_none act is keys =
-    let none = names_none act is in
-    sym (λ i. keys_in_order (none.1 i) (all_stay (act_view act) none.0 keys i))
+after_none act is keys = grind (arith, names_none, all_stay)
 
 -- ---- how many keys an entry lets go
 
@@ -254,12 +236,7 @@ pub none_below : AreBelow 0 []
 none_below y le = refl
 
 pub one_below : (bound : ℕ) (xs : List ℕ) (x : ℕ) → AreBelow bound xs → bound ≤ x → AreBelow (x + 1) (xs ++ x ∷ [])
-one_below bound xs x below le y past =
-    list_any-append (λ (z : ℕ). z == y) xs (x ∷ []) ∙ rw (
-      below y (omega (arith, le, past)),
-      ne_eqb x y (λ e.
-          omega (arith, past, e)),
-    ) refl
+one_below bound xs x one two = search (rules, list_any-append, ne_eqb)
 
 -- a test that drops only what another keeps drops as many after it
 drops_as_many : (p q : HeldKey → Bool) → ((key : HeldKey) → p key ≡ false → q key ≡ true) → (keys : List HeldKey)
@@ -278,11 +255,4 @@ pub one_more_gone : (n : NodeId) (x bound : ℕ) (xs : List ℕ) → AreBelow bo
     → gone + length (filter (λ (key : HeldKey). stays_held (Release n xs) key) keys) ≡ length keys
     → now + length (filter (λ (key : HeldKey). stays_held (Seal n x) key) keys) ≡ length keys
     → gone + now + length (filter (λ (key : HeldKey). stays_held (Release n (xs ++ x ∷ [])) key) keys) ≡ length keys
-one_more_gone n x bound xs below le keys gone now before here =
-    omega (
-      arith,
-      before,
-      here,
-      drops_as_many (λ (key : HeldKey). stays_held (Seal n x) key) (λ (key : HeldKey). stays_held (Release n xs) key) (kept_below n x bound xs below le) keys,
-      ap (λ (l : List HeldKey). length l) (next_named n x xs keys),
-    )
+one_more_gone n x bound xs below le keys gone now before here = grind (arith, drops_as_many, kept_below, next_named)

@@ -1,5 +1,5 @@
 -- What a plan that arms one call of the device makes of the calls of a commit and of an opening again.
-use Rattle.std.proofs.Common.{◌≡◌, ◌≢◌, ℕ, zero, suc, ◌||◌, Bool, true, false, sym, ◌∙◌, ap, subst}
+use Rattle.std.proofs.Common.{◌≡◌, ◌≢◌, ℕ, zero, suc, ◌||◌, Bool, true, false, sym, ◌∙◌, ap, subst, rules}
 use Rattle.std.specs.Prelude.{IsTrue, Result, is_err}
 use Rattle.area_disk.specs.Armed.{Armed, IsArmed, after_one, calls_under, planned_in}
 use Rattle.area_disk.specs.Armed.Armed.{Nothing, Fail, Stop}
@@ -50,13 +50,11 @@ module _ {A : Type 0} {tells : Ghosts A} {new : Trail A tells} {failed : Bool} w
   fails_so : (stands : Outcome3 → Bool) (rest : Course) → failed ≡ true → plan_of new ≡ rest →
       IsArmed Nothing rest.schedule →
       (failed ≡ true → (outcome : Outcome3) → stop_stands outcome new ≡ stands outcome) → HasFailed new failed stands
-  fails_so stands rest fails is armed left =
-      record { fails = fails; armed = subst (λ (c : Course). IsArmed Nothing c.schedule) (sym is) armed; left = left fails }
+  fails_so stands rest fails is armed left = search rules
 
   stops_so : (stands : Bool) (rest : Course) → failed ≡ true → plan_of new ≡ rest → rest.schedule.stopped ≡ true →
       (failed ≡ true → (outcome : Outcome3) → stop_stands outcome new ≡ stands) → HasStopped new failed stands
-  stops_so stands rest fails is stopped left =
-      record { fails = fails; stopped = ap (λ (c : Course). c.schedule.stopped) is ∙ stopped; left = left fails }
+  stops_so stands rest fails is stopped left = search rules
 
 module _ {A : Type 0} {tells : Ghosts A} (old new : Trail A tells) (failed : Bool) (follows : AppendFollows old.journal new.journal failed) where
   -- the writing of the frame ended so, with this rest of the plan; and then the opening of the gate

@@ -1,5 +1,5 @@
 -- How many keys pass a test.
-use Rattle.std.proofs.Common.{inl, inr, ◌≡◌, ℕ, suc, ◌+◌, ◌<◌, ◌≤◌, ◌^◌, ◌==◌, ◌&&◌, Bool, true, cond, nat_lt, List, [], ◌∷◌, length, map, filter, refl, sym, ap, ◌∙◌, arith, ◌++◌}
+use Rattle.std.proofs.Common.{inl, inr, ◌≡◌, ℕ, suc, ◌+◌, ◌<◌, ◌≤◌, ◌^◌, ◌==◌, ◌&&◌, Bool, true, cond, nat_lt, List, [], ◌∷◌, length, map, filter, refl, sym, ap, arith, ◌++◌}
 use Rattle.std.specs.Prelude.{slice_index_or, ⊤}
 use Rattle.std.proofs.lemmas.Bool.{cases_order, cond_both, eq-eqb, ltb-false, ltb-true, ne_eqb, cases_Bool}
 use Rattle.std.proofs.lemmas.List.Sums.{count_by-le-length, length-filter}
@@ -56,9 +56,7 @@ passing_le p keys = omega (arith, passing_of p keys, length-filter p keys, count
 
 -- one more entry, of keys in order
 pub passing_after : (p : HeldKey → Bool) (act : HistoryAct) (keys : List HeldKey) → passing p (held_after act keys) ≡ passing (λ (key : HeldKey). stays_held act key && p key) keys + passing p (held_by act [])
-passing_after p act keys =
-    passing_all_in_order p (held_by act []) (filter (λ (key : HeldKey). stays_held act key) keys)
-    ∙ ap (λ (n : ℕ). n + passing p (held_by act [])) (passing_both p (λ (key : HeldKey). stays_held act key) keys)
+passing_after p act keys = grind (arith, passing_all_in_order, passing_both)
 
 -- ---- lists of held keys in order: they are the same where as many keys of each pass each test
 
@@ -193,17 +191,13 @@ pub held_as : (s : Bool) (early late : SortedKeys) (p : HeldKey → Bool) → pa
 held_as s early late p = passing_all_in_order p (keys_of s late) (keys_of s early)
 
 pub same_held : (s : Bool) (early late early_new late_new : SortedKeys) → ((p : HeldKey → Bool) → held_in s early_new late_new p ≡ held_in s early late p) → held_in_order s early_new late_new ≡ held_in_order s early late
-same_held s early late early_new late_new alike =
-    same_list (held_in_order s early_new late_new) (held_in_order s early late) (both_up s early_new late_new) (both_up s early late) (λ p. held_as s early_new late_new p ∙ alike p ∙ sym (held_as s early late p))
+same_held s early late early_new late_new alike = grind (arith, same_list, both_up, held_as)
 
 pub held_then : (act : HistoryAct) (s : Bool) (early late early_new late_new : SortedKeys) → AreInOrder (held_by act [])
     → ((p : HeldKey → Bool) → held_in s early_new late_new p ≡ held_in s early late (λ (key : HeldKey). stays_held act key && p key) + passing p (held_by act []))
     → held_in_order s early_new late_new ≡ held_after act (held_in_order s early late)
 held_then act s early late early_new late_new fits alike =
-    same_list (held_in_order s early_new late_new) (held_after act (held_in_order s early late)) (both_up s early_new late_new) (after_up act (held_in_order s early late) fits (both_up s early late))
-    (λ p. held_as s early_new late_new p ∙ alike p
-    ∙ ap (λ (n : ℕ). n + passing p (held_by act [])) (sym (held_as s early late (λ (key : HeldKey). stays_held act key && p key)))
-    ∙ sym (passing_after p act (held_in_order s early late)))
+    grind (arith, same_list, both_up, after_up, held_as, passing_after)
 
 pub none_up : (keys : List HeldKey) → length keys ≡ 0 → AreInOrder keys
 none_up [] none = tt

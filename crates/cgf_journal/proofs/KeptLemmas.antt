@@ -1,12 +1,12 @@
 -- What sorted keys and sums tell of a tally.
-use Rattle.std.proofs.Common.{◌≡◌, ℕ, ◌+◌, ◌<◌, ◌≤◌, ◌==◌, ◌&&◌, not, ◌^◌, Bool, true, false, List, [], ◌∷◌, length, filter, refl, ap, ◌∙◌, arith, ◌-◌, ◌*◌, if◌then◌else◌, nat_le, map, count_by, sym}
+use Rattle.std.proofs.Common.{◌≡◌, ℕ, ◌+◌, ◌<◌, ◌≤◌, ◌==◌, ◌&&◌, not, ◌^◌, Bool, true, false, List, [], ◌∷◌, length, filter, refl, ap, ◌∙◌, arith, ◌-◌, ◌*◌, if◌then◌else◌, nat_le, map, count_by, sym, rules}
 use Rattle.std.proofs.lemmas.Bool.{and_parts, cond_both, eqb-true, le-leb, leb-true}
 use Rattle.std.proofs.lemmas.List.{length-map}
 use Rattle.std.proofs.lemmas.List.Sums.{count_by-le-length, length-filter}
 use Rattle.gw_base.specs.declared.address.NodeId.{NodeId}
 use Rattle.gw_base.specs.declared.held.HeldKey.{HeldKey}
 use Rattle.gw_base.specs.declared.history.HistoryAct.{HistoryAct}
-use Rattle.gw_base.specs.declared.history.HistoryAct.TheVariants.{Hold, Seal, Start}
+use Rattle.gw_base.specs.declared.history.HistoryAct.TheVariants.{Hold, Seal}
 use Rattle.gw_base.specs.HeldKeys.{held_by}
 use Rattle.gw_base.specs.View.{stays_held}
 use Rattle.gw_base.specs.declared.history.HistoryEntry.{HistoryEntry}
@@ -17,7 +17,7 @@ use Rattle.cgf_journal.specs.Held.{IsOnceEach, held_behind, passing}
 use Rattle.cgf_journal.specs.Kept.{AreNoted, AreReady, KeepsFirm, Kept, held_in, held_in_order, held_of, ArePaid, HasNoRoom}
 use Rattle.cgf_journal.specs.Keys.{is_named, counted_keys, counts, key_of}
 use Rattle.cgf_journal.specs.Sorted.{GrowsBy, count_held, firm_keys, keys_of, live_keys}
-use Rattle.cgf_journal.specs.Tally.{held_after, keys_in_order, Tallies, TallyValue, free_beside, has_room_behind, tally_behind}
+use Rattle.cgf_journal.specs.Tally.{held_after, keys_in_order, Tallies, free_beside, has_room_behind, tally_behind}
 use Rattle.cgf_journal.specs.declared.sorted.SortedKeys.{SortedKeys}
 use Rattle.cgf_journal.specs.Reserved.{cheapest_hold}
 use Rattle.cgf_journal.specs.Sums.{sum_after, tally_with}
@@ -49,31 +49,24 @@ length-staying p firm round keys =
 pub one_more : (keys now : Kept) (firm live sum : Sum) (t : Tallies) (e : HistoryEntry) → tallies keys firm live ≡ t
     → now.firm ≡ keys.firm → now.live ≡ held_after e.act (keys.live) → now.reserved ≡ keys.reserved → sum ≡ sum_after live e
     → tallies now firm sum ≡ (let r : Tallies = record { firm = t.firm; live = tally_behind t.live e; reserved = t.reserved } in r)
-one_more keys now firm live sum t e is same more places added =
-    (λ i. record { firm = tally_with firm (same i); live = tally_with (added i) (more i); reserved = places i })
-    ∙ ap (λ (s : Tallies). let r : Tallies = record { firm = s.firm; live = tally_behind s.live e; reserved = s.reserved } in r) is
+one_more keys now firm live sum t e is same more places added = grind arith
 
 -- ---- each key was paid for
 
 pub paid_settled : (keys now : Kept) (firm live : Sum) → ArePaid keys firm live → now ≡ record { firm = keys.live; live = keys.live; count = keys.count; reserved = keys.reserved }
     → length keys.live ≤ keys.count → ArePaid now live live
-paid_settled keys now firm live paid is within = record {
-  firm_paid = omega (arith, paid.live_paid, within, ap (λ (k : Kept). length k.firm) is);
-  live_paid = omega (arith, paid.live_paid, ap (λ (k : Kept). k.count) is);
-}
+paid_settled keys now firm live paid is within = search rules
 
 -- where no key more is reserved, the next would cost more than is left
 pub key_refused : (keys : Kept) (firm live : Sum) (t : Tallies) (e : HistoryEntry) → tallies keys firm live ≡ t → ArePaid keys firm live → HasNoRoom (count_held e.act) keys
     → cheapest_hold * (t.reserved + 1) ≤ t.live.costs + cost_of e
-key_refused keys firm live t e is paid full =
-    omega (arith, paid.live_paid, full.one, full.full, hold_costs e, ap (λ (s : Tallies). s.reserved) is, ap (λ (s : Tallies). s.live.costs) is)
+key_refused keys firm live t e is paid full = grind (arith, hold_costs)
 
 -- ---- the tally of the firm entries, or else of all
 
 tally_chosen : (b : Bool) (keys : Kept) (firm live sum : Sum) (t : Tallies) → tallies keys firm live ≡ t → sum ≡ (if b then firm else live)
     → tally_with sum (held_of b keys) ≡ (if b then t.firm else t.live)
-tally_chosen true keys firm live sum t is which = ap (λ (s : Sum). tally_with s (keys.firm)) which ∙ ap (λ (s : Tallies). s.firm) is
-tally_chosen false keys firm live sum t is which = ap (λ (s : Sum). tally_with s (keys.live)) which ∙ ap (λ (s : Tallies). s.live) is
+tally_chosen b keys firm live sum t is which = grind arith
 
 -- ---- what is free
 
@@ -82,15 +75,12 @@ pub left_free : (b : Bool) (keys : Kept) (firm live sum : Sum) (t : Tallies) (si
     → promised ≡ 76 * (held + 0) + (if sum.is_close_due then 30 else 0)
     → result ≡ capacity_of size - (sum.costs + promised)
     → result ≡ free_beside (if b then t.firm else t.live) size
-left_free b keys firm live sum t size held promised result is which count owed left =
-    let here : result ≡ free_beside (tally_with sum (held_of b keys)) size = omega (arith, count, owed, left) in
-    here ∙ ap (λ (v : TallyValue). free_beside v size) (tally_chosen b keys firm live sum t is which)
+left_free b keys firm live sum t size held promised result is which count owed left = grind (arith, tally_chosen)
 
 -- ---- room
 
 one_at_most : (act : HistoryAct) → length (held_by act []) ≤ 1
-one_at_most Start = omega arith
-one_at_most _ = omega arith
+one_at_most act = grind arith
 
 pub length-in_order : (more keys : List HeldKey) → length (keys_in_order more keys) ≡ length keys + length more
 length-in_order [] keys = omega arith
@@ -106,9 +96,7 @@ staying act keys = length (filter (λ (key : HeldKey). stays_held act key) keys)
 -- with the keys counted
 pub counted_room : (b : Bool) (keys : Kept) (firm live sum : Sum) (t : Tallies) (e : HistoryEntry) (size : ℕ) → tallies keys firm live ≡ t → sum ≡ (if b then firm else live)
     → nat_le (load sum e (staying e.act (held_of b keys) + length (held_by e.act []))) (capacity_of size) ≡ has_room_behind (if b then t.firm else t.live) e size
-counted_room b keys firm live sum t e size is which =
-    ap (λ (n : ℕ). nat_le (load sum e n) (capacity_of size)) (sym (length-in_order (held_by e.act []) (filter (λ (key : HeldKey). stays_held e.act key) (held_of b keys))))
-    ∙ ap (λ (v : TallyValue). has_room_behind v e size) (tally_chosen b keys firm live sum t is which)
+counted_room b keys firm live sum t e size is which = grind (arith, length-in_order, tally_chosen)
 
 -- where there is room even if each key stays held
 pub room_for_all : (b : Bool) (keys : Kept) (firm live sum : Sum) (t : Tallies) (e : HistoryEntry) (size held : ℕ) → tallies keys firm live ≡ t → sum ≡ (if b then firm else live)
@@ -130,8 +118,7 @@ passing_no p [] none = refl
 passing_no p (key ∷ keys) none = rw (none key) (omega (arith, passing_no p keys none))
 
 neither : (b : Bool) → (not b && b) ≡ false
-neither true = refl
-neither false = refl
+neither b = grind arith
 
 -- ---- no key is held twice
 
@@ -162,21 +149,14 @@ held_fewer : (firm : Bool) (early late : SortedKeys) (q p : HeldKey → Bool) �
 held_fewer firm early late q p = omega (arith, passing_both_le q p (keys_of firm early), passing_both_le q p (keys_of firm late))
 
 held_gone : (n : NodeId) (x : ℕ) (early late : SortedKeys) → held_in false early late (λ (key : HeldKey). stays_held (Seal n x) key && is_named n.0 x key) ≡ 0
-held_gone n x early late =
-    let p : HeldKey → Bool = λ key. stays_held (Seal n x) key && is_named n.0 x key in
-    omega (arith, passing_no p (live_keys early) (λ key. neither (is_named n.0 x key)), passing_no p (live_keys late) (λ key. neither (is_named n.0 x key)))
+held_gone n x early late = grind (arith, passing_no, neither)
 
 once_same : (held now : (HeldKey → Bool) → ℕ) → ((p : HeldKey → Bool) → now p ≡ held p) → IsOnceEach held → IsOnceEach now
 once_same held now same once n x = omega (arith, same (λ (key : HeldKey). is_named n x key), once n x)
 
 module _ (act : HistoryAct) (more : ℕ) (early late early_new late_new : SortedKeys) (spare : ℕ) (noted : AreNoted act more early late early_new late_new) (ready : AreReady early late spare) where
   ready_on : IsOnceEach (held_behind act (λ p. held_in false early late p)) → AreReady early_new late_new spare
-  ready_on once = record {
-    room = omega (arith, ready.room, noted.reserved);
-    some = omega (arith, ready.some, noted.room);
-    firm_once = once_same (λ p. held_in true early late p) (λ p. held_in true early_new late_new p) noted.firm ready.firm_once;
-    live_once = once_same (held_behind act (λ p. held_in false early late p)) (λ p. held_in false early_new late_new p) noted.live once;
-  }
+  ready_on once = search (rules, once_same)
 
   pub ready_let_go : count_held act ≡ 0 → AreReady early_new late_new spare
   ready_let_go none = ready_on (once_let_go act (λ p. held_in false early late p) (held_fewer false early late) none ready.live_once)
@@ -195,20 +175,12 @@ same_length keys others is p = ap (λ (l : List HeldKey). passing p l) is
 both_noted : (act : HistoryAct) (more : ℕ) (early late early_new late_new : SortedKeys)
     → ((p : HeldKey → Bool) → passing p (live_keys early_new) ≡ passing (λ (key : HeldKey). stays_held act key && p key) (live_keys early))
     → GrowsBy 0 early early_new → live_keys late_new ≡ held_after act (live_keys late) → GrowsBy more late late_new → AreNoted act more early late early_new late_new
-both_noted act more early late early_new late_new drops one two_live two = record {
-  live = λ p. omega (arith, drops p, same_length (live_keys late_new) (held_after act (live_keys late)) two_live p, passing_after p act (live_keys late));
-  firm = λ p. omega (arith, same_length (firm_keys early_new) (firm_keys early) one.firm p, same_length (firm_keys late_new) (firm_keys late) two.firm p);
-  count = omega (arith, one.count, two.count);
-  reserved = one.reserved;
-  room = two.reserved;
-}
+both_noted act more early late early_new late_new drops one two_live two = search (rules, same_length, passing_after)
 
 pub let_go_both : (act : HistoryAct) (early late early_new late_new : SortedKeys) → count_held act ≡ 0
     → live_keys early_new ≡ held_after act (live_keys early) → GrowsBy (count_held act) early early_new → live_keys late_new ≡ held_after act (live_keys late) → GrowsBy (count_held act) late late_new → AreNoted act 0 early late early_new late_new
 let_go_both act early late early_new late_new none one_live one two_live two =
-    both_noted act 0 early late early_new late_new
-    (λ p. omega (arith, none, passing_le p (held_by act []), same_length (live_keys early_new) (held_after act (live_keys early)) one_live p, passing_after p act (live_keys early)))
-    (rw none at one) two_live (rw none at two)
+    search (rules, both_noted, passing_le, same_length, passing_after)
 
 pub hold_one : (n : NodeId) (x : ℕ) (packet : List ℕ) (early late early_new late_new : SortedKeys)
     → live_keys early_new ≡ held_after (Seal n x) (live_keys early) → GrowsBy 0 early early_new → live_keys late_new ≡ held_after (Hold n x packet) (live_keys late) → GrowsBy 1 late late_new → AreNoted (Hold n x packet) 1 early late early_new late_new
@@ -228,26 +200,14 @@ seen early late = record {
 }
 
 chosen : (b : Bool) (early late : SortedKeys) (kept : Kept) → seen early late ≡ kept → held_in_order b early late ≡ held_of b kept
-chosen true early late kept is = ap (λ (k : Kept). k.firm) is
-chosen false early late kept is = ap (λ (k : Kept). k.live) is
+chosen b early late kept is = grind arith
 
 pub counted_both : (b : Bool) (early late : SortedKeys) (kept : Kept) (n m : ℕ) → seen early late ≡ kept → n ≡ length (keys_of b early) → m ≡ length (keys_of b late) → n + m ≡ length (held_of b kept)
-counted_both b early late kept n m is one two =
-    omega (arith, one, two, length-in_order (keys_of b late) (keys_of b early), ap (λ (l : List HeldKey). length l) (chosen b early late kept is))
+counted_both b early late kept n m is one two = grind (arith, length-in_order, chosen)
 
 pub staying_both : (p : HeldKey → Bool) (b : Bool) (early late : SortedKeys) (kept : Kept) (n m : ℕ) → seen early late ≡ kept
     → n ≡ length (filter p (keys_of b early)) → m ≡ length (filter p (keys_of b late)) → n + m ≡ length (filter p (held_of b kept))
-staying_both p b early late kept n m is one two =
-    omega (
-      arith,
-      one,
-      two,
-      passing_of p (keys_of b early),
-      passing_of p (keys_of b late),
-      passing_of p (held_in_order b early late),
-      held_as b early late p,
-      ap (λ (l : List HeldKey). length (filter p l)) (chosen b early late kept is),
-    )
+staying_both p b early late kept n m is one two = grind (arith, passing_of, held_as, chosen)
 
 -- ---- one more entry, seen so
 
@@ -259,30 +219,15 @@ module _ (act : HistoryAct) (more : ℕ) (early late early_mid late_mid early_ne
     (fewer : length early_mid.keys.items + length late_mid.keys.items ≤ length early.keys.items + length late.keys.items)
     (reserved : early_mid.reserved ≡ early.reserved) (noted : AreNoted act more early_mid late_mid early_new late_new) where
   pub seen_live : AreInOrder (held_by act []) → held_in_order false early_new late_new ≡ held_after act kept.live
-  seen_live fits =
-      held_then act false early_mid late_mid early_new late_new fits noted.live
-      ∙ ap (λ (l : List HeldKey). held_after act l) (same_held false early late early_mid late_mid (same false))
-      ∙ ap (λ (k : Kept). held_after act k.live) is
+  seen_live fits = grind (arith, held_then, same_held)
 
   pub seen_kept : KeepsFirm more kept (seen early_new late_new)
-  seen_kept = record {
-    firm = same_held true early_mid late_mid early_new late_new noted.firm ∙ same_held true early late early_mid late_mid (same true) ∙ ap (λ (k : Kept). k.firm) is;
-    count = omega (arith, noted.count, fewer, ap (λ (k : Kept). k.count) is);
-    reserved = noted.reserved ∙ reserved ∙ ap (λ (k : Kept). k.reserved) is;
-  }
+  seen_kept = search (rules, same_held)
 
 -- ---- settled and reverted
 
 pub settled_within : (early late : SortedKeys) (kept : Kept) → seen early late ≡ kept → length kept.live ≤ kept.count
-settled_within early late kept is =
-    omega (
-      arith,
-      ap (λ (k : Kept). length k.live) is,
-      ap (λ (k : Kept). k.count) is,
-      length-in_order (live_keys late) (live_keys early),
-      counted_le false early.round early.keys.items,
-      counted_le false late.round late.keys.items,
-    )
+settled_within early late kept is = grind (arith, length-in_order, counted_le)
 
 pub reverted_seen : (early late early_new late_new : SortedKeys) (kept : Kept) → seen early late ≡ kept → firm_keys early_new ≡ firm_keys early → live_keys early_new ≡ firm_keys early → firm_keys late_new ≡ firm_keys late → live_keys late_new ≡ firm_keys late
     → length early_new.keys.items ≡ length (firm_keys early) → length late_new.keys.items ≡ length (firm_keys late) → early_new.reserved ≡ early.reserved

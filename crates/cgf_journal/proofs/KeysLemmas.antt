@@ -1,7 +1,7 @@
 -- The order of keys.
-use Rattle.std.proofs.Common.{◌≡◌, ℕ, zero, suc, ◌+◌, ◌-◌, ◌<◌, ◌≤◌, ◌==◌, ◌&&◌, not, Bool, true, false, if◌then◌else◌, nat_lt, List, [], ◌∷◌, ◌++◌, length, take, drop, map, filter, refl, sym, ap, ◌∙◌, arith, inl, inr, ◌*◌, ◌^◌, nat_le}
+use Rattle.std.proofs.Common.{◌≡◌, ℕ, zero, suc, ◌+◌, ◌-◌, ◌<◌, ◌≤◌, ◌==◌, ◌&&◌, not, Bool, true, false, if◌then◌else◌, nat_lt, List, [], ◌∷◌, ◌++◌, length, take, drop, map, filter, refl, sym, ap, ◌∙◌, arith, inl, inr, ◌^◌, nat_le}
 use Rattle.std.specs.Prelude.{slice_index_or, slice_set}
-use Rattle.std.proofs.lemmas.Bool.{cases_Bool, cond_both, eq-eqb, le-ltb, lt-ltb, ne_eqb, and_parts, cases_lt, eqb-true, false_from_ne_true, le-leb, lt-leb}
+use Rattle.std.proofs.lemmas.Bool.{cases_Bool, cond_both, eq-eqb, le-ltb, lt-ltb, ne_eqb, eqb-true, false_from_ne_true, le-leb, lt-leb}
 use Rattle.std.proofs.lemmas.List.{length-map, length-set}
 use Rattle.std.proofs.lemmas.List.Sums.{count_by-le-length, length-filter}
 use Rattle.gw_base.specs.declared.address.NodeId.{NodeId}
@@ -27,30 +27,19 @@ same_node a b x y p q e = (omega (arith, e, p, q), omega (arith, e, p, q))
 
 pub by_node : (a b x y : ℕ) → x < 2 ^ 64 → y < 2 ^ 64 → (a ≡ b → ⊥) → nat_lt a b ≡ nat_lt (rank_of a x) (rank_of b y)
 unfolding rank_of
-by_node a b x y p q ne = elim (cases_lt a b) [
-  | inl lt ↦ lt-ltb a b lt ∙ sym (lt-ltb (a * 2 ^ 64 + x) (b * 2 ^ 64 + y) (omega (arith, lt, p, q)))
-  | inr ge ↦ le-ltb a b ge ∙ sym (le-ltb (a * 2 ^ 64 + x) (b * 2 ^ 64 + y) (omega (arith, ge, ne, p, q)))
-]
+by_node a b x y p q ne = grind (arith, lt-ltb, le-ltb)
 
 pub by_number : (a b x y : ℕ) → a ≡ b → nat_lt x y ≡ nat_lt (rank_of a x) (rank_of b y)
 unfolding rank_of
-by_number a b x y same = elim (cases_lt x y) [
-  | inl lt ↦ lt-ltb x y lt ∙ sym (lt-ltb (a * 2 ^ 64 + x) (b * 2 ^ 64 + y) (omega (arith, lt, same)))
-  | inr ge ↦ le-ltb x y ge ∙ sym (le-ltb (a * 2 ^ 64 + x) (b * 2 ^ 64 + y) (omega (arith, ge, same)))
-]
+by_number a b x y same = grind (arith, lt-ltb, le-ltb)
 
 -- a key of another rank is another
 pub not_named : (kept : KeptKey) (n x : ℕ) → (rank kept ≡ rank_of n x → ⊥) → is_named n x (key_of kept) ≡ false
-not_named kept n x ne =
-    false_from_ne_true (is_named n x (key_of kept)) (λ e.
-    let b = and_parts (n == kept.node.0) (x == kept.number) e in
-    ne (λ i. rank_of (sym (eqb-true n kept.node.0 b.0) i) (sym (eqb-true x kept.number b.1) i)))
+not_named kept n x ne = grind (arith, false_from_ne_true, eqb-true)
 
 -- the rank of a key that is named
 pub named_rank : (kept : KeptKey) (n x : ℕ) → is_named n x (key_of kept) ≡ true → rank kept ≡ rank_of n x
-named_rank kept n x e =
-    let b = and_parts (n == kept.node.0) (x == kept.number) e in
-    λ i. rank_of (sym (eqb-true n kept.node.0 b.0) i) (sym (eqb-true x kept.number b.1) i)
+named_rank kept n x e = grind (arith, eqb-true)
 
 -- ---- the numbers of a node
 
@@ -72,10 +61,7 @@ past_node a b x small le e = omega (arith, small, le, e)
 
 pub up_to_node : (a b x : ℕ) → x < 2 ^ 64 → nat_le a b ≡ nat_lt (rank_of a x) (rank_of (b + 1) 0)
 unfolding rank_of
-up_to_node a b x small = elim (cases_lt b a) [
-  | inl lt ↦ lt-leb a b lt ∙ sym (le-ltb (a * 2 ^ 64 + x) ((b + 1) * 2 ^ 64 + 0) (omega (arith, lt)))
-  | inr le ↦ le-leb a b le ∙ sym (lt-ltb (a * 2 ^ 64 + x) ((b + 1) * 2 ^ 64 + 0) (omega (arith, le, small)))
-]
+up_to_node a b x small = grind (arith, lt-leb, le-ltb, le-leb, lt-ltb)
 
 -- ---- keys in order: one of them changed, one more in its place, and all of them settled
 
@@ -108,11 +94,7 @@ all_kept p s r (kept ∷ keys) pass =
 pub counted-cons : (s t : Bool) (q r : ℕ) (new kept : KeptKey) (keys others : List KeptKey) → counts s q new ≡ counts t r kept
     → key_of new ≡ key_of kept → counted_keys s q keys ≡ counted_keys t r others
     → counted_keys s q (new ∷ keys) ≡ counted_keys t r (kept ∷ others)
-counted-cons s t q r new kept keys others count key rest =
-    elim (cases_Bool (counts t r kept)) [
-      | inl is ↦ rw (count, is) (λ i. key i ∷ rest i)
-      | inr isnt ↦ rw (count, isnt) rest
-    ]
+counted-cons s t q r new kept keys others count key rest = grind arith
 
 pub other_stays : (kept : KeptKey) (n : NodeId) (x : ℕ) → (rank kept ≡ rank_of n.0 x → ⊥) → stays n x (key_of kept) ≡ true
 other_stays kept n x ne = ap not (not_named kept n.0 x ne)
@@ -150,8 +132,7 @@ with_change held n x keys = if held then held_with n x keys else filter (λ (key
 
 with_change-cons : (held : Bool) (n : NodeId) (x : ℕ) (first : HeldKey) (keys : List HeldKey) → stays n x first ≡ true → nat_lt (rank_of first.node.0 first.number) (rank_of n.0 x) ≡ true
     → with_change held n x (first ∷ keys) ≡ first ∷ with_change held n x keys
-with_change-cons true n x first keys other before = rw other (rw before refl)
-with_change-cons false n x first keys other before = rw other refl
+with_change-cons held n x first keys other before = grind arith
 
 pub live-changed : (n : NodeId) (x r : ℕ) (keys : List KeptKey) (at : ℕ) (now : KeptKey) → at < length keys → key_of now ≡ record { node = n; number = x }
     → ((d : KeptKey) → is_named n.0 x (key_of (slice_index_or keys at d)) ≡ true) → Before keys at (rank_of n.0 x) → Later keys (at + 1) (rank_of n.0 x)
@@ -200,8 +181,7 @@ count-changed held r kept = rw (eq-eqb r r refl) refl
 
 length-counted : (r : ℕ) (kept : KeptKey) (keys : List KeptKey)
     → length (counted_keys false r (kept ∷ keys)) ≡ (if kept.is_held then 1 else 0) + length (counted_keys false r keys)
-length-counted r kept keys =
-    elim (cases_Bool kept.is_held) [ inl is ↦ rw is (omega arith) | inr isnt ↦ rw isnt (omega arith) ]
+length-counted r kept keys = grind arith
 
 pub length-changed : (r : ℕ) (keys : List KeptKey) (at : ℕ) (now d : KeptKey) → at < length keys
     → length (counted_keys false r (slice_set keys at now)) + (if (slice_index_or keys at d).is_held then 1 else 0) ≡ length (counted_keys false r keys) + (if now.is_held then 1 else 0)

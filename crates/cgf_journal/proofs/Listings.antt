@@ -1,5 +1,5 @@
 -- Batches that an opening takes in, one after the other.
-use Rattle.std.proofs.Common.{◌≡◌, ℕ, ◌+◌, ◌<◌, ◌≤◌, List, [], ◌∷◌, ◌++◌, Result, Ok, Err, length, take, drop, refl, sym, ◌∙◌, ap, subst, arith, append_assoc, ◌≢◌, ◌*◌, ◌==◌, true, false}
+use Rattle.std.proofs.Common.{◌≡◌, ℕ, ◌+◌, ◌<◌, ◌≤◌, List, [], ◌∷◌, ◌++◌, Result, Ok, Err, length, take, drop, refl, sym, ◌∙◌, ap, subst, arith, append_assoc, ◌≢◌, ◌*◌, ◌==◌, true, false, rules}
 use Rattle.std.specs.Prelude.{All, IfOk, OnOk, Option, Some}
 use Rattle.std.proofs.lemmas.List.{append-nil, drop_at, take_all, length-append, nil_from_length, take-append-drop}
 use Rattle.std.proofs.lemmas.List.Elements.{All-drop, All-head}
@@ -7,7 +7,7 @@ use Rattle.std.proofs.lemmas.Option.{some_pair_parts}
 use Rattle.std.proofs.lemmas.Bool.{eqb-false, eqb-true}
 use Rattle.gw_base.specs.declared.history.HistoryEntry.{HistoryEntry}
 use Rattle.gw_base.specs.declared.place.Place.{Place}
-use Rattle.gate_journal.specs.Format.{end_of, header_length, taken}
+use Rattle.gate_journal.specs.Format.{end_of, taken}
 use Rattle.gate_journal.specs.Spelling.{taken-append}
 use Rattle.gate_journal.specs.declared.faults.OpenFault.{OpenFault}
 use Rattle.entry_codec.specs.Content.{IsContent, entries_of, AreEntries, spelled}
@@ -20,7 +20,7 @@ use Rattle.cgf_journal.specs.Format.{AreBatches, entries_in}
 use Rattle.cgf_journal.specs.Judged.{IsJudged}
 use Rattle.cgf_journal.specs.Opening.{AreTakenIn, BreaksAt, IsTakenUpTo}
 use Rattle.cgf_journal.specs.Reserved.{Placed}
-use Rattle.cgf_journal.specs.Sound.{places_behind, places_from}
+use Rattle.cgf_journal.specs.Sound.{places_from}
 use Rattle.cgf_journal.specs.Tally.{Tallies, TallyValue, tally_behind_all, tally_of}
 use Rattle.cgf_journal.specs.declared.judge.Judge.{Ghosts}
 use Rattle.cgf_journal.specs.Contents.{IsTakenIn}
@@ -34,10 +34,7 @@ last_content some batch all =
 
 module _ (size gate : ℕ) (some : List (List ℕ)) (places : Placed) (tally : Tallies) (taken_in : AreTakenIn size gate some places tally) (batch : List ℕ) where
   live_behind : tally_behind_all tally.live (entries_of batch) ≡ tally_of (entries_in (some ++ batch ∷ []))
-  live_behind =
-      ap (λ (t : TallyValue). tally_behind_all t (entries_of batch)) taken_in.live
-      ∙ tally_all (entries_in some) (entries_of batch)
-      ∙ ap (λ (h : List HistoryEntry). tally_of h) (sym (entries_in-push some batch))
+  live_behind = grind (arith, tally_all, entries_in-push)
 
   costs_are : (tally_behind_all tally.live (entries_of batch)).costs ≡ costs_of (entries_in (some ++ batch ∷ []))
   costs_are = ap (λ (t : TallyValue). t.costs) live_behind ∙ tally_of-costs (entries_in (some ++ batch ∷ []))
@@ -47,30 +44,11 @@ module _ (size gate : ℕ) (some : List (List ℕ)) (places : Placed) (tally : T
       → new ≡ record { firm = tally.firm; live = tally_behind_all tally.live (entries_of batch); reserved = tally.reserved } → new.live.costs ≤ capacity_of size
       → AreTakenIn size (gate + 5 + length batch) (some ++ batch ∷ []) more new
   one_more more new content placed same counted within =
-      let live : new.live ≡ tally_behind_all tally.live (entries_of batch) = ap (λ (t : Tallies). t.live) counted in
-      let costs : new.live.costs ≡ costs_of (entries_in (some ++ batch ∷ [])) = ap (λ (t : TallyValue). t.costs) live ∙ costs_are in
-      record {
-        are_batches = are_batches-push size some batch taken_in.are_batches content (subst (λ (h : List HistoryEntry). costs_of h ≤ capacity_of size) (entries_in-push some batch) (omega (arith, within, costs)));
-        gate_is = omega (arith, taken_in.gate_is, taken-append some (batch ∷ []));
-        placed =
-            placed
-            ∙ ap (λ (l : List Place). l ++ places_from (gate + 5) (entries_of batch)) taken_in.placed
-            ∙ ap (λ n. places_behind header_length some ++ places_from (n + 5) (entries_of batch)) taken_in.gate_is
-            ∙ sym (places_behind-push header_length some batch);
-        firm = ap (λ (t : Tallies). t.firm) counted ∙ taken_in.firm;
-        live = live ∙ live_behind;
-        enough = record {
-          short = taken_in.enough.short;
-          places_last = omega (arith, taken_in.enough.places_last, same);
-          keys_last = omega (arith, taken_in.enough.keys_last, ap (λ (t : Tallies). t.reserved) counted);
-        };
-      }
+      search (rules, costs_are, are_batches-push, entries_in-push, taken-append, places_behind-push, live_behind)
 
   -- one that costs too much is none to take in
   pub too_dear : (new : Tallies) → new ≡ record { firm = tally.firm; live = tally_behind_all tally.live (entries_of batch); reserved = tally.reserved } → capacity_of size < new.live.costs → AreBatches size (some ++ batch ∷ []) → ⊥
-  too_dear new counted past are =
-      let costs : new.live.costs ≡ costs_of (entries_in (some ++ batch ∷ [])) = ap (λ (t : Tallies). t.live.costs) counted ∙ costs_are in
-      omega (arith, past, costs, are.costs)
+  too_dear new counted past are = grind (arith, costs_are)
 
 -- a list that begins with batches before its end goes on behind them
 pub goes_on : (some more all : List (List ℕ)) (gate end : ℕ) → all ≡ some ++ more → gate ≡ end_of some → end ≡ end_of all → gate < end → (batch : List ℕ) × (rest : List (List ℕ)) × (all ≡ some ++ batch ∷ rest)
@@ -84,8 +62,7 @@ no_more some (batch ∷ rest) all gate is at last = absurd (omega (arith, at, la
 
 -- a batch that was read whole
 pub whole_read : (batch into : List ℕ) (n start : ℕ) → n ≡ length batch → start ≡ 0 → into ≡ take n (drop start batch) → into ≡ batch
-whole_read batch into n start size none is =
-    is ∙ ap (λ k. take n (drop k batch)) none ∙ take_all n batch (omega (arith, size))
+whole_read batch into n start size none is = grind (arith, take_all)
 
 -- what was found and read behind a gate before the end of a list is its next batch
 pub read_next : (all some more : List (List ℕ)) (gate end : ℕ) → all ≡ some ++ more → gate ≡ end_of some → end ≡ end_of all → gate < end
@@ -118,15 +95,7 @@ module _ {J : Type 0} {asks : Ghosts J} {Listed : List (List ℕ) → Type 0} {s
     taken_next new (Err e) more grown is took = tt
 
     pub breaks_next : (at : ℕ) → (at ≡ gate) × (AreFit asks.fits size (taken.some ++ batch ∷ []) → ⊥) → (all : List (List ℕ)) → Listed all → BreaksAt (AreFit asks.fits size) all at
-    breaks_next at unfit all listed = record {
-      some = taken.some;
-      batch = batch;
-      more = (goes all listed).0;
-      listed = (goes all listed).1;
-      place = unfit.0 ∙ taken.taken_in.gate_is;
-      are = record { are_batches = taken.taken_in.are_batches; fit = taken.judged.fit };
-      unfit = unfit.1;
-    }
+    breaks_next at unfit all listed = search rules
 
 -- ---- a content that is taken in entry by entry, from its front on
 
@@ -180,16 +149,7 @@ module _ {content rest : List ℕ} {start at : ℕ} {before : List Place} {old t
 
   -- what was taken in costs at most twice its octets, so that the rest can be counted too
   pub costs_so_far : {places : List Place} → AreTaken content rest start at before places old tally → tally.live.costs + 2 * length rest ≤ old.live.costs + 2 * length content
-  costs_so_far so_far =
-      omega (
-        arith,
-        ap (λ (t : Tallies). t.live.costs) so_far.counted,
-        tally_all-costs old.live so_far.entries,
-        costs_at_most so_far.entries,
-        ap (λ (o : List ℕ). length o) so_far.are_entries.spelling,
-        ap (λ (o : List ℕ). length o) so_far.parts,
-        length-append so_far.front rest,
-      )
+  costs_so_far so_far = grind (arith, tally_all-costs, costs_at_most, length-append)
 
 -- ---- at the end
 

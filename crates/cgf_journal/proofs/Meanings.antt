@@ -1,5 +1,5 @@
 -- Octets stand for one history, or start, or are foreign at one place.
-use Rattle.std.proofs.Common.{◌≡◌, inl, inr, ℕ, List, [], ◌∷◌, ◌++◌, length, get_or, take, map, refl, sym, ◌∙◌, ap, subst, arith, append_assoc, ◌≢◌, drop}
+use Rattle.std.proofs.Common.{◌≡◌, inl, inr, ℕ, List, [], ◌∷◌, ◌++◌, length, get_or, take, refl, sym, ◌∙◌, ap, subst, arith, append_assoc, ◌≢◌, drop, rules}
 use Rattle.std.specs.Prelude.{All}
 use Rattle.std.proofs.lemmas.Grind.{flat_map-append}
 use Rattle.std.proofs.lemmas.List.{take_at, append-nil, take-append-drop}
@@ -34,11 +34,7 @@ module _ (header : List ℕ) (long : length header ≡ 32) (octets : List ℕ) w
   goes_behind batches stands far batch more before = stands.shut (batch_before header long octets far batches batch more before).opened
 
   one_list : (some other : List (List ℕ)) → Stands header octets some → Stands header octets other → some ≡ other
-  one_list some other one two = elim (compare header long octets (end_of some) (end_of other) some other (stands_before header long octets some one) (stands_before header long octets other two)) [
-    | equal e ↦ e
-    | longer b m e ↦ absurd (goes_behind some one (end_of other) b m (subst (λ (l : List (List ℕ)). AreBefore header octets (end_of other) l) e (stands_before header long octets other two)))
-    | shorter b m e ↦ absurd (goes_behind other two (end_of some) b m (subst (λ (l : List (List ℕ)). AreBefore header octets (end_of some) l) e (stands_before header long octets some one)))
-  ]
+  one_list some other one two = grind (arith, compare, stands_before, equal, longer, goes_behind, shorter)
 
   stands_front : (batches : List (List ℕ)) → Stands header octets batches → take 32 octets ≡ header
   stands_front batches stands = front_before header long octets (end_of batches) batches (stands_before header long octets batches stands)
@@ -47,12 +43,10 @@ module _ (header : List ℕ) (long : length header ≡ 32) (octets : List ℕ) w
   one_history h g one two = one.history ∙ ap entries_in (one_list one.batches two.batches one.stands two.stands) ∙ sym two.history
 
   pub stands_or_starts : get_or header 0 0 ≡ 67 → (h : List HistoryEntry) → StandsFor header octets h → Starts header octets → ⊥
-  stands_or_starts begins h stands starts =
-      same_not_starts header long octets (stands_front (map spelled stands.parts) stands.stands) begins starts
+  stands_or_starts begins h stands starts = grind (arith, same_not_starts, stands_front)
 
   pub broken_or_starts : get_or header 0 0 ≡ 67 → (at : ℕ) → IsBroken header octets at → Starts header octets → ⊥
-  broken_or_starts begins at broken starts =
-      same_not_starts header long octets (front_before header long octets at broken.batches (record { front = broken.front; small = broken.small; inside = broken.inside })) begins starts
+  broken_or_starts begins at broken starts = grind (arith, same_not_starts, front_before)
 
   -- batches that are these, where the first of these are these too
   module _ (Are : List (List ℕ) → Type 0) (first : (some more : List (List ℕ)) → Are (some ++ more) → Are some) where
@@ -95,8 +89,7 @@ module _ (header : List ℕ) (long : length header ≡ 32) (octets : List ℕ) w
     one_place at far (inr one) (inr two) = one_spoiled at far one two
 
     pub foreign_or_starts : get_or header 0 0 ≡ 67 → (at : ℕ) → IsForeignBy Are header octets at → Starts header octets → ⊥
-    foreign_or_starts begins at (inl differs) starts = differs.begun starts
-    foreign_or_starts begins at (inr spoiled) starts = same_not_starts header long octets (spoiled_front at spoiled) begins starts
+    foreign_or_starts begins at is starts = grind (arith, same_not_starts, spoiled_front)
 
     -- what an opening finds
     pub spoiled_by : (end : ℕ) (all : List (List ℕ)) (at : ℕ) → AreBefore header octets end all → BreaksAt Are all at → IsSpoiledBy Are header octets at
@@ -113,13 +106,7 @@ module _ (header : List ℕ) (long : length header ≡ 32) (octets : List ℕ) w
         }
 
     pub broken_off : (at : ℕ) (broken : IsBroken header octets at) → Are broken.batches → IsSpoiledBy Are header octets at
-    broken_off at broken are = record {
-      batches = broken.batches;
-      before = record { front = broken.front; small = broken.small; inside = broken.inside };
-      are = are;
-      opened = broken.opened;
-      unwhole = λ whole more. broken.unwhole whole;
-    }
+    broken_off at broken are = search rules
 
 -- ---- histories whose entries are all fit
 
@@ -143,14 +130,7 @@ module _ (fits : List HistoryEntry → HistoryEntry → Type 0) where
 
 foreign_by : (header octets : List ℕ) {Are Same : List (List ℕ) → Type 0} → ((batches : List (List ℕ)) → Are batches → Same batches)
     → ((batches : List (List ℕ)) → Same batches → Are batches) → (at : ℕ) → IsForeignBy Are header octets at → IsForeignBy Same header octets at
-foreign_by header octets to from at (inl differs) = inl differs
-foreign_by header octets to from at (inr spoiled) = inr (record {
-  batches = spoiled.batches;
-  before = spoiled.before;
-  are = to spoiled.batches spoiled.are;
-  opened = spoiled.opened;
-  unwhole = λ whole are. spoiled.unwhole whole (from _ are);
-})
+foreign_by header octets to from at is = search rules
 
 module _ (fits : ℕ → List HistoryEntry → HistoryEntry → Type 0) where
   -- the first of fit batches are fit

@@ -1,7 +1,7 @@
 -- Two lists of kept keys as one.
 use Rattle.std.proofs.Common.{◌≡◌, ℕ, zero, suc, ◌+◌, ◌<◌, ◌≤◌, ◌^◌, ◌==◌, ◌||◌, Bool, true, false, if◌then◌else◌, List, [], ◌∷◌, ◌++◌, length, drop, take, refl, sym, ap, ◌∙◌, arith, inl, inr}
 use Rattle.std.specs.Prelude.{All, slice_index_or}
-use Rattle.std.proofs.lemmas.Bool.{cases_Bool, cases_order, eq-eqb, false_from_ne_true, le-ltb, lt-ltb, true≢false}
+use Rattle.std.proofs.lemmas.Bool.{cases_order, eq-eqb, false_from_ne_true, le-ltb, lt-ltb, true≢false}
 use Rattle.std.proofs.lemmas.List.{drop_all, length-map}
 use Rattle.std.proofs.lemmas.List.Elements.{All-cons, All-map, All-tail}
 use Rattle.std.proofs.lemmas.List.Kept.{AllPairs-cons}
@@ -24,8 +24,7 @@ merged-none r (kept ∷ keys) = refl
 
 -- behind the last of the others the rest of the keys stand as they are
 pub left_over : (from r i j : ℕ) (keys others : List KeptKey) → length others ≤ j → merged r (drop i keys) (moved_keys from r (drop j others)) ≡ drop i keys
-left_over from r i j keys others end =
-    ap (λ (l : List KeptKey). merged r (drop i keys) (moved_keys from r l)) (drop_all j others end) ∙ merged-none r (drop i keys)
+left_over from r i j keys others end = grind (arith, drop_all, merged-none)
 
 -- keys before the first of the others stay where they are
 stays_before : (r at : ℕ) (keys : List KeptKey) (b : KeptKey) (ls : List KeptKey) → at ≤ length keys → ((j : ℕ) (d : KeptKey) → j < at → rank (slice_index_or keys j d) < rank b)
@@ -137,8 +136,7 @@ abbrev weight : (HeldKey → Bool) → Bool → ℕ → KeptKey → ℕ
 weight p s r kept = if counts s r kept then one (p (key_of kept)) else 0
 
 pub amount-cons : (p : HeldKey → Bool) (s : Bool) (r : ℕ) (kept : KeptKey) (keys : List KeptKey) → passing p (counted_keys s r (kept ∷ keys)) ≡ weight p s r kept + passing p (counted_keys s r keys)
-amount-cons p s r kept keys =
-    elim (cases_Bool (counts s r kept)) [ inl is ↦ rw is refl | inr isnt ↦ rw isnt (omega arith) ]
+amount-cons p s r kept keys = grind arith
 
 -- no key counts in both lists
 abbrev pub AreApart : Bool → ℕ → List KeptKey → List KeptKey → Type 0
@@ -149,20 +147,13 @@ abbrev pub AreSmall : List KeptKey → Type 0
 AreSmall keys = All (λ (kept : KeptKey). kept.number < 2 ^ 64) keys
 
 same_key : (a b : KeptKey) → a.number < 2 ^ 64 → b.number < 2 ^ 64 → rank a ≡ rank b → key_of a ≡ key_of b
-same_key a b p q e =
-    let is = same_node a.node.0 b.node.0 a.number b.number p q e in
-    λ i. record { node = record { 0 = is.0 i }; number = is.1 i }
+same_key a b p q e = grind (arith, same_node)
 
 count-joined : (s : Bool) (r : ℕ) (a b : KeptKey) → counts s r (joined_key r a b) ≡ (counts s r a || counts s r b)
-count-joined true r a b = rw (eq-eqb r r refl) refl
-count-joined false r a b = refl
+count-joined s r a b = grind (arith, eq-eqb)
 
 weight-joined : (p : HeldKey → Bool) (s : Bool) (r : ℕ) (a b : KeptKey) → key_of a ≡ key_of b → (counts s r a ≡ true → counts s r b ≡ true → ⊥) → weight p s r (joined_key r a b) ≡ weight p s r a + weight p s r b
-weight-joined p s r a b same apart = elim (cases_Bool (counts s r a)) [
-  | inl is ↦ rw (count-joined s r a b, is, false_from_ne_true (counts s r b) (apart is)) (omega arith)
-  | inr isnt ↦ rw (count-joined s r a b, isnt)
-      (omega (arith, ap {B = ℕ} (λ (key : HeldKey). if counts s r b then one (p key) else 0) same))
-]
+weight-joined p s r a b same apart = grind (arith, count-joined, false_from_ne_true)
 
 pub passing-merged : (p : HeldKey → Bool) (s : Bool) (r : ℕ) (ks ls : List KeptKey) → AreSmall ks → AreSmall ls → AreApart s r ks ls
     → passing p (counted_keys s r (merged r ks ls)) ≡ passing p (counted_keys s r ks) + passing p (counted_keys s r ls)
@@ -265,19 +256,11 @@ module _ (early late : SortedKeys) where
 
     absorbed_held : (s : Bool) → IsOnceEach (λ (p : HeldKey → Bool). passing p (keys_of s early) + passing p (keys_of s late)) → (p : HeldKey → Bool)
         → passing p (counted_keys s early.round items) ≡ passing p (keys_of s early) + passing p (keys_of s late)
-    absorbed_held s once p =
-        let same = counted-moved s late.round early.round late.keys.items in
-        let first : AreSmall early.keys.items = λ j d lt. (early.up_to j d lt).1 in
-        let second : AreSmall moved = λ j d lt. (moved_up_to j d lt).1 in
-        ap (λ (l : List KeptKey). passing p (counted_keys s early.round l)) is
-        ∙ passing-merged p s early.round early.keys.items moved first second
-        (apart_if s early.round early.keys.items moved first second (λ n x. omega (arith, once n x, ap (λ (l : List HeldKey). passing (λ (key : HeldKey). is_named n x key) l) same)))
-        ∙ ap (λ (l : List HeldKey). passing p (keys_of s early) + passing p l) same
+    absorbed_held s once p = grind (arith, counted-moved, moved_up_to, passing-merged, apart_if)
 
     pub absorbed_all : IsOnceEach (λ (p : HeldKey → Bool). passing p (keys_of true early) + passing p (keys_of true late)) → IsOnceEach (λ (p : HeldKey → Bool). passing p (keys_of false early) + passing p (keys_of false late))
         → (s : Bool) (p : HeldKey → Bool) → passing p (counted_keys s early.round items) ≡ passing p (keys_of s early) + passing p (keys_of s late)
-    absorbed_all firm live true p = absorbed_held true firm p
-    absorbed_all firm live false p = absorbed_held false live p
+    absorbed_all firm live s p = grind (arith, absorbed_held)
 
     pub absorbed_counted : (s : Bool) → IsOnceEach (λ (p : HeldKey → Bool). passing p (keys_of s early) + passing p (keys_of s late)) → (n m : ℕ) → n ≡ length (keys_of s early) → m ≡ length (keys_of s late)
         → n + m ≡ length (counted_keys s early.round items)

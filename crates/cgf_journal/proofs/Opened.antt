@@ -1,5 +1,5 @@
 -- How an opening comes out as planned.
-use Rattle.std.proofs.Common.{◌≡◌, ◌≢◌, ◌⊎◌, inl, inr, ⊎_elim, ℕ, ◌≤◌, List, [], ◌++◌, Result, Ok, Err, length, get_or, refl, sym, ◌∙◌, ap, subst, arith, Bool, false}
+use Rattle.std.proofs.Common.{◌≡◌, ◌≢◌, ◌⊎◌, inl, inr, ⊎_elim, ℕ, ◌≤◌, List, [], ◌++◌, Result, Ok, Err, length, get_or, refl, sym, ◌∙◌, ap, arith, Bool, false, rules}
 use Rattle.std.specs.Prelude.{IfErr, IfOk, IsTrue, OnErr, ◌||◌}
 use Rattle.std.proofs.lemmas.List.Elements.{All-nil}
 use Rattle.std.proofs.lemmas.Bool.{false_from_ne_true, true≢false}
@@ -9,17 +9,14 @@ use Rattle.area_disk.specs.MomentLaws.{follow, widen}
 use Rattle.area_disk.specs.ArmedLaws.{stopped_fails}
 use Rattle.area_disk.specs.Plan.{Prospect, Schedule, is_failure, is_stop, next_fate}
 use Rattle.area_disk.specs.declared.plan.Fate.{Fate}
-use Rattle.area_disk.specs.declared.plan.Fate.TheVariants.{Stops}
 use Rattle.gw_base.specs.declared.history.HistoryEntry.{HistoryEntry}
-use Rattle.gate_journal.specs.Before.{AreBefore}
-use Rattle.gate_journal.specs.Format.{Differs, IsForeign, Stands, Starts, end_of, header}
+use Rattle.gate_journal.specs.Format.{IsForeign, Stands, Starts, end_of, header}
 use Rattle.gate_journal.specs.Journal as journal
 use Rattle.gate_journal.specs.Moments.{Kept, Leaves, Told}
 use Rattle.gate_journal.specs.OpenPlanned as gates
 use Rattle.gate_journal.specs.Opening as opening
 use Rattle.gate_journal.specs.Opening.{IsMaking, OpenCounts, OpenLeaves, after_look, is_device, is_device_fault}
 use Rattle.gate_journal.specs.Planned.{ReadsRun, Course, ReadOn, SyncPlanned, after_append, course_of, with_reads}
-use Rattle.gate_journal.specs.State.{Keeps}
 use Rattle.gate_journal.specs.Spelling.{first-header, length-header}
 use Rattle.gate_journal.specs.declared.faults.OpenFault.{OpenFault}
 use Rattle.gate_journal.specs.declared.faults.OpenFault.TheVariants.{Device, NoMemory, NotOurs}
@@ -38,22 +35,19 @@ use Rattle.cgf_journal.specs.declared.trail.Trail.{Trail}
 use Rattle.cgf_journal.proofs.Meanings.{are_fit, are_fit-first, unfit_foreign, broken_off, broken_or_starts, foreign_or_starts, one_place, spoiled_by, stands_or_foreign, stands_or_starts}
 
 pub not_device : (fault : OpenFault) → fault ≢ Device → is_device_fault fault ≡ false
-not_device Device other = absurd (other refl)
-not_device _ other = refl
+not_device fault other = grind arith
 
 -- a call ran: nothing is stopped
 running : (s : Schedule) → is_failure (next_fate s) ≡ false → s.stopped ≡ false
 running s ran = false_from_ne_true s.stopped (λ is. true≢false (sym (ap is_failure (stopped_fails s is).0) ∙ ran))
 
 stop_is : (fate : Fate) → is_failure fate ≡ false → is_stop fate ≡ false
-stop_is (Stops o) e = absurd (true≢false e)
-stop_is _ e = refl
+stop_is fate e = grind arith
 
 -- the plan after reads
 pub read_course : (mid new : Prospect) → ReadOn mid new → (course : Course) → course_of mid ≡ with_reads mid.schedule.reads course
     → course_of new ≡ with_reads new.schedule.reads course
-read_course mid new read course is =
-    (λ i. record { schedule = read.schedule i; spare = read.spare i }) ∙ ap (λ (c : Course). with_reads new.schedule.reads c) is
+read_course mid new read course is = grind arith
 
 -- reads after a sync and reads that came out as planned
 pub sync_on : (old mid new : Prospect) (failed : Bool) → SyncPlanned old false mid → ReadOn mid new → (ReadsRun mid.schedule → failed ≡ false) → SyncPlanned old failed new
@@ -126,23 +120,11 @@ module _ {A : Type 0} (tells : Ghosts A) (area : A) (address generation : ℕ) (
   pub place_is : IsTrue tells.tells_octets → (size : ℕ) → length here ≡ size → (at place : ℕ) (fault : OpenFault) → IsForeign asked here at → (at ≤ 32 → fault ≡ NotOurs at)
       → ((all : List (List ℕ)) → AreListedBefore tells.tells_octets here at all → (k : ℕ) → fault ≡ NotOurs k → BreaksAt (AreFit fits size) all k ⊎ (AreFit fits size all × (k ≡ at)))
       → fault ≡ NotOurs place → IsUnfitTo fits asked here place
-  place_is told size sized at place fault (inl differs) early among is =
-      let same : NotOurs at ≡ NotOurs place = sym (early (omega (arith, differs.inside))) ∙ is in
-      let at_is : at ≡ place = cc in
-      inl (subst (λ n. Differs asked here n) at_is differs)
-  place_is told size sized at place fault (inr broken) early among is =
-      let before : AreBefore asked here at broken.batches = record { front = broken.front; small = broken.small; inside = broken.inside } in
-      let found : BreaksAt Are broken.batches place ⊎ (Are broken.batches × (place ≡ at)) =
-      rw sized (among broken.batches (record { told = told; header = asked; long = long; before = before }) place is) in
-      ⊎_elim (λ breaks. inr (spoiled_by asked long here Are first at broken.batches place before breaks))
-      (λ whole. subst (λ n. IsUnfitTo fits asked here n) (sym whole.1) (inr (broken_off asked long here Are first at broken whole.0))) found
+  place_is told size sized at place fault holds early among is = grind (arith, long, spoiled_by, first, broken_off)
 
   -- what a crash leaves, after calls that keep the area, and where it is made anew
   pub later : (mid now : A) → OpenLeaves tells area asked mid → Kept tells mid now → OpenLeaves tells area asked now
-  later mid now leaves kept = record {
-    unmade = λ told none. follow tells area mid now _ (leaves.unmade told none) kept.leaves;
-    anew = λ told starts. follow tells area mid now _ (leaves.anew told starts) kept.leaves;
-  }
+  later mid now leaves kept = search (rules, follow)
 
   making : (now : A) → Leaves tells area now (λ c. tells.may_leave area c ⊎ IsMaking asked c) → Leaves tells area now (λ c. tells.may_leave area c ⊎ (Starts asked c ⊎ StandsFor asked c []))
   making now leaves =
@@ -186,21 +168,10 @@ module _ {A : Type 0} (tells : Ghosts A) (area : A) (address generation : ℕ) (
     sized told = laws.whole area told.0 ∙ sym size_is
 
     there : Told tells → Starts asked here ⊎ Stands asked here (journal.batches j)
-    there told =
-        ⊎_elim (λ starts. inl starts) (λ (same : tells.octets (journal.area_of j) ≡ here).
-        inr (subst (λ (o : List ℕ). Stands asked o (journal.batches j)) same
-        (subst (λ (h : List ℕ). Stands h (tells.octets (journal.area_of j)) (journal.batches j)) opened.header
-        (subst (λ f. Keeps f (journal.header_of j) (journal.batches j) (tells.octets (journal.area_of j))) opened.front
-        (opened.settled.reads told))))) (opened.found told)
+    there told = search rules
 
     found : (trail : Trail A tells) → Over size Asked j (Ok trail) → Told tells → StandsFit fits asked here (firm_entries trail) ⊎ (Starts asked here × (firm_entries trail ≡ []))
-    found trail over told =
-        let are : AreFit fits (length here) (journal.batches j) = rw (sized told) ((over.taken told).are_fit) in
-        ⊎_elim (λ starts. inr (starts, (over.taken told).entries ∙ ap entries_in (opened.anew told starts)))
-        (λ (stands : Stands asked here (journal.batches j)). inl (record {
-          stands = rw ((over.taken told).entries) (by_batches asked here (journal.batches j) stands are.are_batches);
-          fit = rw ((over.taken told).entries) are.fit;
-        })) (there told)
+    found trail over told = grind (arith, sized, by_batches, there)
 
     pub opens : (r : Answer) → Over size Asked j r → Opens Asked r
     opens (Ok trail) over =
@@ -265,12 +236,7 @@ module _ {A : Type 0} (tells : Ghosts A) (area : A) (address generation : ℕ) (
 -- a judge to whom each entry is fit asks nothing more
 module _ {A : Type 0} {tells : Ghosts A} (header : List ℕ) (area : A) (fits : ℕ → List HistoryEntry → HistoryEntry → Type 0) (each : (size : ℕ) (before : List HistoryEntry) (e : HistoryEntry) → fits size before e) where
   pub ok_always : (r : Result (Trail A tells) (OpenFault × A)) → IfOk r (λ trail. IsOpened tells header area (StandsFit fits header) trail) → IfOk r (λ trail. IsOpened tells header area (StandsFor header) trail)
-  ok_always (Ok trail) ok = record {
-    found = λ told. ⊎_elim (λ (is : StandsFit fits header (tells.octets area) (firm_entries trail)). inl is.stands) (λ anew. inr anew) (ok.found told);
-    fresh = ok.fresh;
-    faults = ok.faults;
-  }
-  ok_always (Err fault) ok = tt
+  ok_always r ok = search (rules, found)
 
   pub err_always : (r : Result (Trail A tells) (OpenFault × A)) → IfErr r (λ fault. IsRefused tells area (IsUnfitTo fits header) fault) → IfErr r (λ fault. IsRefused tells area (IsForeignTo header) fault)
   err_always (Ok trail) err = tt

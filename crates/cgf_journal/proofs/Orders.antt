@@ -1,5 +1,5 @@
 -- Keys stay in order, each once.
-use Rattle.std.proofs.Common.{inl, inr, ◌≡◌, ℕ, zero, suc, ◌<◌, ◌≤◌, ◌^◌, List, [], ◌∷◌, ◌++◌, length, take, drop, map, nat_lt, true, false, sym, ap, ◌∙◌, arith}
+use Rattle.std.proofs.Common.{inl, inr, ◌≡◌, ℕ, zero, suc, ◌<◌, ◌≤◌, ◌^◌, List, [], ◌∷◌, ◌++◌, length, take, drop, map, nat_lt, true, false, ap, ◌∙◌, arith, rules}
 use Rattle.std.specs.Prelude.{All, slice_index_or, slice_set}
 use Rattle.std.proofs.lemmas.Bool.{cases_eq, ltb-false, ltb-true}
 use Rattle.std.specs.List.Sorted.{IsNonDecreasingBy, IsPartitionPoint}
@@ -22,12 +22,7 @@ UpTo round kept = (kept.round ≤ round) × (kept.number < 2 ^ 64)
 pub field-set : {A : Type 0} (f : KeptKey → A) (keys : List KeptKey) (at : ℕ) (now : KeptKey) → at < length keys
     → ((d : KeptKey) → f now ≡ f (slice_index_or keys at d))
     → (j : ℕ) (d : KeptKey) → f (slice_index_or (slice_set keys at now) j d) ≡ f (slice_index_or keys j d)
-field-set f keys at now inside same j d = elim (cases_eq j at) [
-  | inl e ↦
-      ap (λ (k : ℕ). f (slice_index_or (slice_set keys at now) k d)) e ∙ ap f (get_or-set_same keys at now d inside)
-      ∙ same d ∙ ap (λ (k : ℕ). f (slice_index_or keys k d)) (sym e)
-  | inr ne ↦ ap f (get_or-set_other keys at j now d ne)
-]
+field-set f keys at now inside same j d = grind (arith, get_or-set_same, get_or-set_other)
 
 pub ascending-set : (keys : List KeptKey) (at : ℕ) (now : KeptKey) → at < length keys → ((d : KeptKey) → rank now ≡ rank (slice_index_or keys at d)) → AreAscending keys → AreAscending (slice_set keys at now)
 ascending-set keys at now inside same up i j d lt within =
@@ -68,10 +63,7 @@ ascending-map f same keys up i j d lt within =
 -- ---- where a number belongs
 
 pub ordered : (keys : List KeptKey) → AreAscending keys → IsNonDecreasingBy (λ (kept : KeptKey). rank kept) keys
-ordered keys up i j d le within = elim (cases_eq i j) [
-  | inl e ↦ omega (arith, ap (λ (k : ℕ). rank (slice_index_or keys k d)) e)
-  | inr ne ↦ omega (arith, up i j d (omega (arith, le, ne)) within)
-]
+ordered keys is = search rules
 
 -- what a search by rank tells of the keys from a place on
 abbrev pub NotBefore : List KeptKey → ℕ → ℕ → Type 0

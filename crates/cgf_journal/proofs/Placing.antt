@@ -1,5 +1,5 @@
 -- The places of entries, and what stands at them.
-use Rattle.std.proofs.Common.{◌≡◌, inl, inr, ℕ, zero, suc, ◌+◌, ◌-◌, ◌<◌, ◌≤◌, List, [], ◌∷◌, ◌++◌, length, take, drop, Some, refl, sym, ◌∙◌, ap, subst, arith, length-append, append_assoc, true, false}
+use Rattle.std.proofs.Common.{◌≡◌, inl, inr, ℕ, zero, suc, ◌+◌, ◌-◌, ◌<◌, ◌≤◌, List, [], ◌∷◌, ◌++◌, length, take, drop, Some, refl, sym, ◌∙◌, ap, subst, arith, length-append, append_assoc, true, false, rules}
 use Rattle.std.specs.Prelude.{All, slice_get}
 use Rattle.std.proofs.Math.Seq.{drop-append-add}
 use Rattle.std.proofs.lemmas.List.{append-nil, take_at, drop-append-le, length-take}
@@ -70,28 +70,13 @@ pub record IsAt (at : ℕ) (octets : List ℕ) (place : Place) (e : HistoryEntry
   pub reads : take place.length (drop (place.at - at) octets) ≡ spelling e
 
 at_first : (at : ℕ) (e : HistoryEntry) (rest : List ℕ) → IsAt at (spelling e ++ rest) (place_of at e) e
-at_first at e rest =
-    let none : at - at ≡ 0 = omega arith in
-    record {
-      low = omega arith;
-      high = omega (arith, length-append (spelling e) rest, length_of_spelling e);
-      size = refl;
-      reads = ap (λ n. take (entry_length e) (drop n (spelling e ++ rest))) none ∙ take_at (spelling e) rest (entry_length e) (length_of_spelling e);
-    }
+at_first at e rest = search (rules, length-append, length_of_spelling, take_at)
 
 at_later : (at : ℕ) (front octets : List ℕ) (place : Place) (e : HistoryEntry) → IsAt (at + length front) octets place e → IsAt at (front ++ octets) place e
-at_later at front octets place e is =
-    let behind : place.at - at ≡ length front + (place.at - (at + length front)) = omega (arith, is.low) in
-    record {
-      low = omega (arith, is.low);
-      high = omega (arith, is.high, length-append front octets);
-      size = is.size;
-      reads = ap (λ n. take place.length (drop n (front ++ octets))) behind ∙ ap (λ (l : List ℕ). take place.length l) (drop-append-add front octets (place.at - (at + length front))) ∙ is.reads;
-    }
+at_later at front octets place e is = search (rules, length-append, drop-append-add)
 
 none_at : (k : ℕ) (place : Place) → slice_get {X = Place} [] k ≡ Some place → ⊥
-none_at zero place found = cc
-none_at (suc k) place found = cc
+none_at k place found = grind arith
 
 -- the k-th place is that of the k-th entry
 pub from_is : (at : ℕ) (h : List HistoryEntry) (k : ℕ) (place : Place) → slice_get (places_from at h) k ≡ Some place → (e : HistoryEntry) × (slice_get h k ≡ Some e) × IsAt at (spelled h) place e
@@ -135,16 +120,10 @@ IsFound gate batches k place = (e : HistoryEntry) × (slice_get (entries_in batc
 found_first : (gate : ℕ) (batch : List ℕ) (batches : List (List ℕ)) → IsContent batch → (k : ℕ) (place : Place) → k < length (places_from (gate + 5) (entries_of batch))
     → slice_get (places_from (gate + 5) (entries_of batch)) k ≡ Some place → IsFound gate (batch ∷ batches) k place
 found_first gate batch batches content k place lt found =
-    let one = from_is (gate + 5) (entries_of batch) k place found in
-    let octets : IsAt (gate + 5) batch place one.0 = subst (λ (l : List ℕ). IsAt (gate + 5) l place one.0) (sym content.are_entries.spelling) one.2 in
-    (one.0, get_left (entries_of batch) (entries_in batches) k (omega (arith, lt, length-places_from (gate + 5) (entries_of batch))) ∙ one.1, among_first gate batch batches place one.0 octets)
+    search (rules, from_is, get_left, length-places_from, among_first)
 
 found_later : (gate : ℕ) (batch : List ℕ) (batches : List (List ℕ)) (k j : ℕ) (place : Place) → k ≡ length (entries_of batch) + j → IsFound (gate + 5 + length batch) batches j place → IsFound gate (batch ∷ batches) k place
-found_later gate batch batches k j place is rest = (
-  rest.0,
-  ap (slice_get (entries_of batch ++ entries_in batches)) is ∙ get_right (entries_of batch) (entries_in batches) j ∙ rest.1,
-  among_later gate batch batches place rest.0 rest.2,
-)
+found_later gate batch batches k j place is rest = search (rules, get_right, among_later)
 
 -- the k-th place is that of the k-th entry
 pub behind_is : (gate : ℕ) (batches : List (List ℕ)) → All IsContent batches → (k : ℕ) (place : Place) → slice_get (places_behind gate batches) k ≡ Some place → IsFound gate batches k place

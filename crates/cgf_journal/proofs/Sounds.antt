@@ -1,9 +1,9 @@
 -- What stays true of a trail over its calls.
-use Rattle.std.proofs.Common.{◌≡◌, ◌≢◌, inl, inr, ℕ, ◌+◌, ◌*◌, ◌≤◌, true, false, List, [], ◌∷◌, ◌++◌, length, take, drop, refl, sym, ◌∙◌, ap, subst, arith, length-append}
+use Rattle.std.proofs.Common.{◌≡◌, ◌≢◌, ℕ, ◌+◌, ◌*◌, ◌≤◌, true, false, List, [], ◌∷◌, ◌++◌, length, take, drop, refl, sym, ◌∙◌, ap, subst, arith, length-append, rules}
 use Rattle.std.specs.Prelude.{All}
 use Rattle.std.proofs.lemmas.List.{drop-append-le, drop_all, length-drop, length-take-le, nil_from_length, take-append-drop, take-append-le, take_all}
 use Rattle.std.proofs.lemmas.List.Elements.{All-append, All-weaker, All-head, All-nil, All-tail}
-use Rattle.std.proofs.lemmas.Bool.{both_ways, cases_lt}
+use Rattle.std.proofs.lemmas.Bool.{both_ways}
 use Rattle.area_disk.specs.declared.area.Area.{Ghosts}
 use Rattle.gw_base.specs.declared.history.HistoryEntry.{HistoryEntry}
 use Rattle.gw_base.specs.declared.place.Place.{Place}
@@ -13,7 +13,7 @@ use Rattle.gate_journal.specs.Moments.{Told}
 use Rattle.gate_journal.specs.Spelling.{taken-append}
 use Rattle.gate_journal.specs.declared.journal.Journal.{Journal}
 use Rattle.gate_journal.specs.declared.journal.Front.TheVariants.{Founded}
-use Rattle.entry_codec.specs.Content.{AreEntries, entries_of, spelled, IsContent}
+use Rattle.entry_codec.specs.Content.{AreEntries, entries_of, IsContent}
 use Rattle.entry_codec.specs.Room.{capacity_of, costs_of}
 use Rattle.entry_codec.specs.Spelling.{HasSpelling, cost_of, entry_length, spelling}
 use Rattle.entry_codec.specs.LawTypes.{EntriesAreReadBack}
@@ -36,26 +36,7 @@ pub none_wait : {A : Type 0} {tells : Ghosts A} (journal : Journal A tells) (siz
     → (Told tells → held ≡ tally_of (entries_in (batches journal))) → (Told tells → places ≡ places_behind header_length (batches journal))
     → IsSound journal size (record { octets = []; capacity = longest_batch }) places firm (record { firm = held; live = held; reserved = reserved })
 none_wait journal size firm reserved places held founded opened sized counted ends low dear within are tallied placed =
-    let all : take firm places ≡ places = take_all firm places (omega (arith, counted)) in
-    record {
-      founded = founded;
-      sized = sized;
-      room = refl;
-      short = omega arith;
-      are_entries = rw entries_of-nil no_entries;
-      live_tally = rw entries_of-nil refl;
-      waiting_placed = rw entries_of-nil (drop_all firm places (omega (arith, counted)));
-      torn_waits = λ closed. absurd (both_ways (is_closed journal) opened closed);
-      some_torn = λ closed. absurd (both_ways (is_closed journal) opened closed);
-      firm_places = omega (arith, counted);
-      firm_ends = rw all ends;
-      taken = low;
-      dear = omega (arith, counted, dear);
-      within = omega (arith, within, sized);
-      are_batches = λ told. rw (← sized) (are told);
-      firm_tally = tallied;
-      firm_placed = λ told. all ∙ placed told;
-    }
+    search (rules, take_all, entries_of-nil, no_entries, drop_all, both_ways)
 
 module _ {A : Type 0} {tells : Ghosts A} (t : Trail A tells) where
   -- the entries that wait
@@ -73,10 +54,7 @@ module _ {A : Type 0} {tells : Ghosts A} (t : Trail A tells) where
   dear_places = omega (arith, t.sound.dear, waiting_count, ap (λ (v : TallyValue). v.costs) t.sound.live_tally, tally_all-costs t.tally.firm pending, costs_at_least pending)
 
   some_wait : t.waiting.octets ≢ [] → 1 ≤ length pending
-  some_wait some = elim (cases_lt 0 (length pending)) [
-    | inl lt ↦ lt
-    | inr le ↦ absurd (some (t.sound.are_entries.spelling ∙ ap spelled (nil_from_length pending (omega (arith, le)))))
-  ]
+  some_wait some = grind (arith, nil_from_length)
 
   -- there is room for what waits
   pub fits : t.waiting.octets ≢ [] → end t.journal + 5 + length t.waiting.octets + 1 ≤ tells.size (area_of t.journal)
@@ -106,12 +84,7 @@ module _ {A : Type 0} {tells : Ghosts A} (t : Trail A tells) where
     module _ (end_is : end new ≡ end t.journal + 5 + length t.waiting.octets) (place : Told tells → end new ≡ end_of (batches new))
         (list : Told tells → batches new ≡ batches t.journal ++ t.waiting.octets ∷ []) (some : t.waiting.octets ≢ []) where
       placed : Told tells → t.places.items ≡ places_behind header_length (batches new)
-      placed told =
-          let gate_is : end t.journal ≡ end_of (batches t.journal) = omega (arith, end_is, place told, ap end_of (list told), taken-append (batches t.journal) (t.waiting.octets ∷ [])) in
-          sym (take-append-drop t.firm t.places.items)
-          ∙ (λ i. t.sound.firm_placed told i ++ (t.sound.waiting_placed ∙ ap (λ n. places_from (n + 5) pending) gate_is) i)
-          ∙ sym (places_behind-push header_length (batches t.journal) t.waiting.octets)
-          ∙ ap (λ (bs : List (List ℕ)). places_behind header_length bs) (sym (list told))
+      placed told = grind (arith, taken-append, take-append-drop, places_behind-push)
 
       all_end : All (EndsBy (end new)) t.places.items
       all_end =
@@ -137,12 +110,7 @@ module _ {A : Type 0} {tells : Ghosts A} (t : Trail A tells) where
 
     module _ (place : Place) (at_is : place.at ≡ end t.journal + 5 + length t.waiting.octets) (length_is : place.length ≡ entry_length e) where
       placed_last : drop t.firm (t.places.items ++ place ∷ []) ≡ places_from (end t.journal + 5) (pending ++ e ∷ [])
-      placed_last =
-          let at_same : place.at ≡ end t.journal + 5 + length (spelled pending) = omega (arith, at_is, ap length t.sound.are_entries.spelling) in
-          let same : place ≡ record { at = end t.journal + 5 + length (spelled pending); length = entry_length e } = λ i. record { at = at_same i; length = length_is i } in
-          drop-append-le t.firm t.places.items (place ∷ []) t.sound.firm_places
-          ∙ (λ i. t.sound.waiting_placed i ++ same i ∷ [])
-          ∙ sym (places_from-append (end t.journal + 5) pending (e ∷ []))
+      placed_last = grind (arith, drop-append-le, places_from-append)
 
       pub pushed : is_closed t.journal ≡ false → length t.waiting.octets + entry_length e ≤ longest_batch → t.tally.live.costs + cost_of e ≤ capacity_of (tells.size (area_of t.journal))
           → IsSound t.journal t.size (record { octets = t.waiting.octets ++ spelling e; capacity = t.waiting.capacity }) (t.places.items ++ place ∷ []) t.firm (record { firm = t.tally.firm; live = tally_behind t.tally.live e; reserved = t.tally.reserved })
@@ -172,11 +140,7 @@ module _ {A : Type 0} {tells : Ghosts A} (t : Trail A tells) where
 
 -- a batch costs its octets and its gate and length at least
 batch_costs : (batch : List ℕ) → IsContent batch → length batch + 5 ≤ costs_of (entries_of batch)
-batch_costs batch content = elim (cases_lt 0 (length (entries_of batch))) [
-  | inl lt ↦ omega (arith, lt, ap length content.are_entries.spelling, costs_of-spelled (entries_of batch))
-  | inr le ↦ absurd (content.some (content.are_entries.spelling
-      ∙ ap spelled (nil_from_length (entries_of batch) (omega (arith, le)))))
-]
+batch_costs batch content = grind (arith, costs_of-spelled, nil_from_length)
 
 -- so batches take no more octets than their entries cost
 taken_costs : (some : List (List ℕ)) → All IsContent some → taken some ≤ costs_of (entries_in some)

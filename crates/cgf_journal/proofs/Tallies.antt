@@ -1,5 +1,5 @@
 -- The tally of a history tells what its entries cost and promise.
-use Rattle.std.proofs.Common.{◌≡◌, ℕ, ◌+◌, ◌-◌, ◌*◌, ◌&&◌, Bool, true, if◌then◌else◌, nat_le, List, [], ◌∷◌, ◌++◌, length, filter, refl, sym, ap, ◌∙◌, arith, append_assoc, subst, ◌≤◌}
+use Rattle.std.proofs.Common.{◌≡◌, ℕ, ◌+◌, ◌-◌, ◌*◌, ◌&&◌, Bool, true, nat_le, List, [], ◌∷◌, ◌++◌, length, filter, refl, sym, ap, ◌∙◌, arith, append_assoc, subst, ◌≤◌, rules}
 use Rattle.std.proofs.lemmas.List.{append-nil}
 use Rattle.std.proofs.lemmas.Grind.{flat_map-append}
 use Rattle.std.proofs.lemmas.List.Elements.{All-push}
@@ -45,10 +45,7 @@ filter_alike : (q : HeldKey → Bool) (keys others : List HeldKey) → AreAlike 
 filter_alike q keys others alike p = passing_both p q keys ∙ alike (λ (key : HeldKey). q key && p key) ∙ sym (passing_both p q others)
 
 after_alike : (act : HistoryAct) (keys others : List HeldKey) → AreAlike keys others → AreAlike (held_after act keys) (filter (λ (key : HeldKey). stays_held act key) others ++ held_by act [])
-after_alike act keys others alike p =
-    passing_all_in_order p (held_by act []) (filter (λ (key : HeldKey). stays_held act key) keys)
-    ∙ ap (λ (n : ℕ). n + passing p (held_by act [])) (filter_alike (λ (key : HeldKey). stays_held act key) keys others alike p)
-    ∙ sym (passing-append p (filter (λ (key : HeldKey). stays_held act key) others) (held_by act []))
+after_alike act keys others is = search (rules, passing_all_in_order, filter_alike, passing-append)
 
 length_alike : (keys others : List HeldKey) → AreAlike keys others → length keys ≡ length others
 length_alike keys others alike = sym (passing_all keys) ∙ alike (λ (key : HeldKey). true) ∙ passing_all others
@@ -83,10 +80,7 @@ pub tally_of-costs : (h : List HistoryEntry) → (tally_of h).costs ≡ costs_of
 tally_of-costs h = (tells_of h).costs
 
 promises_are : (h : List HistoryEntry) → promised_by (tally_of h) ≡ promised_octets h
-promises_are h =
-    let tells = tells_of h in
-    let long = length_alike (tally_of h).held (held_keys h) tells.held in
-    λ i. 76 * long i + (if tells.due i then 30 else 0)
+promises_are h = grind (arith, tells_of, length_alike)
 
 pub room_is : (h : List HistoryEntry) (e : HistoryEntry) (size : ℕ) → has_room_behind (tally_of h) e size ≡ has_room h e size
 room_is h e size =
@@ -118,8 +112,7 @@ costs_at_least (e ∷ h) = omega (arith, costs_at_least h)
 -- ---- what is reserved stays enough
 
 pub still_enough : (size places more keys many : ℕ) → more ≡ places → many ≡ keys → AreEnough size places keys → AreEnough size more many
-still_enough size places more keys many same_places same_keys enough =
-    record { short = enough.short; places_last = omega (arith, enough.places_last, same_places); keys_last = omega (arith, enough.keys_last, same_keys) }
+still_enough size places more keys many same_places same_keys enough = search rules
 
 -- an entry that holds a key costs what a Hold does at least
 pub hold_costs : (e : HistoryEntry) → 42 * count_held e.act ≤ cost_of e

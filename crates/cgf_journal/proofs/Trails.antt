@@ -1,12 +1,11 @@
 -- What a trail tells of its entries.
-use Rattle.std.proofs.Common.{◌≡◌, ◌≢◌, inl, inr, ℕ, ◌+◌, ◌-◌, ◌*◌, ◌<◌, ◌≤◌, true, false, List, [], ◌∷◌, ◌++◌, length, take, drop, refl, sym, ◌∙◌, ap, subst, arith, length-append}
-use Rattle.std.specs.Prelude.{Err, IsTrue, Ok, OnErr, Result, Some, if◌then◌else◌, slice_get}
+use Rattle.std.proofs.Common.{◌≡◌, ◌≢◌, inl, inr, ℕ, ◌+◌, ◌-◌, ◌*◌, ◌<◌, ◌≤◌, true, false, List, [], ◌∷◌, ◌++◌, length, take, drop, refl, sym, ◌∙◌, ap, subst, arith, length-append, rules}
+use Rattle.std.specs.Prelude.{IsTrue, OnErr, Result, Some, if◌then◌else◌, slice_get}
 use Rattle.std.proofs.lemmas.Bool.{false_from_ne_true, both_ways, cases_Bool, cases_lt, cond_both, leb-true, true_from_ne_false}
 use Rattle.std.proofs.lemmas.List.{append-nil, length-take-le, nil_from_length, take-append-drop}
 use Rattle.std.proofs.lemmas.Option.{get_or_from_slice_get, slice_get_within}
 use Rattle.area_disk.specs.declared.area.Area.{Ghosts}
 use Rattle.area_disk.specs.declared.plan.Outcome3.{Outcome3}
-use Rattle.gw_base.specs.Buffer.{Buffered}
 use Rattle.gw_base.specs.declared.history.HistoryEntry.{HistoryEntry}
 use Rattle.gw_base.specs.declared.place.Place.{Place}
 use Rattle.gate_journal.specs.Format.{header_length}
@@ -24,7 +23,7 @@ use Rattle.cgf_journal.specs.Sound.{EndsBy, is_founded}
 use Rattle.gate_journal.specs.declared.journal.Front.{Front}
 use Rattle.gate_journal.specs.declared.journal.Front.TheVariants.{Founded}
 use Rattle.cgf_journal.specs.Outcomes.{IsKept}
-use Rattle.cgf_journal.specs.Tally.{TallyValue, free_beside, has_room_behind, promised_by, tally_behind, tally_of}
+use Rattle.cgf_journal.specs.Tally.{TallyValue, free_beside, has_room_behind, tally_of}
 use Rattle.cgf_journal.specs.Trail.{IsAtRest, IsFirmPlaceOf, IsPlaceOf, IsSettled, StandsForOr, area_of, entries, firm_entries, free_of, has_room_of, header_of, is_closed, left_by_stop, length_of, stop_stands, tally, waiting, waiting_octets}
 use Rattle.cgf_journal.specs.declared.trail.Trail.{Trail}
 use Rattle.cgf_journal.specs.BatchLaws.{by_batches, each_spelled}
@@ -33,17 +32,14 @@ use Rattle.cgf_journal.proofs.Placing.{IsAmong, IsFound, behind_is, from_is, get
 use Rattle.cgf_journal.proofs.Sounds.{dear_places, live_costs, live_is, one_more_batch, waiting_count}
 
 pub founded_is : (front : Front) → is_founded front ≡ true → front ≡ Founded
-founded_is Founded e = refl
-founded_is _ e = cc
+founded_is front e = grind arith
 
 pub on_err : {T E Q : Type 0} (r : Result T E) → Q → OnErr r Q
-on_err (Ok x) q = tt
-on_err (Err fault) q = q
+on_err r q = search rules
 
 -- what has room has it beside what all entries cost
 pub room_costs : (t : TallyValue) (e : HistoryEntry) (size : ℕ) → has_room_behind t e size ≡ true → t.costs + cost_of e ≤ capacity_of size
-room_costs t e size room =
-    omega (arith, leb-true (t.costs + cost_of e + promised_by (tally_behind t e)) (capacity_of size) room)
+room_costs t e size room = grind (arith, leb-true)
 
 -- what has room has it where the tallies are the same
 pub same_room : {A : Type 0} {tells : Ghosts A} (old new : Trail A tells) → tells.size (area_of new) ≡ tells.size (area_of old) → tally new ≡ tally old → (e : HistoryEntry) → has_room_of new e ≡ has_room_of old e
@@ -57,35 +53,13 @@ same_free old new size same i = free_beside (same i) (size i)
 -- what a crash leaves at any moment of calls has as many octets as the area
 leaves_sized : {A : Type 0} (tells : Ghosts A) → AreaLaws tells → (old new : A) → tells.size new ≡ tells.size old → IsTrue tells.tells_crash
     → {P : List ℕ → Type 0} → Leaves tells old new P → Leaves tells old new (λ c. length c ≡ tells.size old)
-leaves_sized tells laws old new same told leaves = record {
-  moments = record {
-    later = leaves.moments.later;
-    told_later = leaves.moments.told_later;
-    each = λ c from left. laws.same_size_since new ((tells.moments old).now) c told from leaves.moments.later left ∙ same;
-    before = λ t c from le left. inr (laws.same_size_since new t c told from (omega (arith, le, leaves.moments.later)) left ∙ same);
-  };
-  now = λ c left. laws.same_size new c told left ∙ same;
-}
+leaves_sized tells laws old new same told leaves = grind arith
 
 -- what a trail holds stays where its journal lists the same
 pub kept : {A : Type 0} {tells : Ghosts A} (old new : Trail A tells) → tells.size (area_of new) ≡ tells.size (area_of old) → header_of new ≡ header_of old → is_closed new ≡ is_closed old
     → (Told tells → journal.batches new.journal ≡ journal.batches old.journal) → new.waiting ≡ old.waiting → new.places.items ≡ old.places.items → new.firm ≡ old.firm → new.tally ≡ old.tally → IsKept old new
 unfolding firm_entries waiting
-kept old new size header closed list waits places firm tallies =
-    let same : tally new ≡ tally old = λ i. if closed i then (tallies i).firm else (tallies i).live in
-    record {
-      size = size;
-      header = header;
-      closed = closed;
-      firm_entries = λ told. ap entries_in (list told);
-      waiting = ap (λ (b : Buffered). entries_of b.octets) waits;
-      waiting_octets = ap (λ (b : Buffered). length b.octets) waits;
-      firm_length = firm;
-      length = λ i. if closed i then firm i else length (places i);
-      room = same_room old new size same;
-      free = same_free old new size same;
-      places = λ k place is. ap (λ (l : List Place). slice_get l k) places ∙ is;
-    }
+kept old new size header closed list waits places firm tallies = search (rules, same_room, same_free)
 
 module _ {A : Type 0} {tells : Ghosts A} (trail : Trail A tells) where
   pub waiting_octets-none : waiting trail ≡ [] → waiting_octets trail ≡ 0
@@ -117,22 +91,14 @@ module _ {A : Type 0} {tells : Ghosts A} (trail : Trail A tells) where
   places_count = waiting_count trail
 
   pub length_firm : waiting_octets trail ≡ 0 → length_of trail ≡ trail.firm
-  length_firm none =
-      cond_both (is_closed trail) trail.firm (length trail.places.items) (λ n. n ≡ trail.firm) (λ _. refl) (λ _.
-      omega (arith, places_count, ap length (waiting-none none)))
+  length_firm none = grind (arith, cond_both, places_count, waiting-none)
 
   pub count : Told tells → length_of trail ≡ length (entries trail)
-  count told = elim (cases_Bool (is_closed trail)) [
-    | inl closed ↦ rw closed (firm_count told)
-    | inr opened ↦ rw opened (omega (arith, firm_count told, places_count, length-append (firm_entries trail) (waiting trail)))
-  ]
+  count told = grind (arith, firm_count, places_count, length-append)
 
   pub tally_is : Told tells → tally trail ≡ tally_of (entries trail)
   unfolding firm_entries waiting
-  tally_is told = elim (cases_Bool (is_closed trail)) [
-    | inl closed ↦ rw closed (trail.sound.firm_tally told)
-    | inr opened ↦ rw opened (live_is trail told)
-  ]
+  tally_is told = grind (arith, live_is)
 
   -- a firm place is among the firm ones
   pub get_firm : (k : ℕ) (place : Place) → IsFirmPlaceOf trail k place → slice_get (take trail.firm trail.places.items) k ≡ Some place
@@ -147,8 +113,7 @@ module _ {A : Type 0} {tells : Ghosts A} (trail : Trail A tells) where
       (trail.sound.firm_ends k place (slice_get_within (take trail.firm trail.places.items) k place found))
 
   pub place_is : Told tells → (k : ℕ) (place : Place) → IsFirmPlaceOf trail k place → IsFound header_length (journal.batches trail.journal) k place
-  place_is told k place is =
-      behind_is header_length (journal.batches trail.journal) (trail.sound.are_batches told).contents k place (ap (λ (l : List Place). slice_get l k) (sym (trail.sound.firm_placed told)) ∙ get_firm k place is)
+  place_is told k place is = search (rules, behind_is, get_firm)
 
   pub entry_is : Told tells → (k : ℕ) (place : Place) (e : HistoryEntry) → IsFirmPlaceOf trail k place → slice_get (firm_entries trail) k ≡ Some e → IsAmong header_length (journal.batches trail.journal) place e
   unfolding firm_entries
@@ -182,11 +147,7 @@ module _ {A : Type 0} {tells : Ghosts A} (trail : Trail A tells) where
   -- the k-th place has the length of the k-th entry, firm or not
   later_length : (j : ℕ) (place : Place) (e : HistoryEntry) → slice_get (drop trail.firm trail.places.items) j ≡ Some place → slice_get (waiting trail) j ≡ Some e → place.length ≡ entry_length e
   unfolding waiting
-  later_length j place e there get =
-      let found = from_is (journal.end trail.journal + 5) (entries_of trail.waiting.octets) j place (ap (λ (l : List Place). slice_get l j) (sym trail.sound.waiting_placed) ∙ there) in
-      let some : Some found.0 ≡ Some e = sym found.1 ∙ get in
-      let same : found.0 ≡ e = cc in
-      found.2.size ∙ ap entry_length same
+  later_length j place e there get = grind (arith, from_is)
 
   later_place : (j : ℕ) (place : Place) → IsPlaceOf trail (trail.firm + j) place → slice_get (drop trail.firm trail.places.items) j ≡ Some place
   later_place j place is =
@@ -215,8 +176,7 @@ module _ {A : Type 0} {tells : Ghosts A} (trail : Trail A tells) where
   -- what octets stand for that its journal keeps: its batches, and one more
   module _ (told : Told tells) (c : List ℕ) (sized : length c ≡ tells.size (area_of trail)) where
     stands_by : (batches : List (List ℕ)) → AreBatches (tells.size (area_of trail)) batches → Keeps (journal.front_of trail.journal) (header_of trail) batches c → StandsFor (header_of trail) c (entries_in batches)
-    stands_by batches are keeps =
-        by_batches (header_of trail) c batches (subst (λ f. Keeps f (header_of trail) batches c) (founded_is (journal.front_of trail.journal) trail.sound.founded) keeps) (rw sized are)
+    stands_by batches are keeps = search (rules, by_batches, founded_is)
 
     firm_stand : Keeps (journal.front_of trail.journal) (header_of trail) (journal.batches trail.journal) c → StandsFor (header_of trail) c (firm_entries trail)
     unfolding firm_entries
@@ -225,15 +185,11 @@ module _ {A : Type 0} {tells : Ghosts A} (trail : Trail A tells) where
     all_stand : (batch : List ℕ) → batch ≡ trail.waiting.octets → trail.waiting.octets ≢ [] → Keeps (journal.front_of trail.journal) (header_of trail) (journal.batches trail.journal ++ batch ∷ []) c
         → StandsFor (header_of trail) c (firm_entries trail ++ waiting trail)
     unfolding firm_entries waiting
-    all_stand batch is some keeps =
-        subst (λ (h : List HistoryEntry). StandsFor (header_of trail) c h) (entries_in-push (journal.batches trail.journal) trail.waiting.octets)
-        (stands_by (journal.batches trail.journal ++ trail.waiting.octets ∷ []) (one_more_batch trail told some)
-        (subst (λ (b : List ℕ). Keeps (journal.front_of trail.journal) (header_of trail) (journal.batches trail.journal ++ b ∷ []) c) is keeps))
+    all_stand batch is some keeps = grind (arith, entries_in-push, stands_by, one_more_batch)
 
     either_stands : (batch : List ℕ) → batch ≡ trail.waiting.octets → trail.waiting.octets ≢ [] → journal.KeepsOr (journal.front_of trail.journal) (header_of trail) (journal.batches trail.journal) batch c
         → StandsForOr (header_of trail) (firm_entries trail) (firm_entries trail ++ waiting trail) c
-    either_stands batch is some (inl keeps) = inl (firm_stand keeps)
-    either_stands batch is some (inr keeps) = inr (all_stand batch is some keeps)
+    either_stands batch is some holds = search (rules, firm_stand, all_stand)
 
   -- with the laws of the area
   module _ (laws : AreaLaws tells) where
@@ -265,17 +221,9 @@ module _ {A : Type 0} {tells : Ghosts A} (trail : Trail A tells) where
       → AreaLaws tells → tells.size new ≡ tells.size (area_of trail)
       → Leaves tells (area_of trail) new (journal.KeepsOr (journal.front_of trail.journal) (header_of trail) (journal.batches trail.journal) batch)
       → Leaves tells (area_of trail) new (StandsForOr (header_of trail) (firm_entries trail) (firm_entries trail ++ waiting trail))
-  leaves_either new batch told is some laws same keeps =
-      widen tells (area_of trail) new _ _ (λ c has. either_stands told c has.0 batch is some has.1)
-      (both tells (area_of trail) new (λ c. length c ≡ tells.size (area_of trail)) (journal.KeepsOr (journal.front_of trail.journal) (header_of trail) (journal.batches trail.journal) batch)
-      (leaves_sized tells laws (area_of trail) new same told.1 keeps) keeps)
+  leaves_either new batch told is some laws same keeps = search (rules, widen, either_stands, both, leaves_sized)
 
   -- what a stop leaves
   pub stop_is : (told : Told tells) → (is_closed trail ≡ false → (outcome : Outcome3) → stop_stands outcome trail ≡ false) → (c : List ℕ) → length c ≡ tells.size (area_of trail)
       → (outcome : Outcome3) → Keeps (journal.front_of trail.journal) (header_of trail) (journal.left_by_stop outcome trail.journal) c → StandsFor (header_of trail) c (left_by_stop outcome trail)
-  stop_is told none_torn c sized outcome keeps = elim (cases_Bool (stop_stands outcome trail)) [
-    | inl is ↦
-        let closed = true_from_ne_false (is_closed trail) (λ e. both_ways (stop_stands outcome trail) (none_torn e outcome) is) in
-        rw is (all_stand told c sized (journal.torn trail.journal) (trail.sound.torn_waits closed) (trail.sound.some_torn closed) (rw is at keeps))
-    | inr isnt ↦ rw isnt (firm_stand told c sized (rw isnt at keeps))
-  ]
+  stop_is told none_torn c sized outcome keeps = search (rules, true_from_ne_false, both_ways, all_stand, firm_stand)

@@ -1,5 +1,5 @@
 -- Octets stand for one list of batches, or start, or are foreign at one place.
-use Rattle.std.proofs.Common.{◌≡◌, ℕ, List, ◌∷◌, ◌++◌, length, take, sym, ◌∙◌, ap, subst}
+use Rattle.std.proofs.Common.{◌≡◌, ℕ, List, ◌∷◌, ◌++◌, length, take, sym, ◌∙◌, ap, subst, arith}
 use Rattle.gate_journal.specs.Before.{AreBefore}
 use Rattle.gate_journal.specs.Format.{open_gate, end_of, IsWhole, gate_at, Stands, IsBroken}
 use Rattle.gate_journal.specs.Agreeing.{equal, longer, shorter, compare, place_of, front_before, batch_before, stands_before}
@@ -24,11 +24,7 @@ module _ (header : List ℕ) (long : length header ≡ 32) (octets : List ℕ) w
       stop.stops (ap (λ n. gate_at octets n) at_is ∙ next.opened) (subst (λ n. IsWhole octets n) (sym at_is) next.whole)
 
   pub one_stop : (at far : ℕ) (some other : List (List ℕ)) → Stop header octets at some → Stop header octets far other → some ≡ other
-  one_stop at far some other one two = elim (compare header long octets at far some other one.before two.before) [
-    | equal e ↦ e
-    | longer b m e ↦ absurd (goes_on at some one b m far (subst (λ (l : List (List ℕ)). AreBefore header octets far l) e two.before))
-    | shorter b m e ↦ absurd (goes_on far other two b m at (subst (λ (l : List (List ℕ)). AreBefore header octets at l) e one.before))
-  ]
+  one_stop at far some other one two = grind (arith, compare, equal, longer, goes_on, shorter)
 
   pub one_place : (at far : ℕ) (some other : List (List ℕ)) → Stop header octets at some → Stop header octets far other → at ≡ far
   one_place at far some other one two =

@@ -1,12 +1,11 @@
 -- How many counted calls a run of calls makes.
-use Rattle.std.proofs.Common.{◌≡◌, ℕ, ◌+◌, Result, Ok, Err, arith}
+use Rattle.std.proofs.Common.{◌≡◌, ℕ, ◌+◌, Result, Ok, Err, arith, rules}
 use Rattle.area_disk.specs.Disk.{counted}
 use Rattle.gate_journal.specs.Moments.{Calls}
 
 -- one call, whatever came of it
 pub one_call : {T E : Type 0} (before now : ℕ) (result : Result T E) → now ≡ counted 1 before → Calls 1 before now result
-one_call before now (Ok v) is = record { ok = is; failed = tt }
-one_call before now (Err e) is = record { ok = tt; failed = (1, omega arith, omega arith, is) }
+one_call before now result is = search rules
 
 -- calls behind n that succeeded
 pub more_calls : {T E : Type 0} (n m before mid now : ℕ) (result : Result T E) → mid ≡ counted n before → Calls m mid now result → Calls (n + m) before now result

@@ -1,5 +1,5 @@
 -- What a gate that was read says of the content behind it.
-use Rattle.std.proofs.Common.{◌≡◌, ℕ, ◌+◌, ◌<◌, ◌≤◌, List, ◌∷◌, ◌++◌, length, take, drop, ⊎_elim, ◌⊎◌, inl, inr, suc, Bool, true, false, refl, sym, ◌∙◌, ap, subst, arith}
+use Rattle.std.proofs.Common.{◌≡◌, ℕ, ◌+◌, ◌<◌, ◌≤◌, List, ◌∷◌, ◌++◌, length, take, drop, ⊎_elim, ◌⊎◌, inl, inr, suc, Bool, true, false, sym, ◌∙◌, ap, subst, arith, rules}
 use Rattle.std.specs.Prelude.{Option, Some, None, IfSome, nat_lt, if◌then◌else◌}
 use Rattle.std.proofs.lemmas.Bool.Decides.{leb_tells}
 use Rattle.area_disk.specs.AreaLaws.{AreaLaws}
@@ -58,12 +58,8 @@ module _ {A : Type 0} (tells : Ghosts A) (laws : AreaLaws tells) (j : Journal A 
     there = found_at (is_gate.behind told).0 next.0 next.1 next.2 (is_gate.behind told).3
 
 pub content_inside : (size : ℕ) (behind : Behind) (gate end : ℕ) → Fits size gate behind → IfSome (content_at behind gate end) (λ content. (content.0 ≡ gate + 5) × (content.0 + content.1 ≤ end) × (content.1 ≤ longest_batch))
-content_inside size (Whole n) gate end fits =
-    let P : Bool → Type 0 = λ b. IfSome (answer b (gate + 5) n) (λ content. (content.0 ≡ gate + 5) × (content.0 + content.1 ≤ end) × (content.1 ≤ longest_batch)) in
-    ⊎_elim (λ yes. subst P (sym yes.0) tt) (λ no. subst P (sym no.0) (refl, no.1, fits.0)) (ltb_tells end (gate + 5 + n))
-content_inside size _ gate end fits = tt
+content_inside size behind gate end fits = grind (arith, ltb_tells)
 
 -- a fact of what there is
 pub if_some : {X : Type 0} (found : Option X) (P Q : X → Type 0) → IfSome found P → ((x : X) → found ≡ Some x → P x → Q x) → IfSome found Q
-if_some None P Q p f = tt
-if_some (Some x) P Q p f = f x refl p
+if_some found P Q p f = search rules

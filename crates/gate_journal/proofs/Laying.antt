@@ -1,5 +1,5 @@
 -- What the making of an area leaves.
-use Rattle.std.proofs.Common.{◌≡◌, inl, inr, ℕ, ◌+◌, ◌<◌, List, [], ◌∷◌, ◌++◌, length, get_or, take, drop, sym, ◌∙◌, ap, arith, append_assoc, Result, Ok, Err, OnOk, ◌≢◌, ◌≤◌, refl, length-append}
+use Rattle.std.proofs.Common.{◌≡◌, inl, ℕ, ◌+◌, ◌<◌, List, [], ◌∷◌, ◌++◌, length, get_or, take, drop, sym, ◌∙◌, ap, arith, append_assoc, Result, OnOk, ◌≢◌, ◌≤◌, length-append, rules}
 use Rattle.std.proofs.lemmas.List.{take_at, drop-take, get_or_at, get_or-take, length-take-le, drop_at, length-drop}
 use Rattle.area_disk.specs.Disk.{overwritten, Torn}
 use Rattle.gate_journal.specs.Format.{open_gate, closed_gate, Starts, IsUnfinished, gate_at}
@@ -46,14 +46,10 @@ module _ (header : List ℕ) (long : length header ≡ 32) (begins : get_or head
     }
 
     pub torn_gate : (c : List ℕ) → Torn 32 1 octets c → Starts header c
-    torn_gate c torn = inr (record {
-      rest = sym (drop-take 1 31 c) ∙ ap (λ (l : List ℕ). drop 1 l) torn.before ∙ drop-take 1 31 octets ∙ unfinished.rest;
-      first = λ e. unfinished.first (sym (at_front 0 32 0 c octets (omega arith) torn.before) ∙ e);
-    })
+    torn_gate c torn = search (rules, drop-take, at_front)
 
 pub on_ok : {T E : Type 0} (result : Result T E) (P Q : Type 0) → (P → Q) → OnOk result P → OnOk result Q
-on_ok (Ok v) P Q f p = f p
-on_ok (Err e) P Q f p = p
+on_ok result P Q f p = search rules
 
 -- ---- what each of the two writes leaves that add a batch
 
@@ -66,13 +62,7 @@ module _ (gate : ℕ) (framed octets : List ℕ) (fits : gate + 1 + length frame
   length-front = length-take-le (gate + 1) octets (omega arith)
 
   pub length-staged : length staged ≡ length octets
-  length-staged = omega (
-    arith,
-    length-front,
-    length-append (take (gate + 1) octets ++ framed) (drop (gate + 1 + length framed) octets),
-    length-append (take (gate + 1) octets) framed,
-    length-drop (gate + 1 + length framed) octets,
-  )
+  length-staged = grind (arith, length-front, length-append, length-drop)
 
   staged-split : staged ≡ take (gate + 1) octets ++ (framed ++ drop (gate + 1 + length framed) octets)
   staged-split = append_assoc (take (gate + 1) octets) framed (drop (gate + 1 + length framed) octets)
@@ -85,19 +75,11 @@ module _ (gate : ℕ) (framed octets : List ℕ) (fits : gate + 1 + length frame
 
   -- while the frame is written the gate stays closed
   pub behind_gate : gate_at octets gate ≢ open_gate → (c : List ℕ) → Torn (gate + 1) (length framed) octets c → IsAdding gate framed octets c
-  behind_gate shut c torn = record {
-    size = torn.size;
-    front = front_of_front gate (gate + 1) c octets (omega arith) torn.before;
-    behind = λ opened. absurd (shut (sym (at_front gate (gate + 1) open_gate c octets (omega arith) torn.before) ∙ opened));
-  }
+  behind_gate shut c torn = search (rules, front_of_front, at_front)
 
   -- when the gate is opened the frame stands behind it
   pub at_gate : (c : List ℕ) → Torn gate 1 staged c → IsAdding gate framed octets c
-  at_gate c torn = record {
-    size = torn.size ∙ length-staged;
-    front = torn.before ∙ front_of_front gate (gate + 1) staged octets (omega arith) staged-front;
-    behind = λ opened. ap (λ (l : List ℕ). take (length framed) l) (torn.after ∙ staged-back) ∙ take_at framed _ (length framed) refl;
-  }
+  at_gate c torn = search (rules, length-staged, front_of_front, staged-front, staged-back, take_at)
 
   pub gate_opened : overwritten staged gate (open_gate ∷ []) ≡ added gate framed octets
   gate_opened =

@@ -1,23 +1,23 @@
 -- Batches below a place, one after the other.
-use Rattle.std.proofs.Common.{◌≡◌, ◌≢◌, inl, inr, ⊎_elim, ◌⊎◌, ℕ, ◌+◌, ◌<◌, ◌≤◌, Bool, true, false, List, length, get_or, take, Result, Ok, Err, sym, ◌∙◌, ap, subst, arith, [], ◌++◌, drop, take-append-drop, suc, ◌∷◌}
+use Rattle.std.proofs.Common.{◌≡◌, ◌≢◌, inl, inr, ⊎_elim, ◌⊎◌, ℕ, ◌+◌, ◌<◌, ◌≤◌, Bool, false, List, length, get_or, take, Result, Ok, Err, sym, ◌∙◌, ap, subst, arith, [], ◌++◌, drop, take-append-drop, suc, ◌∷◌, rules}
 use Rattle.std.specs.Prelude.{IsTrue, IfOk, IfErr, All}
 use Rattle.std.proofs.lemmas.List.{append-nil, take-take, drop_all, get_or-take, length-take, drop-append-le, drop_more, drop-drop, length-take-le, length-drop}
 use Rattle.std.proofs.lemmas.List.Elements.{All-nil, All-push}
 use Rattle.std.proofs.Math.Seq.{take-add}
 use Rattle.byteorder.specs.Endian.{big_bytes}
-use Rattle.area_disk.specs.Disk.{Rose, counted}
+use Rattle.area_disk.specs.Disk.{counted}
 use Rattle.area_disk.specs.declared.area.Area.{Ghosts}
 use Rattle.area_disk.specs.MomentLaws.{follow}
 use Rattle.gate_journal.specs.Agreeing.{same_not_starts, same_not_differs, one_difference}
 use Rattle.gate_journal.specs.Beginnings.{foreign_not_starts, stands_not_starts}
-use Rattle.gate_journal.specs.Format.{header, open_gate, gate_at, IsBroken, IsForeign, Differs, Stands, Starts, spelled, IsSmall, IsWhole, longest_batch}
-use Rattle.gate_journal.specs.Journal.{area_of, batches, header_of}
+use Rattle.gate_journal.specs.Format.{header, open_gate, gate_at, IsBroken, IsForeign, Differs, Starts, spelled, IsSmall, IsWhole, longest_batch}
+use Rattle.gate_journal.specs.Journal.{area_of, batches}
 use Rattle.gate_journal.specs.Making.{IsAnew, IsReadyWith}
 use Rattle.gate_journal.specs.Moments.{Told, Kept, Leaves, RoseUpTo}
 use Rattle.gate_journal.specs.Opening.{IsDrafted, IsOpened, OnArea, OpenLeaves, RoseByDevice, header_for, is_device, IsLaid}
 use Rattle.gate_journal.specs.Planned.{ReadsRun, SyncPlanned}
 use Rattle.gate_journal.specs.Spelling.{length-header, first-header, spelled-nil, batches_in-spelled, spelled-one, spelled-append, length-spelled}
-use Rattle.gate_journal.specs.State.{Keeps, batches_below, IsListed, batches_in}
+use Rattle.gate_journal.specs.State.{batches_below, IsListed}
 use Rattle.gate_journal.specs.Verdicts.{IsVerdict, AreBelow}
 use Rattle.gate_journal.specs.declared.faults.OpenFault.{OpenFault}
 use Rattle.gate_journal.specs.declared.faults.OpenFault.TheVariants.{Device, NoMemory}
@@ -31,16 +31,10 @@ use Rattle.gate_journal.proofs.Plans.{sync_on}
 -- what is spelled below a place are the batches below it
 pub below_is : (at : ℕ) (octets : List ℕ) (batches : List (List ℕ)) → drop 32 (take at octets) ≡ spelled batches → All IsSmall batches → batches_below at octets ≡ batches
 unfolding batches_below
-below_is at octets batches spelling small =
-    ap (λ (l : List ℕ). batches_in (length l) l) spelling ∙ batches_in-spelled batches (length (spelled batches)) small (omega (arith, length-spelled batches))
+below_is at octets batches spelling small = grind (arith, batches_in-spelled, length-spelled)
 
 pub are_below : (at : ℕ) (octets : List ℕ) (batches : List (List ℕ)) → drop 32 (take at octets) ≡ spelled batches → All IsSmall batches → AreBelow at octets
-are_below at octets batches spelling small =
-    let is = below_is at octets batches spelling small in
-    record {
-      spelling = spelling ∙ ap spelled (sym is);
-      small = subst (λ (bs : List (List ℕ)). All IsSmall bs) (sym is) small;
-    }
+are_below at octets batches spelling small = search (rules, below_is)
 
 -- at first there are none
 pub none_below : (octets : List ℕ) → AreBelow 32 octets
@@ -107,13 +101,7 @@ module _ (header : List ℕ) (long : length header ≡ 32) (gate : ℕ) (octets 
       ∙ ap (λ (l : List ℕ). header ++ l) below.spelling
 
   pub scanned_listed : gate_at octets gate ≢ open_gate → IsListed header Founded gate octets
-  scanned_listed shut = record {
-    listed = ap (λ (l : List ℕ). drop 1 l) front_is ∙ drop-append-le 1 header (spelled (batches_below gate octets)) (omega arith);
-    small = below.small;
-    founded = λ e. sym (get_or-take 32 octets 0 0 (omega arith)) ∙ ap (λ (l : List ℕ). get_or l 0 0) same;
-    drafted = λ e. absurd (let f : ⊥ = cc in f);
-    shut = shut;
-  }
+  scanned_listed shut = search (rules, front_is, drop-append-le, get_or-take)
 
   pub scanned_broken : gate < length octets → gate_at octets gate ≡ open_gate → (IsWhole octets gate → ⊥) → IsBroken header octets gate
   scanned_broken inside opened unwhole = record { batches = batches_below gate octets; front = front_is; small = below.small; inside = inside; opened = opened; unwhole = unwhole }
@@ -139,17 +127,14 @@ module _ {A : Type 0} (g : Ghosts A) (area : A) (address generation : ℕ) where
   ours_first = first-header (g.size area) address generation
 
   starts_by : (blank : Bool) → IsVerdict ours (g.octets area) (Begins blank) → Starts ours (g.octets area)
-  starts_by true is = inl is
-  starts_by false is = inr is
+  starts_by blank is = search rules
 
   -- what the look at it found
   module _ {size : ℕ} {head : List ℕ} {verdict found : Verdict} (sized : size ≡ g.size area)
       (named : head ≡ header size address generation) (is : verdict ≡ found)
       (looked : IsTrue g.tells_octets → IsVerdict head (g.octets area) verdict) where
     pub found_told : {v : Verdict} → found ≡ v → Told g → IsVerdict ours (g.octets area) v
-    found_told {v = v} same told =
-        subst (λ (h : List ℕ). IsVerdict h (g.octets area) v) (named ∙ ap (λ n. header n address generation) sized)
-        (subst (λ w. IsVerdict head (g.octets area) w) (is ∙ same) (looked told.0))
+    found_told one two = search rules
 
     pub starts_told : {blank : Bool} → found ≡ Begins blank → Told g → Starts ours (g.octets area)
     starts_told {blank = blank} same told = starts_by blank (found_told same told)
@@ -164,8 +149,7 @@ module _ {A : Type 0} (g : Ghosts A) (area : A) (address generation : ℕ) where
 
   pub foreign_broken : take 32 (g.octets area) ≡ ours → (at : ℕ) → IsForeign ours (g.octets area) at
       → IsBroken ours (g.octets area) at
-  foreign_broken same at (inl d) = absurd (same_not_differs ours ours_long (g.octets area) same at d)
-  foreign_broken same at (inr b) = b
+  foreign_broken same at is = search (rules, same_not_differs, ours_long)
 
   pub foreign_differs : (far at : ℕ) → Differs ours (g.octets area) far → IsForeign ours (g.octets area) at → far ≡ at
   foreign_differs far at differs (inl d) = one_difference ours ours_long (g.octets area) far at differs d
@@ -184,83 +168,40 @@ module _ {A : Type 0} (g : Ghosts A) (area : A) (address generation : ℕ) where
     -- a journal that was made anew
     pub opened_anew : (result : Result (Journal A g) (OpenFault × A)) → IfOk result (λ journal. IsAnew Founded made journal)
         → (Told g → Starts ours (g.octets area)) → IfOk result (λ journal. IsOpened g area ours journal)
-    opened_anew (Ok journal) anew starts = record {
-      ready = anew.is.ready;
-      front = anew.is.front;
-      header = anew.is.header ∙ named;
-      settled = anew.is.settled;
-      reads = λ told bs stands.
-          absurd (stands_not_starts ours ours_long ours_first (g.octets area) bs stands (starts told));
-      anew = λ told is. anew.batches told;
-      found = λ told. inl (starts told);
-    }
-    opened_anew (Err fault) anew starts = tt
+    opened_anew result anew starts = grind (arith, named, stands_not_starts, ours_long, ours_first)
 
     -- one whose batches were read
     pub opened_same : (result : Result (Journal A g) (OpenFault × A))
         → IfOk result (λ journal. IsReadyWith Founded made journal) → OnArea result (λ now. Kept g mid now)
         → (Told g → g.octets mid ≡ g.octets area) → (Told g → Starts ours (g.octets area) → ⊥)
         → IfOk result (λ journal. IsOpened g area ours journal)
-    opened_same (Ok journal) is kept same none =
-        let octets : Told g → g.octets (area_of journal) ≡ g.octets area = λ told. kept.octets ∙ same told in
-        record {
-          ready = is.ready;
-          front = is.front;
-          header = is.header ∙ named;
-          settled = is.settled;
-          reads = λ told bs stands. one_list ours ours_long (g.octets area) (batches journal) bs
-              (subst (λ (o : List ℕ). Stands ours o (batches journal)) (octets told)
-              (subst (λ (h : List ℕ). Stands h (g.octets (area_of journal)) (batches journal)) (is.header ∙ named)
-              (subst (λ f. Keeps f (header_of journal) (batches journal) (g.octets (area_of journal))) is.front
-              (is.settled.reads told)))) stands;
-          anew = λ told starts. absurd (none told starts);
-          found = λ told. inr (octets told);
-        }
-    opened_same (Err fault) is kept same none = tt
+    opened_same result is kept same none = search (rules, named, one_list, ours_long)
 
     -- a draft
     pub drafted : (result : Result (Journal A g) (OpenFault × A)) → IfOk result (λ journal. IsAnew Draft made journal)
         → (Told g → Starts ours (g.octets area)) → IfOk result (λ journal. IsDrafted g area ours journal)
-    drafted (Ok journal) anew starts = record {
-      ready = anew.is.ready;
-      front = anew.is.front;
-      header = anew.is.header ∙ named;
-      settled = anew.is.settled;
-      started = starts;
-      batches = λ told. anew.batches told;
-    }
-    drafted (Err fault) anew starts = tt
+    drafted result anew starts = search (rules, named)
 
 module _ {A : Type 0} {g : Ghosts A} where
   -- the faults of a call and of one that had none before it
   pub rose_on : (result : Result (Journal A g) (OpenFault × A)) (area mid : A) → g.faults mid ≡ g.faults area → RoseByDevice g mid result → RoseByDevice g area result
-  rose_on (Ok journal) area mid same rose = record { faults = rose.faults ∙ same; faults_err = tt; device = tt; still = tt }
-  rose_on (Err fault) area mid same rose = record {
-    faults = tt;
-    faults_err = subst (λ n. n ≤ g.faults fault.1) same rose.faults_err;
-    device = λ is. subst (λ n. Rose n (g.faults fault.1)) same (rose.device is);
-    still = λ other. rose.still other ∙ same;
-  }
+  rose_on result area mid same rose = search rules
 
   -- the calls of a sync and of n behind it
   pub calls_behind : (n : ℕ) (result : Result (Journal A g) (OpenFault × A)) (start : ℕ) (area : A) → g.calls area ≡ counted 1 start → IfOk result (λ journal. g.calls (area_of journal) ≡ counted n (g.calls area))
       → IfOk result (λ journal. g.calls (area_of journal) ≡ counted (n + 1) start)
-  calls_behind n (Ok journal) start area one ok = omega (arith, ok, one)
-  calls_behind n (Err fault) start area one ok = tt
+  calls_behind n result start area one ok = grind arith
 
   pub calls_one : (result : Result (Journal A g) (OpenFault × A)) (start : ℕ) (area : A) → IsTrue g.tells_calls → g.calls area ≡ counted 1 start → OnArea result (λ now. Kept g area now) → OnArea result (λ now. g.calls now ≡ counted 1 start)
-  calls_one (Ok journal) start area told one kept = kept.calls told ∙ one
-  calls_one (Err fault) start area told one kept = kept.calls told ∙ one
+  calls_one result start area told one kept = grind arith
 
   pub calls_few : (result : Result (Journal A g) (OpenFault × A)) (start : ℕ) (area : A) → IsTrue g.tells_calls → g.calls area ≡ counted 1 start → OnArea result (λ now. Kept g area now) → OnArea result (λ now. RoseUpTo 5 start (g.calls now))
-  calls_few (Ok journal) start area told one kept = (1, omega arith, omega arith, kept.calls told ∙ one)
-  calls_few (Err fault) start area told one kept = (1, omega arith, omega arith, kept.calls told ∙ one)
+  calls_few result start area told one kept = search rules
 
   -- what a crash leaves of an area that was read
   pub leaves_unmade : (result : Result (Journal A g) (OpenFault × A)) (area mid : A) (head : List ℕ) → Leaves g area mid (g.may_leave area) → OnArea result (λ now. Kept g mid now) → (Told g → Starts head (g.octets area) → ⊥)
       → OnArea result (λ now. OpenLeaves g area head now)
-  leaves_unmade (Ok journal) area mid head leaves kept none = record { unmade = λ told unstarted. follow g area mid journal.area (g.may_leave area) leaves kept.leaves; anew = λ told starts. absurd (none told starts) }
-  leaves_unmade (Err fault) area mid head leaves kept none = record { unmade = λ told unstarted. follow g area mid fault.1 (g.may_leave area) leaves kept.leaves; anew = λ told starts. absurd (none told starts) }
+  leaves_unmade result area mid head leaves kept none = search (rules, follow)
 
   -- the plan of an area that was read
   pub planned_unmade : (result : Result (Journal A g) (OpenFault × A)) (area mid : A) → IsTrue g.tells_fate → SyncPlanned (g.fate area) false (g.fate mid) → OnArea result (λ now. Kept g mid now) → (ReadsRun (g.fate mid).schedule → is_device result ≡ false)

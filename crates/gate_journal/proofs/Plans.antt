@@ -1,11 +1,11 @@
 -- How the calls of an append come out as planned.
-use Rattle.std.proofs.Common.{◌≡◌, ◌≢◌, ⊎_elim, ℕ, ◌+◌, ◌≤◌, Bool, true, false, List, [], ◌∷◌, length, get_or, take, drop, replicate, Result, refl, sym, ◌∙◌, ap, arith, append_assoc, Ok, Err}
-use Rattle.std.specs.Prelude.{is_err, ◌==◌, ◌||◌}
+use Rattle.std.proofs.Common.{◌≡◌, ◌≢◌, ℕ, ◌+◌, ◌≤◌, Bool, true, false, List, [], ◌∷◌, length, get_or, take, drop, Result, refl, sym, ◌∙◌, ap, arith, append_assoc, rules}
+use Rattle.std.specs.Prelude.{is_err, ◌==◌}
 use Rattle.std.proofs.lemmas.Bool.Decides.{eqb_tells}
 use Rattle.std.proofs.lemmas.List.{take_at, get_or_at, length-take-le}
 use Rattle.std.proofs.lemmas.Bool.{false_from_ne_true}
 use Rattle.area_disk.specs.Disk.{overwritten}
-use Rattle.area_disk.specs.Plan.{Prospect, next_fate, after_call, spare_after_write, written_as, is_failure, write_fate, LeavesAfterWrite, LeavesAfterSync, WriteAsPlanned, SyncAsPlanned, Schedule, is_stop, sync_fate, fate_with}
+use Rattle.area_disk.specs.Plan.{Prospect, next_fate, after_call, spare_after_write, written_as, is_failure, LeavesAfterWrite, LeavesAfterSync, WriteAsPlanned, SyncAsPlanned, Schedule, is_stop, sync_fate, fate_with}
 use Rattle.area_disk.specs.declared.plan.Fate.{Fate}
 use Rattle.area_disk.specs.declared.plan.Fate.TheVariants.{Runs, Fails, Stops}
 use Rattle.area_disk.specs.declared.plan.Outcome3.{Outcome3}
@@ -16,7 +16,6 @@ use Rattle.gate_journal.specs.Format.{open_gate, gate_at}
 use Rattle.gate_journal.specs.Planned.{Course, course_of, after_write, after_sync, Ending, is_ended, ending_by, course_by, ending_of, after_put, left_by, PutPlanned, is_new, batch_stands, append_fails, course_after, AppendPlanned, outcome_left, with_reads, ReadOn, ReadsRun, SyncPlanned, after_append, fate_of_sync}
 use Rattle.gate_journal.specs.Planned.Ending.{BothRan, AtWrite, AtSync}
 use Rattle.gate_journal.specs.Fronts.{at_front}
-use Rattle.gate_journal.specs.Journal.{area_of}
 use Rattle.gate_journal.specs.OpenPlanned.{MadeBy}
 use Rattle.gate_journal.specs.declared.faults.OpenFault.{OpenFault}
 use Rattle.gate_journal.specs.declared.journal.Journal.{Journal}
@@ -29,43 +28,27 @@ Parts write sync course old at from failed new =
 
 write_ended : (write sync : Fate) (course : Course) (old : Outcome3 → List ℕ) (at : ℕ) (from : List ℕ) (mid : Prospect) → is_failure write ≡ true → mid.schedule ≡ after_call write course.schedule → mid.spare ≡ spare_after_write write course.spare
     → LeavesAfterWrite write old at from mid.leaves → Parts write sync course old at from true mid
-write_ended Runs sync course old at from mid failed schedule spare leaves = absurd (other_bool (sym failed))
-write_ended _ sync course old at from mid failed schedule spare leaves = (refl, (λ i. record { schedule = schedule i; spare = spare i }), leaves)
+write_ended write sync course old at from mid failed schedule spare leaves = search (rules, other_bool)
 
 -- a put whose write failed
 pub put_failed : {T E : Type 0} (old : Prospect) (at : ℕ) (from : List ℕ) (wrote result : Result T E) (mid : Prospect) → WriteAsPlanned old at from wrote mid → is_err wrote ≡ true → is_err result ≡ true → PutPlanned old at from result mid
-put_failed old at from wrote result mid write failed err =
-    let parts = write_ended (write_fate old) (next_fate (after_call Runs old.schedule)) (course_of old) old.leaves at from mid (sym write.fails ∙ failed) write.schedule write.spare write.leaves in
-    record { fails = err ∙ parts.0; course = parts.1; leaves = parts.2 }
+put_failed old at from wrote result mid write failed err = search (rules, write_ended)
 
 sync_ended : (sync : Fate) (old : Outcome3 → List ℕ) (at : ℕ) (from : List ℕ) (mid new : Outcome3 → List ℕ) → ((o : Outcome3) → mid o ≡ written_as o (old o) at from) → LeavesAfterSync sync mid new
     → (is_failure sync ≡ is_ended (ending_by Runs sync)) × ((o : Outcome3) → new o ≡ left_by (ending_by Runs sync) old at from o)
-sync_ended Runs old at from mid new wrote leaves = (refl, λ o. leaves o ∙ wrote New)
-sync_ended Fails old at from mid new wrote leaves = (refl, λ o. leaves o ∙ wrote o)
-sync_ended (Stops outcome) old at from mid new wrote leaves = (refl, λ o. leaves o ∙ wrote outcome)
+sync_ended sync old at from mid new wrote leaves = grind arith
 
 write_ran : (write : Fate) (course : Course) (old : Outcome3 → List ℕ) (at : ℕ) (from : List ℕ) (mid : Prospect) → is_failure write ≡ false → mid.schedule ≡ after_call write course.schedule → mid.spare ≡ spare_after_write write course.spare
     → LeavesAfterWrite write old at from mid.leaves → (write ≡ Runs) × (course_of mid ≡ after_write Runs course) × ((o : Outcome3) → mid.leaves o ≡ written_as o (old o) at from)
-write_ran Runs course old at from mid ran schedule spare leaves = (refl, (λ i. record { schedule = schedule i; spare = spare i }), leaves)
-write_ran _ course old at from mid ran schedule spare leaves = absurd (other_bool ran)
+write_ran write course old at from mid ran schedule spare leaves = grind (arith, other_bool)
 
 -- a put whose write ran
 pub put_synced : {T E F : Type 0} (old : Prospect) (at : ℕ) (from : List ℕ) (wrote : Result T F) (result : Result T E) (mid new : Prospect) → WriteAsPlanned old at from wrote mid → is_err wrote ≡ false → SyncAsPlanned mid result new → PutPlanned old at from result new
-put_synced old at from wrote result mid new write ran sync =
-    let wr = write_ran (write_fate old) (course_of old) old.leaves at from mid (sym write.fails ∙ ran) write.schedule write.spare write.leaves in
-    let parts = sync_ended (next_fate mid.schedule) old.leaves at from mid.leaves new.leaves wr.2 sync.leaves in
-    let came : course_of new ≡ after_sync (next_fate mid.schedule) (after_write Runs (course_of old)) =
-    (λ i. record { schedule = sync.schedule i; spare = sync.spare i }) ∙ ap (λ c. after_sync (next_fate mid.schedule) c) wr.1 in
-    let same : next_fate mid.schedule ≡ next_fate (after_call Runs old.schedule) = ap (λ (c : Course). next_fate c.schedule) wr.1 in
-    let P : Fate → Fate → Type 0 = λ f s. Parts f s (course_of old) old.leaves at from (is_err result) new in
-    let here : P Runs (next_fate mid.schedule) = (sync.fails ∙ parts.0, came, parts.1) in
-    let all : P (write_fate old) (next_fate (after_call Runs old.schedule)) = rw (wr.0, ← same) here in
-    record { fails = all.0; course = all.1; leaves = all.2 }
+put_synced old at from wrote result mid new write ran sync = search (rules, write_ran, sync_ended)
 
 closed_test : (octets : List ℕ) (gate : ℕ) → gate_at octets gate ≢ open_gate →
     (gate_at octets gate == open_gate) ≡ false
-closed_test octets gate shut =
-    ⊎_elim (λ yes. absurd (shut yes.1)) (λ no. no.0) (eqb_tells (gate_at octets gate) open_gate)
+closed_test octets gate shut = grind (arith, eqb_tells)
 
 -- the gate after a write behind it, as each outcome leaves it
 module _ (gate : ℕ) (octets : List ℕ) (inside : gate + 1 ≤ length octets) where
@@ -78,9 +61,7 @@ module _ (gate : ℕ) (octets : List ℕ) (inside : gate + 1 ≤ length octets) 
 
   behind_written : (framed : List ℕ) (outcome : Outcome3)
       → gate_at (written_as outcome octets (gate + 1) framed) gate ≡ gate_at octets gate
-  behind_written framed Old = refl
-  behind_written framed New = before_written framed
-  behind_written framed Rot = before_written (replicate (length framed) 0x5A)
+  behind_written framed outcome = grind (arith, before_written)
 
   at_written : (octet : ℕ) → gate_at (overwritten octets gate (octet ∷ [])) gate ≡ octet
   at_written octet =
@@ -108,60 +89,28 @@ module _ (gate : ℕ) (octets : List ℕ) (inside : gate + 1 ≤ length octets) 
     gate_ended _ o = ap (λ (l : List ℕ). gate_at l gate == open_gate) (same o) ∙ closed_test octets gate shut
 
     shut_behind : (framed : List ℕ) (o : Outcome3) → gate_at (written_as o (old o) (gate + 1) framed) gate ≢ open_gate
-    shut_behind framed o e =
-        shut (sym (behind_written framed o) ∙ ap (λ (l : List ℕ).
-        gate_at (written_as o l (gate + 1) framed) gate) (sym (same o)) ∙ e)
+    shut_behind framed o = grind (arith, behind_written)
 
     -- the gate stays closed where the writing of the frame ended
     frame_ended : (framed : List ℕ) (ending : Ending) → is_ended ending ≡ true
         → (o : Outcome3) → gate_at (left_by ending old (gate + 1) framed o) gate ≢ open_gate
-    frame_ended framed BothRan ended o e = other_bool (sym ended)
-    frame_ended framed (AtWrite (Stops p)) ended o e = shut_behind framed p e
-    frame_ended framed (AtSync Fails) ended o e = shut_behind framed o e
-    frame_ended framed (AtSync (Stops p)) ended o e = shut_behind framed p e
-    frame_ended framed _ ended o e = shut (ap (λ (l : List ℕ). gate_at l gate) (sym (same o)) ∙ e)
+    frame_ended framed ending is o = grind (arith, other_bool, shut_behind)
 
 ended_parts : (first second : Ending) (one two : Course) → is_ended first ≡ true → (append_fails first second ≡ true) × (course_after first one two ≡ one) × ((o : Outcome3) → batch_stands first second o ≡ false)
-ended_parts BothRan second one two ended = absurd (other_bool (sym ended))
-ended_parts _ second one two ended = (refl, refl, λ o. refl)
+ended_parts first second one two ended = grind (arith, other_bool)
 
 ran_is : (ending : Ending) → is_ended ending ≡ false → ending ≡ BothRan
-ran_is BothRan ran = refl
-ran_is _ ran = absurd (other_bool ran)
+ran_is ending ran = grind (arith, other_bool)
 
 module _ (old : Prospect) (gate : ℕ) (framed octets : List ℕ) (inside : gate + 1 ≤ length octets) (shut : gate_at octets gate ≢ open_gate) (same : (o : Outcome3) → old.leaves o ≡ octets) where
   -- the frame wasn't written
   pub append_stopped : {T E F : Type 0} (put : Result T F) (result : Result T E) (new : Prospect) → PutPlanned old (gate + 1) framed put new → is_err put ≡ true → is_err result ≡ true → AppendPlanned old gate result new
-  append_stopped put result new planned failed err =
-      let ended = sym planned.fails ∙ failed in
-      let parts = ended_parts (ending_of (course_of old)) (ending_of (after_put (course_of old))) (after_put (course_of old)) (after_put (after_put (course_of old))) ended in
-      record {
-        fails = err ∙ sym parts.0;
-        course = planned.course ∙ sym parts.1;
-        opened = λ o. closed_test (new.leaves o) gate (λ e.
-            frame_ended gate octets inside old.leaves shut same framed (ending_of (course_of old)) ended o
-            (ap (λ (l : List ℕ). gate_at l gate) (sym (planned.leaves o)) ∙ e)) ∙ sym (parts.2 o);
-      }
+  append_stopped put result new planned failed err = search (rules, ended_parts, closed_test, frame_ended)
 
   -- it was, and the gate was written
   pub append_ended : {T E F : Type 0} (put : Result T F) (result : Result T E) (mid new : Prospect) → PutPlanned old (gate + 1) framed put mid → is_err put ≡ false → PutPlanned mid gate (open_gate ∷ []) result new → gate + 1 ≤ length (overwritten octets (gate + 1) framed)
       → AppendPlanned old gate result new
-  append_ended put result mid new one ran two fits =
-      let both = ran_is (ending_of (course_of old)) (sym one.fails ∙ ran) in
-      let staged : (o : Outcome3) → mid.leaves o ≡ overwritten octets (gate + 1) framed =
-      λ o. one.leaves o ∙ ap (λ e. left_by e old.leaves (gate + 1) framed o) both ∙ ap (λ (l : List ℕ). overwritten l (gate + 1) framed) (same New) in
-      let second : ending_of (course_of mid) ≡ ending_of (after_put (course_of old)) = ap ending_of one.course in
-      record {
-        fails = two.fails ∙ ap is_ended second ∙ ap (λ e. append_fails e (ending_of (after_put (course_of old)))) (sym both);
-        course = two.course ∙ ap after_put one.course ∙ ap (λ e. course_after e (after_put (course_of old)) (after_put (after_put (course_of old)))) (sym both);
-        opened = λ o.
-            ap (λ (l : List ℕ). gate_at l gate == open_gate) (two.leaves o)
-            ∙ gate_ended gate (overwritten octets (gate + 1) framed) fits
-            mid.leaves (λ e. shut (sym (before_written gate octets inside framed) ∙ e)) staged
-            (ending_of (course_of mid)) o
-            ∙ ap (λ e. batch_stands BothRan e o) second
-            ∙ ap (λ e. batch_stands e (ending_of (after_put (course_of old))) o) (sym both);
-      }
+  append_ended put result mid new one ran two fits = search (rules, ran_is, gate_ended, before_written)
 
 -- ---- how a sync and the reads after it come out as planned
 
@@ -171,8 +120,7 @@ running s ran = false_from_ne_true s.stopped (λ is. other_bool (sym (ap is_fail
 
 -- what the outcomes leave after a sync
 left_after : (fate : Fate) (old new : Outcome3 → List ℕ) → LeavesAfterSync fate old new → (outcome : Outcome3) → new outcome ≡ old (outcome_left fate outcome)
-left_after Runs old new leaves outcome = leaves outcome
-left_after _ old new leaves outcome = leaves outcome
+left_after fate old new leaves outcome = grind arith
 
 -- reads behind a sync and reads that came out as planned
 pub sync_on : (old mid new : Prospect) (failed : Bool) → SyncPlanned old false mid → ReadOn mid new → (ReadsRun mid.schedule → failed ≡ false) → SyncPlanned old failed new
@@ -188,12 +136,7 @@ sync_on old mid new failed one read runs = record {
     stop_is _ e = refl
 
     running_after : old.schedule.read_fail ≡ [] → ReadsRun mid.schedule
-    running_after none =
-        let ran = sym (one.runs none) in
-        record {
-          running = ap (λ (c : Course). c.schedule.stopped) one.course ∙ ap (λ b. b || is_stop (sync_fate old)) (running old.schedule ran) ∙ stop_is (sync_fate old) ran;
-          reads = ap (λ (c : Course). c.schedule.read_fail) one.course ∙ none;
-        }
+    running_after none = search (rules, running)
 
 -- it ran, and reads followed
 pub sync_ran : {T E : Type 0} (old : Prospect) (result : Result T E) (mid new : Prospect) (failed : Bool)
@@ -218,16 +161,14 @@ unfolding next_fate
 ending_reads r c = refl
 
 course_reads : (write sync : Fate) (r : ℕ) (c : Course) → course_by write sync (with_reads r c) ≡ with_reads r (course_by write sync c)
-course_reads Runs sync r c = refl
-course_reads _ sync r c = refl
+course_reads write sync r c = grind arith
 
 pub put_reads : (r : ℕ) (c : Course) → after_put (with_reads r c) ≡ with_reads r (after_put c)
 unfolding next_fate
 put_reads r c = course_reads (fate_with c.spare (next_fate c.schedule)) (next_fate (after_call Runs c.schedule)) r c
 
 course_after_reads : (e : Ending) (r : ℕ) (one two : Course) → course_after e (with_reads r one) (with_reads r two) ≡ with_reads r (course_after e one two)
-course_after_reads BothRan r one two = refl
-course_after_reads _ r one two = refl
+course_after_reads e r one two = grind arith
 
 pub append_reads : (r : ℕ) (c : Course) → after_append (with_reads r c) ≡ with_reads r (after_append c)
 unfolding next_fate
@@ -238,8 +179,7 @@ append_reads r c =
 
 -- no call of an append is to fail
 both_ran : (e f : Ending) → append_fails e f ≡ false → (e ≡ BothRan) × (is_ended f ≡ false)
-both_ran BothRan f runs = (refl, runs)
-both_ran _ f runs = absurd (other_bool runs)
+both_ran e f runs = grind (arith, other_bool)
 
 module _ (old : Course) (runs : append_fails (ending_of old) (ending_of (after_put old)) ≡ false) where
   pub first_runs : is_ended (ending_of old) ≡ false
@@ -249,26 +189,19 @@ module _ (old : Course) (runs : append_fails (ending_of old) (ending_of (after_p
   second_runs r mid is = ap (λ c. is_ended (ending_of c)) is ∙ ap is_ended (ending_reads r (after_put old)) ∙ (both_ran (ending_of old) (ending_of (after_put old)) runs).1
 
 fate_runs : (fate : Fate) → is_failure fate ≡ false → fate ≡ Runs
-fate_runs Runs runs = refl
-fate_runs _ runs = absurd (other_bool runs)
+fate_runs fate runs = grind (arith, other_bool)
 
 -- the plan behind a sync that ran and reads
 pub looked : (old mid : Prospect) → SyncPlanned old false mid → is_failure (fate_of_sync (course_of old)) ≡ false → course_of mid ≡ with_reads mid.schedule.reads (after_sync Runs (course_of old))
-looked old mid planned runs =
-    planned.course ∙ ap (λ f. with_reads mid.schedule.reads (after_sync f (course_of old))) (fate_runs (fate_of_sync (course_of old)) runs)
+looked old mid planned runs = grind (arith, fate_runs)
 
 -- what was made behind reads
 module _ {A : Type 0} {g : Ghosts A} where
   made_on : (result : Result (Journal A g) (OpenFault × A)) (r : ℕ) (mid old : Course) → mid ≡ with_reads r old → MadeBy g result mid → MadeBy g result old
-  made_on (Ok journal) r mid old is made = record {
-    runs = made.runs;
-    after = made.after ∙ ap (λ (c : Course). with_reads (g.fate (area_of journal)).schedule.reads c) is;
-  }
-  made_on (Err fault) r mid old is made = record { runs = made.runs; after = tt }
+  made_on result r mid old is made = search rules
 
   pub put_on : (result : Result (Journal A g) (OpenFault × A)) (r : ℕ) (mid old : Course) → mid ≡ with_reads r old → (is_ended (ending_of mid) ≡ false → MadeBy g result (after_put mid)) → is_ended (ending_of old) ≡ false → MadeBy g result (after_put old)
-  put_on result r mid old is made runs =
-      made_on result r (after_put mid) (after_put old) (ap after_put is ∙ put_reads r old) (made (ap (λ c. is_ended (ending_of c)) is ∙ ap is_ended (ending_reads r old) ∙ runs))
+  put_on result r mid old is made runs = search (rules, made_on, put_reads, ending_reads)
 
   pub append_on : (result : Result (Journal A g) (OpenFault × A)) (r : ℕ) (mid old : Course) → mid ≡ with_reads r old → (append_fails (ending_of mid) (ending_of (after_put mid)) ≡ false → MadeBy g result (after_append mid))
       → append_fails (ending_of old) (ending_of (after_put old)) ≡ false → MadeBy g result (after_append old)

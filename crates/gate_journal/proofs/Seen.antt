@@ -1,5 +1,5 @@
 -- What reads of an area say of its octets.
-use Rattle.std.proofs.Common.{◌≡◌, ◌≢◌, inl, inr, ℕ, ◌+◌, ◌<◌, ⊎_elim, true, false, List, length, get_or, take, drop, sym, ◌∙◌, ap, subst, arith}
+use Rattle.std.proofs.Common.{◌≡◌, ◌≢◌, ℕ, ◌+◌, ◌<◌, ⊎_elim, true, false, List, length, get_or, take, drop, sym, ◌∙◌, ap, subst, arith, rules}
 use Rattle.std.proofs.lemmas.Bool.{cases_eq}
 use Rattle.std.proofs.lemmas.List.{drop-take, get_or-take, get_or-drop, get_or_default, take_all, take-take}
 use Rattle.std.proofs.lemmas.Nat.{be_bytes_4}
@@ -58,8 +58,7 @@ module _ (header octets : List ℕ) where
   unfinished_from u = record { rest = sym rest_of_front ∙ u.rest; first = λ e. u.first (first_octet ∙ e) }
 
   starts_front : Starts header octets → Starts header (take 32 octets)
-  starts_front (inl zeroed) = inl (first_octet ∙ zeroed)
-  starts_front (inr u) = inr (record { rest = rest_of_front ∙ u.rest; first = λ e. u.first (sym first_octet ∙ e) })
+  starts_front is = search (rules, first_octet, rest_of_front)
 
   pub verdict_from : (verdict : Verdict) → IsVerdict header (take 32 octets) verdict → IsVerdict header octets verdict
   verdict_from (Begins true) is = sym first_octet ∙ is

@@ -1,5 +1,5 @@
 -- What is true of a journal, and how its calls keep it.
-use Rattle.std.proofs.Common.{◌≡◌, ◌≢◌, ◌⊎◌, inl, inr, ℕ, ◌+◌, ◌-◌, ◌<◌, ◌≤◌, Bool, true, false, List, [], ◌∷◌, ◌++◌, length, get_or, take, drop, refl, sym, ◌∙◌, ap, subst, arith}
+use Rattle.std.proofs.Common.{◌≡◌, ◌≢◌, ◌⊎◌, ℕ, ◌+◌, ◌-◌, ◌<◌, ◌≤◌, Bool, true, false, List, [], ◌∷◌, ◌++◌, length, get_or, take, drop, refl, sym, ◌∙◌, ap, subst, arith, rules}
 use Rattle.std.specs.Prelude.{All, IsTrue, ◌&&◌, ◌==◌, if◌then◌else◌}
 use Rattle.std.proofs.lemmas.List.{length-take-le, length-drop}
 use Rattle.std.proofs.lemmas.List.Elements.{All-push}
@@ -21,44 +21,31 @@ use Rattle.gate_journal.specs.Spelling.{length-header, first-header, length-fram
 
 -- a journal that isn't closed may be added to
 pub ready_of : (front : Front) (is_torn : Bool) → closed_by front is_torn ≡ false → IsReady front is_torn
-ready_of Founding is_torn open' = absurd (other_bool open')
-ready_of _ is_torn open' = record { whole = open'; founded = λ e. cc }
+ready_of front is_torn open' = search (rules, other_bool)
 
 pub closed_when_ready : (front : Front) (is_torn : Bool) → IsReady front is_torn → closed_by front is_torn ≡ false
-closed_when_ready Founding is_torn ready = absurd (ready.founded refl)
-closed_when_ready _ is_torn ready = ready.whole
+closed_when_ready front is_torn ready = grind arith
 
 pub closed_when_torn : (front : Front) → closed_by front true ≡ true
-closed_when_torn Founded = refl
-closed_when_torn _ = refl
+closed_when_torn front = grind arith
 
 pub closed_as_torn : (front : Front) (is_torn : Bool) → (front ≡ Founded) ⊎ (front ≡ Draft) → is_torn ≡ closed_by front is_torn
-closed_as_torn Founding is_torn (inl e) = cc
-closed_as_torn Founding is_torn (inr e) = cc
-closed_as_torn _ is_torn is = refl
+closed_as_torn front is_torn is = grind arith
 
 pub open_after : (front : Front) (first : ℕ) → closed_by (front_after front first) false ≡ false
-open_after Founding first =
-    elim (first == 67) as (λ b. closed_by (if b then Founded else Draft) false ≡ false) [ true ↦ refl | false ↦ refl ]
-open_after _ first = refl
+open_after front first = grind arith
 
 place_after : (is_torn : Bool) (gate n octet size : ℕ) → 32 ≤ gate → gate < size →
     (is_torn ≡ true → gate + 5 + n < size)
     → (32 ≤ gate_after is_torn gate n octet) × (gate_after is_torn gate n octet < size)
-place_after false gate n octet size low high fits = (low, high)
-place_after true gate n octet size low high fits =
-    elim (octet == open_gate)
-    as (λ b. (32 ≤ (if b then gate + 5 + n else gate)) × ((if b then gate + 5 + n else gate) < size))
-    [ true ↦ (omega (arith, low), fits refl) | false ↦ (low, high) ]
+place_after is_torn gate n octet size low high fits = grind arith
 
 -- the gate of a journal that is opened again moves where it is open behind a batch that may stand
 pub gate_moves : (is_torn : Bool) (gate n octet : ℕ) → gate_after is_torn gate n octet ≡ (if is_torn && (octet == open_gate) then gate + 5 + n else gate)
-gate_moves true gate n octet = refl
-gate_moves false gate n octet = refl
+gate_moves is_torn gate n octet = grind arith
 
 pub moves_or_stays : (moves : Bool) (gate n : ℕ) → ((if moves then gate + 5 + n else gate) ≡ gate) ⊎ ((if moves then gate + 5 + n else gate) ≡ gate + 5 + n)
-moves_or_stays true gate n = inr refl
-moves_or_stays false gate n = inl refl
+moves_or_stays moves gate n = grind arith
 
 module _ {A : Type 0} (g : Ghosts A) (laws : AreaLaws g) (j : Journal A g) where
   abbrev below : List (List ℕ)
@@ -75,8 +62,7 @@ module _ {A : Type 0} (g : Ghosts A) (laws : AreaLaws g) (j : Journal A g) where
   head_long = length-header (g.size j.area) j.address j.generation
 
   pub length-last : length last ≡ j.torn_length
-  length-last = length-take-le j.torn_length (drop 4
-      j.buffer.items) (omega (arith, j.sound.torn_held, length-drop 4 j.buffer.items))
+  length-last = grind (arith, length-take-le, length-drop)
 
   pub inside : Told g → j.gate < length (g.octets j.area)
   inside told = omega (arith, laws.whole j.area told.0, j.sound.high)
@@ -111,25 +97,8 @@ module _ {A : Type 0} (g : Ghosts A) (laws : AreaLaws g) (j : Journal A g) where
       → (is_torn ≡ true → gate + torn_length + 6 ≤ g.size j.area) → (front ≡ Founding → is_torn ≡ false)
       → (Told g → IsReady front is_torn → Only (g.octets new) (g.may_leave new))
       → IsOver new buffer gate torn_length is_torn front some
-  over new size buffer gate torn_length is_torn front some small leaves low high torn_size torn_held torn_fits whole
-      durable =
-      let is : Told g → batches_below gate (g.octets new) ≡ some = λ told. listed_below (header_of j) head_long gate
-      (g.octets new) some (leaves told (g.octets new) (laws.holds new)).listed (small told) in (
-        record {
-          long = omega (arith, size, j.sound.long);
-          short = omega (arith, size, j.sound.short);
-          low = low;
-          high = omega (arith, size, high);
-          torn_size = torn_size;
-          torn_held = torn_held;
-          torn_fits = λ e. omega (arith, size, torn_fits e);
-          founding_whole = whole;
-          small = λ told. rw (is told) (small told);
-          content = λ told c left. rw (is told, size) (leaves told c left);
-          durable = durable;
-        },
-        is,
-      )
+  over new size buffer gate torn_length is_torn front some one two three four five six seven eight nine =
+      search (rules, listed_below, head_long)
 
   -- a call after which a crash leaves no more than before
   pub kept : (new : A) → g.size new ≡ g.size j.area → Within (g.may_leave j.area) (g.may_leave new)
@@ -206,11 +175,7 @@ module _ {A : Type 0} (g : Ghosts A) (laws : AreaLaws g) (j : Journal A g) where
 
   -- at rest, open or closed
   pub rests : Rests j
-  rests = record {
-    reads = λ told. keeps_any told (g.octets j.area) (laws.holds j.area);
-    crash = keeps_any;
-    place = place_told;
-  }
+  rests = search (rules, keeps_any, place_told)
 
   -- a stop that keeps what was written leaves the torn batch where a read finds it
   pub stands_as_new : (g.fate j.area).leaves New ≡ g.octets j.area → torn_stands j ≡ stop_stands New j
@@ -224,8 +189,7 @@ module _ {A : Type 0} (g : Ghosts A) (laws : AreaLaws g) (j : Journal A g) where
 
     -- what a crash leaves of a journal that may be added to
     content_of : Told g → (c : List ℕ) → g.may_leave j.area c → Content (header_of j) j.front false below last j.gate c
-    content_of told c left =
-        rw ready.whole at (j.sound.content told c left)
+    content_of told c left = search rules
 
     now_of : Told g → Content (header_of j) j.front false below last j.gate (g.octets j.area)
     now_of told = content_of told (g.octets j.area) (laws.holds j.area)
@@ -237,12 +201,7 @@ module _ {A : Type 0} (g : Ghosts A) (laws : AreaLaws g) (j : Journal A g) where
 
     pub settled : IsSettled j
     unfolding batches
-    settled = record {
-      reads = λ told. crash_keeps told (g.octets j.area) (laws.holds j.area);
-      crash = crash_keeps;
-      place = place_told;
-      free = λ told. omega (arith, place_told told);
-    }
+    settled = search (rules, crash_keeps, place_told)
 
     pub shut_gate : Told g → gate_at (g.octets j.area) j.gate ≢ open_gate
     shut_gate told = (now_of told).shut refl
@@ -314,8 +273,7 @@ module _ {A : Type 0} (g : Ghosts A) (laws : AreaLaws g) (j : Journal A g) where
 
         may_stand : Told g → (c : List ℕ) → g.may_leave new c
             → Content (header_of j) j.front true below (take (length batch) (drop 4 later)) j.gate c
-        may_stand told c may =
-            rw held (still_adding told c ((adds told).now c may))
+        may_stand told c may = search (rules, still_adding, adds)
 
         pub torn_over : IsOver new later j.gate (length batch) true j.front below
         torn_over =
@@ -328,9 +286,7 @@ module _ {A : Type 0} (g : Ghosts A) (laws : AreaLaws g) (j : Journal A g) where
         (leaves : Only (g.octets j.area) (g.may_leave j.area) → Leaves g j.area new (Torn 0 1 (g.octets j.area))) where
       founding_content : Told g → (c : List ℕ) → Torn 0 1 (g.octets j.area) c
           → Content (header_of j) Founding false below last j.gate c
-      founding_content told c torn =
-          founding (header_of j) j.front below j.gate j.sound.low last (g.octets j.area) c (inside told) (now_of told)
-          torn
+      founding_content told c torn = search (rules, founding, inside, now_of)
 
       founding_left : Told g → (c : List ℕ) → g.may_leave new c →
           Content (header_of j) Founding false below last j.gate c
@@ -362,11 +318,7 @@ module _ {A : Type 0} (g : Ghosts A) (laws : AreaLaws g) (j : Journal A g) where
           (durable : IsTrue g.tells_crash → Only (g.octets new) (g.may_leave new)) where
         founded_left : Told g → (c : List ℕ) → g.may_leave new c →
             Content (header_of j) Founded false below last j.gate c
-        founded_left told c left =
-            after_first (header_of j) (first-header (g.size j.area) j.address j.generation) Founding below last j.gate c
-            67
-            (sym (ap (λ (o : List ℕ). get_or o 0 0) (durable told.1 c left ∙ octets_are told.0))) (founding_left told c
-            left)
+        founded_left told c left = search (rules, after_first, first-header, founding_left)
 
         pub founded_over : IsOver new j.buffer.items j.gate j.torn_length j.is_torn Founded below
         founded_over = written Founded founded_left (λ told yes. durable told.1)

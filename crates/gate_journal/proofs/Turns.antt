@@ -1,5 +1,5 @@
 -- What the octets of a journal stand for.
-use Rattle.std.proofs.Common.{◌≡◌, ◌≢◌, ◌⊎◌, inl, inr, ⊎_elim, ℕ, ◌+◌, ◌<◌, ◌≤◌, Bool, true, false, List, [], ◌∷◌, ◌++◌, length, get_or, take, drop, refl, sym, ◌∙◌, ap, subst, arith, zero, suc, ◌-◌, length-append, append_assoc}
+use Rattle.std.proofs.Common.{◌≡◌, ◌≢◌, ◌⊎◌, inl, inr, ⊎_elim, ℕ, ◌+◌, ◌<◌, ◌≤◌, Bool, true, false, List, [], ◌∷◌, ◌++◌, length, get_or, take, drop, refl, sym, ◌∙◌, ap, subst, arith, zero, suc, ◌-◌, length-append, append_assoc, rules}
 use Rattle.std.specs.Prelude.{All, ◌&&◌, ◌==◌, if◌then◌else◌}
 use Rattle.std.proofs.lemmas.Bool.Decides.{eqb_tells}
 use Rattle.std.proofs.lemmas.Bool.{cases_eq}
@@ -19,12 +19,10 @@ use Rattle.gate_journal.specs.Spelling.{length-frame, spelled-append, spelled-on
 
 -- a front with its first octet apart
 pub front-cons : (place : ℕ) (octets : List ℕ) → 1 ≤ place → 1 ≤ length octets → take place octets ≡ get_or octets 0 0 ∷ drop 1 (take place octets)
-front-cons (suc place) (x ∷ octets) low long = refl
-front-cons _ _ low long = absurd (omega arith)
+front-cons place octets low long = grind arith
 
 pub list-cons : (octets : List ℕ) → 1 ≤ length octets → octets ≡ get_or octets 0 0 ∷ drop 1 octets
-list-cons [] long = absurd (omega arith)
-list-cons (x ∷ octets) long = refl
+list-cons octets long = grind arith
 
 pub length-tail : (octets : List ℕ) → length (drop 1 octets) ≡ length octets - 1
 length-tail octets = length-drop 1 octets
@@ -78,9 +76,7 @@ module _ (header : List ℕ) (long : length header ≡ 32) where
         → (front ≡ Founded → get_or octets 0 0 ≡ get_or header 0 0)
         → (front ≡ Draft → get_or octets 0 0 ≢ get_or header 0 0)
         → gate_at octets place ≢ open_gate → Keeps front header batches octets
-    keeps Founded listed founded drafted shut = stands_for listed (founded refl) shut
-    keeps Draft listed founded drafted shut = unfinished listed (drafted refl)
-    keeps Founding listed founded drafted shut = ⊎_elim (λ first. inl (stands_for listed first shut)) (λ other. inr (unfinished listed other)) (cases_eq (get_or octets 0 0) (get_or header 0 0))
+    keeps front listed founded drafted shut = search (rules, stands_for, unfinished)
 
   -- a gate that is open, and the frame of a batch behind it
   module _ (place : ℕ) (octets batch : List ℕ) (low : 32 ≤ place) (high : place + 5 + length batch < length octets) (framed : take (length batch + 5) (drop (place + 1) octets) ≡ frame batch) where
@@ -129,19 +125,7 @@ other_bool e = cc
 -- the octets with a batch added are a step of adding it
 pub is_adding : (gate : ℕ) (framed octets : List ℕ) → gate + 1 + length framed ≤ length octets → IsAdding gate framed octets (added gate framed octets)
 is_adding gate framed octets fits =
-    let front : length (take gate octets) ≡ gate = length-take-le gate octets (omega arith) in
-    let back = framed ++ drop (gate + 1 + length framed) octets in
-    record {
-      size = omega (
-        arith,
-        front,
-        length-append (take gate octets) (open_gate ∷ (framed ++ drop (gate + 1 + length framed) octets)),
-        length-append framed (drop (gate + 1 + length framed) octets),
-        length-drop (gate + 1 + length framed) octets,
-      );
-      front = take_around gate (take gate octets) back open_gate front;
-      behind = λ opened. ap (λ (l : List ℕ). take (length framed) l) (drop_around gate (take gate octets) back open_gate front) ∙ take_at framed (drop (gate + 1 + length framed) octets) (length framed) refl;
-    }
+    search (rules, length-take-le, length-append, length-drop, take_around, drop_around, take_at)
 
 pub added_open : (gate : ℕ) (framed octets : List ℕ) → gate ≤ length octets → gate_at (added gate framed octets) gate ≡ open_gate
 added_open gate framed octets le = get_or_at (take gate octets) open_gate (framed ++ drop (gate + 1 + length framed) octets) open_gate gate (length-take-le gate octets le)
@@ -149,57 +133,27 @@ added_open gate framed octets le = get_or_at (take gate octets) open_gate (frame
 module _ (header : List ℕ) (front : Front) (batches : List (List ℕ)) (place : ℕ) (low : 32 ≤ place) where
   -- a batch is being added
   pub adding : (batch framed before octets c : List ℕ) → framed ≡ frame batch → Content header front false batches before place octets → IsAdding place framed octets c → Content header front true batches batch place c
-  adding batch framed before octets c is content step =
-      let first : get_or c 0 0 ≡ get_or octets 0 0 = at_front 0 place 0 c octets (omega arith) step.front in
-      record {
-        listed = ap (λ (l : List ℕ). drop 1 l) step.front ∙ content.listed;
-        founded = λ e. first ∙ content.founded e;
-        drafted = λ e same. content.drafted e (sym first ∙ same);
-        shut = λ e. absurd (other_bool e);
-        framed = λ e opened. subst (λ n. take n (drop (place + 1) c) ≡ frame batch) (ap length is ∙ length-frame batch) (subst (λ (f : List ℕ). take (length framed) (drop (place + 1) c) ≡ f) is (step.behind opened));
-      }
+  adding batch framed before octets c is content step = search (rules, at_front, other_bool, length-frame)
 
   -- a closed gate leaves it out
   pub left_out : (is_torn : Bool) (batch before c : List ℕ) → Content header front is_torn batches batch place c
       → gate_at c place ≢ open_gate → Content header front false batches before place c
-  left_out is_torn batch before c content shut = record {
-    listed = content.listed;
-    founded = content.founded;
-    drafted = content.drafted;
-    shut = λ e. shut;
-    framed = λ e. absurd (other_bool (sym e));
-  }
+  left_out is_torn batch before c content shut = search (rules, other_bool)
 
   -- an open gate takes it in
   pub taken_in : (long : length header ≡ 32) (batch before c : List ℕ) → place + 5 + length batch < length c → Content header front true batches batch place c → gate_at c place ≡ open_gate
       → Content header front false (batches ++ batch ∷ []) before (place + 5 + length batch) c
-  taken_in long batch before c inside content opened =
-      let framed = content.framed refl opened in
-      record {
-        listed = joined header long place c batch low inside framed batches opened content.listed;
-        founded = content.founded;
-        drafted = content.drafted;
-        shut = λ e. next_shut header long place c batch low inside framed;
-        framed = λ e. absurd (other_bool (sym e));
-      }
+  taken_in long batch before c inside content opened = search (rules, joined, next_shut, other_bool)
 
   -- octet 0 is being written
   pub founding : (before octets c : List ℕ) → place < length octets → Content header front false batches before place octets → Torn 0 1 octets c → Content header Founding false batches before place c
-  founding before octets c inside content torn = record {
-    listed = front_but_first place c octets torn.after ∙ content.listed;
-    founded = λ e. cc;
-    drafted = λ e. cc;
-    shut = λ e opened. content.shut e (sym (later_but_first place open_gate c octets (omega arith) torn.after) ∙ opened);
-    framed = λ e. absurd (other_bool (sym e));
-  }
+  founding before octets c inside content torn = search (rules, front_but_first, later_but_first, other_bool)
 
 module _ (header : List ℕ) (long : length header ≡ 32) (front : Front) (batches : List (List ℕ)) (place : ℕ)
     (low : 32 ≤ place) (small : All IsSmall batches) where
   pub content_keeps : (before c : List ℕ) → place < length c → Content header front false batches before place c
       → Keeps front header batches c
-  content_keeps before c inside content =
-      keeps header long place c batches low inside small front
-      content.listed content.founded content.drafted (content.shut refl)
+  content_keeps before c inside content = search (rules, keeps)
 
 -- what a crash leaves of a journal, whether a batch may stand or not
 module _ (header : List ℕ) (long : length header ≡ 32) (front : Front) (batches : List (List ℕ)) (place : ℕ)
@@ -243,21 +197,4 @@ after_gate header long front batches batch before place low octets true octet in
 -- and octet 0 read
 pub after_first : (header : List ℕ) (begins : get_or header 0 0 ≡ 67) (front : Front) (batches : List (List ℕ)) (batch : List ℕ) (place : ℕ) (octets : List ℕ) (first : ℕ) → first ≡ get_or octets 0 0
     → Content header front false batches batch place octets → Content header (front_after front first) false batches batch place octets
-after_first header begins Founding batches batch place octets first is content =
-    elim (eqb_tells first 67) [
-      | inl equal ↦ rw equal.0 (record {
-        listed = content.listed;
-        founded = λ e. sym is ∙ equal.1 ∙ sym begins;
-        drafted = λ e. cc;
-        shut = content.shut;
-        framed = content.framed;
-      })
-      | inr other ↦ rw other.0 (record {
-        listed = content.listed;
-        founded = λ e. cc;
-        drafted = λ e same. other.1 (is ∙ same ∙ begins);
-        shut = content.shut;
-        framed = content.framed;
-      })
-    ]
-after_first header begins _ batches batch place octets first is content = content
+after_first header begins front batches batch place octets first is content = search (rules, eqb_tells)

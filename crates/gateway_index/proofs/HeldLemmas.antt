@@ -1,5 +1,5 @@
 -- What each step on held copies makes of those of a list of keys.
-use Rattle.std.proofs.Common.{◌≡◌, ℕ, ◌+◌, ◌≤◌, ◌==◌, ◌&&◌, ◌||◌, not, Bool, true, false, if◌then◌else◌, List, [], ◌∷◌, ◌++◌, length, filter, count_by, refl, sym, ap, ◌∙◌, true≢false, arith, inl, inr, ◌-◌, cond, Option, Some, None, is_some, length-append, subst}
+use Rattle.std.proofs.Common.{◌≡◌, ℕ, ◌+◌, ◌≤◌, ◌==◌, ◌&&◌, ◌||◌, not, Bool, true, false, if◌then◌else◌, List, [], ◌∷◌, ◌++◌, length, filter, count_by, refl, sym, ap, ◌∙◌, arith, inl, inr, ◌-◌, cond, Option, Some, None, is_some, length-append, subst}
 use Rattle.std.specs.List.{list_any}
 use Rattle.std.proofs.lemmas.Bool.{cases_Bool, cond_both, false_from_ne_true, and_parts, eqb-true, or_parts}
 use Rattle.std.proofs.lemmas.List.Sums.{sum_by-append, sum_by-cons, length-filter}
@@ -13,7 +13,7 @@ use Rattle.gw_base.specs.declared.scan.HoldFate.{HoldFate}
 use Rattle.gw_base.specs.declared.scan.HoldFate.TheVariants as fate
 use Rattle.gw_base.specs.HeldKeys.{held_by, held_keys, is_key, holds}
 use Rattle.gw_base.specs.HeldLaws.{held_keys-append}
-use Rattle.gw_base.specs.History.{copies_of, fate_of, with_entry, with_fate}
+use Rattle.gw_base.specs.History.{copies_of, with_entry, with_fate}
 use Rattle.gw_base.specs.View.{stays_held}
 use Rattle.std.proofs.lemmas.Bool.Decides.{nat_tests}
 use Rattle.std.proofs.lemmas.List.Filters.{length-filter_both, sum_by-filter_both}
@@ -93,16 +93,7 @@ held_once n x h = by_last (λ (k : List HistoryEntry). count_by is (held_keys k)
 
     by_act : (act : HistoryAct) (keys : List HeldKey) → count_by is keys ≤ 1
         → count_by is (filter (λ key. stays_held act key) keys) + count_by is (held_by act []) ≤ 1
-    by_act (Hold m y packet) keys most =
-        let alone = count-cons is (record { node = m; number = y }) [] in
-        elim (cases_Bool ((m.0 == n) && (y == x))) [
-          | inl e ↦
-              let gone : (key : HeldKey) → stays_held (Hold m y packet) key ≡ true → is key ≡ false =
-              λ key stays. false_from_ne_true (is key) (λ same. true≢false (sym stays ∙ ap not (equal_parts m.0 y n x key.node.0 key.number e same))) in
-              omega (arith, alone, ap one_if e, none_among (λ key. stays_held (Hold m y packet) key) is gone keys)
-          | inr e ↦ omega (arith, alone, ap one_if e, most, count-filter_le is (λ key. stays_held (Hold m y packet) key) keys)
-        ]
-    by_act other keys most = omega (arith, most, count-filter_le is (λ key. stays_held other key) keys)
+    by_act other keys most = grind (arith, count-cons, false_from_ne_true, equal_parts, none_among, count-filter_le)
 
     more : (k : List HistoryEntry) (e : HistoryEntry) → count_by is (held_keys k) ≤ 1 → count_by is (held_keys (k ++ e ∷ [])) ≤ 1
     more k e rest =
@@ -136,8 +127,7 @@ copies-le (e ∷ h) = by_act e.act (copies_of h) (copies-le h)
 
     by_act : (act : HistoryAct) (copies : CopyCounts) → copies.held + copies.stranded ≤ length h
         → (with_entry act h copies).held + (with_entry act h copies).stranded ≤ length (e ∷ h)
-    by_act (Hold n x packet) copies most = by_fate (fate_of n.0 x h) copies most
-    by_act _ copies most = omega (arith, most)
+    by_act act copies most = grind arith
 
 -- ---- what each step on held copies makes of those of a list of keys
 
@@ -182,8 +172,7 @@ AreOnce keys = (n x : ℕ) → count_by (λ key. is_key n x key) keys ≤ 1
 -- ---- one copy less
 
 none_if : {A : Type 0} (b : Bool) (o : Option A) → is_some (if b then None else o) ≡ (not b && is_some o)
-none_if true o = refl
-none_if false o = refl
+none_if b o = grind arith
 
 without_one : (node number : ℕ) (copies : Copies) (keys : List HeldKey) → AreOnce keys → AreCopiesOf copies keys
     → AreCopiesOf (without_copy node number copies) (others node number keys)
@@ -244,8 +233,7 @@ with_one node number place copies keys are = record {
     key = record { node = node; number = number }
 
     placed : (n x : ℕ) (b : Bool) → is_some (if b then Some place else copies.place_of n x) ≡ (holds n x keys || (b || false))
-    placed n x true = sym (or-true (holds n x keys))
-    placed n x false = are.places n x ∙ sym (or-false (holds n x keys))
+    placed n x b = grind (arith, or-true, or-false)
 
 -- ---- those of a list less
 
@@ -253,8 +241,7 @@ once_filter : (q : HeldKey → Bool) (keys : List HeldKey) → AreOnce keys → 
 once_filter q keys once n x = omega (arith, once n x, count-filter_le (λ key. is_key n x key) q keys)
 
 next_stays : (a l y : Bool) → (not (a && y) && not (a && l)) ≡ not (a && (y || l))
-next_stays true l y = grind arith
-next_stays false l y = refl
+next_stays a l y = grind arith
 
 -- whether a key is none of these numbers of a node
 abbrev is_other : ℕ → List ℕ → HeldKey → Bool

@@ -1,8 +1,8 @@
 -- The copies that are held on two sides.
-use Rattle.std.proofs.Common.{◌≡◌, ℕ, false, List, [], ◌∷◌, ◌++◌, refl, sym, ap, ◌∙◌}
+use Rattle.std.proofs.Common.{◌≡◌, ℕ, List, [], ◌∷◌, ◌++◌, refl, rules}
 use Rattle.dup_buffer.specs.Copies.{Copies, without_copy}
 use Rattle.gateway_index.specs.CopySteps.{MayStep, MayStepEach, with_step, with_steps}
-use Rattle.gateway_index.specs.HeldPairs.{IsHeldStep, held_in}
+use Rattle.gateway_index.specs.HeldPairs.{IsHeldStep}
 use Rattle.gateway_index.specs.Sides.{without_copies}
 use Rattle.gateway_index.specs.declared.held_pair.CopyStep.{CopyStep}
 use Rattle.gateway_index.specs.declared.held_pair.HeldPair.{HeldPair}
@@ -21,10 +21,7 @@ taken_none node old = record { live = refl; firm = refl }
 
 pub taken_more : (node : ℕ) (numbers : List ℕ) (number : ℕ) {old now new : HeldPair} → IsHeldStep (without_copies node numbers) old now
     → IsHeldStep (without_copy node number) now new → IsHeldStep (without_copies node (numbers ++ number ∷ [])) old new
-taken_more node numbers number {old} so_far one = record {
-  live = one.live ∙ ap (without_copy node number) so_far.live ∙ sym (without_more node numbers number (held_in false old));
-  firm = one.firm ∙ so_far.firm;
-}
+taken_more node numbers number so_far one = search (rules, without_more)
 
 -- ---- steps that were noted
 

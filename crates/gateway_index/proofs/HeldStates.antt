@@ -1,13 +1,12 @@
 -- What a window has as held is held, after each step.
-use Rattle.std.proofs.Common.{◌≡◌, ℕ, ◌==◌, ◌&&◌, Bool, true, false, if◌then◌else◌, List, [], ◌∷◌, Some, None, is_some, refl, sym, ap, ◌∙◌, true≢false}
+use Rattle.std.proofs.Common.{◌≡◌, ℕ, ◌==◌, ◌&&◌, Bool, true, false, if◌then◌else◌, List, [], ◌∷◌, Some, None, is_some, refl, sym, ap, ◌∙◌, true≢false, arith, rules}
 use Rattle.std.specs.List.{list_any}
 use Rattle.dup_buffer.specs.Copies.{Copies, with_copy, without_copy, without_node}
-use Rattle.gw_base.specs.Lists.{raised}
 use Rattle.gw_base.specs.declared.address.NodeId.{NodeId}
 use Rattle.gw_base.specs.declared.history.Opening.{Opening}
 use Rattle.gw_base.specs.declared.key_state.KeyState.{KeyState}
 use Rattle.gw_base.specs.declared.key_state.KeyState.TheVariants.{Fresh, Held}
-use Rattle.seq_window.specs.Seen.{is_within, nothing_seen, with_state, with_states}
+use Rattle.seq_window.specs.Seen.{is_within, with_state, with_states}
 use Rattle.transfer_cmd.specs.Lists.{is_held}
 use Rattle.gateway_index.specs.HeldPairs.{IsHeldStep, held_in}
 use Rattle.gateway_index.specs.Limits.{half}
@@ -50,17 +49,12 @@ none_held held nodes new node n is = not_held Fresh refl (rw (new.windows node) 
 -- what is so of each state that a window may have after some got one, where a number had this one
 after_given : (P : KeyState → Type 0) (inside same : Bool) {given was : KeyState} → P Fresh → (same ≡ true → P given) → (same ≡ false → P was)
     → P (if inside then (if same then given else was) else Fresh)
-after_given P inside same {given} {was} fresh its other =
-    cond_both inside (if same then given else was) Fresh P (λ _. cond_both same given was P its other) (λ _. fresh)
+after_given P inside same fresh its other = search (rules, cond_both)
 
 pub numbered_held : (m : NodeId) (x : ℕ) (s : KeyState) → is_held s ≡ false → (held : Copies) (nodes : NodeSide) → AreHeldIn held nodes
     → AreHeldIn held (numbered_nodes m x s nodes)
 unfolding numbered_nodes
-numbered_held m x s other held nodes told node n =
-    cond_both (m.0 == node) (with_state half x s (nodes.window node)) (nodes.window node) (λ seen. seen.state n ≡ Held → is_some (held.place_of node n) ≡ true)
-    (λ _. after_given (λ state. state ≡ Held → is_some (held.place_of node n) ≡ true) (is_within half (raised (nodes.window node).top x) n) (x == n)
-    (not_held Fresh refl) (λ _. not_held s other) (λ _. told node n))
-    (λ _. told node n)
+numbered_held m x s one held nodes two = search (rules, cond_both, is_some, after_given, not_held)
 
 pub copied_held : (m : NodeId) (x : ℕ) (held : Copies) (nodes : NodeSide) → AreHeldIn held nodes
     → AreHeldIn (with_copy m.0 x no_place held) (numbered_nodes m x Held nodes)
@@ -75,8 +69,7 @@ copied_held m x held nodes told node n is = by_node (m.0 == node) is
 
     by_node : (b : Bool) → (if b then with_state half x Held (nodes.window node) else nodes.window node).state n ≡ Held
         → is_some (if b && (x == n) then Some no_place else held.place_of node n) ≡ true
-    by_node true e = by_tests (is_within half (raised (nodes.window node).top x) n) (x == n) e
-    by_node false e = told node n e
+    by_node b e = grind arith
 
 pub listed_held : (m : NodeId) (xs : List ℕ) (s : KeyState) → is_held s ≡ false → (held : Copies) (nodes : NodeSide) → AreHeldIn held nodes
     → AreHeldIn (without_copies m.0 xs held) (listed_nodes m xs s nodes)
@@ -93,10 +86,7 @@ listed_held m xs s other held nodes told node n =
 pub opened_held : (m : NodeId) (opening : Opening) (held : Copies) (nodes : NodeSide) → AreHeldIn held nodes
     → AreHeldIn (without_node m.0 held) (opened_nodes m opening nodes)
 unfolding opened_nodes
-opened_held m opening held nodes told node n =
-    cond_both (m.0 == node) nothing_seen (nodes.window node) (λ seen. seen.state n ≡ Held → is_some (if node == m.0 then None else held.place_of node n) ≡ true)
-    (λ _. not_held Fresh refl)
-    (λ apart is. ap is_some (cond-false (node == m.0) None (held.place_of node n) (same_numbers node m.0 ∙ apart)) ∙ told node n is)
+opened_held m opening held nodes is = search (rules, cond_both, is_some, not_held, cond-false, same_numbers)
 
 -- ---- both sides
 
@@ -112,8 +102,7 @@ pub both_told : {step : NodeSide → NodeSide} {hold : Copies → Copies} {old n
     → IsNodesStep step old new → IsHeldStep hold was is
     → ((held : Copies) (nodes : NodeSide) → AreHeldIn held nodes → AreHeldIn (hold held) (step nodes))
     → AreTold old was → AreTold new is
-both_told {step} {hold} {old} {new} {was} nodes held live told true = rw (held.firm, nodes.firm) (told true)
-both_told {step} {hold} {old} {new} {was} nodes held live told false = rw (held.live, nodes.live) (live (held_in false was) (nodes_in false old) (told false))
+both_told one two three four = search rules
 
 pub kept_told : (firm : Bool) (old new : NodeTable) (was is : HeldPair) → ((side : Bool) → nodes_in side new ≡ nodes_in firm old)
     → ((side : Bool) → held_in side is ≡ held_in firm was) → AreTold old was → AreTold new is

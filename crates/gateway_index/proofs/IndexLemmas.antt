@@ -1,17 +1,16 @@
 -- What the parts of an index make of its sides.
-use Rattle.std.proofs.Common.{◌≡◌, ℕ, ◌+◌, ◌^◌, ◌<◌, ◌≤◌, ◌&&◌, Bool, true, false, if◌then◌else◌, List, [], ◌∷◌, ◌++◌, length, Option, Some, None, is_some, refl, sym, ap, ◌∙◌, true≢false, inl, inr, zero, suc, ◌-◌, drop, arith, slice_get}
-use Rattle.std.specs.Prelude.{IfSome, nat_le, nat_lt}
-use Rattle.std.proofs.lemmas.Bool.{and_parts, leb-true, ltb-true, or_cases}
+use Rattle.std.proofs.Common.{◌≡◌, ℕ, ◌+◌, ◌^◌, ◌<◌, ◌≤◌, Bool, true, false, if◌then◌else◌, List, [], ◌∷◌, ◌++◌, length, Option, Some, None, is_some, refl, ap, ◌∙◌, zero, suc, ◌-◌, drop, arith, slice_get, rules}
+use Rattle.std.specs.Prelude.{IfSome}
+use Rattle.std.proofs.lemmas.Bool.{leb-true, ltb-true}
 use Rattle.dup_buffer.specs.Copies.{Copies, most_copies, no_copies}
-use Rattle.gw_base.specs.Known.{is_known}
 use Rattle.gw_base.specs.Observed.{observed}
 use Rattle.gw_base.specs.declared.address.NodeId.{NodeId}
 use Rattle.gw_base.specs.declared.history.HistoryEntry.{HistoryEntry}
 use Rattle.seq_window.specs.Histories.{IsFreshAbove}
-use Rattle.gateway_index.specs.FitActs.{any_packet, fits_with, is_fresh, is_in_window, is_new}
+use Rattle.gateway_index.specs.FitActs.{any_packet, fits_with, is_in_window, is_new}
 use Rattle.gateway_index.specs.HeldPairs.{IsHeldStep, held_in}
-use Rattle.gateway_index.specs.Index.{Follows, Stepped, observed_by, observed_in, side_of}
-use Rattle.gateway_index.specs.Limits.{has_place, half, is_in_range, least_number, may_hold, numbers_end}
+use Rattle.gateway_index.specs.Index.{Follows, Stepped, observed_by, side_of}
+use Rattle.gateway_index.specs.Limits.{has_place, half, may_hold}
 use Rattle.gateway_index.specs.NodeSides.{AreNew, IsNodesStep, MayBeKnown, nodes_in}
 use Rattle.gateway_index.specs.Sides.{NodeSide, Side, acted, no_totals, side_after, totals_after}
 use Rattle.gateway_index.specs.Windows.{narrowed}
@@ -33,51 +32,28 @@ pub record NewFacts (index : Index) (node : NodeId) (number : ℕ) : Type 0 wher
 
 pub place_left : (index : Index) (node : NodeId) → has_place (observed_by false index node) ≡ true → MayBeKnown node (nodes_in false index.nodes)
 unfolding observed_by side_of
-place_left index node place unknown =
-    let known = (nodes_in false index.nodes).known in
-    elim (or_cases (is_known known node) (nat_lt (length known) 64) place) [
-      | inl is ↦ absurd (true≢false (sym is ∙ unknown))
-      | inr few ↦ ltb-true (length known) 64 few
-    ]
+place_left index node is = search (rules, ltb-true)
 
 in_window : (top : Option ℕ) (number : ℕ) → is_in_window top number ≡ true → IfSome top (λ t. t ≤ number + half)
-in_window None number is = tt
-in_window (Some t) number is = leb-true t (number + half) is
+in_window top number is = grind (arith, leb-true)
 
 pub new_facts : (index : Index) (node : NodeId) (number : ℕ) → is_new (observed_by false index node) number ≡ true → NewFacts index node number
 unfolding observed_by side_of
-new_facts index node number new =
-    let o = observed_in (side_of false index) node in
-    let a = and_parts (has_place o && is_fresh (o.state number) && is_in_range number) (is_in_window o.top number) new in
-    let b = and_parts (has_place o && is_fresh (o.state number)) (is_in_range number) a.0 in
-    record {
-      place = place_left index node ((and_parts (has_place o) (is_fresh (o.state number)) b.0).0);
-      not_below = in_window o.top number a.1;
-      high = ltb-true number numbers_end ((and_parts (nat_le least_number number) (nat_lt number numbers_end) b.1).1);
-      free = new_is_free (side_of false index) node number new;
-    }
+new_facts index node number new = search (rules, place_left, in_window, ltb-true, new_is_free)
 
 pub few_held : (index : Index) (node : NodeId) → may_hold (observed_by false index node) ≡ true → (held_in false index.held).count < most_copies
 unfolding observed_by side_of
 few_held index node may = ltb-true (held_in false index.held).count most_copies may
 
 pub none_there : {A : Type 0} (o : Option A) → is_some o ≡ false → o ≡ None
-none_there None e = refl
-none_there (Some x) e = absurd (true≢false e)
+none_there o e = grind arith
 
 -- ---- no entry
 
 pub fresh_follows : (index : Index) → ((node : ℕ) → IsFreshAbove node []) → ((firm : Bool) → AreNew (nodes_in firm index.nodes))
     → ((firm : Bool) → held_in firm index.held ≡ no_copies) → index.firm ≡ no_totals → index.live ≡ no_totals → (side : Bool) → Follows side index []
 unfolding Follows side_of
-fresh_follows index above nodes held f l side = record {
-  windows = (nodes side).windows;
-  openings = (nodes side).openings;
-  known = (nodes side).known;
-  held = rw (held side) (record { places = λ node number. refl; count = refl; counts = λ node. refl });
-  totals = both_are f l side;
-  above = above;
-}
+fresh_follows index above nodes held f l side = search (rules, both_are)
 
 -- ---- steps
 
@@ -86,10 +62,7 @@ pub stepped : {step : NodeSide → NodeSide} {hold : Copies → Copies} (count :
     → IsHeldStep hold old.held new.held → new.firm ≡ old.firm → new.live ≡ count (side_of false old)
     → Stepped (λ side. record { nodes = step side.nodes; held = hold side.held; totals = count side }) old new
 unfolding side_of
-stepped count nodes held firm live = record {
-  live = λ i. record { nodes = nodes.live i; held = held.live i; totals = live i };
-  firm = λ i. record { nodes = nodes.firm i; held = held.firm i; totals = firm i };
-}
+stepped count nodes held firm live = search rules
 
 -- the held copies stay
 pub held_stays : {held : HeldPair} → IsHeldStep (λ copies. copies) held held
@@ -112,17 +85,7 @@ follows_same side firm old new e h t = rw e t
 pub after_step : (e : HistoryEntry) {old new after : Index} → Stepped (acted e.act) old new → after.nodes ≡ new.nodes → after.held ≡ new.held
     → after.firm ≡ new.firm → after.live ≡ totals_after e new.live → Stepped (side_after e) old after
 unfolding side_of
-after_step e {old} {new} {after} stepped nodes held firm live =
-    record {
-      live = λ i. record {
-        nodes = (ap (nodes_in false) nodes ∙ ap (λ (s : Side). s.nodes) stepped.live) i;
-        held = (ap (held_in false) held ∙ ap (λ (s : Side). s.held) stepped.live) i;
-        totals = (live ∙ ap (λ (s : Side). totals_after e s.totals) stepped.live) i;
-      };
-      firm =
-          let same : side_of true after ≡ side_of true new = λ i. record { nodes = nodes_in true (nodes i); held = held_in true (held i); totals = firm i } in
-          same ∙ stepped.firm;
-    }
+after_step e is nodes held firm live = search (rules, stepped)
 
 pub follows_after : HeldLaw → PresentLaw → CountLaw → WindowLaw → (e : HistoryEntry) {old new : Index}
     → fits_with any_packet (observed_by false old) e.act ≡ true → Stepped (side_after e) old new
@@ -164,7 +127,4 @@ module _ {X Y : Type 0} (f : X → Option Y) (xs : List X) (i : ℕ) (x : X) (at
   -- or counts as one
   pub counted : (y : Y) (left : ℕ) → f x ≡ Some y → 0 < left
       → slice_get (filter_map f (drop (i + 1) xs)) (left - 1) ≡ slice_get (filter_map f (drop i xs)) left
-  counted y zero some more = absurd (omega (arith, more))
-  counted y (suc left) some more =
-      let less : suc left - 1 ≡ left = omega arith in
-      rw (step, some) (ap (λ (n : ℕ). slice_get (filter_map f (drop (i + 1) xs)) n) less)
+  counted y left some more = grind (arith, step)

@@ -1,7 +1,7 @@
 -- What each call makes of the nodes that an index keeps.
-use Rattle.std.proofs.Common.{◌≡◌, ℕ, zero, ◌+◌, ◌<◌, ◌≤◌, ◌==◌, ◌&&◌, nat_lt, inl, inr, Bool, true, false, if◌then◌else◌, List, [], ◌∷◌, ◌++◌, Some, length, length-append, map, take, refl, sym, ap, subst, ◌∙◌, arith}
+use Rattle.std.proofs.Common.{◌≡◌, ℕ, zero, ◌+◌, ◌<◌, ◌≤◌, ◌==◌, ◌&&◌, nat_lt, inl, inr, Bool, true, false, if◌then◌else◌, List, [], ◌∷◌, ◌++◌, Some, length, length-append, map, take, refl, sym, ap, ◌∙◌, arith, rules}
 use Rattle.std.specs.Prelude.{IfSome}
-use Rattle.std.proofs.lemmas.Bool.{and_parts, eq-eqb, eqb-true, le-ltb, lt-ltb, ltb-true, ne_eqb, cond_both}
+use Rattle.std.proofs.lemmas.Bool.{eq-eqb, eqb-true, le-ltb, lt-ltb, ltb-true, ne_eqb, cond_both}
 use Rattle.std.proofs.lemmas.List.{length-map, length-take, take_all, take_at, take-take}
 use Rattle.gw_base.specs.declared.address.NodeId.{NodeId}
 use Rattle.gw_base.specs.declared.history.Opening.{Opening}
@@ -31,10 +31,7 @@ window_by firm slots pairs n = seen_at firm pairs (place_in slots n)
 -- those of the first slots, where none behind them has a window
 window_cut : (side : Bool) (k n : ℕ) (slots : List Slot) (pairs : List WindowPair) → k ≤ length slots
     → ((j : ℕ) → k ≤ j → seen_at side pairs j ≡ nothing_seen) → window_by side (take k slots) pairs n ≡ window_by side slots pairs n
-window_cut side k n slots pairs within behind = elim (place_cut k n slots within) [
-  | inl same ↦ ap (λ (j : ℕ). seen_at side pairs j) same
-  | inr both ↦ behind (place_in (take k slots) n) both.0 ∙ sym (behind (place_in slots n) both.1)
-]
+window_cut side k n slots pairs within behind = grind (arith, place_cut)
 
 -- ---- a node that becomes known
 
@@ -43,12 +40,7 @@ learnt_known node slots known = record { known = known_same slots node known; in
 
 pub learnt_new : (node : NodeId) (slots : List Slot) → is_known (nodes_of slots) node ≡ false
     → IsLearnt node (place_in slots node.0) slots (slots ++ fresh_slot node ∷ [])
-learnt_new node slots new = record {
-  known = known_more slots (fresh_slot node) new;
-  inside = omega (arith, unknown_behind node slots new, length-append slots (fresh_slot node ∷ []));
-  here = unknown_behind node slots new ∙ sym (place_new node slots (fresh_slot node) refl new);
-  slots = inr (refl, new);
-}
+learnt_new node slots new = search (rules, known_more, unknown_behind, length-append, place_new)
 
 module _ {node : NodeId} {place : ℕ} {old new : List Slot} (learnt : IsLearnt node place old new) where
   -- what holds of the slots that there were, and of these with a fresh one, holds of those that there are
@@ -60,20 +52,17 @@ module _ {node : NodeId} {place : ℕ} {old new : List Slot} (learnt : IsLearnt 
 
   -- the slots that there were are the first ones
   learnt_first : take (length old) new ≡ old
-  learnt_first = either_slots (λ s. take (length old) s ≡ old) (take_all (length old) old (omega arith))
-      (λ _. take_at old (fresh_slot node ∷ []) (length old) refl)
+  learnt_first = grind (arith, either_slots, take_all, take_at)
 
   pub learnt_firm : (firm : ℕ) → firm ≤ length old → nodes_of (take firm new) ≡ nodes_of (take firm old)
-  learnt_firm firm within =
-      ap nodes_of (sym (take-take firm (length old) new within) ∙ ap (λ (slots : List Slot). take firm slots) learnt_first)
+  learnt_firm firm within = grind (arith, take-take, learnt_first)
 
   pub learnt_openings : (side : Bool) (n : ℕ) → opening_at side new n ≡ opening_at side old n
   learnt_openings side n = either_slots (λ s. opening_at side s n ≡ opening_at side old n) refl (λ _. openings_more side n old node)
 
   pub learnt_windows : (side : Bool) (pairs : List WindowPair) → ((k : ℕ) → length old ≤ k → seen_at side pairs k ≡ nothing_seen)
       → (n : ℕ) → window_by side new pairs n ≡ window_by side old pairs n
-  learnt_windows side pairs behind n =
-      sym (window_cut side (length old) n new pairs learnt_length behind) ∙ ap (λ (slots : List Slot). window_by side slots pairs n) learnt_first
+  learnt_windows side pairs behind n = grind (arith, window_cut, learnt_length, learnt_first)
 
   pub learnt_slots : (firm : ℕ) → (is_known (nodes_of old) node ≡ false → length old < 64) → AreSlots firm old → AreSlots firm new
   learnt_slots firm room are = either_slots (λ s. AreSlots firm s) are (λ fresh. slots_more firm node old (room fresh) are)
@@ -83,8 +72,7 @@ module _ {node : NodeId} {place : ℕ} {old new : List Slot} (learnt : IsLearnt 
 
   -- where it was known before, no slot changes
   pub learnt_still : (firm : ℕ) → place < length old → AreSame firm old → AreSame firm new
-  learnt_still firm before same = either_slots (λ s. place ≡ place_in s node.0 → AreSame firm s) (λ _. same)
-      (λ fresh here. absurd (omega (arith, before, here, place_new node old (fresh_slot node) refl fresh))) learnt.here
+  learnt_still firm before same = search (rules, either_slots, place_new)
 
   -- both sides are the same still where they were and the node was known before
   pub learnt_same : (is_same : Bool) (count : ℕ) (still : Bool) → count ≡ length old → still ≡ (is_same && nat_lt place count)
@@ -99,27 +87,18 @@ module _ {node : NodeId} {place : ℕ} {old new : List Slot} (learnt : IsLearnt 
 
 -- both sides are the same still, where a node was known
 pub both_still : (is_same : Bool) (place count : ℕ) (still : Bool) → still ≡ (is_same && nat_lt place count) → still ≡ true → (is_same ≡ true) × (place < count)
-both_still is_same place count still is e =
-    let both = and_parts is_same (nat_lt place count) (sym is ∙ e) in
-    (both.0, ltb-true place count both.1)
+both_still is_same place count still is e = grind (arith, ltb-true)
 
 -- ---- a step of the windows at a node's place
 
 module _ (node : NodeId) (place : ℕ) (slots : List Slot) (here : place ≡ place_in slots node.0) (inside : place < length slots) where
   pub at_place : {step : Seen → Seen} {pairs after : List WindowPair} → IsStepAt place step pairs after
       → (n : ℕ) → window_by false slots after n ≡ (if node.0 == n then step (window_by false slots pairs n) else window_by false slots pairs n)
-  at_place s n = s.live (place_in slots n) ∙ elim (eqb_tells node.0 n) [
-    | inl is ↦ rw (is.0, eq-eqb place (place_in slots n) (here ∙ ap (λ (m : ℕ). place_in slots m) is.1)) refl
-    | inr is ↦ rw (is.0, ne_eqb place (place_in slots n) (λ same. apart node.0 n slots is.1 (omega (arith, here, inside)) (sym here ∙ same))) refl
-  ]
+  at_place s n = grind (arith, eqb_tells, eq-eqb, ne_eqb, apart)
 
 pub beside_step : {firm nodes more place : ℕ} {step : Seen → Seen} {pairs after : List WindowPair} → AreBeside firm nodes pairs
     → IsStepAt place step pairs after → place < more → nodes ≤ more → AreBeside firm more after
-beside_step {firm} {nodes} {more} {place} beside s inside grows = record {
-  count = s.count ∙ beside.count;
-  firm_behind = λ k behind. s.firm k ∙ beside.firm_behind k behind;
-  live_behind = λ k behind. s.live k ∙ rw (ne_eqb place k (λ same. omega (arith, same, behind, inside))) (beside.live_behind k (omega (arith, behind, grows)));
-}
+beside_step beside s inside grows = search (rules, ne_eqb)
 
 -- ---- each call
 
@@ -190,9 +169,7 @@ listed_none node numbers state old past = record {
     window n = window_by false old.slots.items old.windows.pairs.items n
 
     still : (n : ℕ) → node.0 ≡ n → window n ≡ with_states half numbers state (window n)
-    still n same =
-        let none : window n ≡ nothing_seen = ap window (sym same) ∙ old.beside.live_behind (place_in old.slots.items node.0) past in
-        rw none refl
+    still n same = grind arith
 
 -- ---- both sides one side's
 
@@ -206,8 +183,7 @@ module _ {firm : Bool} {count : ℕ} {slots : List Slot} {pairs after : List Win
       by_side false = refl
 
   pub settled_windows : (side : Bool) (n : ℕ) → window_by side (settled firm count slots) after n ≡ window_by firm slots pairs n
-  settled_windows side n = kept_all kept side (place_in (settled firm count slots) n)
-      ∙ ap (λ (k : ℕ). seen_at firm pairs k) (place_settled firm count n slots) ∙ kept_window n
+  settled_windows side n = grind (arith, kept_all, place_settled, kept_window)
 
   behind_kept : (k : ℕ) → length (kept_slots firm count slots) ≤ k → seen_at firm pairs k ≡ nothing_seen
   behind_kept k = by_side firm
@@ -217,20 +193,14 @@ module _ {firm : Bool} {count : ℕ} {slots : List Slot} {pairs after : List Win
       by_side false behind = beside.live_behind k behind
 
   pub settled_beside : (now : ℕ) → now ≡ length (kept_slots firm count slots) → AreBeside now (length (settled firm count slots)) after
-  settled_beside now is = record {
-    count = kept.count ∙ beside.count;
-    firm_behind = λ k behind. kept_all kept true k ∙ behind_kept k (omega (arith, behind, is));
-    live_behind = λ k behind. kept_all kept false k ∙ behind_kept k (omega (arith, behind, settled_length firm count slots));
-  }
+  settled_beside now is = search (rules, firm_behind, kept_all, behind_kept, settled_length)
 
 pub settled_nodes : (firm : Bool) (old new : NodeTable) → new.firm ≡ length (kept_slots firm old.firm old.slots.items)
     → new.slots.items ≡ settled firm old.firm old.slots.items
     → AreKeptTo (length old.windows.pairs.items) firm old.windows.pairs.items new.windows.pairs.items → (side : Bool) → nodes_in side new ≡ nodes_in firm old
 unfolding nodes_in
-settled_nodes firm old new count slots kept side = same_nodes (nodes_in side new) (nodes_in firm old)
-    (ap (λ (xs : List Slot). known_at side new.firm xs) slots ∙ settled_known side firm old.firm new.firm old.slots.items count)
-    (λ n. ap (λ (xs : List Slot). opening_at side xs n) slots ∙ settled_openings side firm old.firm n old.slots.items old.are_slots)
-    (λ n. ap (λ (xs : List Slot). window_by side xs new.windows.pairs.items n) slots ∙ settled_windows old.are_slots old.beside kept side n)
+settled_nodes firm old new count slots kept side =
+    grind (arith, same_nodes, settled_known, settled_openings, settled_windows)
 
 -- ---- what the calls ask, and what stays true
 
@@ -264,8 +234,7 @@ module _ {node : NodeId} {place : ℕ} (old : NodeTable) {new : List Slot} (lear
   pub learnt_not_below : (number : ℕ) → IfSome ((nodes_in false old).window node.0).top (λ top. top ≤ number + half)
       → IfSome (seen_at false old.windows.pairs.items place).top (λ top. top ≤ number + half)
   unfolding nodes_in
-  learnt_not_below number = subst (λ (seen : Seen). IfSome seen.top (λ top. top ≤ number + half))
-      (sym (ap (λ (k : ℕ). seen_at false old.windows.pairs.items k) learnt.here ∙ learnt_windows learnt false old.windows.pairs.items old.beside.live_behind node.0))
+  learnt_not_below number is = grind (arith, learnt_windows)
 
   pub learnt_beside : {step : Seen → Seen} {after : List WindowPair} → IsStepAt place step old.windows.pairs.items after
       → AreBeside old.firm (length new) after

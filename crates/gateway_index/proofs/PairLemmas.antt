@@ -1,7 +1,7 @@
 -- What one step at a place changes of windows.
-use Rattle.std.proofs.Common.{◌≡◌, ℕ, zero, suc, ◌+◌, ◌<◌, ◌≤◌, ◌==◌, ◌&&◌, min, Bool, true, false, if◌then◌else◌, List, [], ◌∷◌, ◌++◌, length, length-append, refl, sym, ap, ◌∙◌, true≢false, arith, inl, inr, ◌^◌, max, ◌||◌, nat_le, Option, Some, None}
+use Rattle.std.proofs.Common.{◌≡◌, ℕ, zero, suc, ◌+◌, ◌<◌, ◌≤◌, ◌==◌, ◌&&◌, min, Bool, true, false, if◌then◌else◌, List, [], ◌∷◌, ◌++◌, length, length-append, refl, sym, ap, ◌∙◌, arith, inl, inr, ◌^◌, ◌||◌, nat_le, Option, Some, rules}
 use Rattle.std.specs.Prelude.{nat_lt, slice_index_or, slice_set, IfSome}
-use Rattle.std.proofs.lemmas.Bool.{eqb-true, ne_eqb, leb-false, leb-true, ltb-false, ltb-true, and_cases, and_parts, cases_lt, cond_both, false≢true}
+use Rattle.std.proofs.lemmas.Bool.{eqb-true, ne_eqb, leb-false, leb-true, ltb-false, ltb-true, and_cases, cond_both, false≢true}
 use Rattle.seq_window.specs.Seen.{Seen, nothing_seen, with_state, is_within, with_states}
 use Rattle.gateway_index.specs.GivenStates.{MaySet, MaySetEach, with_each}
 use Rattle.gateway_index.specs.Limits.{half}
@@ -11,7 +11,6 @@ use Rattle.gateway_index.specs.declared.window_pair.WindowPair.{WindowPair}
 use Rattle.std.proofs.lemmas.Bool.Decides.{eqb_tells, nat_tests}
 use Rattle.std.proofs.lemmas.List.{length-set}
 use Rattle.std.proofs.Math.Dec.{eqb-suc-suc, eqb-suc-zero, eqb-zero-suc}
-use Rattle.std.specs.List.{list_any}
 use Rattle.std.proofs.lemmas.List.Folds.{list_any-append}
 use Rattle.gw_base.specs.Lists.{raised}
 use Rattle.gw_base.specs.declared.key_state.KeyState.{KeyState}
@@ -20,22 +19,15 @@ use Rattle.seq_window.specs.Stored.{Stored, cell_state, seen_of}
 
 -- one of two that are the same
 pub either : {A : Type 0} (a b : Bool) {x y : A} → (a ≡ false → x ≡ y) → (b ≡ false → x ≡ y) → (if a then x else y) ≡ (if b then x else y)
-either true true one other = refl
-either true false one other = other refl
-either false true one other = sym (one refl)
-either false false one other = refl
+either a b one other = grind arith
 
 -- what is the same of both sides
 pub same_sides : {A : Type 0} (of : Bool → A) → of true ≡ of false → (a b : Bool) → of a ≡ of b
-same_sides of same true false = same
-same_sides of same false true = sym same
-same_sides of same true true = refl
-same_sides of same false false = refl
+same_sides of same a b = grind arith
 
 -- what both are
 pub both_are : {A : Type 0} {x y z : A} → x ≡ z → y ≡ z → (side : Bool) → (if side then x else y) ≡ z
-both_are one other true = one
-both_are one other false = other
+both_are one other side = grind arith
 
 -- the window at a place is that of the pair there
 place_there : (firm : Bool) (pairs : List WindowPair) (k : ℕ) (d : WindowPair) → k < length pairs → seen_at firm pairs k ≡ seen_in firm (slice_index_or pairs k d)
@@ -95,19 +87,12 @@ blank_push firm (p ∷ pairs) pair one all zero = all 0
 blank_push firm (p ∷ pairs) pair one all (suc k) = blank_push firm pairs pair one (λ j. all (suc j)) k
 
 pub blank_more : (count : ℕ) (pairs : List WindowPair) (pair : WindowPair) → AreBlank count pairs → ((firm : Bool) → seen_in firm pair ≡ nothing_seen) → AreBlank (count + 1) (pairs ++ pair ∷ [])
-blank_more count pairs pair blank one = record {
-  count = omega (arith, blank.count, length-append pairs (pair ∷ []));
-  blank = λ firm k. blank_push firm pairs pair (one firm) (blank.blank firm) k;
-}
+blank_more count pairs pair blank one = search (rules, length-append, blank_push)
 
 -- ---- both sides one side's
 
 pub kept_none : (firm : Bool) (from : ℕ) (pairs : List WindowPair) → AreKeptIn from from firm pairs pairs
-kept_none firm from pairs = record {
-  count = refl;
-  kept = λ side k. cond_both (nat_le from k && nat_lt k from) (seen_at firm pairs k) (seen_at side pairs k) (λ seen. seen_at side pairs k ≡ seen)
-      (λ e. let both = and_parts (nat_le from k) (nat_lt k from) e in absurd (omega (arith, leb-true from k both.0, ltb-true k from both.1))) (λ _. refl);
-}
+kept_none firm from pairs = search (rules, cond_both, leb-true, ltb-true)
 
 -- one more place is kept
 kept_step : {A : Type 0} (from count k : ℕ) (now new kept other : A) → from ≤ count → (count ≡ k → new ≡ kept)
@@ -147,10 +132,7 @@ kept_around {firm} {from} {end} {old} before behind kept = record {
 -- both sides are the same behind the places that may differ, and behind all
 pub same_behind : {end least : ℕ} (pairs : List WindowPair) → least ≡ min end (length pairs)
     → ((k : ℕ) → end ≤ k → seen_at true pairs k ≡ seen_at false pairs k) → (k : ℕ) → least ≤ k → seen_at true pairs k ≡ seen_at false pairs k
-same_behind {end} {least} pairs is behind k past = elim (cases_lt k (length pairs)) [
-  | inl low ↦ behind k (omega (arith, is, past, low))
-  | inr over ↦ seen_behind true pairs k over ∙ sym (seen_behind false pairs k over)
-]
+same_behind pairs is behind k past = grind (arith, seen_behind)
 
 -- a step at a place leaves both sides the same where they were, but there
 pub same_after : {step : Seen → Seen} {place : ℕ} {old new : List WindowPair} (k : ℕ) → IsStepAt place step old new → (place ≡ k → ⊥)
@@ -162,8 +144,7 @@ blank_same count pairs blank k = blank.blank true k ∙ sym (blank.blank false k
 
 -- all are kept
 pub kept_all : {firm : Bool} {old new : List WindowPair} → AreKeptTo (length old) firm old new → (side : Bool) (k : ℕ) → seen_at side new k ≡ seen_at firm old k
-kept_all {firm} {old} kept side k = kept.kept side k ∙ either (nat_lt k (length old)) true
-    (λ e. let past = ltb-false k (length old) e in seen_behind firm old k past ∙ sym (seen_behind side old k past)) (λ e. absurd (true≢false e))
+kept_all kept side k = grind (arith, either, ltb-false, seen_behind)
 
 pub kept_same : {firm : Bool} {old new : List WindowPair} → AreKeptTo (length old) firm old new → (k : ℕ) → seen_at true new k ≡ seen_at false new k
 kept_same kept k = kept_all kept true k ∙ sym (kept_all kept false k)
@@ -192,17 +173,14 @@ same_seen one other t s = λ i. record { top = t i; state = λ n. s n i }
 
 -- it isn't above the greatest one, and may be given a state
 held_below : (t number : ℕ) → is_within half (Some t) number ≡ true → (t ≤ number + half) × (number ≤ t)
-held_below t number held =
-    let b = and_parts (nat_le t (number + half)) (nat_le number t) held in (leb-true t (number + half) b.0, leb-true number t b.1)
+held_below t number held = grind (arith, leb-true)
 
 pub may_set_held : (top : Option ℕ) (number : ℕ) → is_within half top number ≡ true → IfSome top (λ t. t < 2 ^ 63)
     → IfSome top (λ t. t ≤ number + half) × (number < 2 ^ 63)
-may_set_held None number held low = absurd (false≢true held)
-may_set_held (Some t) number held low = let b = held_below t number held in (b.0, omega (arith, b.1, low))
+may_set_held top number held low = grind (arith, held_below)
 
 raised_held : (top : Option ℕ) (number : ℕ) → is_within half top number ≡ true → raised top number ≡ top
-raised_held None number held = absurd (false≢true held)
-raised_held (Some t) number held = let same : max t number ≡ t = omega (arith, (held_below t number held).1) in ap Some same
+raised_held top number held = grind (arith, held_below)
 
 -- what a window says, and once some of its numbers were given states
 in_list : {A : Type 0} (within listed : Bool) (given was none : A)
@@ -220,9 +198,7 @@ in_more within first last given was none = grind arith
 -- and that is the same as to a list of it alone
 state_of_one : (number : ℕ) (s : KeyState) (seen : Seen) → is_within half seen.top number ≡ true
     → with_state half number s seen ≡ with_states half (number ∷ []) s seen
-state_of_one number s seen held = same_seen _ _ (raised_held seen.top number held) (λ n.
-    ap (λ (o : Option ℕ). if is_within half o n then (if number == n then s else seen.state n) else Fresh) (raised_held seen.top number held)
-    ∙ in_list (is_within half seen.top n) (number == n) s (seen.state n) Fresh)
+state_of_one number s seen held = grind (arith, same_seen, raised_held, in_list)
 
 -- ---- none
 
@@ -243,9 +219,7 @@ state_of_other number s stored out = same_seen _ _ refl (λ n. at n (is_within h
 
 states_of_more : (numbers : List ℕ) (number : ℕ) (s : KeyState) (seen : Seen)
     → with_states half (number ∷ []) s (with_states half numbers s seen) ≡ with_states half (numbers ++ number ∷ []) s seen
-states_of_more numbers number s seen = same_seen _ _ refl (λ n.
-    in_more (is_within half seen.top n) (list_any (λ y. y == n) numbers) (number == n) s (seen.state n) Fresh
-    ∙ ap (λ (b : Bool). if is_within half seen.top n then (if b then s else seen.state n) else Fresh) (sym (list_any-append (λ y. y == n) numbers (number ∷ []))))
+states_of_more numbers number s seen = grind (arith, same_seen, in_more, list_any-append)
 
 -- ---- steps of a pair
 

@@ -1,9 +1,9 @@
 -- How the slots of nodes change.
-use Rattle.std.proofs.Common.{◌≡◌, ◌≢◌, ℕ, zero, suc, ◌+◌, ◌<◌, ◌≤◌, ◌==◌, ◌&&◌, ◌||◌, Bool, true, false, if◌then◌else◌, List, [], ◌∷◌, ◌++◌, Option, Some, None, length, length-append, map, take, drop, get_or, All, refl, sym, ap, ◌∙◌, add-one, arith, inl, inr, ◌⊎◌, true≢false}
+use Rattle.std.proofs.Common.{◌≡◌, ◌≢◌, ℕ, zero, suc, ◌+◌, ◌<◌, ◌≤◌, ◌==◌, ◌&&◌, ◌||◌, Bool, true, false, if◌then◌else◌, List, [], ◌∷◌, ◌++◌, Option, Some, None, length, length-append, map, take, drop, get_or, All, refl, sym, ap, ◌∙◌, add-one, arith, inl, inr, ◌⊎◌, true≢false, rules}
 use Rattle.std.specs.List.{list_any, take-map}
 use Rattle.std.proofs.lemmas.Bool.{eq-eqb, ne_eqb, cases_Bool, cond_both, or_parts, false_from_ne_true, true_from_ne_false}
 use Rattle.std.proofs.lemmas.List.{drop-append-le, drop_all, length-map, length-take, map-append, take_all, drop-map}
-use Rattle.std.proofs.lemmas.List.Elements.{All-head, All-push, All-tail, All-map, All-weaker, All-nil}
+use Rattle.std.proofs.lemmas.List.Elements.{All-head, All-push, All-tail, All-map, All-weaker}
 use Rattle.std.proofs.Math.Seq.{drop-cons}
 use Rattle.gw_base.specs.declared.address.NodeId.{NodeId}
 use Rattle.gw_base.specs.declared.history.Opening.{Opening}
@@ -58,12 +58,10 @@ nodes_map f same [] = refl
 nodes_map f same (slot ∷ slots) = λ i. same slot i ∷ nodes_map f same slots i
 
 pub reopened_node : (n : ℕ) (opening : Option Opening) (slot : Slot) → (reopened n opening slot).node ≡ slot.node
-reopened_node n opening slot =
-    cond_both (slot.node.0 == n) (record slot { live = opening }) slot (λ s. s.node ≡ slot.node) (λ _. refl) (λ _. refl)
+reopened_node n opening slot = grind (arith, cond_both)
 
 reopened_firm : (n : ℕ) (opening : Option Opening) (slot : Slot) → (reopened n opening slot).firm ≡ slot.firm
-reopened_firm n opening slot =
-    cond_both (slot.node.0 == n) (record slot { live = opening }) slot (λ s. s.firm ≡ slot.firm) (λ _. refl) (λ _. refl)
+reopened_firm n opening slot = grind (arith, cond_both)
 
 pub known_reopened : (n : ℕ) (opening : Option Opening) (slots : List Slot) → nodes_of (map (λ slot. reopened n opening slot) slots) ≡ nodes_of slots
 known_reopened n opening slots = nodes_map (λ slot. reopened n opening slot) (reopened_node n opening) slots
@@ -132,16 +130,13 @@ firm_cut (suc k) n [] new = refl
 firm_cut (suc k) n (slot ∷ slots) new = ap (λ (o : Option Opening). if slot.node.0 == n then slot.firm else o) (firm_cut k n slots new)
 
 kept_known : (firm : Bool) (k : ℕ) (slots : List Slot) → nodes_of (kept_slots firm k slots) ≡ known_at firm k slots
-kept_known true k slots = refl
-kept_known false k slots = refl
+kept_known firm k slots = grind arith
 
 pub kept_openings : (firm : Bool) (k n : ℕ) (slots : List Slot) → All IsNew (drop k slots) → opening_at firm (kept_slots firm k slots) n ≡ opening_at firm slots n
-kept_openings true k n slots new = firm_cut k n slots new
-kept_openings false k n slots new = refl
+kept_openings firm k n slots new = grind (arith, firm_cut)
 
 pub kept_length : (firm : Bool) (k : ℕ) (slots : List Slot) → length (kept_slots firm k slots) ≤ length slots
-kept_length true k slots = omega (arith, length-take k slots)
-kept_length false k slots = omega arith
+kept_length firm k slots = grind (arith, length-take)
 
 -- the slots that are kept, settled
 abbrev pub settled : Bool → ℕ → List Slot → List Slot
@@ -152,23 +147,14 @@ settled_length firm k slots = length-map (kept_slots firm k slots) (λ slot. set
 
 pub settled_known : (side firm : Bool) (k now : ℕ) (slots : List Slot) → now ≡ length (kept_slots firm k slots)
     → known_at side now (settled firm k slots) ≡ known_at firm k slots
-settled_known true firm k now slots count =
-    ap nodes_of (take_all now (settled firm k slots) (omega (arith, count, settled_length firm k slots)))
-    ∙ known_settled firm (kept_slots firm k slots) ∙ kept_known firm k slots
-settled_known false firm k now slots count = known_settled firm (kept_slots firm k slots) ∙ kept_known firm k slots
+settled_known side firm k now slots count = grind (arith, take_all, settled_length, known_settled, kept_known)
 
 pub settled_openings : (side firm : Bool) (k n : ℕ) (slots : List Slot) → AreSlots k slots → opening_at side (settled firm k slots) n ≡ opening_at firm slots n
 settled_openings side firm k n slots are = openings_settled side firm n (kept_slots firm k slots) ∙ kept_openings firm k n slots are.unnamed
 
 pub settled_slots : (firm : Bool) (k now : ℕ) (slots : List Slot) → AreSlots k slots → now ≡ length (kept_slots firm k slots)
     → AreSlots now (settled firm k slots)
-settled_slots firm k now slots are count =
-    let all = settled_length firm k slots in
-    record {
-      within = omega (arith, count, all);
-      bound = omega (arith, are.bound, kept_length firm k slots, all);
-      unnamed = rw (drop_all now (settled firm k slots) (omega (arith, count, all))) (All-nil IsNew);
-    }
+settled_slots firm k now slots are count = search (rules, settled_length, kept_length, drop_all)
 
 -- ---- both sides the same
 
@@ -178,17 +164,13 @@ all_same firm slots = All-map IsSame (λ slot. settled_slot firm slot) slots (λ
 
 -- where they have, none changes
 one_still : (firm : Bool) (slot : Slot) → IsSame slot → settled_slot firm slot ≡ slot
-one_still true slot same = λ i. record slot { live = same i }
-one_still false slot same = λ i. record slot { firm = sym same i }
+one_still firm slot same = grind arith
 
 kept_still : (firm : Bool) (k : ℕ) (slots : List Slot) → k ≡ length slots → kept_slots firm k slots ≡ slots
-kept_still true k slots all = take_all k slots (omega (arith, all))
-kept_still false k slots all = refl
+kept_still firm k slots all = grind (arith, take_all)
 
 pub settled_still : (firm : Bool) (k : ℕ) (slots : List Slot) → AreSame k slots → slots ≡ settled firm k slots
-settled_still firm k slots same =
-    sym (ap (λ (xs : List Slot). map (λ slot. settled_slot firm slot) xs) (kept_still firm k slots same.known)
-    ∙ map_fixed (λ slot. settled_slot firm slot) slots (All-weaker IsSame (λ slot. settled_slot firm slot ≡ slot) (one_still firm) slots same.openings))
+settled_still firm k slots same = grind (arith, kept_still, map_fixed, one_still)
 
 pub count_still : (firm : Bool) (k : ℕ) (slots : List Slot) → AreSame k slots → k ≡ length (kept_slots firm k slots)
 count_still firm k slots same = same.known ∙ sym (ap (λ (xs : List Slot). length xs) (kept_still firm k slots same.known))

@@ -1,5 +1,5 @@
 -- What a side says of a history it says, after one more entry, of the history with that entry.
-use Rattle.std.proofs.Common.{◌≡◌, ℕ, ◌+◌, ◌^◌, ◌<◌, ◌%◌, ◌==◌, ◌&&◌, Bool, true, false, if◌then◌else◌, List, [], ◌∷◌, ◌++◌, Option, Some, None, is_some, length, count_by, refl, sym, ap, ◌∙◌, true≢false, arith, inl, inr}
+use Rattle.std.proofs.Common.{◌≡◌, ℕ, ◌+◌, ◌^◌, ◌<◌, ◌==◌, ◌&&◌, Bool, true, false, if◌then◌else◌, List, [], ◌∷◌, ◌++◌, Option, Some, None, is_some, length, count_by, refl, sym, ap, ◌∙◌, true≢false, arith, inl, inr, rules}
 use Rattle.std.specs.Prelude.{nat_le}
 use Rattle.std.specs.List.{list_all, list_any}
 use Rattle.std.proofs.lemmas.Bool.{and_parts, eqb-true, leb-false, or_cases}
@@ -9,7 +9,7 @@ use Rattle.gw_base.specs.Faults.{next_count}
 use Rattle.gw_base.specs.HeldKeys.{held_keys, holds, is_held}
 use Rattle.gw_base.specs.HeldLaws.{stranded-append}
 use Rattle.gw_base.specs.History.{begins_epoch, copies_of, due_after, epoch_of, is_close_due, present_state, state_of, top_of}
-use Rattle.gw_base.specs.Known.{is_known, named_node, with_node}
+use Rattle.gw_base.specs.Known.{named_node, with_node}
 use Rattle.gw_base.specs.Observed.{Observed, observed}
 use Rattle.gw_base.specs.Starts.{is_start, opening_after, start_count}
 use Rattle.gw_base.specs.TickDue.{last_tick, tick_after}
@@ -17,7 +17,7 @@ use Rattle.gw_base.specs.View.{strands}
 use Rattle.gw_base.specs.declared.address.NodeId.{NodeId}
 use Rattle.gw_base.specs.declared.held.HeldKey.{HeldKey}
 use Rattle.gw_base.specs.declared.history.HistoryAct.{HistoryAct}
-use Rattle.gw_base.specs.declared.history.HistoryAct.TheVariants.{Start, Path, File, Hold, Seal, Release, Cancel}
+use Rattle.gw_base.specs.declared.history.HistoryAct.TheVariants.{Path}
 use Rattle.gw_base.specs.declared.history.HistoryEntry.{HistoryEntry}
 use Rattle.gw_base.specs.declared.history.Opening.{Opening}
 use Rattle.gw_base.specs.declared.key_state.KeyState.{KeyState}
@@ -25,9 +25,9 @@ use Rattle.gw_base.specs.declared.key_state.KeyState.TheVariants.{Fresh, Held}
 use Rattle.seq_window.specs.Histories.{IsFreshAbove, NamesHeld, seen_after, window_of}
 use Rattle.seq_window.specs.Seen.{Seen, is_within}
 use Rattle.transfer_cmd.specs.Lists.{is_held as is_held_state}
-use Rattle.gateway_index.specs.FitActs.{any_packet, are_distinct, fits_with, is_fresh, is_in_window, is_list_fit, is_new}
+use Rattle.gateway_index.specs.FitActs.{any_packet, fits_with, is_fresh, is_in_window, is_list_fit, is_new}
 use Rattle.gateway_index.specs.Index.{observed_in}
-use Rattle.gateway_index.specs.Limits.{has_place, half, is_in_range, may_hold}
+use Rattle.gateway_index.specs.Limits.{has_place, half, is_in_range}
 use Rattle.gateway_index.specs.Sides.{Side, acted, listed_nodes, numbered_nodes, opened_nodes, side_after, state_in}
 use Rattle.gateway_index.specs.Tells.{Tells}
 use Rattle.gateway_index.specs.WindowLaws.{narrowed_fit}
@@ -58,12 +58,10 @@ pub record WindowLaw : Type 0 where
 -- ---- what a side tells of states
 
 pub held_state : (s : KeyState) → is_held s ≡ true → s ≡ Held
-held_state Held e = refl
-held_state _ e = absurd (true≢false (sym e))
+held_state s e = grind arith
 
 pub same_held : (s : KeyState) → is_held_state s ≡ is_held s
-same_held Fresh = refl
-same_held _ = refl
+same_held s = grind arith
 
 module _ (held_law : HeldLaw) (present_law : PresentLaw) (side : Side) (h : List HistoryEntry) (t : Tells side h) where
   held_there : (node : NodeId) (number : ℕ) → is_some (side.held.place_of node.0 number) ≡ is_held (present_state node.0 number h)
@@ -92,21 +90,11 @@ module _ (held_law : HeldLaw) (present_law : PresentLaw) (side : Side) (h : List
 
       by_held : (b : Bool) → is_held s ≡ b → (if b then Held else (side.nodes.window node.0).state number)
           ≡ (if is_in_window (top_of node.0 h) number then s else if_held s)
-      by_held true e = rw (held_state s e) (sym (either (is_in_window (top_of node.0 h) number) true (λ _. refl) (λ _. refl)))
-      by_held false e = ap (λ (seen : Seen). seen.state number) (t.windows node.0) ∙ by_top e (top_of node.0 h) refl
+      by_held b e = grind (arith, held_state, either, by_top)
 
   -- all that an answer asks
   pub observed_is : (node : NodeId) → observed_in side node ≡ narrowed (observed h node)
-  observed_is node = λ i. record {
-    own = ap (λ (v : Totals). v.starts % 256) t.totals i;
-    opening = t.openings node.0 i;
-    top = ap (λ (seen : Seen). seen.top) (t.windows node.0) i;
-    state = λ number. state_is node number i;
-    is_known = ap (λ (ns : List NodeId). is_known ns node) t.known i;
-    known = ap (λ (ns : List NodeId). length ns) t.known i;
-    held = t.held.count i;
-    moment = ap (λ (v : Totals). v.moment) t.totals i;
-  }
+  observed_is node = grind (arith, state_is)
 
   fit_is : (act : HistoryAct) → fits_with any_packet (observed_in side) act ≡ fits_with any_packet (observed h) act
   fit_is act = ap (λ (of : NodeId → Observed). fits_with any_packet of act) (λ i node. observed_is node i) ∙ narrowed_fit any_packet (observed h) act
@@ -127,12 +115,7 @@ new_is_free side node number new =
     by_test false fresh = refl
 
 names_free : (side : Side) (act : HistoryAct) → fits_with any_packet (observed_in side) act ≡ true → NamesFree act side.held
-names_free side (File n x packet) fit = new_is_free side n x ((and_parts (is_new (observed_in side n) x) (any_packet packet) fit).0)
-names_free side (Hold n x packet) fit =
-    let both = and_parts (is_new (observed_in side n) x && any_packet packet) (may_hold (observed_in side n)) fit in
-    new_is_free side n x ((and_parts (is_new (observed_in side n) x) (any_packet packet) both.0).0)
-names_free side (Seal n x) fit = new_is_free side n x fit
-names_free side _ fit = tt
+names_free side act fit = search (rules, new_is_free)
 
 -- what holds of all numbers of a list holds of each
 each_of : (p : ℕ → Bool) (xs : List ℕ) (n : ℕ) → list_all p xs ≡ true → list_any (λ x. x == n) xs ≡ true → p n ≡ true
@@ -145,10 +128,7 @@ each_of p (x ∷ xs) n all any =
     ]
 
 list_held : (o : Observed) (xs : List ℕ) (n : ℕ) → is_list_fit o xs ≡ true → list_any (λ x. x == n) xs ≡ true → o.state n ≡ Held
-list_held o [] n fit any = absurd (true≢false (sym fit))
-list_held o (x ∷ xs) n fit any =
-    let all = and_parts (list_all (λ y. is_held_state (o.state y)) (x ∷ xs)) (are_distinct (x ∷ xs)) fit in
-    held_state (o.state n) (sym (same_held (o.state n)) ∙ each_of (λ y. is_held_state (o.state y)) (x ∷ xs) n all.0 any)
+list_held o xs n fit any = grind (arith, held_state, same_held, each_of)
 
 named_held : (h : List HistoryEntry) (m : NodeId) (xs : List ℕ) (node n : ℕ) → is_list_fit (observed h m) xs ≡ true
     → ((m.0 == node) && list_any (λ x. x == n) xs) ≡ true → present_state node n h ≡ Held
@@ -157,26 +137,21 @@ named_held h m xs node n fit named =
     rw (← eqb-true m.0 node parts.0) (list_held (observed h m) xs n fit parts.1)
 
 names_held : (h : List HistoryEntry) (act : HistoryAct) (node : ℕ) → fits_with any_packet (observed h) act ≡ true → NamesHeld node h act
-names_held h (Release m xs) node fit = λ n named. named_held h m xs node n fit named
-names_held h (Cancel m xs) node fit = λ n named. named_held h m xs node n fit named
-names_held h _ node fit = tt
+names_held h act node fit = search (rules, named_held)
 
 -- ---- what an act changes of each part
 
 acted_window : (side : Side) (act : HistoryAct) (node : ℕ) → (acted act side).nodes.window node ≡ seen_after half node act (side.nodes.window node)
 unfolding numbered_nodes listed_nodes opened_nodes
-acted_window side Start node = refl
-acted_window side _ node = refl
+acted_window side act node = grind arith
 
 acted_opening : (side : Side) (act : HistoryAct) (node : ℕ) → (acted act side).nodes.opening node ≡ opening_after node (side.nodes.opening node) act
 unfolding numbered_nodes listed_nodes opened_nodes
-acted_opening side Start node = refl
-acted_opening side _ node = refl
+acted_opening side act node = grind arith
 
 acted_known : (side : Side) (act : HistoryAct) → (acted act side).nodes.known ≡ with_node side.nodes.known (named_node act)
 unfolding numbered_nodes listed_nodes opened_nodes
-acted_known side Start = refl
-acted_known side _ = refl
+acted_known side act = grind arith
 
 -- Totals say the same of all but stranded copies.
 record SameRest (a b : Totals) : Type 0 where
@@ -185,8 +160,7 @@ record SameRest (a b : Totals) : Type 0 where
   last_tick : a.last_tick ≡ b.last_tick
 
 acted_rest : (act : HistoryAct) (side : Side) → SameRest (acted act side).totals side.totals
-acted_rest Start side = record { starts = refl; is_close_due = refl; last_tick = refl }
-acted_rest _ side = record { starts = refl; is_close_due = refl; last_tick = refl }
+acted_rest act side = search rules
 
 none_counts : (p : HeldKey → Bool) → ((key : HeldKey) → p key ≡ false) → (keys : List HeldKey) → count_by p keys ≡ 0
 none_counts p none [] = refl
@@ -218,9 +192,7 @@ module _ (count_law : CountLaw) (side : Side) (h : List HistoryEntry) (e : Histo
 
 starts_after : (h : List HistoryEntry) (e : HistoryEntry) → length h + 2 < 2 ^ 64 → (b : Bool) → is_start e.act ≡ b
     → (if b then next_count (start_count h) else start_count h) ≡ start_count (h ++ e ∷ [])
-starts_after h e fits true is =
-    omega (arith, fits, ap one_if is, start_count-append h e, count_by-le-length (λ (d : HistoryEntry). is_start d.act) h)
-starts_after h e fits false is = omega (arith, ap one_if is, start_count-append h e)
+starts_after h e fits b is = grind (arith, start_count-append, count_by-le-length)
 
 -- the side after one more entry says what the history with that entry says
 pub tells_after : HeldLaw → PresentLaw → CountLaw → WindowLaw → (side : Side) (h : List HistoryEntry) (e : HistoryEntry) → length h + 2 < 2 ^ 64

@@ -1,6 +1,5 @@
-use Rattle.std.proofs.Common.{◌≡◌, ◌+◌, ◌≤◌, OnOk, [], ◌∷◌, List, ℕ, length, ◌∙◌, ap, subst, arith}
-use Rattle.area_disk.specs.Disk.{overwritten, Torn}
-use Rattle.gate_journal.specs.Format.{open_gate}
+use Rattle.std.proofs.Common.{◌≡◌, ◌+◌, ◌≤◌, List, ℕ, length, ap, subst, arith, rules}
+use Rattle.area_disk.specs.Disk.{Torn}
 use Rattle.gate_journal.proofs.Laying.{staged, length-staged, behind_gate, at_gate, gate_opened}
 use Rattle.std.specs.Prelude.{is_err}
 use Rattle.area_disk.specs.declared.plan.Outcome3.{Outcome3}
@@ -15,10 +14,7 @@ returns-in_err-put-clause-any_moment g c = λ told shut only.
     widen g.A.Area _ _ _ _ (behind_gate c.args.gate c.args.frame.now _ fits shut) (c.put.ensures.any_moment only)
 
 pub returns-clause-added : goal.returns-clause-added
-returns-clause-added g c = λ told.
-    let fits : c.args.gate + 1 + length c.args.frame.now ≤ length (g.A.Area.octets c.args.area.now) = omega (arith, c.area_laws.ensures.whole c.args.area.now told) in
-    let is_staged : g.A.Area.octets c.put.new.area ≡ staged c.args.gate c.args.frame.now (g.A.Area.octets c.args.area.now) fits = c.in_ok-put.ensures.written told in
-    subst (λ (o : List ℕ). OnOk c.put-2.result (g.A.Area.octets c.put-2.new.area ≡ o)) (ap (λ (o : List ℕ). overwritten o c.args.gate (open_gate ∷ [])) is_staged ∙ gate_opened c.args.gate c.args.frame.now _ fits) (c.put-2.ensures.written told)
+returns-clause-added g c = λ told. search (rules, gate_opened)
 
 pub returns-clause-any_moment : goal.returns-clause-any_moment
 returns-clause-any_moment g c = λ told shut only.

@@ -1,5 +1,5 @@
 use Rattle.gate_journal.proofs.Counts.{one_call, more_calls}
-use Rattle.std.proofs.Common.{ℕ, List, length, ap, subst, sym}
+use Rattle.std.proofs.Common.{ℕ, List, length, ap, subst, sym, rules}
 use Rattle.area_disk.specs.Disk.{Torn}
 use Rattle.area_disk.specs.MomentLaws.{begin, step, torn_write}
 use Rattle.area_disk.specs.Octets.{torn_same}
@@ -15,18 +15,10 @@ pub returns-in_err-write_at-clause-planned : goal.returns-in_err-write_at-clause
 returns-in_err-write_at-clause-planned g c = λ told. put_failed (g.A.Area.fate c.args.area.now) c.args.at c.args.from.now c.write_at.result c.from_residual.result (g.A.Area.fate c.write_at.new.self) (c.write_at.ensures.planned told) (ap is_err c.in_err-write_at.was) c.from_residual.ensures.0
 
 pub returns-clause-planned : goal.returns-clause-planned
-returns-clause-planned g c = λ told.
-    put_synced (g.A.Area.fate c.args.area.now) c.args.at c.args.from.now c.write_at.result c.sync.result (g.A.Area.fate c.write_at.new.self) (g.A.Area.fate c.sync.new.self) (c.write_at.ensures.planned told) (ap is_err c.in_ok-write_at.was) (c.sync.ensures.planned told)
+returns-clause-planned g c = λ told. search (rules, put_synced)
 
 pub returns-in_err-write_at-clause-any_moment : goal.returns-in_err-write_at-clause-any_moment
-returns-in_err-write_at-clause-any_moment g c = λ only.
-    let area = g.A.Area in
-    let old = c.args.area.now in
-    let mid = c.write_at.new.self in
-    let n = length c.args.from.now in
-    let IsTorn : List ℕ → Type 0 = Torn c.args.at n (area.octets old) in
-    let before = begin area c.area_laws.ensures.only_now old IsTorn (λ o left. subst (λ (d : List ℕ). IsTorn d) (sym (only o left)) (torn_same c.args.at n (area.octets old))) in
-    step area old old mid IsTorn before c.write_at.ensures.time (torn_write area old mid c.args.at n only c.write_at.ensures.crash)
+returns-in_err-write_at-clause-any_moment g c = λ only. search (rules, begin, torn_same, step, torn_write)
 
 pub returns-clause-any_moment : goal.returns-clause-any_moment
 returns-clause-any_moment g c = λ only.

@@ -1,4 +1,4 @@
-use Rattle.std.proofs.Common.{ℕ, List, get_or, ◌∙◌, sym, ap, subst}
+use Rattle.std.proofs.Common.{ℕ, List, get_or, ◌∙◌, sym, ap, subst, rules}
 use Rattle.gate_journal.specs.Format.{header}
 use Rattle.gate_journal.specs.Opening.{IsLaid}
 use Rattle.gate_journal.proofs.Openings.{below_first, laid_listed}
@@ -14,12 +14,4 @@ over-requires-clause-listed g c = λ told.
     (subst (λ (h : List ℕ). IsLaid h (g.A.Area.octets c.lay_front.new.area)) (c.header_of-header.ensures ∙ ap (λ n. header n c.args.address c.args.generation) (c.length-length.ensures ∙ sym c.lay_front.ensures.size)) (c.in-Ok-lay_front.ensures.laid told.0))
 
 pub returns-in-Ok-lay_front-clause-ok : goal.returns-in-Ok-lay_front-clause-ok
-returns-in-Ok-lay_front-clause-ok g c = record {
-  is = record {
-    ready = c.over.ensures.closed;
-    front = c.over.ensures.front;
-    header = c.over.ensures.header ∙ ap (λ n. header n c.args.address c.args.generation) c.lay_front.ensures.size;
-    settled = c.over.ensures.settled;
-  };
-  batches = λ told. c.over.ensures.batches ∙ below_first (g.A.Area.octets c.lay_front.new.area);
-}
+returns-in-Ok-lay_front-clause-ok g c = search (rules, below_first)

@@ -1,8 +1,6 @@
-use Rattle.std.proofs.Common.{inl, refl, ◌≡◌, ℕ, List, sym, ap, subst, arith}
-use Rattle.gate_journal.specs.Format.{header, IsBroken}
-use Rattle.gate_journal.specs.State.{IsListed}
+use Rattle.std.proofs.Common.{inl, refl, ap, subst, arith, rules}
+use Rattle.gate_journal.specs.Format.{header}
 use Rattle.gate_journal.specs.Verdicts.{IsScanned, LiesIn}
-use Rattle.gate_journal.specs.declared.journal.Front.TheVariants.{Founded}
 use Rattle.gate_journal.specs.declared.faults.OpenFault.TheVariants.{NotOurs}
 use Rattle.gate_journal.proofs.Openings.{scanned_listed, scanned_broken, shut_or_broken}
 use Rattle.gate_journal.specs.Spelling.{length-header}
@@ -10,25 +8,10 @@ use Rattle.gate_journal.proofs.Apart.{one_broken}
 use Rattle.gate_journal.proofs.opening.list.Goals as goal
 
 pub over-requires-clause-listed : goal.over-requires-clause-listed
-over-requires-clause-listed g c = λ told.
-    let h = header (g.A.Area.size c.args.area) c.args.address c.args.generation in
-    let o = g.A.Area.octets c.args.area in
-    let kept = c.scan.ensures.kept in
-    let scanned = subst (λ s. IsScanned o s) c.in-Ok-End.field-0-is (c.in-Ok-End.ensures.reads told.0) in
-    let inside = subst (λ s. LiesIn (g.A.Area.size c.args.area) s) c.in-Ok-End.field-0-is c.in-Ok-End.ensures.inside in
-    subst (λ (l : List ℕ). IsListed (header (g.A.Area.size c.scan.new.area) c.args.address c.args.generation) Founded c.in-Ok-End.gate l) (sym kept.octets)
-    (subst (λ n. IsListed (header n c.args.address c.args.generation) Founded c.in-Ok-End.gate o) (sym kept.size)
-    (scanned_listed h (length-header (g.A.Area.size c.args.area) c.args.address c.args.generation) c.in-Ok-End.gate o (c.requires.same told.0) inside.0 scanned.0 scanned.1))
+over-requires-clause-listed g c = λ told. search (rules, scanned_listed, length-header)
 
 pub returns-in-Ok-Broken-clause-broken : goal.returns-in-Ok-Broken-clause-broken
-returns-in-Ok-Broken-clause-broken g c = λ told at is.
-    let h = header (g.A.Area.size c.args.area) c.args.address c.args.generation in
-    let o = g.A.Area.octets c.args.area in
-    let scanned = subst (λ s. IsScanned o s) c.in-Ok-Broken.field-0-is (c.in-Ok-Broken.ensures.reads told) in
-    let inside = subst (λ s. LiesIn (g.A.Area.size c.args.area) s) c.in-Ok-Broken.field-0-is c.in-Ok-Broken.ensures.inside in
-    let same : c.in-Ok-Broken.at ≡ at = cc in
-    subst (λ n. IsBroken h o n) same
-    (scanned_broken h (length-header (g.A.Area.size c.args.area) c.args.address c.args.generation) c.in-Ok-Broken.at o (c.requires.same told) inside.0 scanned.0 (omega (arith, c.area_laws.ensures.whole c.args.area told, inside.1)) scanned.1 scanned.2)
+returns-in-Ok-Broken-clause-broken g c = λ told at is. search (rules, scanned_broken, length-header)
 
 pub returns-in_default-clause-foreign : goal.returns-in_default-clause-foreign
 returns-in_default-clause-foreign g c = λ told at broken.

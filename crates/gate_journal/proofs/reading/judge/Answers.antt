@@ -1,12 +1,11 @@
-use Rattle.std.proofs.Common.{arith, sym, ◌∙◌}
+use Rattle.std.proofs.Common.{arith, sym, ◌∙◌, rules}
 use Rattle.std.proofs.lemmas.List.{take_all}
 use Rattle.gate_journal.proofs.Seen.{unfinished_first, differs}
 use Rattle.gate_journal.proofs.reading.judge.Goals as goal
 use Rattle.gate_journal.proofs.reading.judge.Goals.{else-at-eq0-via-then-at-eq0+else-not-rest_differs, else-at-eq0-via-else-at-eq0}
 
 pub returns-then-not-rest_differs : goal.returns-then-not-rest_differs
-returns-then-not-rest_differs c =
-    unfinished_first c.args.header.now c.args.read.now c.in-Some.at c.in-Some.ensures.0 c.in-Some.ensures.1 c.in-Some.ensures.2 c.if-at-eq0.true c.told-read (c.rest_differs.ensures.same c.if-not-rest_differs.true)
+returns-then-not-rest_differs c = search (rules, unfinished_first)
 
 pub returns-in-None : goal.returns-in-None
 returns-in-None c = take_all 32 c.args.read.now (omega (arith, c.told-read)) ∙ sym c.in-None.ensures

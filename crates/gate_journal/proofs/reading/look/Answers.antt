@@ -1,5 +1,4 @@
-use Rattle.std.proofs.Common.{refl, ◌∙◌, ap, List, ℕ, take, subst}
-use Rattle.gate_journal.specs.Verdicts.{IsVerdict}
+use Rattle.std.proofs.Common.{refl, rules}
 use Rattle.gate_journal.proofs.Seen.{verdict_from}
 use Rattle.area_disk.specs.CourseLaws.{read_on, read_runs}
 use Rattle.gate_journal.proofs.Plans.{sync_ran}
@@ -7,9 +6,7 @@ use Rattle.gate_journal.proofs.Turns.{other_bool}
 use Rattle.gate_journal.proofs.reading.look.Goals as goal
 
 pub returns-clause-verdict : goal.returns-clause-verdict
-returns-clause-verdict g c = λ told.
-    verdict_from c.args.header.now (g.A.Area.octets c.args.area.now) c.judge.result
-    (subst (λ (l : List ℕ). IsVerdict c.args.header.now l c.judge.result) (c.in_ok-read_at.ensures.read told ∙ ap (λ (l : List ℕ). take 32 l) (c.in_ok-sync.ensures.octets told)) c.judge.ensures)
+returns-clause-verdict g c = λ told. search (rules, verdict_from)
 
 pub returns-in_err-read_at-clause-planned : goal.returns-in_err-read_at-clause-planned
 returns-in_err-read_at-clause-planned g c = λ told.

@@ -1,4 +1,4 @@
-use Rattle.std.proofs.Common.{ℕ, List, refl, sym, ◌∙◌, ap, subst, arith}
+use Rattle.std.proofs.Common.{ℕ, List, sym, ◌∙◌, ap, subst, arith, rules}
 use Rattle.std.specs.Prelude.{IsTrue}
 use Rattle.byteorder.specs.Endian.{big_bytes}
 use Rattle.gate_journal.specs.Verdicts.{IsBehind, Fits}
@@ -10,14 +10,7 @@ use Rattle.gate_journal.proofs.Turns.{other_bool}
 use Rattle.gate_journal.proofs.reading.scan.Goals as goal
 
 pub batches-init : goal.batches-init
-batches-init g c =
-    record {
-      low = omega arith;
-      high = omega arith;
-      below = λ told. none_below (g.A.Area.octets c.args.area.now);
-      kept = kept_refl g.A.Area c.area_laws.ensures.only_now c.args.area.now;
-      faults = refl;
-    }
+batches-init g c = search (rules, none_below, kept_refl)
 
 pub batches-preserved : goal.batches-preserved
 batches-preserved g c =

@@ -1,4 +1,4 @@
-use Rattle.std.proofs.Common.{refl}
+use Rattle.std.proofs.Common.{refl, rules}
 use Rattle.area_disk.specs.CourseLaws.{read_on_trans, runs_on}
 use Rattle.area_disk.specs.MomentLaws.{follow, kept_leaves}
 use Rattle.gate_journal.proofs.Plans.{sync_ran}
@@ -6,16 +6,13 @@ use Rattle.gate_journal.proofs.Turns.{other_bool}
 use Rattle.gate_journal.proofs.reading.see.Goals as goal
 
 pub returns-in_err-first-clause-any_moment : goal.returns-in_err-first-clause-any_moment
-returns-in_err-first-clause-any_moment g c =
-    follow g.A.Area _ c.sync.new.self _ _ (kept_leaves g.A.Area c.area_laws.ensures.only_now _ _ c.sync.ensures.crash c.sync.ensures.time) c.octet_at.ensures.kept.leaves
+returns-in_err-first-clause-any_moment g c = search (rules, follow, kept_leaves)
 
 pub returns-in_err-gate-clause-any_moment : goal.returns-in_err-gate-clause-any_moment
-returns-in_err-gate-clause-any_moment g c =
-    follow g.A.Area _ c.octet_at.new.area _ _ (follow g.A.Area _ c.sync.new.self _ _ (kept_leaves g.A.Area c.area_laws.ensures.only_now _ _ c.sync.ensures.crash c.sync.ensures.time) c.octet_at.ensures.kept.leaves) (c.octet_at-2.ensures.kept.leaves)
+returns-in_err-gate-clause-any_moment g c = search (rules, follow, kept_leaves)
 
 pub returns-clause-any_moment : goal.returns-clause-any_moment
-returns-clause-any_moment g c =
-    follow g.A.Area _ c.octet_at.new.area _ _ (follow g.A.Area _ c.sync.new.self _ _ (kept_leaves g.A.Area c.area_laws.ensures.only_now _ _ c.sync.ensures.crash c.sync.ensures.time) c.octet_at.ensures.kept.leaves) (c.octet_at-2.ensures.kept.leaves)
+returns-clause-any_moment g c = search (rules, follow, kept_leaves)
 
 pub returns-in_err-first-clause-planned : goal.returns-in_err-first-clause-planned
 returns-in_err-first-clause-planned g c = λ told.

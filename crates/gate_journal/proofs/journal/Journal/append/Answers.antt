@@ -1,4 +1,4 @@
-use Rattle.std.proofs.Common.{inl, refl, sym, ◌∙◌, arith}
+use Rattle.std.proofs.Common.{inl, refl, ◌∙◌, arith, rules}
 use Rattle.gate_journal.specs.Journal.{batches, torn, stop_stands}
 use Rattle.gate_journal.proofs.Turns.{other_bool}
 use Rattle.gate_journal.proofs.Kept.{as_before}
@@ -36,15 +36,7 @@ invariant_of-self-in-Err g c = record {
 
 pub returns-in-Ok-clause-ok : goal.returns-in-Ok-clause-ok
 unfolding batches
-returns-in-Ok-clause-ok g c = record {
-  ready = c.requires.ready;
-  settled = settled g.A.Area c.area_laws.ensures _ c.requires.ready;
-  batches = (grown g.A.Area c.area_laws.ensures c.args.self.now c.requires.ready c.args.batch.now _
-      c.fill.new.buffer.items c.add.new.area c.requires.short (c.as_slice.ensures.value ∙ c.fill.ensures.framed)
-      c.fill.ensures.held c.fill.ensures.size (omega (arith, c.length.ensures)) c.add.ensures.size c.in-Ok.ensures.added
-      c.in-Ok.ensures.durable).1;
-  end = refl;
-}
+returns-in-Ok-clause-ok g c = search (rules, settled, grown)
 
 pub returns-in-Ok-clause-any_moment : goal.returns-in-Ok-clause-any_moment
 unfolding batches
@@ -68,9 +60,7 @@ returns-in-Err-clause-any_moment g c = left_or g.A.Area c.area_laws.ensures c.ar
 
 pub returns-in-Ok-clause-planned : goal.returns-in-Ok-clause-planned
 unfolding stop_stands
-returns-in-Ok-clause-planned g c = λ fate told room.
-    let planned = c.in-Ok.ensures.planned fate told (shut_gate g.A.Area c.area_laws.ensures c.args.self.now c.requires.ready told) (only_octets g.A.Area c.area_laws.ensures c.args.self.now c.requires.ready told) in
-    record { fails = planned.fails; course = planned.course; stands = λ err. absurd (other_bool (sym err)) }
+returns-in-Ok-clause-planned g c = λ fate told room. search (rules, shut_gate, only_octets, other_bool)
 
 pub returns-in-Err-clause-planned : goal.returns-in-Err-clause-planned
 unfolding stop_stands

@@ -1,15 +1,11 @@
-use Rattle.std.proofs.Common.{inl, inr, refl, arith}
+use Rattle.std.proofs.Common.{inl, arith, rules}
 use Rattle.gate_journal.proofs.Plans.{looked, put_on}
 use Rattle.gate_journal.proofs.Openings.{calls_behind, calls_made, drafted, none_told, rose_on, starts_told}
 use Rattle.area_disk.specs.MomentLaws.{widen}
 use Rattle.gate_journal.proofs.journal.Journal.draft.Goals as goal
 
 pub returns-in-Ok-Starts-clause-ok : goal.returns-in-Ok-Starts-clause-ok
-returns-in-Ok-Starts-clause-ok g c =
-    let starts = starts_told g.A.Area c.args.area c.args.address c.args.generation c.length.ensures
-    c.header_of-header.ensures c.in-Ok-Starts.field-0-is c.in-Ok-Starts.ensures.verdict refl in
-    drafted g.A.Area c.args.area c.args.address c.args.generation c.look.new.area c.look.ensures.size
-    c.lay.result c.lay.ensures.ok starts
+returns-in-Ok-Starts-clause-ok g c = search (rules, starts_told, drafted)
 
 pub returns-in-Ok-Starts-clause-counted : goal.returns-in-Ok-Starts-clause-counted
 returns-in-Ok-Starts-clause-counted g c = record {
@@ -22,10 +18,7 @@ pub returns-in-Ok-Starts-clause-planned : goal.returns-in-Ok-Starts-clause-plann
 returns-in-Ok-Starts-clause-planned g c = λ tells calm. put_on c.lay.result _ _ _ (looked _ _ (c.in-Ok-Starts.ensures.planned tells) calm.runs) (c.lay.ensures.planned tells)
 
 pub returns-in-Ok-Same-clause-err : goal.returns-in-Ok-Same-clause-err
-returns-in-Ok-Same-clause-err g c =
-    let none = none_told g.A.Area c.args.area c.args.address c.args.generation c.length.ensures
-    c.header_of-header.ensures c.in-Ok-Same.field-0-is c.in-Ok-Same.ensures.verdict refl in
-    record { not_ours = λ told at is. (cc, none told); unwritten = λ told. inr (c.in-Ok-Same.ensures.octets told.0) }
+returns-in-Ok-Same-clause-err g c = search (rules, none_told)
 
 pub returns-in-Ok-Other-clause-any_moment : goal.returns-in-Ok-Other-clause-any_moment
 returns-in-Ok-Other-clause-any_moment g c = λ told. widen g.A.Area _ _ _ _ (λ d left. inl left) c.look.ensures.any_moment

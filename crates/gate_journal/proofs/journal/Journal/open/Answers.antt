@@ -1,16 +1,11 @@
-use Rattle.std.proofs.Common.{inl, refl, sym, ap, arith, subst}
+use Rattle.std.proofs.Common.{refl, sym, arith, subst, rules}
 use Rattle.gate_journal.specs.Format.{IsBroken, header}
-use Rattle.gate_journal.specs.declared.faults.OpenFault.TheVariants.{NotOurs}
 use Rattle.gate_journal.proofs.Plans.{append_on, looked}
 use Rattle.gate_journal.proofs.Openings.{found_told, starts_told, none_told, foreign_none, foreign_broken, foreign_differs, opened_anew, opened_same, rose_on, calls_behind, calls_made, calls_one, calls_few, leaves_unmade, planned_unmade}
 use Rattle.gate_journal.proofs.journal.Journal.open.Goals as goal
 
 pub returns-in-Ok-Starts-clause-ok : goal.returns-in-Ok-Starts-clause-ok
-returns-in-Ok-Starts-clause-ok g c =
-    let starts = starts_told g.A.Area c.args.area c.args.address c.args.generation c.length.ensures
-    c.header_of-header.ensures c.in-Ok-Starts.field-0-is c.in-Ok-Starts.ensures.verdict refl in
-    opened_anew g.A.Area c.args.area c.args.address c.args.generation c.look.new.area c.look.ensures.size
-    c.make_anew.result c.make_anew.ensures.ok starts
+returns-in-Ok-Starts-clause-ok g c = search (rules, starts_told, opened_anew)
 
 pub returns-in-Ok-Starts-clause-foreign : goal.returns-in-Ok-Starts-clause-foreign
 returns-in-Ok-Starts-clause-foreign g c = λ told at foreign.
@@ -61,27 +56,10 @@ returns-in-Ok-Same-clause-any_moment g c =
     leaves_unmade c.list.result c.args.area c.look.new.area _ c.look.ensures.any_moment c.list.ensures.kept none
 
 pub returns-in-Ok-Same-clause-counted : goal.returns-in-Ok-Same-clause-counted
-returns-in-Ok-Same-clause-counted g c =
-    let none = none_told g.A.Area c.args.area c.args.address c.args.generation c.length.ensures
-    c.header_of-header.ensures c.in-Ok-Same.field-0-is c.in-Ok-Same.ensures.verdict refl in
-    record {
-      cause = rose_on c.list.result c.args.area c.look.new.area c.in-Ok-Same.ensures.cause.ok c.list.ensures.cause;
-      calls = λ tells told unstarted. calls_one c.list.result (g.A.Area.calls c.args.area) c.look.new.area tells (c.look.ensures.calls tells) c.list.ensures.kept;
-      calls_anew = λ tells told starts. absurd (none told starts);
-      calls_any = λ tells. calls_few c.list.result (g.A.Area.calls c.args.area) c.look.new.area tells (c.look.ensures.calls tells) c.list.ensures.kept;
-    }
+returns-in-Ok-Same-clause-counted g c = search (rules, none_told, rose_on, calls_one, calls_few)
 
 pub returns-in-Ok-Same-clause-planned : goal.returns-in-Ok-Same-clause-planned
-returns-in-Ok-Same-clause-planned g c = λ tells.
-    let none = none_told g.A.Area c.args.area c.args.address c.args.generation c.length.ensures
-    c.header_of-header.ensures c.in-Ok-Same.field-0-is c.in-Ok-Same.ensures.verdict refl in
-    record {
-      unmade = λ told unstarted. planned_unmade c.list.result c.args.area c.look.new.area tells (c.in-Ok-Same.ensures.planned tells) c.list.ensures.kept (c.list.ensures.runs tells);
-      anew = λ told starts. absurd (none told starts);
-    }
+returns-in-Ok-Same-clause-planned g c = λ tells. search (rules, none_told, planned_unmade)
 
 pub returns-in-Ok-Other-clause-foreign : goal.returns-in-Ok-Other-clause-foreign
-returns-in-Ok-Other-clause-foreign g c = λ told at foreign.
-    let differs = found_told g.A.Area c.args.area c.args.address c.args.generation c.length.ensures
-    c.header_of-header.ensures c.in-Ok-Other.field-0-is c.in-Ok-Other.ensures.verdict refl told in
-    inl (ap (λ n. NotOurs n) (foreign_differs g.A.Area c.args.area c.args.address c.args.generation c.in-Ok-Other.at at differs foreign))
+returns-in-Ok-Other-clause-foreign g c = λ told at foreign. search (rules, found_told, foreign_differs)

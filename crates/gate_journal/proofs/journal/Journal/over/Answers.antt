@@ -1,4 +1,4 @@
-use Rattle.std.proofs.Common.{refl}
+use Rattle.std.proofs.Common.{refl, rules}
 use Rattle.gate_journal.specs.Journal.{batches}
 use Rattle.gate_journal.proofs.States.{settled, closed_when_ready}
 use Rattle.gate_journal.proofs.journal.Journal.over.Goals as goal
@@ -8,5 +8,4 @@ unfolding batches
 returns-clause-batches g c = refl
 
 pub returns-clause-settled : goal.returns-clause-settled
-returns-clause-settled g c =
-    settled g.A.Area c.area_laws.ensures _ (closed_when_ready _ _ (record { whole = refl; founded = c.requires.front }))
+returns-clause-settled g c = search (rules, settled, closed_when_ready)

@@ -1,7 +1,7 @@
-use Rattle.std.proofs.Common.{ℕ, false, List, refl, sym, ◌∙◌, ap, arith}
+use Rattle.std.proofs.Common.{false, sym, ◌∙◌, ap, arith, rules}
 use Rattle.std.specs.Prelude.{◌&&◌, ◌==◌}
-use Rattle.gate_journal.specs.Format.{open_gate, gate_at, header}
-use Rattle.gate_journal.specs.State.{front_after, gate_after}
+use Rattle.gate_journal.specs.Format.{open_gate}
+use Rattle.gate_journal.specs.State.{front_after}
 use Rattle.gate_journal.specs.Journal.{batches, torn, torn_stands, stop_stands, closed_by}
 use Rattle.gate_journal.proofs.Turns.{other_bool}
 use Rattle.area_disk.specs.MomentLaws.{widen}
@@ -19,12 +19,7 @@ invariant_of-self g c =
     }
 
 pub invariant_of-self-in-Err : goal.invariant_of-self-in-Err
-invariant_of-self-in-Err g c =
-    let j = c.args.self.now in
-    record {
-      sound = (kept g.A.Area c.area_laws.ensures j c.see.new.area c.see.ensures.size c.see.ensures.any_moment.now).0;
-      room = omega (arith, j.room, c.see.ensures.size);
-    }
+invariant_of-self-in-Err g c = search (rules, kept)
 
 pub returns-in-Ok-clause-ok : goal.returns-in-Ok-clause-ok
 unfolding batches torn torn_stands
@@ -66,37 +61,15 @@ returns-in-Err-clause-any_moment g c =
     }
 
 pub returns-in-Ok-clause-stays : goal.returns-in-Ok-clause-stays
-returns-in-Ok-clause-stays g c =
-    let j = c.args.self.now in
-    record {
-      size = c.see.ensures.size;
-      header = ap (λ n. header n j.address j.generation) c.see.ensures.size;
-      founded = λ is. c.next_front-self.ensures ∙ ap (λ f. front_after f c.in-Ok.ends.first) is;
-      end = λ ready.
-          c.next_gate-self.ensures ∙ ap (λ t. gate_after t j.gate j.torn_length c.in-Ok.ends.gate) (ready_of j.front j.is_torn ready).whole;
-    }
+returns-in-Ok-clause-stays g c = search (rules, ready_of)
 
 pub returns-in-Err-clause-err : goal.returns-in-Err-clause-err
 unfolding batches torn
-returns-in-Err-clause-err g c =
-    let j = c.args.self.now in
-    record {
-      front = refl;
-      batches = (kept g.A.Area c.area_laws.ensures j c.see.new.area c.see.ensures.size c.see.ensures.any_moment.now).1;
-      end = refl;
-      closed = refl;
-      torn = refl;
-    }
+returns-in-Err-clause-err g c = search (rules, kept)
 
 pub returns-in-Ok-clause-planned : goal.returns-in-Ok-clause-planned
 returns-in-Ok-clause-planned g c = λ told. record { planned = c.in-Ok.ensures.planned told; stands = λ err. absurd (other_bool (sym err)) }
 
 pub returns-in-Err-clause-planned : goal.returns-in-Err-clause-planned
 unfolding stop_stands
-returns-in-Err-clause-planned g c = λ told.
-    let j = c.args.self.now in
-    let planned = c.in-Err.ensures.planned told in
-    record {
-      planned = planned;
-      stands = λ err outcome. ap (λ (l : List ℕ). j.is_torn && (gate_at l j.gate == open_gate)) (planned.leaves outcome);
-    }
+returns-in-Err-clause-planned g c = λ told. search rules
