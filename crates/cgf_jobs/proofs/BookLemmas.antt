@@ -42,11 +42,7 @@ commits f v whole well = by_rest v.firm v.rest v.cuts v.is_broken whole well
 
 -- all entries are firm after a commit
 firm_all : (v : BookValue) → v.cuts ≡ 0 → v.is_broken ≡ false → committed v ≡ standing_for (committed v).firm
-firm_all v uncut whole = by_parts v.cuts v.is_broken uncut whole
-  where
-    by_parts : (cuts : ℕ) (broken : Bool) → cuts ≡ 0 → broken ≡ false
-        → committed (record { firm = v.firm; rest = v.rest; cuts = cuts; is_broken = broken }) ≡ standing_for (v.firm ++ v.rest)
-    by_parts cuts broken uncut whole = rw (uncut, whole) refl
+firm_all v uncut whole = λ i. record { firm = v.firm ++ v.rest; rest = []; cuts = uncut i; is_broken = whole i }
 
 pub committed_firm : {A : Type 0} {tells : Ghosts A} (old new : Book A tells) → value_of new ≡ committed (value_of old)
     → (value_of old).cuts ≡ 0 → (value_of old).is_broken ≡ false → IsAllFirm new
@@ -70,10 +66,9 @@ recorded_firm h now (Some act) = ap (λ (g : List HistoryEntry). h ++ entry_by g
 abbrev made : List HistoryEntry → ℕ → ℕ → GatewayValue
 made h size time = record { history = h; reserved = size; open_time = time }
 
-made_same : (h g : List HistoryEntry) (size size' time time' : ℕ) → h ≡ g → size ≡ size' → time ≡ time'
+made_same : {h g : List HistoryEntry} {size size' time time' : ℕ} → h ≡ g → size ≡ size' → time ≡ time'
     → made h size time ≡ made g size' time'
-made_same h g size size' time time' a b c =
-    ap (λ (x : List HistoryEntry). made x size time) a ∙ ap (λ (n : ℕ). made g n time) b ∙ ap (λ (n : ℕ). made g size' n) c
+made_same a b c = λ i. made (a i) (b i) (c i)
 
 module _ {A : Type 0} {tells : Ghosts A} where
   pub recorded_all_firm : (old middle new : Book A tells) (now : ℕ) (act : Option HistoryAct) → Records old middle now act
@@ -86,8 +81,9 @@ module _ {A : Type 0} {tells : Ghosts A} where
       → value_of new ≡ committed (value_of middle) → Stays old middle → Stays middle new
       → gateway_of new ≡ recording (gateway_of old) now act
   recorded_gateway old middle new now act moved is first second =
-      made_same (value_of new).firm (with_act (value_of old).firm now no_caller act) (size_of new) (size_of old) (open_time_of new) (open_time_of old)
-      (ap (λ (v : BookValue). v.firm) is ∙ ap (λ (v : BookValue). (committed v).firm) moved ∙ recorded_firm (value_of old).firm now act)
+      made_same
+      (ap (λ (v : BookValue). v.firm) is ∙ ap (λ (v : BookValue). (committed v).firm) moved ∙ recorded_firm
+      (value_of old).firm now act)
       (second.size ∙ first.size) (second.open_time ∙ first.open_time)
 
 -- ---- datagrams
@@ -171,8 +167,7 @@ module _ {A : Type 0} {tells : Ghosts A} (old new : Book A tells) (size : ℕ) w
   pub opened_gateway : (reserved open_time : ℕ) → value_of old ≡ opened size [] → value_of new ≡ committed (value_of old) → Stays old new
       → size ≡ reserved → size_of old ≡ reserved → open_time_of old ≡ open_time → gateway_of new ≡ new_gateway reserved open_time
   opened_gateway reserved open_time found is stays long sized set =
-      made_same (value_of new).firm (history_of (opened reserved [])) (size_of new) reserved (open_time_of new) open_time
-      (ap (λ (v : BookValue). v.firm) is ∙ ap (λ (v : BookValue). (committed v).firm) found ∙ opened_firm size
+      made_same (ap (λ (v : BookValue). v.firm) is ∙ ap (λ (v : BookValue). (committed v).firm) found ∙ opened_firm size
       ∙ ap (λ (n : ℕ). history_of (opened n [])) long)
       (stays.size ∙ sized) (stays.open_time ∙ set)
 

@@ -1,10 +1,9 @@
 -- A script that the grammar takes ends with `end`, but for blank lines; so all files of its network are written, and what
 -- it prints ends with its report.
-use Rattle.std.proofs.Common.{◌≡◌, ◌∙◌, refl, sym, ap, subst, ℕ, suc, ◌+◌, Bool, true, false, true≢false, ◌&&◌, ◌||◌, if◌then◌else◌, List, [], ◌∷◌, ◌++◌, length, Option, Some, None, Result, Ok, Err, append_assoc, append-nil}
+use Rattle.std.proofs.Common.{◌≡◌, ◌∙◌, refl, sym, ap, subst, ℕ, suc, ◌+◌, Bool, true, false, true≢false, ◌||◌, if◌then◌else◌, List, [], ◌∷◌, ◌++◌, length, Option, Some, None, Result, Ok, Err, append_assoc, append-nil}
 use Rattle.std.specs.List.{AllByRecursion, list_any}
-use Rattle.world_script.specs.Forms.{is_setting, keyword_of}
+use Rattle.world_script.specs.Forms.{keyword_of}
 use Rattle.world_script.specs.Printing.{ReadsBack, printed}
-use Rattle.world_script.specs.Saying.{said_by}
 use Rattle.world_script.specs.Script.{Refusal, contented, formed, is_end_line, keyed, onward, progress_of, reading_of, script_after, script_in, worded}
 use Rattle.world_script.specs.Text.{RawLine, is_blank, is_printable, line_content, line_size, raw_lines}
 use Rattle.route_filter.specs.Words.{words_of}
@@ -18,7 +17,7 @@ use Rattle.world_script.specs.declared.progress.Progress.{Progress}
 use Rattle.once_core.specs.declared.event.WorldKind.{WorldKind}
 use Rattle.replay_world.specs.Lines.{line_after, line_notices, refusal_of_line, settled}
 use Rattle.replay_world.specs.Notices.{notice_lines}
-use Rattle.replay_world.specs.Report.{line_text, lines_after, printed_by, printed_unless, refusal_of_lines, refused_from, refused_or, report_of}
+use Rattle.replay_world.specs.Report.{line_text, lines_after, printed_by, refusal_of_lines, refused_from, refused_or, report_of}
 use Rattle.replay_world.specs.Settled.{AreWritten, HaveMachines}
 use Rattle.replay_world.specs.Value.{ReplayValue, replay_of}
 use Rattle.cgf_jobs.specs.NetworkReport.{EndsByReport}
@@ -39,11 +38,7 @@ is_end _ is = absurd (cc)
 after_end : (p : Progress) (form : Keyword) (content : List ℕ) (words : List (List ℕ)) (l : Line) → p.has_end ≡ true →
     formed p form content words ≡ Ok l → l ≡ line.Blank
 after_end p form content words l ended h =
-    let else_said : Result Line InputKind =
-    if is_setting form && p.has_action then Err kind.Late else said_by p.kind form p.rules content words in
-    let refused : Err kind.After ≡ Ok l =
-    sym (ap (λ (b : Bool). if◌then◌else◌ {A = Result Line InputKind} b (Err kind.After) else_said) ended) ∙ h in
-    absurd (cc)
+    let refused = rw ended at h in absurd (cc refused)
 
 keyed_blank : (p : Progress) (r : Result Keyword InputKind) (content : List ℕ) (words : List (List ℕ)) (l : Line) →
     p.has_end ≡ true → keyed p r content words ≡ Ok l → l ≡ line.Blank
@@ -110,8 +105,7 @@ ends_more before l so_far blank some = by (list_any is_end_line before) refl
           blank = blank_more ended.back ended.blank;
         }
     by false is =
-        let here : is_end_line l ≡ true =
-        sym (ap (λ (b : Bool). b || is_end_line l) is) ∙ sym (any_more before l) ∙ some in
+        let here : is_end_line l ≡ true = rw is at (sym (any_more before l) ∙ some) in
         record {
           front = before;
           back = [];
@@ -160,8 +154,7 @@ lines_then v (said ∷ front) back = lines_then (line_after v said) front back
 
 blank_stays : (v : ReplayValue) (back : List Line) → AllByRecursion (λ l. l ≡ line.Blank) back → lines_after v back ≡ v
 blank_stays v [] all = refl
-blank_stays v (said ∷ back) all =
-    ap (λ (l : Line). lines_after (line_after v l) back) all.0 ∙ blank_stays v back all.1
+blank_stays v (said ∷ back) all = rw all.0 (blank_stays v back all.1)
 
 pub ended_written : (v : ReplayValue) (lines : List Line) → EndsByEnd lines →
     ((front : List Line) → HaveMachines (lines_after v front)) →
@@ -216,9 +209,7 @@ module _ (v : ReplayValue) (said : Line) (later : List Line) (place : ℕ) where
   tells_more : refusal_of_line v said ≡ None → TellsAt u later → TellsAt v (said ∷ later)
   tells_more none tells = (
     line_text v said ++ tells.0,
-    ap (λ (o : Option WorldKind). printed_unless o (line_text v said ++ printed_by u later)) none
-        ∙ ap (λ (text : List ℕ). line_text v said ++ text) tells.1
-        ∙ sym (append_assoc (line_text v said) tells.0 (report_of (lines_after u later))),
+    rw (none, tells.1) (sym (append_assoc (line_text v said) tells.0 (report_of (lines_after u later)))),
   )
 
 tells_from : (v : ReplayValue) (front back : List Line) (place : ℕ) → AllByRecursion (λ l. l ≡ line.Blank) back →
@@ -231,9 +222,7 @@ tells_from v (said ∷ front) back place blank none =
 
 ended_tells : (v : ReplayValue) (lines : List Line) → EndsByEnd lines → refused_from 1 v lines ≡ None → TellsAt v lines
 ended_tells v lines ended none =
-    subst (λ (ls : List Line). TellsAt v ls) (sym ended.whole)
-    (tells_from v ended.front ended.back 1 ended.blank
-    (sym (ap (λ (ls : List Line). refused_from 1 v ls) ended.whole) ∙ none))
+    rw ended.whole (tells_from v ended.front ended.back 1 ended.blank (rw ended.whole at none))
 
 pub ended_told : (lines : List Line) → EndsByEnd lines → refusal_of_lines lines ≡ None → EndsByReport lines
 ended_told lines ended none = ended_tells (replay_of lines) lines ended none

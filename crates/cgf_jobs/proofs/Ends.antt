@@ -1,6 +1,7 @@
 -- What was read decides how the job ends, and an input that is shorter than the bound is read whole.
-use Rattle.std.proofs.Common.{◌≡◌, ℕ, ◌<◌, ◌⊎◌, inl, inr, List, [], ◌∷◌, ◌++◌, length, take, take_all, Option, Some, None, refl, ap, sym, ◌∙◌, subst, arith, length-append, append-nil}
+use Rattle.std.proofs.Common.{◌≡◌, ℕ, ◌<◌, ◌⊎◌, inl, inr, List, ◌++◌, length, take, take_all, Option, Some, None, ap, sym, ◌∙◌, subst, arith, length-append, append-nil}
 use Rattle.std.proofs.lemmas.Option.{same_Some}
+use Rattle.std.proofs.Math.Seq.{take-append_seam}
 use Rattle.cgf_jobs.specs.Command.{command_of, most_read}
 use Rattle.cgf_jobs.specs.Ending.{EndsByInput, EndsByWhole, IsBounded, IsComplete}
 use Rattle.cgf_jobs.specs.Run.{IsRead, TakesUpTo, end_of}
@@ -16,16 +17,14 @@ read_whole most octets read (Some rest) h r =
       | inr none ↦ sym (r.consumed ∙ ap (λ x. read ++ x) none ∙ append-nil read)
     ]
 
-front_taken : (xs ys : List ℕ) → take (length xs) (xs ++ ys) ≡ xs
-front_taken [] ys = refl
-front_taken (x ∷ xs) ys = ap (λ (l : List ℕ). x ∷ l) (front_taken xs ys)
-
 -- what was read of an input is its first octets, as many as are read at most
 pub read_front : (most : ℕ) (octets read : List ℕ) (rest_left : Option (List ℕ)) → IsRead most (Some octets) rest_left read → read ≡ take most octets
 read_front most octets read None r = absurd r.consumed
 read_front most octets read (Some rest) r =
     elim r.whole [
-      | inl long ↦ sym (ap (λ (n : ℕ). take n octets) (sym long) ∙ ap (λ (l : List ℕ). take (length read) l) r.consumed ∙ front_taken read rest)
+      | inl long ↦ sym
+          (ap (λ (n : ℕ). take n octets) (sym long) ∙ ap
+          (λ (l : List ℕ). take (length read) l) r.consumed ∙ take-append_seam read rest)
       | inr none ↦ sym (ap (λ (l : List ℕ). take most l) (r.consumed ∙ ap (λ (x : List ℕ). read ++ x) none ∙ append-nil read)
           ∙ take_all most read r.bounded)
     ]

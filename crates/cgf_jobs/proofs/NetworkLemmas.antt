@@ -171,11 +171,7 @@ replayed_front lines report refusal some printed refused played = record {
 pub refused_at : (at : ℕ) (kind : WorldKind) (refused : Option Refusal) →
     refused ≡ Some (record { place = at + 1; kind = of_world kind }) →
     refused ≡ refusal_at_line (Some (record { place = suc at; kind = kind }))
-refused_at at kind refused is =
-    is ∙ ap (λ (n : ℕ). refusal_at_line (Some (record { place = n; kind = kind }))) (one_more at)
-  where
-    one_more : (n : ℕ) → n + 1 ≡ suc n
-    one_more n = omega arith
+refused_at at kind refused is = let more : at + 1 ≡ suc at = omega arith in cc
 
 -- The report of a text.
 

@@ -1,5 +1,5 @@
 -- The lines that are printed, step by step.
-use Rattle.std.proofs.Common.{◌≡◌, ℕ, suc, ◌+◌, ◌-◌, ◌*◌, ◌^◌, ◌<◌, ◌≤◌, min, ◌==◌, List, [], ◌∷◌, ◌++◌, length, length-append, take, drop, slice_set, Some, None, slice_get, ap, sym, ◌∙◌, arith, append_assoc, append-nil}
+use Rattle.std.proofs.Common.{◌≡◌, ℕ, ◌+◌, ◌-◌, ◌*◌, ◌^◌, ◌<◌, ◌≤◌, min, ◌==◌, List, [], ◌∷◌, ◌++◌, length, length-append, take, drop, slice_set, Some, None, slice_get, ap, sym, ◌∙◌, arith, add-one, append_assoc, append-nil}
 use Rattle.std.specs.List.{flat_map}
 use Rattle.std.proofs.lemmas.Grind.{flat_map-append}
 use Rattle.std.proofs.lemmas.List.Elements.{filter-append}
@@ -92,11 +92,4 @@ pub stream_printed : (settings : Settings) (items : List Item) (s : ℕ) (files 
     → before ≡ start ++ flat_map (file_line 0) (files_below s settings items) → in_stream s files ≡ stream_files settings s items
     → now ≡ before ++ lines_in s files → now ≡ start ++ flat_map (file_line 0) (files_below (s + 1) settings items)
 stream_printed settings items s files start before now printed stands more =
-    more ∙ ap (λ (p : List ℕ). p ++ lines_in s files) printed
-    ∙ append_assoc start (flat_map (file_line 0) (files_below s settings items)) (lines_in s files)
-    ∙ ap (λ (fs : List SealedFile). start ++ (flat_map (file_line 0) (files_below s settings items) ++ flat_map (file_line 0) fs)) stands
-    ∙ ap (λ (x : List ℕ). start ++ x) (sym (flat_map-append (file_line 0) (files_below s settings items) (stream_files settings s items)))
-    ∙ ap (λ (n : ℕ). start ++ flat_map (file_line 0) (files_below n settings items)) (later s)
-  where
-    later : (k : ℕ) → suc k ≡ k + 1
-    later k = omega arith
+    rw (more, printed, stands, add-one, append_assoc, flat_map-append)

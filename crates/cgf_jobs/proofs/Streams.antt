@@ -9,13 +9,16 @@ use Rattle.cgf_jobs.specs.Steps.{TakesPiece}
 
 -- Writing.
 
+pub appends_two : (a b c : Option (List ℕ)) (xs ys : List ℕ) → Appends a b xs → Appends b c ys → Appends a c (xs ++ ys)
+appends_two None b c xs ys h k = tt
+appends_two (Some us) None c xs ys h k = absurd h
+appends_two (Some us) (Some vs) None xs ys h k = absurd k
+appends_two (Some us) (Some vs) (Some ws) xs ys h k = k ∙ ap (λ (l : List ℕ). l ++ ys) h ∙ append_assoc us xs ys
+
 pub appends_more : (a b c : Option (List ℕ)) (octets : List ℕ) (at count : ℕ) → Appends a b (take at octets) → Appends b c (take count (drop at octets)) →
     Appends a c (take (at + count) octets)
-appends_more None b c octets at count h k = tt
-appends_more (Some xs) None c octets at count h k = absurd h
-appends_more (Some xs) (Some ys) None octets at count h k = absurd k
-appends_more (Some xs) (Some ys) (Some zs) octets at count h k =
-    k ∙ ap (λ y. y ++ take count (drop at octets)) h ∙ append_assoc xs (take at octets) (take count (drop at octets)) ∙ ap (λ t. xs ++ t) (sym (take-add at count octets))
+appends_more a b c octets at count h k = rw take-add
+    (appends_two a b c (take at octets) (take count (drop at octets)) h k)
 
 -- nothing was written of these octets yet
 pub appends_none : (a : Option (List ℕ)) (octets : List ℕ) → Appends a a (take 0 octets)

@@ -88,8 +88,7 @@ unfolding reported
 writes_refusal job command octets refusal same asked read refused = record {
   input = reported job command octets (status.Input refusal.place refusal.kind) asked read (λ taken asks. absurd (never taken))
       refused.ended;
-  written = subst (λ (after : Option (List ℕ)). Appends job.before after (report_of command octets)) (sym same)
-      (subst (λ (text : List ℕ). Appends job.before job.before text) (sym refused.none) (appends_none job.before []));
+  written = rw (same, refused.none) (appends_none job.before []);
   hands = refl;
 }
   where
@@ -131,9 +130,7 @@ ran_replay job ended played text lines has asked left script done =
     let octets_are : has.input.octets ≡ text = all_read text has.input.octets job.rest
     (subst (λ (l : Option (List ℕ)). Consumes l job.rest has.input.octets) left has.input.read.consumed) end in
     subst (λ (r : Result (List Line) LineRefusal). HandsBack (lines_ok r) played) script
-    (subst (λ (o : List ℕ). HandsBack (lines_run status.Done Replay o) played) octets_are
-    (subst (λ (c : Command). HandsBack (lines_run status.Done c has.input.octets) played) command_is
-    (subst (λ (s : Status). HandsBack (lines_run s has.input.command has.input.octets) played) done has.hands)))
+    (rw (done, command_is, octets_are) at has.hands)
 
 -- and a drill the network of its seed
 pub ran_drill : (job : Job) (ended : Status) (played : Option Played) (of : Seeded) → HasReported job ended played →
@@ -141,8 +138,7 @@ pub ran_drill : (job : Job) (ended : Status) (played : Option Played) (of : Seed
 ran_drill job ended played of has asked done =
     let command_is : has.input.command ≡ Drill of =
     same_command job.words has.input.command (Drill of) has.input.asked asked in
-    subst (λ (c : Command). HandsBack (lines_run status.Done c has.input.octets) played) command_is
-    (subst (λ (s : Status). HandsBack (lines_run s has.input.command has.input.octets) played) done has.hands)
+    rw (done, command_is) at has.hands
 
 -- a listing hands nothing back
 pub shown_none : (ended : Status) (octets : List ℕ) → HandsBack (lines_run ended Show octets) None

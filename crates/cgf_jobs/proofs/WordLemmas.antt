@@ -12,44 +12,24 @@ use Rattle.cgf_jobs.specs.Words.{found_in, is_option, words_app}
 
 -- A word that is no option isn't `--`, and is no option of clap.
 
-not_double : (w : Text) → is_option w ≡ false → bytes_eq w (45 ∷ 45 ∷ []) ≡ false
-not_double [] is = refl
-not_double (x ∷ []) is = go (x == 45)
+plain : (w : Text) → is_option w ≡ false
+    → (bytes_eq w (45 ∷ 45 ∷ []) ≡ false) × (long_of w ≡ None) × (short_of w ≡ None)
+plain [] is = (refl, refl, refl)
+plain (x ∷ []) is = go (x == 45)
   where
-    go : (b : Bool) → (b && false) ≡ false
-    go true = refl
-    go false = refl
-not_double (x ∷ y ∷ xs) is = go (x == 45) is
+    go : (b : Bool)
+        → ((b && false) ≡ false)
+        × (option_and_then long_of_rest (option_and_then (strip_byte 45) (cond b (Some []) None)) ≡ None)
+        × (option_and_then short_of_rest (cond b (Some []) None) ≡ None)
+    go true = (refl, refl, refl)
+    go false = (refl, refl, refl)
+plain (x ∷ y ∷ xs) is = go (x == 45) is
   where
-    go : (b : Bool) → b ≡ false → (b && bytes_eq (y ∷ xs) (45 ∷ [])) ≡ false
+    go : (b : Bool) → b ≡ false → ((b && bytes_eq (y ∷ xs) (45 ∷ [])) ≡ false)
+        × (option_and_then long_of_rest (option_and_then (strip_byte 45) (cond b (Some (y ∷ xs)) None)) ≡ None)
+        × (option_and_then short_of_rest (cond b (Some (y ∷ xs)) None) ≡ None)
     go true is = absurd (true≢false is)
-    go false is = refl
-
-not_long : (w : Text) → is_option w ≡ false → long_of w ≡ None
-not_long [] is = refl
-not_long (x ∷ []) is = go (x == 45)
-  where
-    go : (b : Bool) → option_and_then long_of_rest (option_and_then (strip_byte 45) (cond b (Some []) None)) ≡ None
-    go true = refl
-    go false = refl
-not_long (x ∷ y ∷ xs) is = go (x == 45) is
-  where
-    go : (b : Bool) → b ≡ false → option_and_then long_of_rest (option_and_then (strip_byte 45) (cond b (Some (y ∷ xs)) None)) ≡ None
-    go true is = absurd (true≢false is)
-    go false is = refl
-
-not_short : (w : Text) → is_option w ≡ false → short_of w ≡ None
-not_short [] is = refl
-not_short (x ∷ []) is = go (x == 45)
-  where
-    go : (b : Bool) → option_and_then short_of_rest (cond b (Some []) None) ≡ None
-    go true = refl
-    go false = refl
-not_short (x ∷ y ∷ xs) is = go (x == 45) is
-  where
-    go : (b : Bool) → b ≡ false → option_and_then short_of_rest (cond b (Some (y ∷ xs)) None) ≡ None
-    go true is = absurd (true≢false is)
-    go false is = refl
+    go false is = (refl, refl, refl)
 
 neither_first : (a b : Bool) → (a || b) ≡ false → a ≡ false
 neither_first true b is = is
@@ -78,12 +58,12 @@ at h waiting position = record { held = h; waiting = waiting; position = positio
 idle_word : (h : Held) (position : ℕ) (word : Text) → is_option word ≡ false →
     walked rules [] (at h idle position) word ≡ to_positional rules (arg_by_index rules position) word (at h idle position) h
 unfolding walked
-idle_word h position word is = rw (not_double word is, not_long word is, not_short word is) refl
+idle_word h position word is = let p = plain word is in rw (p.0, p.1, p.2) refl
 
 next_word : (h : Held) (word : Text) → is_option word ≡ false →
     walked rules [] (at h positional 2) word ≡ to_positional rules (arg_by_index rules 2) word (at h positional 2) h
 unfolding walked
-next_word h word is = rw (not_double word is, not_long word is, not_short word is) refl
+next_word h word is = let p = plain word is in rw (p.0, p.1, p.2) refl
 
 -- The values: the last one is pending, and those before it are in a row.
 
@@ -104,7 +84,8 @@ unfolding walk_passes
 rest_passes name vs v [] are = refl
 rest_passes name vs v (word ∷ words) are =
     let is : is_option word ≡ false = neither_first (is_option word) _ are in
-    rw (not_double word is, not_long word is, not_short word is, kept_more name vs v word is)
+    let p = plain word is in
+    rw (p.0, p.1, p.2, kept_more name vs v word is)
     (rest_passes name (vs ++ v ∷ []) word words (neither_second (is_option word) _ are))
 
 rest_kept : (name : Text) (vs : List Text) (v : Text) (words : List Text) → list_any is_option words ≡ false →
@@ -126,14 +107,15 @@ begin_passes : (name v : Text) (words : List Text) → is_option name ≡ false 
     walk_passes top [] (walk_from nothing_held) (name ∷ v ∷ words) ≡ true
 unfolding walk_passes
 begin_passes name v words name_is v_is are =
+    let p = plain name name_is in let q = plain v v_is in
     rw (
-      not_double name name_is,
-      not_long name name_is,
-      not_short name name_is,
+      p.0,
+      p.1,
+      p.2,
       idle_word nothing_held 1 name name_is,
-      not_double v v_is,
-      not_long v v_is,
-      not_short v v_is,
+      q.0,
+      q.1,
+      q.2,
       idle_word (record { rows = []; pending = Some (codes "COMMAND", name ∷ []); skip = 0 }) 2 v v_is,
     )
     (rest_passes name [] v words are)
@@ -144,7 +126,7 @@ no_words = refl
 
 one_word : (name : Text) → is_option name ≡ false → takes words_app (name ∷ []) ≡ true
 unfolding walk_passes
-one_word name is = rw (not_double name is, not_long name is, not_short name is, idle_word nothing_held 1 name is) refl
+one_word name is = let p = plain name is in rw (p.0, p.1, p.2, idle_word nothing_held 1 name is) refl
 
 -- the parser takes words that are no options
 pub takes_words : (words : List Text) → list_any is_option words ≡ false → takes words_app words ≡ true

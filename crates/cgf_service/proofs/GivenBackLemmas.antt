@@ -1,7 +1,7 @@
 -- What is told of an address once links of it were given back.
-use Rattle.std.proofs.Common.{◌≡◌, ◌⊎◌, ⊎_elim, inl, inr, ℕ, zero, suc, ◌-◌, ◌<◌, ◌≤◌, ◌^◌, List, [], ◌∷◌, ◌++◌, Option, None, Some, refl, sym, ap, subst, ◌∙◌, arith}
+use Rattle.std.proofs.Common.{◌≡◌, ◌≢◌, ◌⊎◌, ⊎_elim, inl, inr, ℕ, ◌-◌, ◌≤◌, ◌^◌, List, [], ◌∷◌, ◌++◌, Option, None, Some, refl, sym, ap, ◌∙◌, arith}
+use Rattle.std.proofs.lemmas.Bool.{cases_eq}
 use Rattle.std.specs.Prelude.{All, IfSome}
-use Rattle.std.specs.List.{Contains}
 use Rattle.std.proofs.lemmas.List.Elements.{All-append, All-head, All-nil, All-tail, All-weaker, Contains-append_right}
 use Rattle.gw_base.specs.Facts.{Facts}
 use Rattle.gw_base.specs.Faults.{Rose}
@@ -19,11 +19,7 @@ abbrev Told : Type 0
 Told = Option (List Datagram)
 
 some_same : (xs ys : List Datagram) → ◌≡◌ {A = Told} (Some xs) (Some ys) → xs ≡ ys
-some_same xs ys e = ap (λ (o : Told). list_or o) e
-  where
-    list_or : Told → List Datagram
-    list_or None = xs
-    list_or (Some zs) = zs
+some_same xs ys e = cc
 
 -- two lists that are told together are told
 record Both (one other : Told) (list : List Datagram) : Type 0 where
@@ -39,17 +35,11 @@ both _ _ list e = absurd (cc e)
 
 -- Counts of faults.
 
-le_or : (b c : ℕ) → b ≤ c → (b ≡ c) ⊎ (b < c)
-le_or zero zero h = inl refl
-le_or zero (suc c) h = inr (omega arith)
-le_or (suc b) zero h = absurd (omega (arith, h))
-le_or (suc b) (suc c) h = ⊎_elim (λ (e : b ≡ c). inl (ap (λ (n : ℕ). suc n) e)) (λ (l : b < c). inr (omega (arith, l))) (le_or b c (omega (arith, h)))
-
 -- a count that rose has risen still
 pub rose_still : (a b c : ℕ) → a ≤ b → b ≤ c → Rose a b → Rose a c
 rose_still a b c up later (inl less) = inl (omega (arith, later, less))
 rose_still a b c up later (inr last) =
-    ⊎_elim (λ (e : b ≡ c). inr (sym e ∙ last)) (λ (l : b < c). inl (omega (arith, up, l))) (le_or b c later)
+    ⊎_elim (λ (e : b ≡ c). inr (sym e ∙ last)) (λ (apart : b ≢ c). inl (omega (arith, up, later, apart))) (cases_eq b c)
 
 -- a count that rose after it stood has risen from an earlier value
 pub rose_before : (a b c : ℕ) → a ≤ b → Rose b c → Rose a c
@@ -74,8 +64,7 @@ module _ {L : Type 0} (tells : paths.Ghosts L) where
   heard_there told None link links e d heard = tt
   heard_there told (Some list) link links e d heard =
       let b = both (received_with tells told links) (tells.state link).received list e in
-      let here : Contains b.behind d = subst (λ o. IsHeard o d) b.other_is heard in
-      subst (λ (l : List Datagram). Contains l d) (sym b.list_is) (Contains-append_right b.front b.behind d here)
+      rw b.list_is (Contains-append_right b.front b.behind d (rw b.other_is at heard))
 
   -- what holds of all that each link sent holds of all that they sent together
   pub all_sent : (P : Datagram → Type 0) (links : List L) → All (λ link. IfSome (tells.state link).sent (All P)) links
@@ -106,8 +95,7 @@ module _ {L : Type 0} (tells : paths.Ghosts L) where
   pub sent_grows : ((told : Told) (links : List L) → sent_with tells told links ≡ joined told (sent_by tells links))
       → (before mid after : Told) (links : List L) → mid ≡ before → IfSome after (λ list. sent_with tells mid links ≡ Some list)
       → GrowsBy before (sent_by tells links) after
-  sent_grows law before mid after links is e = subst (λ (o : Told). GrowsBy o (sent_by tells links) after) is
-      (subst (λ (o : Told). IfSome after (λ list. o ≡ Some list)) (law mid links) e)
+  sent_grows law before mid after links is e = rw is at (rw (law mid links) at e)
 
 -- a history that goes on by what was heard goes on by what is told of the address
 pub goes_on_there : HeardInTurn → (earlier heard there : Told) → GrowsBy earlier heard there → ((d : Datagram) → IsHeard heard d → IsHeard there d)

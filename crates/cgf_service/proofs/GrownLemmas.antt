@@ -1,6 +1,6 @@
 -- How a history has grown from the one that was found to the one that was settled.
 use Rattle.std.proofs.Common.{◌≡◌, ◌⊎◌, ⊎_elim, inl, inr, ℕ, Bool, true, false, if◌then◌else◌, List, [], ◌∷◌, ◌++◌, Option, refl, sym, ap, subst, ◌∙◌, append_assoc}
-use Rattle.std.proofs.lemmas.List.{append-nil}
+use Rattle.std.proofs.lemmas.List.{append-nil, append_cancel_left}
 use Rattle.gateway_answer.specs.Answered.{entry_by, no_caller, room_for, with_act}
 use Rattle.gateway_answer.specs.Marks.{Makes, NotDue}
 use Rattle.gateway_book.specs.Turning.{act_marked}
@@ -23,29 +23,17 @@ use Rattle.cgf_service.proofs.ServiceLemmas.{StaysInTurn}
 abbrev Entries : Type 0
 Entries = List HistoryEntry
 
-abbrev rest_of : {A : Type 0} → List A → List A
-rest_of [] = []
-rest_of (x ∷ xs) = xs
-
-abbrev head_of : {A : Type 0} → A → List A → A
-head_of a [] = a
-head_of a (x ∷ xs) = x
-
-after_same : (xs ys zs : Entries) → xs ++ ys ≡ xs ++ zs → ys ≡ zs
-after_same [] ys zs e = e
-after_same (x ∷ xs) ys zs e = after_same xs ys zs (ap (λ l. rest_of l) e)
-
 -- of two beginnings of one list one begins the other
 two_beginnings : (xs ys zs : Entries) → Begins xs zs → Begins ys zs → Begins xs ys ⊎ Begins ys xs
 two_beginnings [] ys zs p q = inl (ys, refl)
 two_beginnings (x ∷ xs) [] zs p q = inr (x ∷ xs, refl)
-two_beginnings (x ∷ xs) (y ∷ ys) [] p q = let e : [] ≡ x ∷ (xs ++ p.0) = p.1 in absurd (cc e)
+two_beginnings (x ∷ xs) (y ∷ ys) [] p q = absurd (cc p.1)
 two_beginnings (x ∷ xs) (y ∷ ys) (z ∷ zs) p q =
-    let same : x ≡ y = sym (ap (λ l. head_of x l) p.1) ∙ ap (λ l. head_of x l) q.1 in
+    let same : x ≡ y = cc (p.1, q.1) in
     ⊎_elim
     (λ (t : Begins xs ys). inl (t.0, λ i. sym same i ∷ t.1 i))
     (λ (t : Begins ys xs). inr (t.0, λ i. same i ∷ t.1 i))
-    (two_beginnings xs ys zs (p.0, ap (λ l. rest_of l) p.1) (q.0, ap (λ l. rest_of l) q.1))
+    (two_beginnings xs ys zs (p.0, cc p.1) (q.0, cc q.1))
 
 -- a front of what is at most an entry is at most that
 at_most_front : (e : HistoryEntry) (xs ys : Entries) → IsAtMost e (xs ++ ys) → IsAtMost e xs
@@ -128,16 +116,15 @@ module _ (size : ℕ) (heard : Option (List Datagram)) (h s : Entries) (start no
   stood_is = goes.firm.1 ∙ ap (λ (l : Entries). l ++ q) firm
 
   start_is : s ≡ q ++ goes.stood_is.0
-  start_is = after_same h s (q ++ goes.stood_is.0)
+  start_is = append_cancel_left h s (q ++ goes.stood_is.0)
       (sym list ∙ goes.stood_is.1 ∙ ap (λ (l : Entries). l ++ goes.stood_is.0) stood_is ∙ append_assoc h q goes.stood_is.0)
 
   q_starts : IsAtMost (entry_by h 0 no_caller act.Start) q
   q_starts = at_most_front (entry_by h 0 no_caller act.Start) q goes.stood_is.0
-      (subst (λ (l : Entries). IsAtMost (entry_by h 0 no_caller act.Start) l) start_is starts)
+      (rw start_is at starts)
 
   all_answer : AnswerInTurn size heard jobs (placed (h ++ q) goes.tail)
-  all_answer = subst (λ (n : ℕ). AnswerInTurn n heard jobs (placed (h ++ q) goes.tail)) sized
-      (subst (λ (l : Entries). AnswerInTurn start.size heard jobs (placed l goes.tail)) stood_is until_last.answers)
+  all_answer = rw (sized, stood_is) at until_last.answers
 
   whole_is : joined now ≡ (h ++ q) ++ goes.tail
   whole_is = goes.whole ∙ ap (λ (l : Entries). l ++ goes.tail) stood_is
@@ -165,7 +152,7 @@ module _ (size : ℕ) (heard : Option (List Datagram)) (h s : Entries) (start no
       rest = goes.first.0
 
       split : w ++ rest ≡ q ++ goes.tail
-      split = after_same h (w ++ rest) (q ++ goes.tail)
+      split = append_cancel_left h (w ++ rest) (q ++ goes.tail)
           (sym (append_assoc h w rest) ∙ ap (λ (l : Entries). l ++ rest) (sym firm_is) ∙ sym goes.first.1 ∙ whole_is ∙ append_assoc h q goes.tail)
 
       by_case : Begins w q ⊎ Begins q w → Front now.firm
@@ -174,12 +161,12 @@ module _ (size : ℕ) (heard : Option (List Datagram)) (h s : Entries) (start no
         answered = [];
         whole = firm_is ∙ sym (append-nil (h ++ w));
         one_start = at_most_front (entry_by h 0 no_caller act.Start) w b.0
-            (subst (λ (l : Entries). IsAtMost (entry_by h 0 no_caller act.Start) l) b.1 q_starts);
+            (rw b.1 at q_starts);
         answers = record { were_heard = all_answer.were_heard; answers = λ session. tt; no_more = all_answer.no_more };
       }
       by_case (inr b) =
           let u = b.0 in
-          let tail_is : goes.tail ≡ u ++ rest = after_same q goes.tail (u ++ rest)
+          let tail_is : goes.tail ≡ u ++ rest = append_cancel_left q goes.tail (u ++ rest)
           (sym split ∙ ap (λ (l : Entries). l ++ rest) b.1 ∙ append_assoc q u rest) in
           record {
             opened = q;

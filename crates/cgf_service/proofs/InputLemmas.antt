@@ -11,6 +11,12 @@ pub appends_none : (a : Option (List ℕ)) (octets : List ℕ) → Appends a a (
 appends_none None octets = tt
 appends_none (Some xs) octets = sym (append-nil xs)
 
+pub appends_two : (a b c : Option (List ℕ)) (xs ys : List ℕ) → Appends a b xs → Appends b c ys → Appends a c (xs ++ ys)
+appends_two None b c xs ys h k = tt
+appends_two (Some us) None c xs ys h k = absurd h
+appends_two (Some us) (Some vs) None xs ys h k = absurd k
+appends_two (Some us) (Some vs) (Some ws) xs ys h k = k ∙ ap (λ (l : List ℕ). l ++ ys) h ∙ append_assoc us xs ys
+
 pub consumes_none : (a : Option (List ℕ)) → Consumes a a []
 consumes_none None = tt
 consumes_none (Some xs) = refl

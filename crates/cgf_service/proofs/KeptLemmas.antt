@@ -1,11 +1,10 @@
 -- What a gateway keeps that was handed an area: its history, and what it answered.
-use Rattle.std.proofs.Common.{◌≡◌, ℕ, ◌≤◌, Bool, true, ◌&&◌, List, [], Option, None, Some, refl, sym, ap, subst, ◌∙◌, arith}
+use Rattle.std.proofs.Common.{◌≡◌, ℕ, ◌≤◌, Bool, true, ◌&&◌, List, [], Option, None, Some, refl, ap, ◌∙◌, arith}
 use Rattle.std.proofs.lemmas.List.{append-nil}
 use Rattle.std.proofs.lemmas.List.Elements.{All-nil, All-weaker}
-use Rattle.std.specs.Prelude.{All, IfSome}
+use Rattle.std.proofs.lemmas.Option.{IfSome_then}
 use Rattle.area_disk.specs.Disk.{Rose}
 use Rattle.area_disk.specs.declared.area.Area as areas
-use Rattle.cdr_shelf.specs.Files.{SealedFile}
 use Rattle.cdr_shelf.specs.declared.shelf.Shelf as shelves
 use Rattle.file_writer.specs.declared.writer.Writer.{Writer}
 use Rattle.gate_journal.specs.Moments.{Told}
@@ -30,10 +29,6 @@ use Rattle.cgf_service.proofs.ServiceLemmas.{ReplyLater, begins_self, none_in_tu
 
 pub told_lists : {A : Type 0} (tells : areas.Ghosts A) → Told tells → tells_lists tells ≡ true
 told_lists tells told = ap (λ (b : Bool). b && tells.tells_crash) told.0 ∙ told.1
-
-told_weaker : (P Q : Datagram → Type 0) → ((d : Datagram) → P d → Q d) → (sent : Option (List Datagram)) → IfSome sent (All P) → IfSome sent (All Q)
-told_weaker P Q more None all = tt
-told_weaker P Q more (Some list) all = All-weaker P Q more list all
 
 -- nothing was sent where what is told of it is as before
 none_grows : (told : Option (List Datagram)) → GrowsBy told (Some []) told
@@ -84,7 +79,7 @@ module _ {A F : Type 0} (tells : areas.Ghosts A) (files : shelves.Ghosts F) (of 
     history = start;
     stands = stands;
     begins = begins_self start;
-    filed = subst (λ (sealed : List SealedFile). HasFirstFiles (files_at of setup) start sealed) (sym same) first;
+    filed = rw same first;
   }
 
   -- so it is where the area is as it was
@@ -107,25 +102,26 @@ module _ {A F : Type 0} (tells : areas.Ghosts A) (files : shelves.Ghosts F) (of 
   rests : (d : Datagram)
       → IsReply (links'.received (address_in of)) (size_of book) (value_of book').firm (tells.faults (area_of book)) (tells.faults (area_of book')) d
       → IsReply (links'.received (address_in of)) (size_of book) history (tells.faults area) (tells.faults (area_of book'')) d
-  rests d r = subst (λ (n : ℕ). IsReply (links'.received (address_in of)) (size_of book) history n (tells.faults (area_of book'')) d) opens.faults
-      (reply_later (links'.received (address_in of)) (size_of book) (value_of book').firm history (tells.faults (area_of book)) (tells.faults (area_of book'))
+  rests d r =
+      rw opens.faults
+      at (reply_later (links'.received (address_in of)) (size_of book) (value_of book').firm history
+      (tells.faults (area_of book)) (tells.faults (area_of book'))
       (tells.faults (area_of book'')) begins rose d r)
 
   same_rise : Rose (tells.faults (area_of book)) (tells.faults (area_of book')) → Rose (tells.faults area) (tells.faults (area_of book''))
-  same_rise up = subst (λ (n : ℕ). Rose n (tells.faults (area_of book''))) opens.faults (rose up)
+  same_rise up = rw opens.faults at (rose up)
 
   -- what was sent rests on a history that begins with what was firm then
   pub replies_rest : HasReplied (tells.size area) history (tells.faults area) (tells.faults (area_of book'')) (address_in of) links links'
   replies_rest =
       let was = serves.replies (told_lists tells told) in
-      subst (λ (size : ℕ). HasReplied size history (tells.faults area) (tells.faults (area_of book'')) (address_in of) links links') sized
-      (record {
+      rw (← sized) (record {
         sent = was.sent;
         is_sent = was.is_sent;
-        each = told_weaker
+        each = IfSome_then was.sent was.each (λ list all. All-weaker
             (IsReply (links'.received (address_in of)) (size_of book) (value_of book').firm (tells.faults (area_of book)) (tells.faults (area_of book')))
-            (IsReply (links'.received (address_in of)) (size_of book) history (tells.faults area) (tells.faults (area_of book'')))
-            rests was.sent was.each;
+            (IsReply (links'.received (address_in of)) (size_of book) history (tells.faults area)
+            (tells.faults (area_of book''))) rests list all);
         in_turn = law (size_of book) (value_of book').firm history (tells.faults (area_of book)) (tells.faults (area_of book')) (tells.faults area)
             (tells.faults (area_of book'')) (Some []) (links'.received (address_in of)) (links'.received (address_in of)) was.sent begins same_rise
             (same_heard (links'.received (address_in of))) was.in_turn;

@@ -29,8 +29,6 @@ use Rattle.cgf_service.specs.ServeSteps.{FailsBy, HasLine, HasNoLine, HasSettled
 use Rattle.cgf_service.specs.Served.{moment_of, served_line}
 use Rattle.cgf_service.specs.declared.settling.Service.{Service}
 use Rattle.cgf_jobs.specs.declared.status.Status.{Status}
-use Rattle.cgf_jobs.specs.declared.status.Status.TheVariants as status
-use Rattle.cgf_jobs.specs.declared.status.StoreFault.TheVariants as fault
 
 -- the counts of a book in which nothing waits, and that isn't broken, are those of its history
 pub line_is : (v : BookValue) (size : ℕ) (counts : Counts) (records : ℕ) → v.is_broken ≡ false → v.rest ≡ [] → counts ≡ counts_of v size
@@ -80,11 +78,8 @@ module _ {A F : Type 0} (tells : areas.Ghosts A) (files : shelves.Ghosts F) wher
   fails_as : (service : Service) (book a b : Book A tells) (writer w : Writer F files) → service.stop ≡ None
       → tells.faults (area_of book) ≤ tells.faults (area_of a)
       → (ended : Status) → FailsBy tells a b ended → HasNoLine tells files service book b writer w ended
-  fails_as service book a b writer w runs up ended (inl memory) =
-      subst (HasNoLine tells files service book b writer w) (sym memory) tt
-  fails_as service book a b writer w runs up ended (inr device) =
-      subst (HasNoLine tells files service book b writer w) (sym device.0)
-      (runs, inl (let r = device.1 in omega (arith, up, r)))
+  fails_as service book a b writer w runs up ended (inl memory) = rw memory tt
+  fails_as service book a b writer w runs up ended (inr device) = rw device.0 (runs, inl (omega (arith, up, device.1)))
 
   -- settled, and then the line was read of the book, or not
   pub line_settled : {X : Type 0} (octets : X → List ℕ) (service : Service) (book a b : Book A tells) (writer w : Writer F files) (now : ℕ)

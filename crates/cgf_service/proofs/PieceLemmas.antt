@@ -1,8 +1,7 @@
 -- A piece of a stream is taken in, up to the end of a message or whole.
-use Rattle.std.proofs.Common.{◌≡◌, ◌≢◌, ℕ, ◌+◌, ◌-◌, ◌<◌, ◌≤◌, ◌⊎◌, inl, inr, Bool, true, false, if◌then◌else◌, List, [], ◌∷◌, ◌++◌, length, length-append, map, take, drop, Option, Some, None, Ok, Err, refl, sym, ap, subst, ◌∙◌, append_assoc, append-nil, arith}
+use Rattle.std.proofs.Common.{◌≡◌, ◌≢◌, ℕ, ◌+◌, ◌-◌, ◌<◌, ◌≤◌, ◌⊎◌, inl, inr, Bool, true, false, if◌then◌else◌, List, [], ◌∷◌, ◌++◌, length, length-append, take, drop, Option, Some, None, Ok, Err, refl, sym, ap, subst, ◌∙◌, append_assoc, append-nil, arith}
 use Rattle.std.proofs.Math.Seq.{take-add, take-length}
-use Rattle.std.proofs.lemmas.List.{length-take, take-append-drop}
-use Rattle.std.specs.Prelude.{IsSome}
+use Rattle.std.proofs.lemmas.List.{length-take, map_push, take-append-drop}
 use Rattle.std.specs.Option.{option_or}
 use Rattle.std.specs.Io.KnownBytes.{Appends}
 use Rattle.area_disk.specs.Disk.{last_count}
@@ -26,7 +25,7 @@ use Rattle.cgf_service.specs.declared.connection.Connection.{Connection}
 use Rattle.cgf_jobs.specs.declared.status.Status.{Status}
 use Rattle.cgf_jobs.specs.declared.status.Status.TheVariants as status
 use Rattle.cgf_service.proofs.ConnectionLemmas.{cuts_on, rest_is, stays_on}
-use Rattle.cgf_service.proofs.InputLemmas.{appends_none}
+use Rattle.cgf_service.proofs.InputLemmas.{appends_none, appends_two}
 
 -- What an answer of the deframer says.
 
@@ -70,10 +69,6 @@ module _ (size : ℕ) (from : Addr) where
       ap (λ (l : List ℕ). sent_for size from v m ++ l) (sent_snoc (after_message size from v m) tried t)
       ∙ sym (append_assoc (sent_for size from v m) (sent_for_all size from (after_message size from v m) tried)
       (sent_for size from (after_all size from (after_message size from v m) tried) t))
-
-octets_snoc : (tried : List Tried) (t : Tried) → map (λ m. m.octets) (tried ++ t ∷ []) ≡ map (λ m. m.octets) tried ++ t.octets ∷ []
-octets_snoc [] t = refl
-octets_snoc (m ∷ tried) t = ap (λ (l : List (List ℕ)). m.octets ∷ l) (octets_snoc tried t)
 
 last_snoc : (tried : List Tried) (t : Tried) → last_moment (tried ++ t ∷ []) ≡ Some t.now
 last_snoc [] t = refl
@@ -125,7 +120,7 @@ module _ {A : Type 0} (tells : areas.Ghosts A) where
   answers_more from opened mid new messages message sent more before last sized cuts all one = (
     record {
       tried = all.0.tried ++ one.tried ∷ [];
-      octets_are = octets_snoc all.0.tried one.tried ∙ (λ i. all.0.octets_are i ++ one.octets_are i ∷ []);
+      octets_are = map_push (λ m. m.octets) all.0.tried one.tried ∙ (λ i. all.0.octets_are i ++ one.octets_are i ∷ []);
       sent_are = (λ i. all.0.sent_are i ++ one.sent_is i)
           ∙ (λ i. sent_for_all (size_of opened) from (value_of opened) all.0.tried ++ sent_for (sized i) from (all.1 i) one.tried)
           ∙ sym (sent_snoc (size_of opened) from (value_of opened) all.0.tried one.tried);
@@ -170,7 +165,7 @@ module _ {A : Type 0} (tells : areas.Ghosts A) where
 
     module _ (is_more : d.is_whole ≡ false) where
       is_begun : IsBegun d.octets
-      is_begun = subst (λ (b : Bool). IsPart b d.octets) is_more stands
+      is_begun = rw is_more at stands
 
       pub all_used : used ≡ length piece
       all_used = took.more is_begun.none
@@ -187,7 +182,7 @@ module _ {A : Type 0} (tells : areas.Ghosts A) where
 
     module _ (is_whole : d.is_whole ≡ true) where
       pub some_used : 0 < used
-      some_used = took.advances (length d.octets) (subst (λ (b : Bool). IsPart b d.octets) is_whole stands)
+      some_used = took.advances (length d.octets) (rw is_whole at stands)
 
       pub steady_whole : (n : Connection A tells) (sent : List ℕ) → HasAnsweredOne tells (pushed o d used) n sent → IsSteady tells n
       steady_whole n sent one = record {
@@ -251,7 +246,7 @@ module _ {A : Type 0} (tells : areas.Ghosts A) where
             → IsGoingOn tells opened (given ++ take used piece) (sent ++ more) n
         goes_whole more one = record {
           messages = messages ++ d.octets ∷ [];
-          follows = subst (λ (s : Stream). Follows (given ++ take used piece) (messages ++ d.octets ∷ []) s) (sym one.deframer_is) (record {
+          follows = rw one.deframer_is (record {
             used = followed.used;
             frames = frames_with ∙ sym (append-nil (messages ++ d.octets ∷ []));
             rest = followed.rest ∙ ap (λ (b : Bool). if b then [] else d.octets) is_whole;
@@ -374,7 +369,7 @@ module _ {A : Type 0} (tells : areas.Ghosts A) where
         ap (λ (k : Option FrameKind). end_by k (given ++ piece)) (ap (λ (l : List ℕ). first_fault l) rest_now ∙ fault_is)
             ∙ ap (λ (n : ℕ). status.Input n (of_frame kind)) place_is,
         refl,
-        subst (λ (k : Option FrameKind). IsSome k) (sym (ap (λ (l : List ℕ). first_fault l) rest_now ∙ fault_is)) refl,
+        rw (rest_now, fault_is) refl,
       )
 
 -- Several pieces, one after the other.
@@ -382,16 +377,9 @@ module _ {A : Type 0} (tells : areas.Ghosts A) where
 pub ok_not_err : {X : Type 0} (x : X) (ended : Status) → Ok x ≡ Err ended → ⊥
 ok_not_err x ended e = cc
 
-pub appends_two : (a b c : Option (List ℕ)) (xs ys : List ℕ) → Appends a b xs → Appends b c ys → Appends a c (xs ++ ys)
-appends_two None b c xs ys h k = tt
-appends_two (Some us) None c xs ys h k = absurd h
-appends_two (Some us) (Some vs) None xs ys h k = absurd k
-appends_two (Some us) (Some vs) (Some ws) xs ys h k = k ∙ ap (λ (l : List ℕ). l ++ ys) h ∙ append_assoc us xs ys
-
 -- what was given before a place, and what comes behind it
 pub joined : (given octets rest : List ℕ) (at : ℕ) → rest ≡ drop at octets → (given ++ take at octets) ++ rest ≡ given ++ octets
-joined given octets rest at is = append_assoc given (take at octets) rest ∙ ap (λ (l : List ℕ). given ++ (take at octets ++ l)) is
-    ∙ ap (λ (l : List ℕ). given ++ l) (take-append-drop at octets)
+joined given octets rest at is = rw (is, append_assoc, take-append-drop)
 
 module _ {A : Type 0} (tells : areas.Ghosts A) where
   pub begins_going : (octets : List ℕ) (c : Connection A tells) (now : Option (List ℕ)) (opened : Book A tells) (given sent : List ℕ)
@@ -399,8 +387,7 @@ module _ {A : Type 0} (tells : areas.Ghosts A) where
       → (more : List ℕ) × IsGoingOn tells opened (given ++ take 0 octets) (sent ++ more) c × Appends now now more
   begins_going octets c now opened given sent goes = (
     [],
-    subst (λ (l : List ℕ). IsGoingOn tells opened l (sent ++ []) c) (sym (append-nil given))
-        (subst (λ (l : List ℕ). IsGoingOn tells opened given l c) (sym (append-nil sent)) goes),
+    rw (append-nil given, append-nil sent) goes,
     appends_none now [],
   )
 
@@ -410,14 +397,12 @@ module _ {A : Type 0} (tells : areas.Ghosts A) where
       → (more : List ℕ) × IsGoingOn tells opened (given ++ take (at + used) octets) (sent ++ more) c × Appends before after more
   goes_on opened given sent octets rest at used c before now after is first written next = (
     first ++ next.0,
-    subst (λ (l : List ℕ). IsGoingOn tells opened l (sent ++ (first ++ next.0)) c) given_is
-        (subst (λ (l : List ℕ). IsGoingOn tells opened ((given ++ take at octets) ++ take used rest) l c) (append_assoc sent first next.0) next.1),
+    rw (given_is, append_assoc sent first next.0) at next.1,
     appends_two before now after first next.0 written next.2,
   )
     where
       given_is : (given ++ take at octets) ++ take used rest ≡ given ++ take (at + used) octets
-      given_is = append_assoc given (take at octets) (take used rest) ∙ ap (λ (l : List ℕ). given ++ (take at octets ++ take used l)) is
-          ∙ ap (λ (l : List ℕ). given ++ l) (sym (take-add at used octets))
+      given_is = rw (is, take-add at used octets) (append_assoc given (take at octets) (take used (drop at octets)))
 
   pub goes_all : (opened : Book A tells) (given sent octets : List ℕ) (at : ℕ) (c : Connection A tells)
       (before now : Option (List ℕ)) → at ≤ length octets → length octets ≤ at
@@ -426,6 +411,6 @@ module _ {A : Type 0} (tells : areas.Ghosts A) where
   goes_all opened given sent octets at c before now within full one =
       let whole : at ≡ length octets = omega (arith, within, full) in (
         one.0,
-        subst (λ (l : List ℕ). IsGoingOn tells opened (given ++ l) (sent ++ one.0) c) (ap (λ (n : ℕ). take n octets) whole ∙ take-length octets) one.1,
+        rw (whole, take-length) at one.1,
         one.2,
       )

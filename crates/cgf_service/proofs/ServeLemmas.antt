@@ -1,5 +1,5 @@
 -- What `serve` does, by what it read, how the gateway served, and what was written.
-use Rattle.std.proofs.Common.{◌≡◌, ◌⊎◌, ⊎_elim, inl, inr, ℕ, ◌+◌, Bool, true, false, true≢false, List, [], take, Option, None, Some, Result, Ok, Err, IfErr, IfOk, OnOk, refl, sym, ap, subst, ◌∙◌}
+use Rattle.std.proofs.Common.{◌≡◌, ◌⊎◌, ⊎_elim, inl, inr, ℕ, ◌+◌, true, List, take, None, Some, Result, Ok, Err, IfErr, IfOk, OnOk, refl, sym, ap, subst, ◌∙◌}
 use Rattle.std.specs.Io.KnownBytes.{Appends}
 use Rattle.area_disk.specs.declared.area.Area as areas
 use Rattle.cdr_shelf.specs.declared.shelf.Shelf as shelves
@@ -49,27 +49,14 @@ Writes job line _ = ⊥
 
 refuses_by : {X : Type 0} (job : Job) (ended : Status) → RefusesSettings job.left job.rest ended
     → CausesRead {X = X} job.read_before job.read_after (Err ended) → Refuses job ended
-refuses_by {X = X} job ended (inl read) causes = subst (Refuses job) (sym read) (causes.0 (ap (λ (s : Status). Err s) read))
-refuses_by {X = X} job ended (inr (inl memory)) causes = subst (Refuses job) (sym memory) (causes.1 (λ is. not_read (sym memory ∙ ap ended_in is)))
+refuses_by job ended (inl read) causes = subst (Refuses job) (sym read) (causes.0 (ap (λ (s : Status). Err s) read))
+refuses_by job ended (inr (inl memory)) causes = subst (Refuses job) (sym memory) (causes.1 (λ is. cc (memory, is)))
+refuses_by job ended (inr (inr settings)) causes = by_text settings.2
   where
-    ended_in : Result X Status → Status
-    ended_in (Ok x) = ended
-    ended_in (Err s) = s
-
-    not_read : status.Memory ≡ status.Read → ⊥
-    not_read is = cc is
-refuses_by {X = X} job ended (inr (inr settings)) causes = by_text settings.2
-  where
-    ended_in : Result X Status → Status
-    ended_in (Ok x) = ended
-    ended_in (Err s) = s
-
     by_text : RefusesText settings.0 ended → Refuses job ended
-    by_text (inl memory) = subst (Refuses job) (sym memory) (causes.1 (λ is. (let no : status.Memory ≡ status.Read = sym memory ∙ ap ended_in is in absurd (cc no))))
-    by_text (inr bad) = subst (Refuses job) (sym bad.2) (
-      causes.1 (λ is. (let no : status.Input (bad.0).place (of_line (bad.0).kind) ≡ status.Read = sym bad.2 ∙ ap ended_in is in absurd (cc no))),
-      (settings.0, settings.1, (bad.0, bad.1, refl)),
-    )
+    by_text (inl memory) = subst (Refuses job) (sym memory) (causes.1 (λ is. cc (memory, is)))
+    by_text (inr bad) = subst (Refuses job) (sym bad.2)
+        (causes.1 (λ is. cc (bad.2, is)), (settings.0, settings.1, (bad.0, bad.1, refl)))
 
 writes_by : (job : Job) (line : List ℕ) (ended : Status) → WritesLine line job.before job.after job.written_before job.written_after ended → Writes job line ended
 writes_by job line ended (inl done) = subst (Writes job line) (sym done.0) (done.1, done.2)
@@ -108,9 +95,9 @@ module _ {A F : Type 0} (tells : areas.Ghosts A) (files : shelves.Ghosts F) (of 
       let read = r.1 in
       let bad = read.2 in
       let same : read.0 ≡ take (most_text + 1) text = read_front (most_text + 1) text read.0 job.rest
-      (subst (λ (o : Option (List ℕ)). IsRead (most_text + 1) o job.rest read.0) left read.1) in
+      (rw left at read.1) in
       subst (λ (s : Result (List Line) Refusal). EndsBy tells files of job area area' shelf shelf' links links' clock clock' (status.Input place why) s)
-      (sym (sym (ap (λ (t : List ℕ). script_in kind.Serve t) same) ∙ bad.1)) (inr bad.2)
+      (sym bad.1 ∙ ap (λ (t : List ℕ). script_in kind.Serve t) same) (inr bad.2)
   refused_complete _ r calm text left = absurd r
 
   refused_at : (ended : Status) → Refuses job ended → (place : ℕ) (why : InputKind) → ended ≡ status.Input place why
@@ -119,7 +106,7 @@ module _ {A F : Type 0} (tells : areas.Ghosts A) (files : shelves.Ghosts F) (of 
       let found = subst (Refuses job) is r in
       let read = found.1 in
       let bad = read.2 in
-      (read.0, read.1, subst (λ (s : Result (List Line) Refusal). IsRefusedAt s ended) (sym bad.1) (is ∙ bad.2))
+      (read.0, read.1, rw bad.1 (is ∙ bad.2))
 
   pub refused_serves : {X : Type 0} (ended : Status) → RefusesSettings job.left job.rest ended
       → CausesRead {X = X} job.read_before job.read_after (Err ended) → TakesUpTo (most_text + 1) job.left job.rest
@@ -190,12 +177,8 @@ module _ {A F : Type 0} (tells : areas.Ghosts A) (files : shelves.Ghosts F) (of 
   same_script : (text left : List ℕ) (lines : List Line) → script_in kind.Serve text ≡ Ok lines → IsRead (most_text + 1) job.left job.rest text
       → job.left ≡ Some left → Ok lines ≡ script_in kind.Serve (take (most_text + 1) left)
   same_script text left lines set read is =
-      sym (sym (ap (λ (t : List ℕ). script_in kind.Serve t) (read_front (most_text + 1) left text job.rest
-      (subst (λ (o : Option (List ℕ)). IsRead (most_text + 1) o job.rest text) is read))) ∙ set)
-
-  abbrev lines_in : Result (List Line) Refusal → List Line
-  lines_in (Ok lines) = lines
-  lines_in (Err refusal) = []
+      sym set ∙ ap (λ (t : List ℕ). script_in kind.Serve t)
+      (read_front (most_text + 1) left text job.rest (rw is at read))
 
   -- the settings that were read are those of what was left
   shelved_by : (text : List ℕ) (by : FileSettings) → IsSetBy text by → IsRead (most_text + 1) job.left job.rest text
@@ -203,9 +186,9 @@ module _ {A F : Type 0} (tells : areas.Ghosts A) (files : shelves.Ghosts F) (of 
       → (left : List ℕ) (lines : List Line) → job.left ≡ Some left → script_in kind.Serve (take (most_text + 1) left) ≡
       Ok lines
       → KeepsShelf tells files of (setup_of lines) area area' shelf shelf'
-  shelved_by text by set read filed left lines is says = subst
-      (λ (l : List Line). KeepsShelf tells files of (setup_of l) area area' shelf shelf')
-      (ap lines_in (same_script text left set.0 set.1 read is ∙ says)) (filed (setup_of set.0) set.2)
+  shelved_by text by set read filed left lines is says =
+      let same : set.0 ≡ lines = cc (same_script text left set.0 set.1 read is, says) in rw same
+      at (filed (setup_of set.0) set.2)
 
   pub stopped_serves : {X : Type 0} (result : Result X Status) (ended : Status) (text : List ℕ) (by : FileSettings)
       → IsRead (most_text + 1) job.left job.rest text → IsSetBy text by → result ≡ Err ended
@@ -239,23 +222,20 @@ module _ {A F : Type 0} (tells : areas.Ghosts A) (files : shelves.Ghosts F) (of 
       }
     where
       s : Stops ended
-      s = subst (λ (r : Result X Status). IfErr r (λ e. Stops e)) is_err stops
+      s = rw is_err at stops
 
       foreign : Told tells → RefusesAsForeign {X = X} tells of area (Err ended)
-      foreign told = subst (λ (r : Result X Status). RefusesAsForeign tells of area r) is_err (foreign_so told)
-
-      ended_in : Result X Status → Status
-      ended_in (Ok x) = ended
-      ended_in (Err e) = e
+      foreign told = rw is_err at (foreign_so told)
 
       by_foreign : IsCalm tells files of job area area' shelf shelf' links links' clock clock' ended → (at : ℕ)
           → ◌≡◌ {A = Result X Status} (Err ended) (Err (status.Store (fault.NotOurs at)))
           ⊎ (◌≡◌ {A = Result X Status} (Err ended) (Err (status.Store fault.Device)) ⊎ ◌≡◌ {A = Result X Status} (Err ended) (Err status.Memory))
           → (ended ≡ status.Memory) ⊎ (ended ≡ status.Store (fault.NotOurs at))
-      by_foreign calm at (inl e) = inr (ap ended_in e)
-      by_foreign calm at (inr (inl e)) = absurd (⊎_elim (λ r. calm.device r) (λ r. calm.shelf_runs r)
-          (subst (λ (e : Status). Stops e) (ap ended_in e) s).1)
-      by_foreign calm at (inr (inr e)) = inl (ap ended_in e)
+      by_foreign calm at (inl e) = inr (cc)
+      by_foreign calm at (inr (inl e)) =
+          let is : ended ≡ status.Store fault.Device = cc e in
+          absurd (⊎_elim (λ r. calm.device r) (λ r. calm.shelf_runs r) (subst (λ (e : Status). Stops e) is s).1)
+      by_foreign calm at (inr (inr e)) = inl (cc)
 
   -- ---- the gateway has a line
 
@@ -293,13 +273,10 @@ module _ {A F : Type 0} (tells : areas.Ghosts A) (files : shelves.Ghosts F) (of 
         × HasServed tells files of setup area area' shelf shelf' links links' history × (octets y ≡ served_line history)
 
     serves : Told tells → (setup : Setup) → AreOf setup by → Grown setup x
-    serves told setup are = subst (λ (r : Result X Status). IfOk r (λ y. Grown setup y)) is_ok (serves_so told setup are)
+    serves told setup are = rw is_ok at (serves_so told setup are)
 
     turns : TakesAllTurns of links links' clock clock'
-    turns = subst (λ (r : Result X Status). OnOk r (TakesAllTurns of links links' clock clock')) is_ok turns_so
-
-    foreign : Told tells → RefusesAsForeign tells of area (Ok x)
-    foreign told = subst (λ (r : Result X Status). RefusesAsForeign tells of area r) is_ok (foreign_so told)
+    turns = rw is_ok at turns_so
 
     served_by : (wrote : List ℕ → Type 0) → wrote line → ServedBy tells files of job area area' shelf shelf' links links' clock clock' ended wrote
     served_by wrote all = record {
@@ -311,17 +288,9 @@ module _ {A F : Type 0} (tells : areas.Ghosts A) (files : shelves.Ghosts F) (of 
     }
 
     not_foreign : Told tells → (at : ℕ) → IsNotOurs (header_at tells area of.ip) (tells.octets area) at → ⊥
-    not_foreign told at not_ours = none_of (foreign told at not_ours)
-      where
-        is_ok_of : Result X Status → Bool
-        is_ok_of (Ok y) = true
-        is_ok_of (Err e) = false
-
-        none_of : ◌≡◌ {A = Result X Status} (Ok x) (Err (status.Store (fault.NotOurs at)))
-            ⊎ (◌≡◌ {A = Result X Status} (Ok x) (Err (status.Store fault.Device)) ⊎ ◌≡◌ {A = Result X Status} (Ok x) (Err status.Memory)) → ⊥
-        none_of (inl e) = true≢false (ap is_ok_of e)
-        none_of (inr (inl e)) = true≢false (ap is_ok_of e)
-        none_of (inr (inr e)) = true≢false (ap is_ok_of e)
+    not_foreign told at not_ours =
+        ⊎_elim (λ e. cc (is_ok, e)) (λ o. ⊎_elim (λ e. cc (is_ok, e)) (λ e. cc (is_ok, e)) o)
+        (foreign_so told at not_ours)
 
     pub written_serves : job.read_after ≡ job.read_before → TakesUpTo (most_text + 1) job.left job.rest
         → LosesNothing tells of area area' links links' → ((setup : Setup) → AreOf setup by → KeepsShelf tells files of

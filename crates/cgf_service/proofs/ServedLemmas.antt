@@ -1,12 +1,11 @@
 -- What a gateway hands back that was opened, served and was settled.
-use Rattle.std.proofs.Common.{◌≡◌, ℕ, ◌+◌, ◌-◌, ◌<◌, ◌≤◌, max, Bool, true, false, if◌then◌else◌, List, [], ◌++◌, length, take, refl, sym, ap, subst, ◌∙◌, true≢false, arith}
+use Rattle.std.proofs.Common.{◌≡◌, ℕ, ◌+◌, ◌-◌, ◌<◌, ◌≤◌, max, Bool, true, false, List, [], ◌++◌, length, take, refl, sym, ap, subst, ◌∙◌, true≢false, arith}
 use Rattle.std.specs.Prelude.{IsTrue}
 use Rattle.std.proofs.lemmas.List.{append-nil}
 use Rattle.area_disk.specs.AreaLaws.{AreaLaws}
 use Rattle.area_disk.specs.declared.area.Area as areas
 use Rattle.cdr_shelf.specs.declared.shelf.Shelf as shelves
 use Rattle.file_writer.specs.Files.{later_files, stream_files}
-use Rattle.file_writer.specs.Holding.{IsBegun}
 use Rattle.file_writer.specs.Streams.{Settings, closed_of, stream_count, stream_division}
 use Rattle.file_writer.specs.Writer.{is_broken, sealed_in, settings_in, shelf_of, taken_of}
 use Rattle.file_writer.specs.declared.writer.Writer.{Writer}
@@ -46,8 +45,7 @@ use Rattle.cgf_service.proofs.ServiceLemmas.{ReplyLater, StaysInTurn}
 
 -- the facts of a book that isn't broken have its firm entries, and then those that wait
 joined_whole : (v : BookValue) → v.is_broken ≡ false → history_of v ++ torn_of v ≡ v.firm ++ v.rest
-joined_whole v whole =
-    ap (λ (b : Bool). (if b then v.firm else v.firm ++ v.rest) ++ (if b then v.rest else [])) whole ∙ append-nil (v.firm ++ v.rest)
+joined_whole v whole = rw whole (append-nil (v.firm ++ v.rest))
 
 -- the settings of the files
 pub settings_at : (of : Serving) (setup : Setup) (by : FileSettings) → AreOf setup by → ◌≡◌ {A = Settings} (record {
@@ -92,9 +90,7 @@ first_holds {F = F} files stay files_grow settings start history shelf writer fr
     items_front = items_begin stay start history front
 
     begun : HasFirstFiles settings history (files.files shelf)
-    begun = subst (λ (items : List Item). IsBegun settings writing.none_closed writing.none_stood items
-        (files.files shelf)) (sym items_front.1)
-        (begun_on files_grow settings (items_of start) items_front.0 (files.files shelf) first)
+    begun = rw items_front.1 (begun_on files_grow settings (items_of start) items_front.0 (files.files shelf) first)
 
 -- Whether it has to recover or not, a writer that holds the files of items has the first ones of them.
 pub first_of_all : {F : Type 0} (files : shelves.Ghosts F) (writer : Writer F files) (settings : Settings)
@@ -132,15 +128,14 @@ module _ {A F : Type 0} (tells : areas.Ghosts A) (files : shelves.Ghosts F) (of 
   start = (opens.found told).0
 
   is_fresh : grow.IsFresh start (value_of book)
-  is_fresh = subst (grow.IsFresh start) (sym (opens.found told).2) (grow.opened_is_fresh (tells.size area) start)
+  is_fresh = rw (opens.found told).2 (grow.opened_is_fresh (tells.size area) start)
 
   header_is : header_of book'' ≡ header_at tells area of.ip
   header_is = stays.header ∙ serves.stays.name ∙ opens.named
 
   -- after any crash, and by a read
   leaves_whole : (c : List ℕ) → tells.may_leave (area_of book'') c → StandsFitFor (header_at tells area of.ip) c history
-  leaves_whole c may = subst (λ (h : List ℕ). StandsFitFor h c history) header_is
-      (leaves.whole told settled.goes_on c may)
+  leaves_whole c may = rw header_is at (leaves.whole told settled.goes_on c may)
 
   until_last : GoesOnUntil (links'.received (address_in of)) (facts_of book) (facts_of book') service.last
   until_last = serves.goes_on lists
@@ -214,9 +209,9 @@ module _ {A F : Type 0} (tells : areas.Ghosts A) (files : shelves.Ghosts F) (of 
           → length (stream_files (settings_in writer'') s (items_of whole)) ≤ closed_of (settings_in writer'') s
           (items_of whole)
       counted s lt =
-          let same = length-files_from (settings_in writer'').file s 1
-          (stream_division (settings_in writer'') s (items_of whole)).closed in
-          omega (arith, same)
+          omega
+          (arith, length-files_from (settings_in writer'').file s 1
+          (stream_division (settings_in writer'') s (items_of whole)).closed)
 
   pub has_served : HasServed tells files of setup area (area_of book'') shelf (shelf_of writer'') links links' whole
   has_served = record { closed = closed; sealed = sealed }

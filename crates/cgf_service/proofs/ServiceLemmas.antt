@@ -1,5 +1,5 @@
 -- What a service comes to, by what was run and what was given back.
-use Rattle.std.proofs.Common.{◌≡◌, ⊎_elim, inl, inr, ℕ, Bool, true, List, [], arith, ◌++◌, Option, None, Some, refl, sym, ap, subst, ◌∙◌, append_assoc}
+use Rattle.std.proofs.Common.{◌≡◌, ⊎_elim, inl, inr, ℕ, Bool, true, List, [], arith, ◌++◌, Option, None, Some, refl, sym, ap, ◌∙◌, append_assoc}
 use Rattle.std.specs.Prelude.{IfSome}
 use Rattle.std.proofs.lemmas.List.{append-nil}
 use Rattle.std.proofs.lemmas.List.Elements.{All-nil}
@@ -10,7 +10,7 @@ use Rattle.gw_base.specs.declared.history.HistoryEntry.{HistoryEntry}
 use Rattle.net_link.specs.Datagrams.{Datagram, IsEmpty}
 use Rattle.net_link.specs.Making.{GrowsBy}
 use Rattle.node_session.specs.Turns.{entries_of}
-use Rattle.session_run.specs.History.{AnswerInTurn, GoesOnUntil, InTurn, IsAnswered, IsCalledFor, IsJobOf, IsReply, IsReplyTo, ReplyInTurn, TellsFailure, those_of}
+use Rattle.session_run.specs.History.{AnswerInTurn, GoesOnUntil, InTurn, IsAnswered, IsCalledFor, IsJobOf, IsReply, ReplyInTurn, TellsFailure}
 use Rattle.session_run.specs.Latest.{Jobs}
 use Rattle.session_run.specs.Running.{StaysAs}
 use Rattle.turn_cell.specs.Placed.{placed}
@@ -22,9 +22,7 @@ pub begins_then : (xs ys zs : List HistoryEntry) → Begins xs ys → Begins ys 
 begins_then xs ys zs p q = (p.0 ++ q.0, q.1 ∙ ap (λ (l : List HistoryEntry). l ++ q.0) p.1 ∙ append_assoc xs p.0 q.0)
 
 firm_first : (told : Bool) (f : Facts) → AreSound told f → told ≡ true → Begins f.firm (joined f)
-firm_first told f sound y =
-    let b = sound.begins y in
-    (b.0 ++ f.torn, ap (λ (l : List HistoryEntry). l ++ f.torn) b.1 ∙ append_assoc f.firm b.0 f.torn)
+firm_first told f sound y = begins_then f.firm f.list (joined f) (sound.begins y) (f.torn, refl)
 
 -- a history that nothing befell goes on
 pub nothing_befell : (told : Bool) (heard : Option (List Datagram)) (f : Facts) → AreSound told f
@@ -52,8 +50,7 @@ nothing_befell told heard f sound y = record {
 -- where nothing was sent it was sent in turn
 pub none_in_turn : (size : ℕ) (firm : List HistoryEntry) (before now : ℕ) (heard sent : Option (List Datagram)) → IsEmpty sent
     → ReplyInTurn size firm before now heard sent
-none_in_turn size firm before now (Some asked) (Some list) is session =
-    subst (λ (l : List Datagram). InTurn (IsReplyTo session size firm before now) asked (those_of session l)) (sym is) tt
+none_in_turn size firm before now (Some asked) (Some list) is session = rw is tt
 none_in_turn size firm before now _ _ is session = tt
 
 -- What the laws of what is in turn say.

@@ -1,7 +1,8 @@
 -- What a service comes to on links that were made, and given back.
-use Rattle.std.proofs.Common.{◌≡◌, ◌⊎◌, ⊎_elim, ℕ, ◌+◌, ◌<◌, ◌≤◌, ◌^◌, true, false, true≢false, List, [], ◌∷◌, Option, None, Some, refl, sym, ap, subst, ◌∙◌, arith}
+use Rattle.std.proofs.Common.{◌≡◌, ◌⊎◌, ⊎_elim, ℕ, ◌+◌, ◌<◌, ◌≤◌, ◌^◌, true, true≢false, List, [], ◌∷◌, Option, None, Some, refl, sym, ap, subst, ◌∙◌, arith}
 use Rattle.std.specs.Prelude.{All, IfSome}
 use Rattle.std.proofs.lemmas.List.Elements.{All-cons, All-nil, All-weaker}
+use Rattle.std.proofs.lemmas.Option.{IfSome_then}
 use Rattle.area_disk.specs.declared.area.Area as areas
 use Rattle.cdr_shelf.specs.declared.shelf.Shelf as shelves
 use Rattle.file_writer.specs.Writer.{is_broken}
@@ -30,15 +31,6 @@ use Rattle.cgf_service.specs.Serving.{address_in}
 use Rattle.cgf_service.specs.declared.serving.Serving.{Serving}
 use Rattle.cgf_service.proofs.GivenBackLemmas.{all_sent, goes_on_there, heard_there, none_sent_by, reply_there, rose_before, rose_still, sent_grows, turns_none}
 use Rattle.cgf_service.proofs.ServiceLemmas.{HeardInTurn, ReplyLater, begins_self, none_in_turn, nothing_befell, same_facts}
-
-none_sent : (P : Datagram → Type 0) (sent : Option (List Datagram)) → IsEmpty sent → IfSome sent (λ list. All P list)
-none_sent P None e = tt
-none_sent P (Some list) e = subst (All P) (sym e) (All-nil P)
-
-told_weaker : (P Q : Datagram → Type 0) → ((d : Datagram) → P d → Q d) → (sent : Option (List Datagram)) → IfSome sent (λ list. All P list)
-    → IfSome sent (λ list. All Q list)
-told_weaker P Q more None all = tt
-told_weaker P Q more (Some list) all = All-weaker P Q more list all
 
 -- what is told in the end was told before
 told_before : (new old : Option (List Datagram)) → IfSome new (λ list. old ≡ Some list) → (list : List Datagram)
@@ -105,7 +97,7 @@ module _ {A F L : Type 0} (tells : areas.Ghosts A) (files : shelves.Ghosts F) (l
   }
     where
       has : HasMade links (address_in of) old mid made (Some why)
-      has = subst (λ (s : Option Stop). HasMade links (address_in of) old mid made s) is_why made_so
+      has = rw is_why at made_so
 
       same_turns : mid.turns (address_in of) ≡ old.turns (address_in of)
       same_turns = has.keeps.turns (address_in of)
@@ -128,7 +120,9 @@ module _ {A F L : Type 0} (tells : areas.Ghosts A) (files : shelves.Ghosts F) (l
         sent = sent_by links made;
         is_sent = sent_grows links law (old.sent (address_in of)) (mid.sent (address_in of)) (new.sent (address_in of)) made
             (has.keeps.sent (address_in of)) gave.sent;
-        each = none_sent (IsReply (new.received (address_in of)) (size_of book) (value_of book).firm faults faults) (sent_by links made) none;
+        each = IfSome_then (sent_by links made) none
+            (λ list is. rw is
+            (All-nil (IsReply (new.received (address_in of)) (size_of book) (value_of book).firm faults faults)));
         in_turn = none_in_turn (size_of book) (value_of book).firm faults faults (new.received (address_in of)) (sent_by links made) none;
       }
 
@@ -169,7 +163,9 @@ module _ {A F L : Type 0} (tells : areas.Ghosts A) (files : shelves.Ghosts F) (l
               (has.keeps.sent (address_in of)) gave.sent;
           each = all_sent links (Fits there) (link ∷ others)
               (All-weaker (λ (l : L). IfSome (links.state l).sent (λ list. All (Fits heard) list)) (λ (l : L). IfSome (links.state l).sent (λ list. All (Fits there) list))
-              (λ (l : L) all. told_weaker (Fits heard) (Fits there) reply_is_there (links.state l).sent all) (link ∷ others) (ran.replies told).each);
+              (λ (l : L) all. IfSome_then (links.state l).sent all
+              (λ list each. All-weaker (Fits heard) (Fits there) reply_is_there list each))
+              (link ∷ others) (ran.replies told).each);
           in_turn = replies (size_of book) (value_of book').firm (value_of book').firm (tells.faults (area_of book)) (tells.faults (area_of book'))
               (tells.faults (area_of book)) (tells.faults (area_of book')) (received_with links (mid.received (address_in of)) others) heard there
               (sent_by links (link ∷ others)) (begins_self (value_of book').firm) (λ rose. rose) gave.received (ran.replies told).in_turn;

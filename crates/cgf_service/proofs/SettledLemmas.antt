@@ -47,8 +47,7 @@ module _ {A F : Type 0} (tells : areas.Ghosts A) (files : shelves.Ghosts F) (of 
     (links : LinksState) (clock : ℕ) where
   pub unopened_stops : (why : BookFault) (area' : A) (ended : Status) → ended ≡ status_by why → IsRefused tells area (header_at tells area of.ip) (why, area')
       → StopsServing tells files of area area' shelf shelf links links clock clock ended
-  unopened_stops why area' ended is refused =
-      subst (λ (s : Status). StopsServing tells files of area area' shelf shelf links links clock clock s) (sym is) (by_fault why refused)
+  unopened_stops why area' ended is refused = rw is (by_fault why refused)
     where
       by_fault : (w : BookFault) → IsRefused tells area (header_at tells area of.ip) (w, area')
           → StopsServing tells files of area area' shelf shelf links links clock clock (status_by w)
@@ -64,24 +63,25 @@ module _ {A F : Type 0} (tells : areas.Ghosts A) (files : shelves.Ghosts F) (of 
   -- it doesn't end as `Link`
   pub not_link : {X : Type 0} (why : BookFault) (ended : Status) → ended ≡ status_by why
       → ◌≡◌ {A = Result X Status} (Err ended) (Err status.Link) → ⊥
-  not_link {X = X} why ended is link = by_fault why (sym is ∙ ap ended_in link)
+  not_link why ended is link = by_fault why (cc (is, link))
     where
-      ended_in : Result X Status → Status
-      ended_in (Ok x) = ended
-      ended_in (Err e) = e
-
       by_fault : (w : BookFault) → status_by w ≡ status.Link → ⊥
       by_fault of_book.Device e = cc e
       by_fault (of_book.NotOurs at) e = cc e
       by_fault of_book.NoMemory e = cc e
 
+  abbrev Reads : BookFault → A → Type 0
+  Reads why area' = Told tells → (h : List HistoryEntry)
+      → StandsFitFor (header_at tells area of.ip) (tells.octets area) h
+      → FindsHistory {tells = tells} area (Err (why, area')) h
+
+  abbrev Anew : BookFault → A → Type 0
+  Anew why area' = Told tells → Starts (header_at tells area of.ip) (tells.octets area)
+      → IsMadeAnew {tells = tells} area (Err (why, area')) (header_at tells area of.ip)
+
   -- what a crash leaves of an area whose opening failed stands as it did, or starts, where it was to be made anew
-  unopened_left : (why : BookFault) (area' : A)
-      → (Told tells → (h : List HistoryEntry) → StandsFitFor (header_at tells area of.ip) (tells.octets area) h →
-      FindsHistory {tells = tells} area (Err (why, area')) h)
-      → (Told tells → Starts (header_at tells area of.ip) (tells.octets area) → IsMadeAnew {tells = tells} area
-      (Err (why, area')) (header_at tells area of.ip))
-      → Told tells → (start : List HistoryEntry) → HoldsHistory tells (header_at tells area of.ip) area start
+  unopened_left : (why : BookFault) (area' : A) → Reads why area' → Anew why area' → Told tells
+      → (start : List HistoryEntry) → HoldsHistory tells (header_at tells area of.ip) area start
       → (c : List ℕ) → tells.may_leave area' c → StandsOrStarts (header_at tells area of.ip) c start
   unopened_left why area' reads anew told start holds c may = left holds.now
     where
@@ -92,15 +92,11 @@ module _ {A F : Type 0} (tells : areas.Ghosts A) (files : shelves.Ghosts F) (of 
           (λ (old : tells.may_leave area c). holds.crash c old)
           (λ (made : Starts (header_at tells area of.ip) c ⊎ StandsFor (header_at tells area of.ip) c []). ⊎_elim
           (λ (s : Starts (header_at tells area of.ip) c). inr (s, starts.1))
-          (λ (s : StandsFor (header_at tells area of.ip) c []). inl (subst (λ (h : List HistoryEntry). StandsFitFor (header_at tells area of.ip) c h) (sym starts.1)
-          (record { stands = s; fit = tt }))) made)
+          (λ (s : StandsFor (header_at tells area of.ip) c []). inl (rw starts.1 (record { stands = s; fit = tt })))
+          made)
           ((anew told starts.0).moments.now c may)
 
-  pub unopened_keeps : (why : BookFault) (area' : A) → AreaLaws tells
-      → (Told tells → (h : List HistoryEntry) → StandsFitFor (header_at tells area of.ip) (tells.octets area) h →
-      FindsHistory {tells = tells} area (Err (why, area')) h)
-      → (Told tells → Starts (header_at tells area of.ip) (tells.octets area) → IsMadeAnew {tells = tells} area
-      (Err (why, area')) (header_at tells area of.ip))
+  pub unopened_keeps : (why : BookFault) (area' : A) → AreaLaws tells → Reads why area' → Anew why area'
       → LosesNothing tells of area area' links links
   unopened_keeps why area' laws reads anew told start holds = record {
     now = goes_on (tells.octets area') (laws.holds area');
@@ -111,11 +107,7 @@ module _ {A F : Type 0} (tells : areas.Ghosts A) (files : shelves.Ghosts F) (of 
       goes_on c may = goes_on_unsent tells of area area' links start c
           (unopened_left why area' reads anew told start holds c may)
 
-  pub unopened_shelf : (why : BookFault) (area' : A) (setup : Setup) → AreaLaws tells
-      → (Told tells → (h : List HistoryEntry) → StandsFitFor (header_at tells area of.ip) (tells.octets area) h →
-      FindsHistory {tells = tells} area (Err (why, area')) h)
-      → (Told tells → Starts (header_at tells area of.ip) (tells.octets area) → IsMadeAnew {tells = tells} area
-      (Err (why, area')) (header_at tells area of.ip))
+  pub unopened_shelf : (why : BookFault) (area' : A) (setup : Setup) → AreaLaws tells → Reads why area' → Anew why area'
       → KeepsShelf tells files of setup area area' shelf shelf
   unopened_shelf why area' setup laws reads anew told tells_files start holds first = (
     filed (tells.octets area') (laws.holds area'),
@@ -136,15 +128,15 @@ module _ {A F : Type 0} (tells : areas.Ghosts A) (files : shelves.Ghosts F) (of 
     (on : shelf_of writer ≡ shelf) (serves : HasServedAt tells files of book book' writer writer' links links' clock clock' service)
     (settles : HasSettledAll tells files octets service book' book'' writer' writer'' result) where
   device : tells.faults area ≤ tells.faults (area_of book')
-  device = let same = opens.faults in let up = serves.stays.later in omega (arith, same, up)
+  device = omega (arith, opens.faults, serves.stays.later)
 
   shelf_up : files.faults shelf ≤ files.faults (shelf_of writer')
-  shelf_up = subst (λ (f : F). files.faults f ≤ files.faults (shelf_of writer')) on serves.kept.later
+  shelf_up = rw on at serves.kept.later
 
   pub settled_stays : NeverFalls tells files of area (area_of book'') shelf (shelf_of writer'') links links' clock clock'
   settled_stays = record {
-    device = let a = device in let b = settles.later.0 in omega (arith, a, b);
-    shelf_too = let a = shelf_up in let b = settles.later.1 in omega (arith, a, b);
+    device = omega (arith, device, settles.later.0);
+    shelf_too = omega (arith, shelf_up, settles.later.1);
     link = serves.later.0;
     time = serves.later.1;
     size = settles.stays.0.size ∙ serves.stays.size ∙ sized;
@@ -157,10 +149,9 @@ module _ {A F : Type 0} (tells : areas.Ghosts A) (files : shelves.Ghosts F) (of 
   stops (status.Store fault.Device) none = (
     (serves.link_stood none.0, serves.time_stood none.0),
     ⊎_elim
-        (λ (r : Rose (tells.faults (area_of book')) (tells.faults (area_of book''))). inl
-        (let a = device in omega (arith, a, r)))
+        (λ (r : Rose (tells.faults (area_of book')) (tells.faults (area_of book''))). inl (omega (arith, device, r)))
         (λ (r : Rose (files.faults (shelf_of writer')) (files.faults (shelf_of writer''))). inr
-        (let a = shelf_up in omega (arith, a, r))) none.1,
+        (omega (arith, shelf_up, r))) none.1,
   )
   stops status.Memory none = tt
   stops _ none = absurd none
@@ -189,9 +180,7 @@ module _ {A F : Type 0} (tells : areas.Ghosts A) (files : shelves.Ghosts F) (of 
   -- of the area and the shelf as they were handed back
   pub stops_as : (area'' : A) (shelf'' : F) → area'' ≡ area_of book'' → shelf'' ≡ shelf_of writer''
       → IfErr result (StopsServing tells files of area area'' shelf shelf'' links links' clock clock')
-  stops_as area'' shelf'' is_area is_shelf =
-      subst (λ (a : A). IfErr result (StopsServing tells files of area a shelf shelf'' links links' clock clock')) (sym is_area)
-      (subst (λ (f : F). IfErr result (StopsServing tells files of area (area_of book'') shelf f links links' clock clock')) (sym is_shelf) settled_stops)
+  stops_as area'' shelf'' is_area is_shelf = rw (is_area, is_shelf) settled_stops
 
   -- an area that was opened isn't another's
   pub settled_foreign : ((octets : List ℕ) (h : List HistoryEntry) (at : ℕ) → StandsFitFor (header_at tells area of.ip) octets h
@@ -220,24 +209,21 @@ module _ {A F : Type 0} (tells : areas.Ghosts A) (files : shelves.Ghosts F) (of 
     pub still_settled : (¬ (Rose (tells.faults (area_of book')) (tells.faults (area_of book''))) → IsSettled book'
         book'' (moment_of service.last) no_caller)
         → (area'' : A) → area'' ≡ area_of book'' → SettlesStill tells of area area'' links links'
-    still_settled settled area'' is_area = subst (λ (a : A). SettlesStill tells of area a links links') (sym is_area)
-        still
-      where
-        still : SettlesStill tells of area (area_of book'') links links'
-        still told = (
-          ((opens.found told).0, (opens.found told).1),
-          λ calm. (
-            (value_of book'').firm,
-            closes told (settled (λ rose. calm (let up = device in omega (arith, up, rose)))),
-          ),
-        )
+    still_settled settled area'' is_area = rw is_area (λ told. (
+      ((opens.found told).0, (opens.found told).1),
+      λ calm. ((value_of book'').firm, closes told (settled (λ rose. calm (omega (arith, device, rose))))),
+    ))
 
   module _ (setup : Setup) (told : Told tells) (laws : AreaLaws tells) (stay : ItemsStay) (grow : FilesGrow)
       (shuts : (h : List HistoryEntry) → is_close_due h ≡ false → AreShut (items_of h)) (in_turn : StaysInTurn) (later_reply : ReplyLater) (fresh : is_broken writer ≡ true)
       (by : settings_in writer ≡ files_at of setup) (leaves : LeavesFit book'') where
+    abbrev Grown : A → F → X → Type 0
+    Grown area'' shelf'' x = (history : List HistoryEntry)
+        × HasServed tells files of setup area area'' shelf shelf'' links links' history
+        × (octets x ≡ served_line history)
+
     by_ok : (r : Result X Status) → IfOk r (λ x. HasLine tells files service book' book'' writer'' (octets x))
-        → IfOk r (λ x. (history : List HistoryEntry) × HasServed tells files of setup area (area_of book'') shelf (shelf_of writer'') links links' history
-        × (octets x ≡ served_line history))
+        → IfOk r (Grown (area_of book'') (shelf_of writer''))
     by_ok (Err ended) has = tt
     by_ok (Ok x) has = (
       (value_of book'').firm,
@@ -249,18 +235,11 @@ module _ {A F : Type 0} (tells : areas.Ghosts A) (files : shelves.Ghosts F) (of 
       has.line_is told,
     )
 
-    pub settled_serves : IfOk result (λ x. (history : List HistoryEntry) × HasServed tells files of setup area (area_of book'') shelf (shelf_of writer'') links links' history
-        × (octets x ≡ served_line history))
-    settled_serves = by_ok result settles.ok
-
     pub serves_as : (area'' : A) (shelf'' : F) → area'' ≡ area_of book'' → shelf'' ≡ shelf_of writer''
-        → IfOk result (λ x. (history : List HistoryEntry) × HasServed tells files of setup area area'' shelf shelf'' links links' history
-        × (octets x ≡ served_line history))
+        → IfOk result (Grown area'' shelf'')
     serves_as area'' shelf'' is_area is_shelf =
-        subst (λ (a : A). IfOk result (λ x. (history : List HistoryEntry) × HasServed tells files of setup area a shelf shelf'' links links' history
-        × (octets x ≡ served_line history))) (sym is_area)
-        (subst (λ (f : F). IfOk result (λ x. (history : List HistoryEntry) × HasServed tells files of setup area (area_of book'') shelf f links links' history
-        × (octets x ≡ served_line history))) (sym is_shelf) settled_serves)
+        subst (λ (a : A). IfOk result (Grown a shelf'')) (sym is_area)
+        (subst (λ (f : F). IfOk result (Grown (area_of book'') f)) (sym is_shelf) (by_ok result settles.ok))
 
   -- Nothing is lost.
 
@@ -277,9 +256,8 @@ module _ {A F : Type 0} (tells : areas.Ghosts A) (files : shelves.Ghosts F) (of 
     served_front : Told tells → (start : List HistoryEntry) → StandsOrStarts (header_at tells area of.ip)
         (tells.octets area) start
         → Begins start (value_of book').firm
-    served_front told start found = subst (λ (h : List HistoryEntry). Begins h (value_of book').firm)
-        (found_is told start found)
-        (serves.goes_on (told_lists tells told)).goes.begins
+    served_front told start found =
+        rw (found_is told start found) at (serves.goes_on (told_lists tells told)).goes.begins
 
     -- what any crash leaves stands for a history that begins with what is firm, and with what was firm before the
     -- settling
@@ -301,7 +279,7 @@ module _ {A F : Type 0} (tells : areas.Ghosts A) (files : shelves.Ghosts F) (of 
             (header_of book'') c history → LeftBehind c
         stands_for history begins stands = (
           history,
-          subst (λ (h : List ℕ). StandsFitFor h c history) named stands,
+          rw named at stands,
           begins,
           begins_then (value_of book').firm (value_of book'').firm history (settles.grows told) begins,
         )
@@ -325,8 +303,7 @@ module _ {A F : Type 0} (tells : areas.Ghosts A) (files : shelves.Ghosts F) (of 
     keeps_as area'' is_area told start holds = record { now = all (tells.octets area'') (laws.holds area''); crash = all }
       where
         all : (c : List ℕ) → tells.may_leave area'' c → GoesOnIn tells of area area'' links links' start c
-        all = subst (λ (a : A). (c : List ℕ) → tells.may_leave a c → GoesOnIn tells of area a links links' start c) (sym is_area)
-            (goes_on_in told start holds.now)
+        all = rw is_area (goes_on_in told start holds.now)
 
     -- So it is of the files.
     module _ (setup : Setup) (stay : ItemsStay) (grow : FilesGrow) (fresh : is_broken writer ≡ true)
@@ -354,13 +331,7 @@ module _ {A F : Type 0} (tells : areas.Ghosts A) (files : shelves.Ghosts F) (of 
 
       pub shelf_as : (area'' : A) (shelf'' : F) → area'' ≡ area_of book'' → shelf'' ≡ shelf_of writer''
           → KeepsShelf tells files of setup area area'' shelf shelf''
-      shelf_as area'' shelf'' is_area is_shelf =
-          subst (λ (a : A). KeepsShelf tells files of setup area a shelf shelf'') (sym is_area)
-          (subst (λ (f : F). KeepsShelf tells files of setup area (area_of book'') shelf f) (sym is_shelf) all)
-        where
-          all : KeepsShelf tells files of setup area (area_of book'') shelf (shelf_of writer'')
-          all told tells_files start holds first = (
-            filed_in told tells_files start holds.now first (tells.octets (area_of book''))
-                (laws.holds (area_of book'')),
-            filed_in told tells_files start holds.now first,
-          )
+      shelf_as area'' shelf'' is_area is_shelf = rw (is_area, is_shelf) (λ told tells_files start holds first. (
+        filed_in told tells_files start holds.now first (tells.octets (area_of book'')) (laws.holds (area_of book'')),
+        filed_in told tells_files start holds.now first,
+      ))

@@ -1,6 +1,7 @@
 -- A stream from its beginning to its end.
-use Rattle.std.proofs.Common.{◌≡◌, ℕ, suc, ◌+◌, ◌<◌, ◌≤◌, ◌⊎◌, inl, inr, Bool, if◌then◌else◌, List, [], ◌∷◌, ◌++◌, length, length-append, take, Option, Some, None, Result, Ok, Err, IfErr, refl, sym, ap, subst, ◌∙◌, append-nil, arith}
+use Rattle.std.proofs.Common.{◌≡◌, ℕ, ◌+◌, ◌<◌, ◌≤◌, ◌⊎◌, ⊎_elim, inl, inr, true, Bool, if◌then◌else◌, List, [], ◌∷◌, ◌++◌, length, length-append, take, Option, Some, None, Result, Ok, Err, IfErr, refl, sym, ap, subst, ◌∙◌, append-nil, arith}
 use Rattle.std.proofs.lemmas.Bool.{cases_lt, le-ltb}
+use Rattle.std.proofs.Math.Seq.{take-append-add}
 use Rattle.std.specs.Prelude.{IsSome}
 use Rattle.std.specs.Io.KnownBytes.{Appends, Consumes, IsAtEnd, Keeps}
 use Rattle.area_disk.specs.Disk.{Rose, counted, last_count}
@@ -10,15 +11,15 @@ use Rattle.gtpp_stream.specs.Stream.{Follows, Stream, no_stream}
 use Rattle.gtpp_stream.specs.declared.frame.FrameKind.{FrameKind}
 use Rattle.gateway_book.specs.declared.book.Book.{Book}
 use Rattle.gw_base.specs.Written.{AppendsFront}
-use Rattle.cgf_service.specs.StreamEnds.{end_by, most_stream, rest_end, rest_place, stream_end}
-use Rattle.cgf_service.specs.StreamSteps.{HasGoneTo, HasServedStream, IsBegunOn, IsGoingOn, StopsIn, end_of_result}
+use Rattle.cgf_service.specs.StreamEnds.{IsStreamRead, LeavesUnanswered, end_by, most_stream, rest_end, rest_place, stream_end}
+use Rattle.cgf_service.specs.StreamSteps.{HasGoneTo, HasServedStream, IsBegunOn, IsGoingOn, StopsIn, end_of_result, ends_serving}
 use Rattle.cgf_service.specs.declared.connection.Connection.{Connection}
+use Rattle.cgf_jobs.specs.declared.input_kind.InputKind.{InputKind}
 use Rattle.cgf_jobs.specs.declared.input_kind.InputKind.TheVariants as input
 use Rattle.cgf_jobs.specs.declared.status.Status.{Status}
 use Rattle.cgf_jobs.specs.declared.status.Status.TheVariants as status
 use Rattle.cgf_service.proofs.ConnectionLemmas.{not_bad}
-use Rattle.cgf_service.proofs.PieceLemmas.{appends_two}
-use Rattle.cgf_service.proofs.InputLemmas.{consumes_more}
+use Rattle.cgf_service.proofs.InputLemmas.{appends_two, consumes_more}
 
 module _ {A : Type 0} (tells : areas.Ghosts A) where
   -- nothing came yet
@@ -68,11 +69,8 @@ module _ {A : Type 0} (tells : areas.Ghosts A) where
 
 -- a count that didn't rise is the same, below its last value
 stood : (f f' : ℕ) → f ≤ f' → ¬ (Rose f f') → (f' ≤ f) × (f' < last_count)
-stood f f' later still = by (cases_lt f' (counted 1 f))
-  where
-    by : (f' < counted 1 f) ⊎ (counted 1 f ≤ f') → (f' ≤ f) × (f' < last_count)
-    by (inl below) = (omega (arith, below), omega (arith, below))
-    by (inr rose) = absurd (still rose)
+stood f f' later still = ⊎_elim (λ (below : f' < counted 1 f). (omega (arith, below), omega (arith, below)))
+    (λ rose. absurd (still rose)) (cases_lt f' (counted 1 f))
 
 -- where the device didn't fail, no commit did
 pub no_cut : (cuts f f' : ℕ) → f ≤ f' → ¬ (Rose f f') → (cuts + f ≤ f') ⊎ (last_count ≤ f') → cuts ≡ 0
@@ -90,25 +88,49 @@ consumes_kept (Some us) (Some vs) (Some ws) xs h k = h ∙ ap (λ (l : List ℕ)
 -- the end of a source was read, and nothing with it
 pub consumed_end : (a b c : Option (List ℕ)) (given piece : List ℕ) (count : ℕ) → count ≡ 0 → Consumes a b given → Consumes b c (take count piece)
     → Consumes a c given
-consumed_end a b c given piece count none consumed end = subst (λ (l : List ℕ). Consumes a c l) (append-nil given)
-    (consumes_more a b c given [] consumed (subst (λ (n : ℕ). Consumes b c (take n piece)) none end))
-
-take_past : (xs ys : List ℕ) (n : ℕ) → take (length xs + n) (xs ++ ys) ≡ xs ++ take n ys
-take_past [] ys n = let e : 0 + n ≡ n = omega arith in ap (λ (k : ℕ). take k ys) e
-take_past (x ∷ xs) ys n =
-    let e : length (x ∷ xs) + n ≡ suc (length xs + n) = omega arith in
-    ap (λ (k : ℕ). take k (x ∷ (xs ++ ys))) e ∙ ap (λ (l : List ℕ). x ∷ l) (take_past xs ys n)
+consumed_end a b c given piece count none consumed end =
+    rw append-nil at (consumes_more a b c given [] consumed (rw none at end))
 
 front_two : (a b c : Option (List ℕ)) (xs ys : List ℕ) → Appends a b xs → AppendsFront b c ys → AppendsFront a c (xs ++ ys)
 front_two a b c xs ys h front = (
   length xs + front.0,
   omega (arith, front.1, length-append xs ys),
-  subst (λ (l : List ℕ). Appends a c l) (sym (take_past xs ys front.0)) (appends_two a b c xs (take front.0 ys) h front.2),
+  rw take-append-add (appends_two a b c xs (take front.0 ys) h front.2),
 )
 
 some_not_none : {X : Type 0} (k : Option X) → IsSome k → k ≡ None → ⊥
 some_not_none None is e = absurd (cc)
 some_not_none (Some x) is e = cc
+
+-- an end that isn't well, and that cut no reply
+module _ {A : Type 0} (tells : areas.Ghosts A) (opened : Book A tells) (text sent : List ℕ) (c : Connection A tells)
+    (left rest before now : Option (List ℕ)) (consumed : Consumes left rest text) (bounded : length text ≤ most_stream)
+    (written : Appends before now sent) where
+  served_so : (ended : Status) → (ended ≡ status.Write → ⊥) → (s : HasGoneTo tells opened text sent c)
+      → ends_serving ended ≡ true
+      → LeavesUnanswered ended s.unanswered → ((place : ℕ) (kind : InputKind) → ended ≡ status.Input place kind →
+      (s : HasGoneTo tells opened text sent c) × (s.unanswered ≡ []) × (stream_end text ≡ ended) × IsStreamRead left
+      rest text)
+      → HasServedStream tells opened c left rest before now (Err ended)
+  served_so ended other gone ends leaves refused = record {
+    text = text;
+    consumed = consumed;
+    bounded = bounded;
+    sent = sent;
+    ok = λ is. absurd (cc);
+    err = (gone, ends, leaves);
+    refused = refused;
+    front = λ is. absurd (other is);
+    cut = λ is. absurd (other is);
+    whole = λ no. written;
+  }
+
+  served_input : (place : ℕ) (kind : InputKind) → stream_end text ≡ status.Input place kind
+      → (s : HasGoneTo tells opened text sent c)
+      → s.unanswered ≡ [] → IsStreamRead left rest text
+      → HasServedStream tells opened c left rest before now (Err (status.Input place kind))
+  served_input place kind says gone none read =
+      served_so (status.Input place kind) (λ is. cc is) gone refl none (λ at why is. (gone, none, says, read))
 
 module _ {A : Type 0} (tells : areas.Ghosts A) (opened : Book A tells) (given sent : List ℕ) (c : Connection A tells)
     (left rest before now : Option (List ℕ)) (goes : IsGoingOn tells opened given sent c) (consumed : Consumes left rest given)
@@ -119,20 +141,17 @@ module _ {A : Type 0} (tells : areas.Ghosts A) (opened : Book A tells) (given se
   bounded : length given ≤ most_stream
   bounded = omega (arith, length_is, goes.steady.within)
 
+  abbrev gone : (s : HasGoneTo tells opened given sent c) × (s.unanswered ≡ [])
+  gone = all_gone tells opened given sent c goes
+
   -- the source failed
   pub served_read : (rest' : Option (List ℕ)) → Keeps rest rest' → HasServedStream tells opened c left rest' before now (Err status.Read)
-  served_read rest' kept = record {
-    text = given;
-    consumed = consumes_kept left rest rest' given consumed kept;
-    bounded = bounded;
-    sent = sent;
-    ok = λ is. absurd (cc);
-    err = ((all_gone tells opened given sent c goes).0, refl, refl);
-    refused = λ place kind is. absurd (cc);
-    front = λ is. absurd (cc);
-    cut = λ is. absurd (cc);
-    whole = λ no. written;
-  }
+  served_read rest' kept = served_so tells opened given sent c left rest' before now
+      (consumes_kept left rest rest' given consumed kept)
+      bounded written status.Read (λ is. cc is) gone.0 refl refl (λ place kind is. absurd (cc is))
+
+  read_all : IsAtEnd rest → IsStreamRead left rest given
+  read_all at_end = record { consumed = consumed; bounded = bounded; whole = λ none. inr at_end }
 
   -- the stream came to its end
   pub served_end : (result : Result Unit Status) → IsAtEnd rest → stream_end given ≡ end_of_result result
@@ -142,76 +161,36 @@ module _ {A : Type 0} (tells : areas.Ghosts A) (opened : Book A tells) (given se
     consumed = consumed;
     bounded = bounded;
     sent = sent;
-    ok = λ is. (goes, says, record { consumed = consumed; bounded = bounded; whole = λ none. inr at_end }, written);
+    ok = λ is. (goes, says, read_all at_end, written);
     err = tt;
     refused = tt;
     front = tt;
     cut = tt;
     whole = tt;
   }
-  served_end (Err ended) at_end says why = subst (λ (e : Status). HasServedStream tells opened c left rest before now (Err e)) (sym why.1) (record {
-    text = given;
-    consumed = consumed;
-    bounded = bounded;
-    sent = sent;
-    ok = λ is. absurd (cc);
-    err = ((all_gone tells opened given sent c goes).0, refl, refl);
-    refused = λ place kind is. (
-      (all_gone tells opened given sent c goes).0,
-      refl,
-      says ∙ why.1,
-      record { consumed = consumed; bounded = bounded; whole = λ none. inr at_end },
-    );
-    front = λ is. absurd (cc);
-    cut = λ is. absurd (cc);
-    whole = λ no. written;
-  })
+  served_end (Err ended) at_end says why = rw why.1
+      (served_input tells opened given sent c left rest before now consumed bounded
+      written why.0 input.Rest (says ∙ why.1) gone.0 refl (read_all at_end))
 
   -- it has as many octets as are read
   pub served_full : most_stream ≤ c.came → HasServedStream tells opened c left rest before now (Err (status.Input most_stream input.TooLong))
-  served_full full = record {
-    text = given;
-    consumed = consumed;
-    bounded = bounded;
-    sent = sent;
-    ok = λ is. absurd (cc);
-    err = ((all_gone tells opened given sent c goes).0, refl, refl);
-    refused = λ place kind is. (
-      (all_gone tells opened given sent c goes).0,
-      refl,
-      too_long tells opened given sent c goes (omega (arith, full, length_is)),
-      record { consumed = consumed; bounded = bounded; whole = λ none. inl (omega (arith, full, length_is, bounded)) },
-    );
-    front = λ is. absurd (cc);
-    cut = λ is. absurd (cc);
-    whole = λ no. written;
-  }
+  served_full full = served_input tells opened given sent c left rest before now consumed bounded written most_stream
+      input.TooLong
+      (too_long tells opened given sent c goes (omega (arith, full, length_is))) gone.0 refl
+      (record { consumed = consumed; bounded = bounded; whole = λ none. inl (omega (arith, full, length_is, bounded)) })
 
 -- a piece of it ended the serving
 pub served_stop : {A : Type 0} (tells : areas.Ghosts A) (opened : Book A tells) (text sent : List ℕ) (c : Connection A tells)
     (left rest before now after : Option (List ℕ)) (ended : Status) → Consumes left rest text → length text ≤ most_stream
     → Appends before now sent → StopsIn tells opened text sent c now after ended → HasServedStream tells opened c left rest before after (Err ended)
-served_stop tells opened text sent c left rest before now after (status.Input place kind) consumed short written stops = record {
-  text = text;
-  consumed = consumed;
-  bounded = short;
-  sent = sent;
-  ok = λ is. absurd (cc);
-  err = (stops.0, refl, stops.1);
-  refused = λ at why is. (
-    stops.0,
-    stops.1,
-    stops.2,
-    record {
+served_stop tells opened text sent c left rest before now after (status.Input place kind) consumed short written stops =
+    served_input tells opened text sent c left rest before after consumed short
+    (rw stops.3 written) place kind stops.2 stops.0 stops.1
+    (record {
       consumed = consumed;
       bounded = short;
       whole = λ none. absurd (some_not_none (first_fault (rest_of text)) stops.4 none);
-    },
-  );
-  front = λ is. absurd (cc);
-  cut = λ is. absurd (cc);
-  whole = λ no. subst (λ (o : Option (List ℕ)). Appends before o sent) (sym stops.3) written;
-}
+    })
 served_stop tells opened text sent c left rest before now after status.Write consumed short written stops = record {
   text = text;
   consumed = consumed;
@@ -232,16 +211,8 @@ served_stop tells opened text sent c left rest before now after status.Write con
   };
   whole = λ no. absurd (no refl);
 }
-served_stop tells opened text sent c left rest before now after status.Link consumed short written stops = record {
-  text = text;
-  consumed = consumed;
-  bounded = short;
-  sent = sent;
-  ok = λ is. absurd (cc);
-  err = (stops.0, refl, stops.1);
-  refused = λ at why is. absurd (cc);
-  front = λ is. absurd (cc);
-  cut = λ is. absurd (cc);
-  whole = λ no. subst (λ (o : Option (List ℕ)). Appends before o sent) (sym stops.2) written;
-}
+served_stop tells opened text sent c left rest before now after status.Link consumed short written stops =
+    served_so tells opened text sent c left rest before after consumed short (rw stops.2 written) status.Link
+    (λ is. cc is)
+    stops.0 refl stops.1 (λ at why is. absurd (cc is))
 served_stop tells opened text sent c left rest before now after _ consumed short written stops = absurd stops

@@ -1,6 +1,7 @@
 -- How the job ends that answers a stream, and why.
 use Rattle.std.proofs.Common.{◌≡◌, ◌≢◌, ℕ, ◌≤◌, ◌⊎◌, ⊎_elim, inl, inr, true, false, List, [], ◌∷◌, ◌++◌, length, length-append, Option, Some, None, Result, Ok, Err, refl, sym, ap, subst, ◌∙◌, append-nil, arith}
 use Rattle.std.specs.Io.KnownBytes.{Appends, Consumes}
+use Rattle.std.proofs.lemmas.List.{nil_from_length}
 use Rattle.area_disk.specs.AreaLaws.{AreaLaws}
 use Rattle.area_disk.specs.Disk as disk
 use Rattle.area_disk.specs.declared.area.Area as areas
@@ -33,7 +34,7 @@ use Rattle.cgf_jobs.specs.Job.{Job}
 use Rattle.cgf_jobs.specs.Kinds.{of_frame}
 use Rattle.cgf_service.specs.ServeSteps.{status_by}
 use Rattle.cgf_service.specs.Served.{HoldsHistory, header_at}
-use Rattle.cgf_service.specs.StreamEnds.{EndsAsSaid, IsStreamRead, IsUnopened, KeepsAnswers, Streams, end_by, most_stream, rest_place, stream_end, stream_settings}
+use Rattle.cgf_service.specs.StreamEnds.{EndsAsSaid, HasAnswered, HasAnsweredAll, IsStreamRead, IsUnopened, KeepsAnswers, LeavesUnanswered, Streams, end_by, most_stream, octets_sent, rest_place, stream_end, stream_settings}
 use Rattle.cgf_service.specs.StreamSteps.{CausesStop, HasClosed, HasGoneTo, HasServedStream, HasSettledStream, IsGoingOn, LeavesBehind, SettlesAs}
 use Rattle.cgf_service.specs.declared.connection.Connection.{Connection}
 use Rattle.cgf_jobs.specs.declared.status.Status.{Status}
@@ -43,7 +44,7 @@ use Rattle.cgf_service.specs.declared.streaming.Streaming.{Streaming}
 use Rattle.cgf_service.proofs.PieceLemmas.{ok_not_err}
 use Rattle.cgf_service.proofs.ServedLemmas.{FilesGrow, ItemsStay}
 use Rattle.cgf_service.proofs.StreamLemmas.{all_gone}
-use Rattle.cgf_service.proofs.StreamedLemmas.{answered, answered_all, answers_kept, closed_behind_them, cut_in_last, settled_behind, written_all, written_front}
+use Rattle.cgf_service.proofs.StreamedLemmas.{answered, answers_kept, closed_behind_them, cut_in_last, settled_behind, written_all, written_front}
 use Rattle.cgf_service.proofs.InputLemmas.{consumes_none}
 
 abbrev Entries : Type 0
@@ -77,10 +78,6 @@ bad_stays rest_cut bad_ends text more kind bad =
     place_is : rest_place (text ++ more) ≡ rest_place text
     place_is = omega (arith, length-append text more, ap (λ (l : List ℕ). length l) rest_is, length-append (rest_of text) more)
 
-none_more : (more : List ℕ) → length more ≤ 0 → more ≡ []
-none_more [] few = refl
-none_more (x ∷ more) few = absurd (omega (arith, few))
-
 read_by : RestCut → BadEnds → (whole text rest : List ℕ) → whole ≡ text ++ rest → length whole ≤ most_stream
     → IsStreamRead (Some whole) (Some rest) text → stream_end whole ≡ stream_end text
 read_by rest_cut bad_ends whole text rest is short read = by (first_fault (rest_of text)) refl
@@ -91,14 +88,14 @@ read_by rest_cut bad_ends whole text rest is short read = by (first_fault (rest_
     by : (k : Option FrameKind) → first_fault (rest_of text) ≡ k → stream_end whole ≡ stream_end text
     by (Some kind) bad = ap (λ (l : List ℕ). stream_end l) is ∙ bad_stays rest_cut bad_ends text rest kind bad
     by None good = ⊎_elim
-        (λ (full : length text ≡ most_stream). all (none_more rest
+        (λ (full : length text ≡ most_stream). all (nil_from_length rest
         (omega (arith, full, short, ap (λ (l : List ℕ). length l) is, length-append text rest))))
         (λ (at_end : rest ≡ []). all at_end) (read.whole good)
 
 read_all : RestCut → BadEnds → (left rest : Option (List ℕ)) (whole text : List ℕ) → left ≡ Some whole → length whole ≤ most_stream
     → IsStreamRead left rest text → stream_end whole ≡ stream_end text
 read_all rest_cut bad_ends left rest whole text is short read =
-    by rest (subst (λ (l : Option (List ℕ)). IsStreamRead l rest text) is read)
+    by rest (rw is at read)
   where
     by : (r : Option (List ℕ)) → IsStreamRead (Some whole) r text → stream_end whole ≡ stream_end text
     by None r = absurd r.consumed
@@ -261,11 +258,9 @@ module _ {A F : Type 0} (tells : areas.Ghosts A) (files : shelves.Ghosts F) (of 
       → area'' ≡ area' → shelf'' ≡ shelf → ended ≡ status_by why → played ≡ None
       → Streams tells files of (unread words l w rs ws) area area'' shelf shelf'' clock clock ended played
   unopened_as why area' area'' shelf'' ended played refused ours others refuses laws reads anew is_area is_shelf ends none =
-      subst (λ (a : A). Streams tells files of (unread words l w rs ws) area a shelf shelf'' clock clock ended played) (sym is_area)
-      (subst (λ (f : F). Streams tells files of (unread words l w rs ws) area area' shelf f clock clock ended played) (sym is_shelf)
-      (subst (λ (e : Status). Streams tells files of (unread words l w rs ws) area area' shelf shelf clock clock e played) (sym ends)
-      (subst (λ (p : Option Played). Streams tells files of (unread words l w rs ws) area area' shelf shelf clock clock (status_by why) p) (sym none)
-      (stops_unopened tells files of words l w rs ws area shelf clock why area' refused ours others refuses (unopened_holds why area' laws reads anew)))))
+      rw (is_area, is_shelf, ends, none)
+      (stops_unopened tells files of words l w rs ws area shelf clock why area' refused ours others
+      refuses (unopened_holds why area' laws reads anew))
 
 -- the settings of the files are those that hold where nothing is set
 pub first_set : (ip : ℕ) (rules : List Rule) (s : ReplaySettings) → rules ≡ [] → AreSet default_setup s → ◌≡◌ {A = Settings} (record {
@@ -299,23 +294,6 @@ module _ {A F : Type 0} (tells : areas.Ghosts A) (files : shelves.Ghosts F) (of 
   abbrev Closes : Type 0
   Closes = ¬ (disk.Rose (tells.faults (area_of c.book)) (tells.faults area')) → HasClosed tells c area'
 
-  -- nothing is lost of what was answered, and the gateway was closed behind it
-  kept : (later : tells.faults (area_of c.book) ≤ tells.faults area') → Holds → Closes → (text sent : List ℕ)
-      (consumed : Consumes job.left job.rest text) (told : Told tells) (gone : HasGoneTo tells book text sent c) (ended : Status)
-      → KeepsAnswers tells files of job area area' shelf shelf' clock clock' ended
-      (answered tells files of job area area' shelf shelf' clock clock' book c open_time sized opens node later text sent consumed told gone ended)
-  kept later keeps closes text sent consumed told gone ended =
-      answers_kept tells files of job area area' shelf shelf' clock clock' book c open_time sized opens node later text
-      sent consumed told gone
-      writer fresh on set stay files_grow laws (keeps told) ended (λ calm. (
-        _,
-        closed_behind_them tells files of job area area' shelf shelf' clock clock' book c open_time sized opens node later text sent
-            consumed told gone laws shuts (closes (still calm)) ended,
-      ))
-    where
-      still : ¬ (disk.Rose (tells.faults area) (tells.faults area')) → ¬ (disk.Rose (tells.faults (area_of c.book)) (tells.faults area'))
-      still calm rose = calm (omega (arith, rose, opens.faults, gone.cuts.later))
-
   not_behind : {P : Type 0} (ended : Status) → ended ≢ status.Memory → ended ≢ status.Store fault.Device
       → (ended ≡ status.Memory) ⊎ (ended ≡ status.Store fault.Device) → P
   not_behind ended memory device (inl is) = absurd (memory is)
@@ -337,122 +315,141 @@ module _ {A F : Type 0} (tells : areas.Ghosts A) (files : shelves.Ghosts F) (of 
     others = λ at foreign. absurd (not_foreign told at foreign);
   }
 
-  -- the serving ended well
-  module _ (text sent : List ℕ) (consumed : Consumes job.left job.rest text) (bounded : length text ≤ most_stream)
-      (goes : IsGoingOn tells book text sent c) (says : stream_end text ≡ status.Done) (read : IsStreamRead job.left job.rest text)
-      (written : Appends job.before job.after sent)
-      (later : tells.faults (area_of c.book) ≤ tells.faults area') (files_later : files.faults (shelf_of writer) ≤ files.faults shelf')
-      (keeps : Holds) (closes : Closes) (stood : (job.read_after ≡ job.read_before) ×
-      (job.written_after ≡ job.written_before))
-      (ticked : clock' ≡ clock) where
-    abbrev gone : HasGoneTo tells book text sent c
-    gone = (all_gone tells book text sent c goes).0
-
-    device_rose : (disk.Rose (tells.faults (area_of c.book)) (tells.faults area') ⊎ disk.Rose (files.faults (shelf_of writer)) (files.faults shelf'))
-        → disk.Rose (tells.faults area) (tells.faults area') ⊎ disk.Rose (files.faults shelf) (files.faults shelf')
-    device_rose (inl rose) = inl (omega (arith, rose, opens.faults, goes.cuts.later))
-    device_rose (inr rose) = inr (subst (λ (f : F). disk.Rose (files.faults f) (files.faults shelf')) on rose)
-
-    pub ends_well : (ended : Status) → SettlesAs tells files c writer area' shelf' ended → Ends ended
-    ends_well status.Done e = record {
-      told = λ is told. (
-        answered tells files of job area area' shelf shelf' clock clock' book c open_time sized opens node later text sent consumed told gone status.Done,
-        answered_all tells files of job area area' shelf shelf' clock clock' book c open_time sized opens node later text sent consumed told gone status.Done
-            refl written read (sym says),
-        kept later keeps closes text sent consumed told gone status.Done,
-        λ done. (
-          _,
-          settled_behind tells files of job area area' shelf shelf' clock clock' book c open_time sized opens node later text sent consumed told gone
-              laws stay files_grow shuts writer fresh on set e status.Done,
-        ),
-      );
-      decided = λ is. (text, read, sym says);
-      front = λ told is. absurd (cc is);
-      first = λ told no. inr (
-        answered tells files of job area area' shelf shelf' clock clock' book c open_time sized opens node later text sent consumed told gone status.Done,
-        refl,
-        written_all tells files of job area area' shelf shelf' clock clock' book c open_time sized opens node later text sent consumed told gone status.Done written,
-        kept later keeps closes text sent consumed told gone status.Done,
-      );
-      behind = λ is. not_behind status.Done (λ e. cc e) (λ e. cc e) is;
-      device = λ is. absurd (cc is);
-      foreign = λ at is. absurd (cc is);
-      link = λ is. absurd (cc is);
-      time = λ no. ticked;
-      cause = stood;
-      known = tt;
-      bound = (text, bounded, consumed);
-      none = refl;
-      complete = λ calm told whole is short. as_said status.Done text whole told is short read (sym says);
-    }
-    ends_well status.Memory e = record {
-      told = λ is. absurd (cc is);
-      decided = λ is. absurd (cc is);
-      front = λ told is. absurd (cc is);
-      first = λ told no. inr (
-        answered tells files of job area area' shelf shelf' clock clock' book c open_time sized opens node later text sent consumed told gone status.Memory,
-        refl,
-        written_all tells files of job area area' shelf shelf' clock clock' book c open_time sized opens node later text sent consumed told gone status.Memory written,
-        kept later keeps closes text sent consumed told gone status.Memory,
-      );
-      behind = λ is. inr (text, read, says);
-      device = λ is. absurd (cc is);
-      foreign = λ at is. absurd (cc is);
-      link = λ is. absurd (cc is);
-      time = λ no. ticked;
-      cause = stood;
-      known = tt;
-      bound = (text, bounded, consumed);
-      none = refl;
-      complete = λ calm told whole is short. record { ours = λ h stands. inl refl; others = λ at foreign. inl refl };
-    }
-    ends_well (status.Store fault.Device) e = record {
-      told = λ is. absurd (cc is);
-      decided = λ is. absurd (cc is);
-      front = λ told is. absurd (cc is);
-      first = λ told no. inr (
-        answered tells files of job area area' shelf shelf' clock clock' book c open_time sized opens node later text sent consumed told gone (status.Store fault.Device),
-        refl,
-        written_all tells files of job area area' shelf shelf' clock clock' book c open_time sized opens node later text sent consumed told gone (status.Store fault.Device) written,
-        kept later keeps closes text sent consumed told gone (status.Store fault.Device),
-      );
-      behind = λ is. inr (text, read, says);
-      device = λ is. device_rose e;
-      foreign = λ at is. absurd (cc is);
-      link = λ is. absurd (cc is);
-      time = λ no. ticked;
-      cause = stood;
-      known = tt;
-      bound = (text, bounded, consumed);
-      none = refl;
-      complete = λ calm told whole is short. absurd (⊎_elim (λ rose. calm.device rose) (λ rose. calm.shelf_runs rose) (device_rose e));
-    }
-    ends_well _ e = absurd e
-
-  -- something else ended it
   module _ (later : tells.faults (area_of c.book) ≤ tells.faults area') (keeps : Holds) (closes : Closes) where
-    pub ends_badly : (why : Status) → HasServedStream tells book c job.left job.rest job.before job.after (Err why)
+    -- the first messages of these octets were answered, and this is to be sent for them
+    module _ (text sent : List ℕ) (consumed : Consumes job.left job.rest text) (gone : HasGoneTo tells book text sent c)
+        (ended : Status) (told : Told tells) where
+      abbrev of_them : HasAnswered tells files of job area area' shelf shelf' clock clock' ended
+      of_them = answered tells files of job area area' shelf shelf' clock clock' book c open_time sized opens node later
+          text sent consumed told gone ended
+
+      -- nothing is lost of what was answered, and the gateway was closed behind it
+      kept : KeepsAnswers tells files of job area area' shelf shelf' clock clock' ended of_them
+      kept = answers_kept tells files of job area area' shelf shelf' clock clock' book c open_time sized opens node
+          later text
+          sent consumed told gone writer fresh on set stay files_grow laws (keeps told) ended (λ calm. (
+            _,
+            closed_behind_them tells files of job area area' shelf shelf' clock clock' book c open_time sized opens node later text sent
+                consumed told gone laws shuts
+                (closes (λ rose. calm (omega (arith, rose, opens.faults, gone.cuts.later)))) ended,
+          ))
+
+      all_sent : Appends job.before job.after sent
+          → Appends job.before job.after
+          (octets_sent tells files of job area area' shelf shelf' clock clock' ended of_them)
+      all_sent written = written_all tells files of job area area' shelf shelf' clock clock' book c open_time sized
+          opens node
+          later text sent consumed told gone ended written
+
+      first_so : LeavesUnanswered ended gone.unanswered → Appends job.before job.after sent
+          → (s : HasAnswered tells files of job area area' shelf shelf' clock clock' ended) × LeavesUnanswered ended
+          s.unanswered
+          × Appends job.before job.after (octets_sent tells files of job area area' shelf shelf' clock clock' ended s)
+          × KeepsAnswers tells files of job area area' shelf shelf' clock clock' ended s
+      first_so leaves written = (of_them, leaves, all_sent written, kept)
+
+      all_answered : gone.unanswered ≡ [] → Appends job.before job.after sent → IsStreamRead job.left job.rest text
+          → ended ≡ stream_end text
+          → HasAnsweredAll tells files of job area area' shelf shelf' clock clock' ended of_them
+      all_answered none written read decides = record {
+        all = none;
+        written = all_sent written;
+        read = read;
+        decided = decides;
+      }
+
+    -- the serving ended well
+    module _ (text sent : List ℕ) (consumed : Consumes job.left job.rest text) (bounded : length text ≤ most_stream)
+        (goes : IsGoingOn tells book text sent c) (says : stream_end text ≡ status.Done) (read : IsStreamRead job.left job.rest text)
+        (written : Appends job.before job.after sent) (stood : (job.read_after ≡ job.read_before) ×
+        (job.written_after ≡ job.written_before)) (ticked : clock' ≡ clock) where
+      abbrev gone : HasGoneTo tells book text sent c
+      gone = (all_gone tells book text sent c goes).0
+
+      device_rose : (disk.Rose (tells.faults (area_of c.book)) (tells.faults area') ⊎ disk.Rose (files.faults (shelf_of writer)) (files.faults shelf'))
+          → disk.Rose (tells.faults area) (tells.faults area') ⊎ disk.Rose (files.faults shelf) (files.faults shelf')
+      device_rose (inl rose) = inl (omega (arith, rose, opens.faults, goes.cuts.later))
+      device_rose (inr rose) = inr (rw on at rose)
+
+      ends_well : (ended : Status) → SettlesAs tells files c writer area' shelf' ended → Ends ended
+      ends_well status.Done e = record {
+        told = λ is told. (
+          of_them text sent consumed gone status.Done told,
+          all_answered text sent consumed gone status.Done told refl written read (sym says),
+          kept text sent consumed gone status.Done told,
+          λ done. (
+            _,
+            settled_behind tells files of job area area' shelf shelf' clock clock' book c open_time sized opens node later text sent consumed told gone
+                laws stay files_grow shuts writer fresh on set e status.Done,
+          ),
+        );
+        decided = λ is. (text, read, sym says);
+        front = λ told is. absurd (cc is);
+        first = λ told no. inr (first_so text sent consumed gone status.Done told refl written);
+        behind = λ is. not_behind status.Done (λ e. cc e) (λ e. cc e) is;
+        device = λ is. absurd (cc is);
+        foreign = λ at is. absurd (cc is);
+        link = λ is. absurd (cc is);
+        time = λ no. ticked;
+        cause = stood;
+        known = tt;
+        bound = (text, bounded, consumed);
+        none = refl;
+        complete = λ calm told whole is short. as_said status.Done text whole told is short read (sym says);
+      }
+      ends_well status.Memory e = record {
+        told = λ is. absurd (cc is);
+        decided = λ is. absurd (cc is);
+        front = λ told is. absurd (cc is);
+        first = λ told no. inr (first_so text sent consumed gone status.Memory told refl written);
+        behind = λ is. inr (text, read, says);
+        device = λ is. absurd (cc is);
+        foreign = λ at is. absurd (cc is);
+        link = λ is. absurd (cc is);
+        time = λ no. ticked;
+        cause = stood;
+        known = tt;
+        bound = (text, bounded, consumed);
+        none = refl;
+        complete = λ calm told whole is short. record { ours = λ h stands. inl refl; others = λ at foreign. inl refl };
+      }
+      ends_well (status.Store fault.Device) e = record {
+        told = λ is. absurd (cc is);
+        decided = λ is. absurd (cc is);
+        front = λ told is. absurd (cc is);
+        first = λ told no. inr (first_so text sent consumed gone (status.Store fault.Device) told refl written);
+        behind = λ is. inr (text, read, says);
+        device = λ is. device_rose e;
+        foreign = λ at is. absurd (cc is);
+        link = λ is. absurd (cc is);
+        time = λ no. ticked;
+        cause = stood;
+        known = tt;
+        bound = (text, bounded, consumed);
+        none = refl;
+        complete = λ calm told whole is short. absurd (⊎_elim (λ rose. calm.device rose) (λ rose. calm.shelf_runs rose) (device_rose e));
+      }
+      ends_well _ e = absurd e
+
+    -- something else ended it
+    ends_badly : (why : Status) → HasServedStream tells book c job.left job.rest job.before job.after (Err why)
         → CausesStop {X = Unit} job.read_before job.read_after job.written_before job.written_after clock clock' (Err why) → Ends why
     ends_badly (status.Input place kind) served causes = record {
       told = λ is told. (
-        answered tells files of job area area' shelf shelf' clock clock' book c open_time sized opens node later served.text served.sent served.consumed told
-            (served.refused place kind refl).0 (status.Input place kind),
-        answered_all tells files of job area area' shelf shelf' clock clock' book c open_time sized opens node later served.text served.sent served.consumed told
-            (served.refused place kind refl).0 (status.Input place kind) (served.refused place kind refl).1 (served.whole (λ e. cc e))
-            (served.refused place kind refl).3 (sym (served.refused place kind refl).2),
-        kept later keeps closes served.text served.sent served.consumed told (served.refused place kind refl).0 (status.Input place kind),
+        of_them served.text served.sent served.consumed (served.refused place kind refl).0
+        (status.Input place kind) told,
+        all_answered served.text served.sent served.consumed (served.refused place kind refl).0
+        (status.Input place kind) told
+            (served.refused place kind refl).1 (served.whole (λ e. cc e)) (served.refused place kind refl).3
+            (sym (served.refused place kind refl).2),
+        kept served.text served.sent served.consumed (served.refused place kind refl).0 (status.Input place kind) told,
         λ done. absurd (cc done),
       );
       decided = λ is. (served.text, (served.refused place kind refl).3, sym (served.refused place kind refl).2);
       front = λ told is. absurd (cc is);
-      first = λ told no. inr (
-        answered tells files of job area area' shelf shelf' clock clock' book c open_time sized opens node later served.text served.sent served.consumed told
-            served.err.0 (status.Input place kind),
-        served.err.2,
-        written_all tells files of job area area' shelf shelf' clock clock' book c open_time sized opens node later served.text served.sent served.consumed told
-            served.err.0 (status.Input place kind) (served.whole no),
-        kept later keeps closes served.text served.sent served.consumed told served.err.0 (status.Input place kind),
-      );
+      first = λ told no. inr
+          (first_so served.text served.sent served.consumed served.err.0 (status.Input place kind) told served.err.2
+          (served.whole no));
       behind = λ is. not_behind (status.Input place kind) (λ e. cc e) (λ e. cc e) is;
       device = λ is. absurd (cc is);
       foreign = λ at is. absurd (cc is);
@@ -469,14 +466,9 @@ module _ {A F : Type 0} (tells : areas.Ghosts A) (files : shelves.Ghosts F) (of 
       told = λ is. absurd (cc is);
       decided = λ is. absurd (cc is);
       front = λ told is. absurd (cc is);
-      first = λ told no. inr (
-        answered tells files of job area area' shelf shelf' clock clock' book c open_time sized opens node later served.text served.sent served.consumed told
-            served.err.0 status.Read,
-        served.err.2,
-        written_all tells files of job area area' shelf shelf' clock clock' book c open_time sized opens node later served.text served.sent served.consumed told
-            served.err.0 status.Read (served.whole no),
-        kept later keeps closes served.text served.sent served.consumed told served.err.0 status.Read,
-      );
+      first = λ told no. inr
+          (first_so served.text served.sent served.consumed served.err.0 status.Read told served.err.2
+          (served.whole no));
       behind = λ is. not_behind status.Read (λ e. cc e) (λ e. cc e) is;
       device = λ is. absurd (cc is);
       foreign = λ at is. absurd (cc is);
@@ -492,8 +484,7 @@ module _ {A F : Type 0} (tells : areas.Ghosts A) (files : shelves.Ghosts F) (of 
       told = λ is. absurd (cc is);
       decided = λ is. absurd (cc is);
       front = λ told is. (
-        answered tells files of job area area' shelf shelf' clock clock' book c open_time sized opens node later served.text served.sent served.consumed told
-            (served.cut refl).gone status.Write,
+        of_them served.text served.sent served.consumed (served.cut refl).gone status.Write told,
         written_front tells files of job area area' shelf shelf' clock clock' book c open_time sized opens node later served.text served.sent served.consumed told
             (served.cut refl).gone status.Write (served.front refl),
         cut_in_last tells files of job area area' shelf shelf' clock clock' book c open_time sized opens node later
@@ -501,7 +492,7 @@ module _ {A F : Type 0} (tells : areas.Ghosts A) (files : shelves.Ghosts F) (of 
             (served.cut refl).gone status.Write (served.cut refl).earlier (served.cut refl).more
             ((served.cut refl).last told) (served.cut refl).count
             (served.cut refl).within (served.cut refl).written,
-        kept later keeps closes served.text served.sent served.consumed told (served.cut refl).gone status.Write,
+        kept served.text served.sent served.consumed (served.cut refl).gone status.Write told,
       );
       first = λ told no. absurd (no refl);
       behind = λ is. not_behind status.Write (λ e. cc e) (λ e. cc e) is;
@@ -519,14 +510,9 @@ module _ {A F : Type 0} (tells : areas.Ghosts A) (files : shelves.Ghosts F) (of 
       told = λ is. absurd (cc is);
       decided = λ is. absurd (cc is);
       front = λ told is. absurd (cc is);
-      first = λ told no. inr (
-        answered tells files of job area area' shelf shelf' clock clock' book c open_time sized opens node later served.text served.sent served.consumed told
-            served.err.0 status.Link,
-        served.err.2,
-        written_all tells files of job area area' shelf shelf' clock clock' book c open_time sized opens node later served.text served.sent served.consumed told
-            served.err.0 status.Link (served.whole no),
-        kept later keeps closes served.text served.sent served.consumed told served.err.0 status.Link,
-      );
+      first = λ told no. inr
+          (first_so served.text served.sent served.consumed served.err.0 status.Link told served.err.2
+          (served.whole no));
       behind = λ is. not_behind status.Link (λ e. cc e) (λ e. cc e) is;
       device = λ is. absurd (cc is);
       foreign = λ at is. absurd (cc is);
@@ -546,9 +532,10 @@ module _ {A F : Type 0} (tells : areas.Ghosts A) (files : shelves.Ghosts F) (of 
       → HasSettledStream tells files c writer served ended area' shelf' → Ends ended
   ends_streams (Ok done) ended served causes settles =
       let ok = served.ok refl in
-      ends_well served.text served.sent served.consumed served.bounded ok.0 ok.1 ok.2 ok.3 settles.later.0 settles.later.1 settles.keeps settles.closed
+      ends_well settles.later.0 settles.keeps settles.closed served.text served.sent served.consumed served.bounded ok.0
+      ok.1 ok.2 ok.3
       (causes.source_stood (ok_not_err tt status.Read), causes.sink_stood (ok_not_err tt status.Write))
       (causes.clock_stood (ok_not_err tt status.Link))
       ended (settles.ok refl)
   ends_streams (Err why) ended served causes settles =
-      subst (λ (s : Status). Ends s) (sym settles.err) (ends_badly settles.later.0 settles.keeps settles.closed why served causes)
+      rw settles.err (ends_badly settles.later.0 settles.keeps settles.closed why served causes)

@@ -162,11 +162,11 @@ module _ {A F : Type 0} (tells : areas.Ghosts A) (files : shelves.Ghosts F) (of 
 
   pub written_all : (ended : Status) → Appends job.before job.after sent
       → Appends job.before job.after (octets_sent tells files of job area area' shelf shelf' clock clock' ended (answered ended))
-  written_all ended written = subst (λ (l : List ℕ). Appends job.before job.after l) sent_are written
+  written_all ended written = rw (← sent_are) written
 
   pub written_front : (ended : Status) → AppendsFront job.before job.after sent
       → AppendsFront job.before job.after (octets_sent tells files of job area area' shelf shelf' clock clock' ended (answered ended))
-  written_front ended written = subst (λ (l : List ℕ). AppendsFront job.before job.after l) sent_are written
+  written_front ended written = rw (← sent_are) written
 
   -- the reply to the last of them was cut
   pub cut_in_last : (ended : Status) (earlier more : List ℕ) → IsLastOf tells c.node book of_all.tried earlier more →
@@ -178,8 +178,8 @@ module _ {A F : Type 0} (tells : areas.Ghosts A) (files : shelves.Ghosts F) (of 
     last = l.last;
     tried_are = l.tried_are;
     count = count;
-    within = subst (λ (reply : List ℕ). count ≤ length reply) more_is within;
-    written = subst (λ (octets : List ℕ). Appends job.before job.after octets) both_are written;
+    within = rw more_is at within;
+    written = rw (earlier_are, more_is) at written;
   }
     where
       earlier_are : earlier ≡ sent_for_all (tells.size area) of.node (opened (tells.size area) start) l.first
@@ -189,15 +189,9 @@ module _ {A F : Type 0} (tells : areas.Ghosts A) (files : shelves.Ghosts F) (of 
           (after_all (tells.size area) of.node (opened (tells.size area) start) l.first) l.last
       more_is = l.more_is ∙ (λ i. sent_for (sized i) (node i) (after_all (sized i) (node i) (value i) l.first) l.last)
 
-      both_are : earlier ++ take count more ≡ sent_for_all (tells.size area) of.node (opened (tells.size area) start)
-          l.first ++ take count
-          (sent_for (tells.size area) of.node (after_all (tells.size area) of.node (opened (tells.size area) start)
-          l.first) l.last)
-      both_are = λ i. earlier_are i ++ take count (more_is i)
-
   -- what was found begins what was firm then
   left_front : Begins start left.firm
-  left_front = subst (λ (l : Entries). Begins l left.firm) (opened_is_fresh (tells.size area) start).firm
+  left_front = rw (opened_is_fresh (tells.size area) start).firm at
       (all_front (tells.size area) of.node (opened (tells.size area) start) of_all.tried)
 
   -- What was firm is kept, and its files.
@@ -212,8 +206,7 @@ module _ {A F : Type 0} (tells : areas.Ghosts A) (files : shelves.Ghosts F) (of 
         left.firm octets
     stands_at octets may = record {
       history = (keeps octets may).history;
-      stands = subst (λ (name : List ℕ). StandsFitFor name octets (keeps octets may).history) named
-          (keeps octets may).stands;
+      stands = rw named at (keeps octets may).stands;
       begins = subst (λ (v : BookValue). Begins v.firm (keeps octets may).history) value_gone (keeps octets may).begins;
     }
 
@@ -223,8 +216,8 @@ module _ {A F : Type 0} (tells : areas.Ghosts A) (files : shelves.Ghosts F) (of 
     filed_at tells_files first octets may =
         subst (λ (settings : Settings). HasFirstFiles settings (keeps octets may).history (files.files shelf')) by
         ((keeps octets may).filed tells_files
-        (first_holds files stay files_grow (stream_settings of.ip) start (keeps octets may).history shelf writer fresh
-        on by
+        (first_holds files stay files_grow (stream_settings of.ip) start
+        (keeps octets may).history shelf writer fresh on by
         (begins_then start left.firm (keeps octets may).history left_front (stands_at octets may).begins) first))
 
     pub answers_kept : (ended : Status)
@@ -271,12 +264,10 @@ module _ {A F : Type 0} (tells : areas.Ghosts A) (files : shelves.Ghosts F) (of 
     header_is = e.stays.header ∙ gone.stays.header ∙ opens.named
 
     leaves_whole : (octets : List ℕ) → tells.may_leave area' octets → StandsFitFor (header_at tells area of.ip) octets history
-    leaves_whole octets may = subst (λ (h : List ℕ). StandsFitFor h octets history) header_is
-        (e.leaves.whole told e.settled.goes_on octets (subst (λ (a : A). tells.may_leave a octets) e.area_is may))
+    leaves_whole octets may = rw header_is at (e.leaves.whole told e.settled.goes_on octets (rw e.area_is at may))
 
     pub front : Begins start history
-    front = subst (λ (l : Entries). Begins start l) (sym history_is)
-        (begins_then start firmed (closed_behind firmed close_at no_caller)
+    front = rw history_is (begins_then start firmed (closed_behind firmed close_at no_caller)
         (begins_then start left.firm firmed left_front (commit_front (mending e.settled.drops) left))
         (closed_begins firmed close_at no_caller))
 
@@ -293,51 +284,35 @@ module _ {A F : Type 0} (tells : areas.Ghosts A) (files : shelves.Ghosts F) (of 
           ∙ none_due_behind (base e.settled.drops (facts_of c.book)) close_at no_caller);
     }
 
--- It has answered all of them, and was settled.
-module _ {A F : Type 0} (tells : areas.Ghosts A) (files : shelves.Ghosts F) (of : Streaming) (job : Job)
-    (area area' : A) (shelf shelf' : F) (clock clock' : ℕ) (book : Book A tells) (c : Connection A tells) (open_time : ℕ)
-    (sized : tells.size (area_of book) ≡ tells.size area) (opens : IsOpened (header_at tells area of.ip) area open_time book)
-    (node : c.node ≡ of.node) (later : tells.faults (area_of c.book) ≤ tells.faults area') (text sent : List ℕ)
-    (consumed : Consumes job.left job.rest text) (told : Told tells) (gone : HasGoneTo tells book text sent c)
-    (laws : AreaLaws tells) (stay : ItemsStay) (files_grow : FilesGrow)
-    (shuts : (h : Entries) → is_close_due h ≡ false → AreShut (items_of h)) (writer : Writer F files)
-    (fresh : is_broken writer ≡ true) (on : shelf_of writer ≡ shelf) (by : settings_in writer ≡ stream_settings of.ip)
-    (e : HasEnded tells files c writer area' shelf') where
-  abbrev begun : Entries
-  begun = (opens.found told).0
+  -- It has answered all of them, and was settled.
+  module _ (laws : AreaLaws tells) (stay : ItemsStay) (files_grow : FilesGrow)
+      (shuts : (h : Entries) → is_close_due h ≡ false → AreShut (items_of h)) (writer : Writer F files)
+      (fresh : is_broken writer ≡ true) (on : shelf_of writer ≡ shelf) (by : settings_in writer ≡ stream_settings of.ip)
+      (e : HasEnded tells files c writer area' shelf') where
+    abbrev whole : Entries
+    whole = (value_of e.closed.book).firm
 
-  abbrev whole : Entries
-  whole = (value_of e.closed.book).firm
+    sealed : IsTrue files.tells_files → HasFirstFiles (stream_settings of.ip) start (files.files shelf)
+        → HasAllFiles (stream_settings of.ip) whole (files.files shelf')
+    sealed tells_files first = subst (λ (f : F). HasAllFiles (stream_settings of.ip) whole (files.files f)) (sym e.shelf_is)
+        (subst (λ (settings : Settings). HasAllFiles settings whole (files.files (shelf_of e.after))) (e.settings ∙ by)
+        (all_sealed files e.after (items_of whole) (e.taken told).ready (e.taken told).count holds counted))
+      where
+        holds : writing.HoldsFilesOf (items_of whole) e.after
+        holds = e.files_stay (told_lists tells told) tells_files (items_of whole) ([], sym (append-nil (items_of whole)))
+            (first_holds files stay files_grow (stream_settings of.ip) start whole shelf writer fresh on by
+            (front laws shuts e.closed) first)
 
-  settings_are : settings_in e.after ≡ stream_settings of.ip
-  settings_are = e.settings ∙ by
+        counted : (s : ℕ) → s < stream_count
+            → length (stream_files (settings_in e.after) s (items_of whole)) ≤ closed_of (settings_in e.after) s (items_of whole)
+        counted s lt =
+            omega
+            (arith, length-files_from (settings_in e.after).file s 1
+            (stream_division (settings_in e.after) s (items_of whole)).closed)
 
-  sealed : IsTrue files.tells_files → HasFirstFiles (stream_settings of.ip) begun (files.files shelf)
-      → HasAllFiles (stream_settings of.ip) whole (files.files shelf')
-  sealed tells_files first = subst (λ (f : F). HasAllFiles (stream_settings of.ip) whole (files.files f)) (sym e.shelf_is)
-      (subst (λ (settings : Settings). HasAllFiles settings whole (files.files (shelf_of e.after))) settings_are
-      (all_sealed files e.after (items_of whole) (e.taken told).ready (e.taken told).count holds counted))
-    where
-      holds : writing.HoldsFilesOf (items_of whole) e.after
-      holds = e.files_stay (told_lists tells told) tells_files (items_of whole) ([], sym (append-nil (items_of whole)))
-          (first_holds files stay files_grow (stream_settings of.ip) begun whole shelf writer fresh on by
-          (front tells files of job area area' shelf shelf' clock clock' book c open_time sized opens node later text
-          sent consumed told gone laws shuts e.closed)
-          first)
-
-      counted : (s : ℕ) → s < stream_count
-          → length (stream_files (settings_in e.after) s (items_of whole)) ≤ closed_of (settings_in e.after) s (items_of whole)
-      counted s lt =
-          let same = length-files_from (settings_in e.after).file s 1 (stream_division (settings_in e.after) s (items_of whole)).closed in
-          omega (arith, same)
-
-  pub settled_behind : (ended : Status) → HasSettledBehind tells files of job area area' shelf shelf' clock clock' ended
-      (answered tells files of job area area' shelf shelf' clock clock' book c open_time sized opens node later text sent consumed told gone ended) whole
-  settled_behind ended = record {
-    closed = closed_behind_them tells files of job area area' shelf shelf' clock clock' book c open_time sized opens node later text sent consumed told gone
-        laws shuts e.closed ended;
-    sealed = sealed;
-  }
+    pub settled_behind : (ended : Status)
+        → HasSettledBehind tells files of job area area' shelf shelf' clock clock' ended (answered ended) whole
+    settled_behind ended = record { closed = closed_behind_them laws shuts e.closed ended; sealed = sealed }
 
 -- How the settling ends the job.
 module _ {A F : Type 0} (tells : areas.Ghosts A) (files : shelves.Ghosts F) (c : Connection A tells) (writer : Writer F files)
@@ -355,13 +330,13 @@ module _ {A F : Type 0} (tells : areas.Ghosts A) (files : shelves.Ghosts F) (c :
       (λ (s : StandsFitFor (header_of book) octets (value_of book).firm). behind (value_of book).firm (begins_self (value_of book).firm) s)
       (λ (s : StandsFitFor (header_of book) octets ((value_of book).firm ++ (value_of book).rest)).
       behind ((value_of book).firm ++ (value_of book).rest) ((value_of book).rest, refl) s)
-      (leaves.any told octets (subst (λ (a : A). tells.may_leave a octets) is_area may))
+      (leaves.any told octets (rw is_area at may))
     where
       behind : (history : Entries) → Begins (value_of book).firm history → StandsFitFor (header_of book) octets history
           → LeavesBehind tells files c writer shelf octets
       behind history begins stands = record {
         history = history;
-        stands = subst (λ (name : List ℕ). StandsFitFor name octets history) stays.0.header stands;
+        stands = rw stays.0.header at stands;
         begins = begins_then (value_of c.book).firm (value_of book).firm history (grows told) begins;
         filed = λ tells_files held. subst (λ (f : F). HasFirstFiles (settings_in writer) history (files.files f))
             (sym is_shelf)
@@ -374,7 +349,7 @@ module _ {A F : Type 0} (tells : areas.Ghosts A) (files : shelves.Ghosts F) (c :
   closed_by settled = record {
     book = book;
     area_is = is_area;
-    settled = subst (λ (n : ℕ). IsSettled c.book book n no_caller) moment settled;
+    settled = rw moment at settled;
     leaves = leaves;
     stays = stays.0;
   }
@@ -382,29 +357,22 @@ module _ {A F : Type 0} (tells : areas.Ghosts A) (files : shelves.Ghosts F) (c :
   settles : (served : Result Unit Status) (ended : Status) → (served ≡ Ok tt → SettlesAs tells files c writer area shelf ended)
       → IfErr served (λ why. ended ≡ why) → HasSettledStream tells files c writer served ended area shelf
   settles served ended ok err = record {
-    later = (
-      subst (λ (a : A). tells.faults (area_of c.book) ≤ tells.faults a) (sym is_area) later.0,
-      subst (λ (f : F). files.faults (shelf_of writer) ≤ files.faults f) (sym is_shelf) later.1,
-    );
+    later = (rw is_area later.0, rw is_shelf later.1);
     size = ap (λ (a : A). tells.size a) is_area ∙ stays.0.size;
     keeps = holds;
-    closed = λ calm. closed_by (closes
-        (subst (λ (a : A). ¬ (disk.Rose (tells.faults (area_of c.book)) (tells.faults a))) is_area calm));
+    closed = λ calm. closed_by (closes (rw is_area at calm));
     ok = ok;
     err = err;
   }
 
   pub settles_ok : (served : Result Unit Status) (ended how : Status) (x : Unit) → served ≡ Ok x → ended ≡ how → SettlesAs tells files c writer area shelf how
       → HasSettledStream tells files c writer served ended area shelf
-  settles_ok served ended how x is ends so = settles served ended
-      (λ ok. subst (λ (s : Status). SettlesAs tells files c writer area shelf s) (sym ends) so)
-      (subst (λ (r : Result Unit Status). IfErr r (λ why. ended ≡ why)) (sym is) tt)
+  settles_ok served ended how x is ends so = settles served ended (λ ok. rw ends so) (rw is tt)
 
   pub settles_err : (served : Result Unit Status) (ended why : Status) → served ≡ Err why → ended ≡ why
       → HasSettledStream tells files c writer served ended area shelf
-  settles_err served ended why is ends = settles served ended
-      (λ ok. absurd (ok_not_err tt why (sym ok ∙ is)))
-      (subst (λ (r : Result Unit Status). IfErr r (λ w. ended ≡ w)) (sym is) ends)
+  settles_err served ended why is ends = settles served ended (λ ok. absurd (ok_not_err tt why (sym ok ∙ is)))
+      (rw is ends)
 
   pub settles_done : IsSettled c.book book now no_caller → (Told tells → HasTakenAll (value_of book).firm after)
       → HasEnded tells files c writer area shelf
@@ -419,8 +387,8 @@ module _ {A F : Type 0} (tells : areas.Ghosts A) (files : shelves.Ghosts F) (c :
 
   pub settles_area : disk.Rose (tells.faults (area_of c.book)) (tells.faults (area_of book))
       → SettlesAs tells files c writer area shelf (status.Store fault.Device)
-  settles_area rose = inl (subst (λ (a : A). disk.Rose (tells.faults (area_of c.book)) (tells.faults a)) (sym is_area) rose)
+  settles_area rose = inl (rw is_area rose)
 
   pub settles_shelf : disk.Rose (files.faults (shelf_of writer)) (files.faults (shelf_of after))
       → SettlesAs tells files c writer area shelf (status.Store fault.Device)
-  settles_shelf rose = inr (subst (λ (f : F). disk.Rose (files.faults (shelf_of writer)) (files.faults f)) (sym is_shelf) rose)
+  settles_shelf rose = inr (rw is_shelf rose)

@@ -1,6 +1,5 @@
-use Rattle.std.proofs.Common.{◌≡◌, ◌∙◌, refl, sym, ap, subst, ℕ, ◌+◌, ◌<◌, ◌^◌, List, count_by, length, length-drop, length-take, drop, take, take_all, Ok, arith, rules}
+use Rattle.std.proofs.Common.{◌≡◌, ◌∙◌, refl, sym, ap, subst, ℕ, ◌+◌, ◌<◌, ◌^◌, List, count_by, length, length-drop, length-take, drop, take, take_all, arith, rules}
 use Rattle.cdr_shelf.specs.contracts.quiet.QuietShelfShelf.TheImpl.{ghosts as shelf_tells}
-use Rattle.file_writer.specs.Advancing.{Advances}
 use Rattle.file_writer.specs.Making.{ending_at}
 use Rattle.file_writer.specs.Parts.{HasAdvanced, part_of}
 use Rattle.gateway_answer.specs.Items.{is_part, items_of}
@@ -30,8 +29,7 @@ advance-requires-clause-few c =
     let all : List Item = items_of c.args.gateway.now.history in
     let is = c.deref.ensures.value ∙ c.in_ok-items.ensures.items
     ∙ ap (λ (g : GatewayValue). part_of taken 4096 (items_of g.history)) c.loop-count.invariant.same in
-    let few = subst (λ (g : GatewayValue). length (items_of g.history) < 2 ^ 31) c.loop-count.invariant.same
-    c.in_ok-items.ensures.few in
+    let few = rw c.loop-count.invariant.same at c.in_ok-items.ensures.few in
     omega (
       arith,
       c.loop-count.invariant.taken,
@@ -56,8 +54,7 @@ loop-count-preserved c =
     let long = length-take 4096 (drop taken all) in
     let left = length-drop taken all in
     let some = c.loop-count.invariant.some in
-    let few : length all < 2 ^ 31 =
-    subst (λ (g : GatewayValue). length (items_of g.history) < 2 ^ 31) c.loop-count.invariant.same c.in_ok-items.ensures.few in
+    let few : length all < 2 ^ 31 = rw c.loop-count.invariant.same at c.in_ok-items.ensures.few in
     let counted : c.record_count-records.result ≡ count_by is_part (part_of taken 4096 all) =
     c.record_count-records.ensures.parts
     ∙ ap (λ (xs : List Item). count_by is_part xs) (c.deref-in-loop-count.ensures.value ∙ sym c.deref.ensures.value ∙ is) in
@@ -67,13 +64,10 @@ loop-count-preserved c =
       short = omega (arith, count, long, c.from-taken.ensures);
       settings = c.in-Ok.ensures.settings ∙ c.loop-count.invariant.settings;
       same = c.in_ok-items.ensures.same ∙ c.loop-count.invariant.same;
-      given = subst (λ (k : ℕ). HasAdvanced shelf_tells (λ s. 0) (take (taken + k) all) c.args.writer.now c.advance.new.self)
-          (sym count)
+      given = rw count
           (c.parts_go_as_one.ensures.more (λ s. 0) all taken 4096 c.in-Ok.field-0 c.args.writer.now c.loop-count.writer
           c.advance.new.self c.loop-count.invariant.settings c.loop-count.invariant.given
-          (subst (λ (xs : List Item). Advances shelf_tells (λ s. 0) (take taken all) xs c.loop-count.writer c.advance.new.self
-          (Ok c.in-Ok.field-0)) is
-          (c.in-Ok.ensures.moves (λ s. 0) (take taken all) (c.loop-count.invariant.given 0).at)));
+          (rw is at (c.in-Ok.ensures.moves (λ s. 0) (take taken all) (c.loop-count.invariant.given 0).at)));
       records = omega (
         arith,
         c.loop-count.invariant.records,

@@ -1,12 +1,8 @@
-use Rattle.std.proofs.Common.{◌∙◌, refl, sym, ap, subst, ℕ, List, map, string_bytes, Err, true≢false}
-use Rattle.std.specs.Io.KnownBytes.{Appends}
-use Rattle.gw_base.specs.Written.{AppendsFront}
+use Rattle.std.proofs.Common.{◌∙◌, refl, sym, ap, map, string_bytes, Err, true≢false}
 use Rattle.cgf_jobs.specs.Command.{command_of}
-use Rattle.cgf_jobs.specs.Ending.{HasCause, WordsDecide}
 use Rattle.cgf_jobs.specs.Job.{job_of}
-use Rattle.cgf_jobs.specs.Run.{HasReported, IsRead, may_have_written}
+use Rattle.cgf_jobs.specs.Run.{may_have_written}
 use Rattle.cgf_jobs.specs.declared.report.NoReport.{NoReport}
-use Rattle.cgf_jobs.specs.declared.status.Status.{Status}
 use Rattle.cgf_jobs.specs.declared.status.Status.TheVariants as status
 use Rattle.cgf_jobs.proofs.Clauses.{input_not_words, no_fault, not_words, not_write, ok_is_err, was_taken, words_decide, write_not_words}
 use Rattle.cgf_jobs.proofs.Ends.{complete_by}
@@ -17,9 +13,9 @@ use Rattle.cgf_jobs.proofs.job.run.Goals as goal
 
 pub returns-in-Ok-write_all-clause-words : goal.returns-in-Ok-write_all-clause-words
 returns-in-Ok-write_all-clause-words g c =
-    subst (λ (s : Status). WordsDecide (command_of (map string_bytes c.args.words.now)) s c.args.source.now c.read_input.new.source)
-    (sym c.ended_by.ensures)
-    (words_decide (command_of (map string_bytes c.args.words.now)) c.in-Ok-Some.command _ c.args.source.now c.read_input.new.source
+    rw c.ended_by.ensures
+    (words_decide (command_of (map string_bytes c.args.words.now)) c.in-Ok-Some.command _ c.args.source.now
+    c.read_input.new.source
     (sym c.in-Ok-Some.ensures.asked ∙ c.in-Ok-Some.field-0-is) (not_words c.in-Ok-report_of.field-0.refused)
     (λ zero. c.in-Ok.ensures.unread (c.most_read.ensures ∙ zero)))
 
@@ -30,33 +26,26 @@ returns-in-Ok-write_all-clause-untouched g c untaken =
 
 pub returns-in-Ok-write_all-clause-report : goal.returns-in-Ok-write_all-clause-report
 returns-in-Ok-write_all-clause-report g c reported =
-    subst (λ (s : Status). HasReported (job_of g.S.Source g.K.Sink (map string_bytes c.args.words.now) c.args.source.now c.read_input.new.source
-    c.args.sink.now c.write_all.new.sink) s
-    c.in-Ok-report_of.field-0.played) (sym c.ended_by.ensures)
-    (writes_done (job_of g.S.Source g.K.Sink (map string_bytes c.args.words.now) c.args.source.now c.read_input.new.source
-    c.args.sink.now c.write_all.new.sink)
-    c.in-Ok-Some.command c.in-Ok.octets.items c.in-Ok-report_of.field-0 (sym c.in-Ok-Some.ensures.asked ∙ c.in-Ok-Some.field-0-is)
-    (subst (λ (most : ℕ). IsRead most (g.S.Source.left c.args.source.now) (g.S.Source.left c.read_input.new.source) c.in-Ok.octets.items)
-    c.most_read.ensures c.in-Ok.ensures.read)
+    rw c.ended_by.ensures
+    (writes_done _ c.in-Ok-Some.command c.in-Ok.octets.items c.in-Ok-report_of.field-0
+    (sym c.in-Ok-Some.ensures.asked ∙ c.in-Ok-Some.field-0-is)
+    (rw c.most_read.ensures at c.in-Ok.ensures.read)
     c.in-Ok-report_of.ensures.within c.in-Ok-report_of.ensures.report
-    (subst (λ (octets : List ℕ). Appends (g.K.Sink.written c.args.sink.now) (g.K.Sink.written c.write_all.new.sink) octets)
-    c.deref.ensures.value c.in-Ok-write_all.ensures.ok))
+    (rw c.deref.ensures.value at c.in-Ok-write_all.ensures.ok))
 
 pub returns-in-Ok-write_all-clause-front : goal.returns-in-Ok-write_all-clause-front
 returns-in-Ok-write_all-clause-front g c is = absurd (not_write c.in-Ok-report_of.field-0.refused (sym c.ended_by.ensures ∙ is))
 
 pub returns-in-Ok-write_all-clause-cause : goal.returns-in-Ok-write_all-clause-cause
 returns-in-Ok-write_all-clause-cause g c =
-    subst (λ (s : Status). HasCause s (g.S.Source.faults c.args.source.now) (g.S.Source.faults c.read_input.new.source)
-    (g.K.Sink.faults c.args.sink.now) (g.K.Sink.faults c.write_all.new.sink)) (sym c.ended_by.ensures)
+    rw c.ended_by.ensures
     (no_fault c.in-Ok-report_of.field-0.refused _ _ _ _ (c.in-Ok.ensures.unfailed (λ is. ok_is_err _ _ is)) c.in-Ok-write_all.ensures.unfailed)
 
 pub returns-in-Ok-write_all-clause-complete : goal.returns-in-Ok-write_all-clause-complete
 returns-in-Ok-write_all-clause-complete g c some read written =
     complete_by (map string_bytes c.args.words.now) c.in-Ok-Some.command (g.S.Source.left c.args.source.now)
     (g.S.Source.left c.read_input.new.source) c.in-Ok.octets.items _ (sym c.in-Ok-Some.ensures.asked ∙ c.in-Ok-Some.field-0-is)
-    (subst (λ (most : ℕ). IsRead most (g.S.Source.left c.args.source.now) (g.S.Source.left c.read_input.new.source) c.in-Ok.octets.items)
-    c.most_read.ensures c.in-Ok.ensures.read)
+    (rw c.most_read.ensures at c.in-Ok.ensures.read)
     (c.ended_by.ensures ∙ c.in-Ok-report_of.ensures.report.ended)
 
 pub returns-in-Ok-write_all-clause-none : goal.returns-in-Ok-write_all-clause-none
@@ -76,11 +65,9 @@ returns-in-Ok-report_of-clause-front g c is =
     writes_front (job_of g.S.Source g.K.Sink (map string_bytes c.args.words.now) c.args.source.now c.read_input.new.source
     c.args.sink.now c.write_all.new.sink)
     c.in-Ok-Some.command c.in-Ok.octets.items c.in-Ok-report_of.field-0.printed.items _ (sym c.in-Ok-Some.ensures.asked ∙ c.in-Ok-Some.field-0-is)
-    (subst (λ (most : ℕ). IsRead most (g.S.Source.left c.args.source.now) (g.S.Source.left c.read_input.new.source) c.in-Ok.octets.items)
-    c.most_read.ensures c.in-Ok.ensures.read)
+    (rw c.most_read.ensures at c.in-Ok.ensures.read)
     c.in-Ok-report_of.ensures.within refl c.in-Ok-report_of.ensures.report.taken c.in-Ok-report_of.ensures.report.printed
-    (subst (λ (octets : List ℕ). AppendsFront (g.K.Sink.written c.args.sink.now) (g.K.Sink.written c.write_all.new.sink) octets)
-    c.deref.ensures.value c.in-Err-write_all.ensures.err)
+    (rw c.deref.ensures.value at c.in-Err-write_all.ensures.err)
 
 -- The grammar refuses the input.
 
@@ -95,6 +82,5 @@ returns-in-Err-Refused-clause-report g c reported =
     c.read_input.new.source c.args.sink.now c.args.sink.now) c.in-Ok-Some.command c.in-Ok.octets.items
     c.in-Err-Refused.field-0-0 refl
     (sym c.in-Ok-Some.ensures.asked ∙ c.in-Ok-Some.field-0-is)
-    (subst (λ (most : ℕ). IsRead most (g.S.Source.left c.args.source.now) (g.S.Source.left c.read_input.new.source) c.in-Ok.octets.items)
-    c.most_read.ensures c.in-Ok.ensures.read)
+    (rw c.most_read.ensures at c.in-Ok.ensures.read)
     (c.in-Err-Refused.ensures.refused c.in-Err-Refused.field-0-0 (ap (λ (e : NoReport). Err e) c.in-Err-Refused.field-0-is))

@@ -3,9 +3,9 @@ use Rattle.std.proofs.lemmas.Result.{err_from_is_err_and}
 use Rattle.std.specs.Io.KnownBytes.{Consumes}
 use Rattle.cgf_jobs.specs.declared.status.Status.TheVariants as status
 use Rattle.cgf_service.proofs.ConnectionLemmas.{came_is}
-use Rattle.cgf_service.proofs.PieceLemmas.{appends_two, ok_not_err}
+use Rattle.cgf_service.proofs.PieceLemmas.{ok_not_err}
 use Rattle.cgf_service.proofs.StreamLemmas.{begins, consumed_end, served_end, served_full, served_read, served_stop}
-use Rattle.cgf_service.proofs.InputLemmas.{appends_none, consumes_more, consumes_none}
+use Rattle.cgf_service.proofs.InputLemmas.{appends_none, appends_two, consumes_more, consumes_none}
 use Rattle.cgf_service.proofs.stream.serve.Goals as goal
 
 pub pieces-init : goal.pieces-init

@@ -6,18 +6,19 @@ use Rattle.gateway_answer.specs.Preparing.{prepared_of}
 use Rattle.gateway_answer.specs.Value.{BookValue}
 use Rattle.cgf_jobs.specs.FeedReport.{reply_line}
 use Rattle.cgf_jobs.specs.Gateway.{GatewayValue, after_datagram, answered}
-use Rattle.cgf_jobs.proofs.BookLemmas.{recorded_whole, taken_all_firm, taken_records, taken_answers, recorded_gateway}
+use Rattle.cgf_jobs.proofs.BookLemmas.{recorded_gateway, recorded_whole, taken_all_firm, taken_answers, taken_records}
 use Rattle.cgf_jobs.proofs.gateway.Gateway.take.Goals as goal
 
+-- a book that took a datagram isn't broken
 pub commit-requires : goal.commit-requires
 commit-requires c =
     let old = c.self.inside.book in
     let middle = c.take-outcome.new.self in
-    let asked = act_decided (decided (answer_to (value_of old).firm c.args.from (prepared_of c.prepare.result) (size_of old))) in
     ap (λ (v : BookValue). v.is_broken)
-    (taken_records old middle (fortune_of old middle) c.args.from (prepared_of c.prepare.result) c.args.now
-    c.self.invariant (c.take-outcome.ensures.taken (refl, refl)).value)
-    ∙ recorded_whole (value_of old).firm c.args.now asked
+    (taken_records old middle (fortune_of old middle) c.args.from (prepared_of c.prepare.result) c.args.now c.self.invariant
+    (c.take-outcome.ensures.taken (refl, refl)).value)
+    ∙ recorded_whole (value_of old).firm c.args.now
+    (act_decided (decided (answer_to (value_of old).firm c.args.from (prepared_of c.prepare.result) (size_of old))))
 
 pub invariant_of-self : goal.invariant_of-self
 invariant_of-self c =
