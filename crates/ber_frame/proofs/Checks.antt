@@ -19,7 +19,7 @@ Reader = ℕ → List ℕ → Result (Tag × List ℕ) BerFault
 abbrev pub read : Tag → List ℕ → Result (Tag × List ℕ) BerFault
 read tag rest = Ok (tag, rest)
 
-abbrev rest_is : List ℕ → Result (List ℕ) BerFault
+abbrev pub rest_is : List ℕ → Result (List ℕ) BerFault
 rest_is rest = Ok rest
 
 -- values are read where they stand in front

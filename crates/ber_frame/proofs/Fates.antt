@@ -65,21 +65,3 @@ last_none tag at (a ∷ window) e = absurd (omega (arith, e))
 pub last_some : (tag : Tag) (at : ℕ) (window : List ℕ) → 0 < length window → Err (fault_at at Trailing) ≡ last tag at window
 last_some tag at [] some = absurd (omega arith)
 last_some tag at (a ∷ window) some = refl
-
--- a primitive value takes no step
-pub primitive_walks : (octets : List ℕ) (tag : Tag) (size : Option ℕ) (rest : List ℕ) → head_at octets ≡ Ok (tag, size, rest) → tag.constructed ≡ false → size ≡ Some (length rest) → Walks octets (Ok tag)
-unfolding entered
-primitive_walks octets tag size rest head primitive whole =
-    ends_out octets tag p p (Ok tag) enters (λ outcome fate. fate) (omega arith) (last_none tag p.at p.window (omega (arith, length-drop (length rest) rest)))
-  where
-    p : Place
-    p = place (0 + (length octets - length rest) + length rest) (drop (length rest) rest) []
-
-    fits : nat_lt (length rest) (length rest) ≡ false
-    fits = false_from_ne_true (nat_lt (length rest) (length rest)) (λ e. omega (arith, ltb-true (length rest) (length rest) e))
-
-    enters : entered (place 0 octets []) ≡ Ok (tag, p)
-    enters =
-        ap (after_head (place 0 octets [])) head
-        ∙ (λ i. with_tag tag (at_contents 0 (0 + (length octets - length rest)) rest [] (primitive i) (whole i)))
-        ∙ ap (λ (b : Bool). with_tag tag (if b then Err (fault_at 0 Cut) else Ok p)) fits

@@ -10,7 +10,7 @@ use Rattle.ber_frame.specs.declared.fault.BerKind.TheVariants.{TooDeep}
 use Rattle.ber_frame.specs.Value.{are_over, BerValue}
 use Rattle.ber_frame.specs.Faults.{fault_at, HeadFails, AfterHead, BerFails}
 use Rattle.ber_frame.specs.Checked.{◌>>=◌, inner_values_at, contents_at, value_at, last, checked}
-use Rattle.ber_frame.specs.Walk.{Opened, Place, place, open_with, at_contents, with_tag, entered, closed, without_tag, step_from, run, Fate, Ends, Walks}
+use Rattle.ber_frame.specs.Walk.{Opened, Place, place, open_with, at_contents, with_tag, entered, closed, without_tag, step_from, after_step, follow, run, Fate, finish, Walks}
 use Rattle.ber_frame.proofs.Heads.{IsOctets, IsOctets-back, IsOctets-front, Headed, head_decide, head_fails, head_reads}
 use Rattle.ber_frame.proofs.Values.{end_left, head_long, nothing_left}
 use Rattle.ber_frame.proofs.Checks.{Reader, checked_right, checked_wrong, decided, deep_wrong, err, head_wrong, judge, ok, reads_after_head, tagged}
@@ -273,28 +273,57 @@ values_entered (suc levels) depth deep at octets opened small here = elim (head_
 
 -- ---- the whole walk
 
--- the walk answers what the reading does
+-- a walk comes to one end
+run_once : (m n : ℕ) (p : Place) (a b : Result Place BerFault) → run m p ≡ Some a → run n p ≡ Some b → a ≡ b
+unfolding run
+run_once zero n p a b x y = absurd cc
+run_once (suc m) zero p a b x y = absurd cc
+run_once (suc m) (suc n) p a b x y = by p.opened x y (λ q u v. run_once m n q a b u v)
+  where
+    after : (r : Result Place BerFault) → after_step (run m) r ≡ Some a → after_step (run n) r ≡ Some b
+        → ((q : Place) → run m q ≡ Some a → run n q ≡ Some b → a ≡ b) → a ≡ b
+    after (Ok q) x y again = again q x y
+    after (Err fault) x y again = cc
+
+    by : (opened : List Opened) → follow (run m) p opened ≡ Some a → follow (run n) p opened ≡ Some b
+        → ((q : Place) → run m q ≡ Some a → run n q ≡ Some b → a ≡ b) → a ≡ b
+    by [] x y again = cc
+    by (o ∷ outer) x y again = after (step_from p (o ∷ outer)) x y again
+
+-- the walk answers what the reading does, and nothing else
+walk_both : (octets : List ℕ) (r : Result (Tag × List ℕ) BerFault) → Enters [] 0 octets r →
+    (answer : Result Tag BerFault)
+    → (r >>= λ first. last first.0 (length octets - length first.1) first.1) ≡ answer
+    → Walks octets answer × ((result : Result Tag BerFault) → Walks octets result → result ≡ answer)
+walk_both octets (Ok x) enters answer is =
+    let past : Place = place (0 + (length octets - length x.1)) x.1 [] in
+    let there : 0 + (length octets - length x.1) ≡ length octets - length x.1 = omega arith in
+    let ended : finish x.0 (Ok past) ≡ answer = ap (λ (n : ℕ). last x.0 n x.1) there ∙ is in
+    let fate = enters.4 (Ok past) (fate_ends (0 + (length octets - length x.1)) x.1) in
+    rw enters.1 (
+      λ outcome other. sym ended ∙ ap (finish x.0) (run_once fate.steps other.steps enters.0 (Ok past) outcome
+          fate.comes other.comes),
+      λ result walks. walks (Ok past) fate ∙ ended,
+    )
+walk_both octets (Err fault) enters answer is = elim enters [
+  | inl e ↦ rw e (sym is, λ result walks. walks ∙ is)
+  | inr t ↦ rw t.2 (
+      λ outcome other. sym is ∙ ap (finish t.0) (run_once t.3.steps other.steps t.1 (Err fault) outcome t.3.comes
+          other.comes),
+      λ result walks. walks (Err fault) t.3 ∙ is,
+    )
+]
+
+pub walks_checked : (octets : List ℕ) → IsOctets octets → Walks octets (checked octets)
+unfolding checked
+walks_checked octets small = (walk_both octets (value_at 32 0 octets) (values_entered 32 0 refl 0 octets [] small refl)
+    _ refl).0
+
 pub walk_reads : (octets : List ℕ) (result : Result Tag BerFault) → IsOctets octets → Walks octets result → result
     ≡ checked octets
 unfolding checked
-walk_reads octets result small walks = by (value_at 32 0 octets) (values_entered 32 0 refl 0 octets [] small refl)
-  where
-    by : (r : Result (Tag × List ℕ) BerFault) → Enters [] 0 octets r → result
-        ≡ (r >>= λ first. last first.0 (length octets - length first.1) first.1)
-    by (Ok x) enters =
-        let ended : Ends (Ok (x.0, enters.0)) result = subst (λ (e : Result (Tag × Place) BerFault). Ends e result)
-            enters.1 walks in
-        let there : 0 + (length octets - length x.1) ≡ length octets - length x.1 = omega arith in
-        ended (Ok (place (0 + (length octets - length x.1)) x.1 []))
-            (enters.4 _ (fate_ends (0 + (length octets - length x.1)) x.1))
-        ∙ ap (λ (n : ℕ). last x.0 n x.1) there
-    by (Err fault) enters = elim enters [
-      | inl e ↦ subst (λ (x : Result (Tag × Place) BerFault). Ends x result) e walks
-      | inr t ↦
-          let ended : Ends (Ok (t.0, t.1)) result = subst (λ (x : Result (Tag × Place) BerFault). Ends x result) t.2
-              walks in
-          ended (Err fault) t.3
-    ]
+walk_reads octets result small walks =
+    (walk_both octets (value_at 32 0 octets) (values_entered 32 0 refl 0 octets [] small refl) _ refl).1 result walks
 
 pub answers : (octets : List ℕ) (result : Result Tag BerFault) → IsOctets octets → Walks octets result
     → ((tag : Tag) → (result ≡ ok tag) ↔ BerValue 32 octets tag)
