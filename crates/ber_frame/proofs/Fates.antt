@@ -1,13 +1,11 @@
 -- What the walk comes to is kept by each of its steps.
-use Rattle.std.proofs.Common.{◌≡◌, ℕ, zero, suc, ◌+◌, ◌-◌, ◌<◌, ◌≤◌, Bool, false, if◌then◌else◌, nat_lt, List, [], ◌∷◌, length, length-drop, drop, Option, Some, Result, Ok, Err, refl, sym, ap, subst, ◌∙◌, arith}
-use Rattle.std.proofs.lemmas.Bool.{false_from_ne_true, ltb-true}
+use Rattle.std.proofs.Common.{◌≡◌, ℕ, zero, suc, ◌<◌, ◌≤◌, List, [], ◌∷◌, length, Option, Some, Result, Ok, Err, refl, sym, ap, subst, ◌∙◌, arith}
 use Rattle.gw_base.specs.declared.tag.Tag.{Tag}
 use Rattle.ber_frame.specs.declared.fault.BerFault.{BerFault}
-use Rattle.ber_frame.specs.declared.fault.BerKind.TheVariants.{Cut, Trailing}
+use Rattle.ber_frame.specs.declared.fault.BerKind.TheVariants.{Trailing}
 use Rattle.ber_frame.specs.Faults.{fault_at}
 use Rattle.ber_frame.specs.Checked.{last}
-use Rattle.ber_frame.specs.Reading.{head_at}
-use Rattle.ber_frame.specs.Walk.{Opened, Place, place, after_head, at_contents, entered, step_from, after_step, follow, run, Fate, finish, Ends, Walks, with_tag}
+use Rattle.ber_frame.specs.Walk.{Opened, Place, place, entered, step_from, after_step, follow, run, Fate, finish, Ends, Walks}
 
 abbrev Comes : Type 0
 Comes = Option (Result Place BerFault)
