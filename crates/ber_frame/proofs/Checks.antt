@@ -1,20 +1,17 @@
 -- What is read from left to right is what the definitions say.
-use Rattle.std.proofs.Common.{◌≡◌, ◌↔◌, ℕ, zero, suc, ◌+◌, ◌-◌, ◌<◌, ◌≤◌, Bool, true, false, List, [], ◌∷◌, ◌++◌, length, take, Option, Some, None, Result, Ok, Err, is_ok, refl, sym, ap, subst, ◌∙◌, append_assoc, arith, inl, inr}
+use Rattle.std.proofs.Common.{◌≡◌, ◌≢◌, ◌↔◌, ℕ, zero, suc, ◌+◌, ◌-◌, ◌<◌, ◌≤◌, ◌⊎◌, Bool, true, false, List, [], ◌∷◌, ◌++◌, length, take, Option, Some, None, Result, Ok, Err, is_ok, refl, sym, ap, subst, ◌∙◌, append_assoc, arith, inl, inr}
 use Rattle.std.specs.List.{concat, AllByRecursion}
 use Rattle.std.proofs.lemmas.Bool.{lt-ltb, le-ltb}
 use Rattle.std.proofs.lemmas.List.{append-nil, take_at, drop_at, length-append, length-take-le}
 use Rattle.gw_base.specs.declared.tag.Tag.{Tag}
 use Rattle.ber_frame.specs.declared.fault.BerFault.{BerFault}
 use Rattle.ber_frame.specs.declared.fault.BerKind.{BerKind}
-use Rattle.ber_frame.specs.declared.fault.BerKind.TheVariants.{TooDeep}
+use Rattle.ber_frame.specs.declared.fault.BerKind.TheVariants.{Trailing, TooDeep}
 use Rattle.ber_frame.specs.Value.{are_over, IsInner, IsContents, HasParts, BerValue, IsOneValue}
-use Rattle.ber_frame.specs.Faults.{fault_at, HeadFails, AfterHead, InnerFails, ContentsFail, ValueFails, BerFails}
+use Rattle.ber_frame.specs.Faults.{fault_at, HeadFails, IsAllowed, AfterHead, InnerFails, ContentsFail, ValueFails, BerFails}
 use Rattle.ber_frame.specs.Checked.{◌>>=◌, inner_values_at, contents_at, value_at, last, checked, is_one_value}
-use Rattle.ber_frame.specs.Walk.{Walks}
 use Rattle.ber_frame.proofs.Heads.{IsOctets, head_reads, head_fails}
-use Rattle.ber_frame.proofs.Values.{value_long, over_in_front}
-use Rattle.ber_frame.proofs.Walks.{is_allowed}
-use Rattle.ber_frame.proofs.Stops.{ok, err, followed, accepted, refused, Judged, right, wrong, judge}
+use Rattle.ber_frame.proofs.Values.{Fronted, value_decide, value_long, over_in_front}
 
 abbrev pub Reader : Type 0
 Reader = ℕ → List ℕ → Result (Tag × List ℕ) BerFault
@@ -22,7 +19,7 @@ Reader = ℕ → List ℕ → Result (Tag × List ℕ) BerFault
 abbrev pub read : Tag → List ℕ → Result (Tag × List ℕ) BerFault
 read tag rest = Ok (tag, rest)
 
-abbrev rest_is : List ℕ → Result (List ℕ) BerFault
+abbrev pub rest_is : List ℕ → Result (List ℕ) BerFault
 rest_is rest = Ok rest
 
 -- values are read where they stand in front
@@ -145,7 +142,13 @@ contents_fail IsValue Fails value reads long tells start at true (Some size) oct
 
 -- ---- values
 
-abbrev tagged : Tag → Result (List ℕ) BerFault → Result (Tag × List ℕ) BerFault
+pub is_allowed : (IsValue : List ℕ → Type 0) (constructed : Bool) (size : Option ℕ) (contents : List ℕ) →
+    IsContents IsValue constructed size contents → IsAllowed constructed size
+is_allowed IsValue false None contents h = absurd h
+is_allowed IsValue true None contents h = refl
+is_allowed IsValue constructed (Some size) contents h = tt
+
+abbrev pub tagged : Tag → Result (List ℕ) BerFault → Result (Tag × List ℕ) BerFault
 tagged tag (Ok rest) = Ok (tag, rest)
 tagged tag (Err fault) = Err fault
 
@@ -153,7 +156,8 @@ all_cases : (tag : Tag) (outcome : Result (List ℕ) BerFault) → (outcome >>= 
 all_cases tag (Ok rest) = refl
 all_cases tag (Err fault) = refl
 
-reads_after_head : (levels at : ℕ) (octets : List ℕ) (tag : Tag) (size : Option ℕ) (head rest : List ℕ) → AfterHead octets tag size head rest
+pub reads_after_head : (levels at : ℕ) (octets : List ℕ) (tag : Tag) (size : Option ℕ) (head rest : List ℕ) →
+    AfterHead octets tag size head rest
     → (outcome : Result (List ℕ) BerFault) → contents_at (value_at levels) at (at + length head) tag.constructed size rest ≡ outcome
     → value_at (suc levels) at octets ≡ tagged tag outcome
 unfolding value_at
@@ -174,12 +178,14 @@ unfolding BerValue
 value_reads zero v is at more = absurd is.1
 value_reads (suc levels) v is at more = (is.0, holds_read levels (value_reads levels) at v more is.0 is.1)
 
-head_wrong : (levels at : ℕ) (octets : List ℕ) (kind : BerKind) → HeadFails octets kind → value_at levels at octets ≡ Err (fault_at at kind)
+pub head_wrong : (levels at : ℕ) (octets : List ℕ) (kind : BerKind) → HeadFails octets kind → value_at levels at octets
+    ≡ Err (fault_at at kind)
 unfolding value_at
 head_wrong zero at octets kind h = rw (head_fails octets kind h) refl
 head_wrong (suc levels) at octets kind h = rw (head_fails octets kind h) refl
 
-deep_wrong : (at : ℕ) (octets : List ℕ) (tag : Tag) (size : Option ℕ) (head rest : List ℕ) → AfterHead octets tag size head rest → value_at zero at octets ≡ Err (fault_at at TooDeep)
+pub deep_wrong : (at : ℕ) (octets : List ℕ) (tag : Tag) (size : Option ℕ) (head rest : List ℕ) →
+    AfterHead octets tag size head rest → value_at zero at octets ≡ Err (fault_at at TooDeep)
 unfolding value_at
 deep_wrong at octets tag size head rest h = rw (head_reads octets tag size head rest h) refl
 
@@ -192,6 +198,16 @@ value_fails (suc levels) at octets fault (inr h) =
     reads_after_head levels at octets h.0 h.1 h.2 h.3 h.4 (Err fault)
     (contents_fail (IsOneValue levels) (ValueFails levels) (value_at levels) (value_reads levels) (λ v it. value_long levels v it.0 it.1) (value_fails levels)
     at (at + length h.2) h.0.constructed h.1 h.3 fault h.5)
+
+abbrev pub ok : Tag → Result Tag BerFault
+ok tag = Ok tag
+
+abbrev pub err : BerFault → Result Tag BerFault
+err fault = Err fault
+
+pub followed : (tag : Tag) (at : ℕ) (rest : List ℕ) → rest ≢ [] → last tag at rest ≡ err (fault_at at Trailing)
+followed tag at [] some = absurd (some refl)
+followed tag at (a ∷ rest) some = refl
 
 -- ---- the whole octets
 
@@ -211,36 +227,54 @@ checked_wrong octets fault (inl h) = rw (value_fails 32 0 octets fault h) refl
 checked_wrong octets fault (inr h) =
     ap checked h.2 ∙ front_checked h.0 h.1 h.3.0 h.3.1 ∙ followed h.3.0 (length h.0) h.1 h.4 ∙ ap err (sym h.5)
 
-ok_checked : (octets : List ℕ) (tag : Tag) → Judged octets → checked octets ≡ ok tag → BerValue 32 octets tag
-ok_checked octets tag (right other is) e =
-    let same : other ≡ tag = cc (checked_right octets other is, e) in
-    subst (λ (t : Tag). BerValue 32 octets t) same is
-ok_checked octets tag (wrong fault is) e = absurd (cc (checked_wrong octets fault is, e))
+-- every octets are a value or have a first fault
+abbrev Judged : List ℕ → Type 0
+Judged octets = ((tag : Tag) × BerValue 32 octets tag) ⊎ ((fault : BerFault) × BerFails octets fault)
 
-err_checked : (octets : List ℕ) (fault : BerFault) → Judged octets → checked octets ≡ err fault → BerFails octets fault
-err_checked octets fault (right tag is) e = absurd (cc (checked_right octets tag is, e))
-err_checked octets fault (wrong other is) e =
-    let same : other ≡ fault = cc (checked_wrong octets other is, e) in
-    subst (λ (f : BerFault). BerFails octets f) same is
+judge_rest : (octets rest : List ℕ) (f : Fronted (IsOneValue 32) octets) → f.rest ≡ rest → Judged octets
+judge_rest octets [] f e =
+    inl (f.is_value.0, subst (λ (w : List ℕ). BerValue 32 w f.is_value.0)
+    (sym (f.joined ∙ ap (λ (r : List ℕ). f.value ++ r) e ∙ append-nil f.value)) f.is_value.1)
+judge_rest octets (a ∷ rest) f e =
+    let some : f.rest ≢ [] = λ none. absurd (cc (e, none)) in
+    inr (fault_at (length f.value) Trailing, inr (f.value, f.rest, f.joined, f.is_value, some, refl))
+
+pub judge : (octets : List ℕ) → IsOctets octets → Judged octets
+judge octets small =
+    elim (value_decide 32 0 octets small) [
+      | inl f ↦ judge_rest octets f.rest f refl
+      | inr u ↦ inr (u.fault, inl u.fails)
+    ]
+
+-- what is answered where octets are right, and where they fail, is answered there alone,
+-- since they do the one or the other
+pub decided : {P : Tag → Type 0} {Q : BerFault → Type 0} (result : Result Tag BerFault) →
+    ((tag : Tag) × P tag) ⊎ ((fault : BerFault) × Q fault)
+    → ((tag : Tag) → P tag → result ≡ ok tag) → ((fault : BerFault) → Q fault → result ≡ err fault)
+    → ((tag : Tag) → (result ≡ ok tag) ↔ P tag) × ((fault : BerFault) → (result ≡ err fault) ↔ Q fault)
+decided {P} {Q} result (inl is) right wrong = (
+  λ tag. (λ e. let same : is.0 ≡ tag = cc (right is.0 is.1, e) in subst P same is.1, right tag),
+  λ fault. (λ e. absurd (cc (right is.0 is.1, e)), wrong fault),
+)
+decided {P} {Q} result (inr bad) right wrong = (
+  λ tag. (λ e. absurd (cc (wrong bad.0 bad.1, e)), right tag),
+  λ fault. (λ e. let same : bad.0 ≡ fault = cc (wrong bad.0 bad.1, e) in subst Q same bad.1, wrong fault),
+)
 
 pub checked_is : (octets : List ℕ) → IsOctets octets → (tag : Tag) → (checked octets ≡ ok tag) ↔ BerValue 32 octets tag
-checked_is octets small tag = (ok_checked octets tag (judge octets small), checked_right octets tag)
+checked_is octets small = (decided (checked octets) (judge octets small) (checked_right octets)
+    (checked_wrong octets)).0
 
 pub checked_fails : (octets : List ℕ) → IsOctets octets → (fault : BerFault) → (checked octets ≡ err fault) ↔ BerFails octets fault
-checked_fails octets small fault = (err_checked octets fault (judge octets small), checked_wrong octets fault)
-
-there_is : (octets : List ℕ) → Judged octets → is_one_value octets ≡ true → IsOneValue 32 octets
-there_is octets (right tag is) e = (tag, is)
-there_is octets (wrong fault is) e = absurd (let never : is_ok (err fault) ≡ true = ap (λ (r : Result Tag BerFault). is_ok r) (sym (checked_wrong octets fault is)) ∙ e in cc)
+checked_fails octets small = (decided (checked octets) (judge octets small) (checked_right octets)
+    (checked_wrong octets)).1
 
 pub one_value : (octets : List ℕ) → IsOctets octets → (is_one_value octets ≡ true) ↔ IsOneValue 32 octets
 one_value octets small =
-    (there_is octets (judge octets small), λ is. ap (λ (r : Result Tag BerFault). is_ok r) (checked_right octets is.0 is.1))
-
--- the walk answers what the reading does
-walked : (octets : List ℕ) (result : Result Tag BerFault) → Judged octets → Walks octets result → result ≡ checked octets
-walked octets result (right tag is) walks = accepted octets tag result walks is ∙ sym (checked_right octets tag is)
-walked octets result (wrong fault is) walks = refused octets fault result walks is ∙ sym (checked_wrong octets fault is)
-
-pub walk_reads : (octets : List ℕ) (result : Result Tag BerFault) → IsOctets octets → Walks octets result → result ≡ checked octets
-walk_reads octets result small walks = walked octets result (judge octets small) walks
+    (λ e. there (judge octets small) e, λ is. ap (λ (r : Result Tag BerFault). is_ok r)
+        (checked_right octets is.0 is.1))
+  where
+    there : Judged octets → is_one_value octets ≡ true → IsOneValue 32 octets
+    there (inl is) e = is
+    there (inr bad) e = absurd (let never : is_ok (err bad.0)
+        ≡ true = ap (λ (r : Result Tag BerFault). is_ok r) (sym (checked_wrong octets bad.0 bad.1)) ∙ e in cc)

@@ -1,13 +1,11 @@
 -- What the walk comes to is kept by each of its steps.
-use Rattle.std.proofs.Common.{◌≡◌, ℕ, zero, suc, ◌+◌, ◌-◌, ◌<◌, ◌≤◌, Bool, false, if◌then◌else◌, nat_lt, List, [], ◌∷◌, length, length-drop, drop, Option, Some, Result, Ok, Err, refl, sym, ap, subst, ◌∙◌, arith}
-use Rattle.std.proofs.lemmas.Bool.{false_from_ne_true, ltb-true}
+use Rattle.std.proofs.Common.{◌≡◌, ℕ, zero, suc, ◌<◌, ◌≤◌, List, [], ◌∷◌, length, Option, Some, Result, Ok, Err, refl, sym, ap, subst, ◌∙◌, arith}
 use Rattle.gw_base.specs.declared.tag.Tag.{Tag}
 use Rattle.ber_frame.specs.declared.fault.BerFault.{BerFault}
-use Rattle.ber_frame.specs.declared.fault.BerKind.TheVariants.{Cut, Trailing}
+use Rattle.ber_frame.specs.declared.fault.BerKind.TheVariants.{Trailing}
 use Rattle.ber_frame.specs.Faults.{fault_at}
 use Rattle.ber_frame.specs.Checked.{last}
-use Rattle.ber_frame.specs.Reading.{head_at}
-use Rattle.ber_frame.specs.Walk.{Opened, Place, place, after_head, at_contents, entered, step_from, after_step, follow, run, Fate, finish, Ends, Walks, with_tag}
+use Rattle.ber_frame.specs.Walk.{Opened, Place, place, entered, step_from, after_step, follow, run, Fate, finish, Ends, Walks}
 
 abbrev Comes : Type 0
 Comes = Option (Result Place BerFault)
@@ -65,21 +63,3 @@ last_none tag at (a ∷ window) e = absurd (omega (arith, e))
 pub last_some : (tag : Tag) (at : ℕ) (window : List ℕ) → 0 < length window → Err (fault_at at Trailing) ≡ last tag at window
 last_some tag at [] some = absurd (omega arith)
 last_some tag at (a ∷ window) some = refl
-
--- a primitive value takes no step
-pub primitive_walks : (octets : List ℕ) (tag : Tag) (size : Option ℕ) (rest : List ℕ) → head_at octets ≡ Ok (tag, size, rest) → tag.constructed ≡ false → size ≡ Some (length rest) → Walks octets (Ok tag)
-unfolding entered
-primitive_walks octets tag size rest head primitive whole =
-    ends_out octets tag p p (Ok tag) enters (λ outcome fate. fate) (omega arith) (last_none tag p.at p.window (omega (arith, length-drop (length rest) rest)))
-  where
-    p : Place
-    p = place (0 + (length octets - length rest) + length rest) (drop (length rest) rest) []
-
-    fits : nat_lt (length rest) (length rest) ≡ false
-    fits = false_from_ne_true (nat_lt (length rest) (length rest)) (λ e. omega (arith, ltb-true (length rest) (length rest) e))
-
-    enters : entered (place 0 octets []) ≡ Ok (tag, p)
-    enters =
-        ap (after_head (place 0 octets [])) head
-        ∙ (λ i. with_tag tag (at_contents 0 (0 + (length octets - length rest)) rest [] (primitive i) (whole i)))
-        ∙ ap (λ (b : Bool). with_tag tag (if b then Err (fault_at 0 Cut) else Ok p)) fits

@@ -1,5 +1,5 @@
 -- Octets that are one identifier, the first fault of those that aren't, and the identifier in front of a value.
-use Rattle.std.proofs.Common.{◌≡◌, ◌≢◌, ◌↔◌, ℕ, ◌+◌, ◌-◌, zero, suc, List, [], ◌∷◌, ◌++◌, length, Option, Some, option_map, Result, Ok, refl, sym, ap, subst, ◌∙◌, append_assoc, arith, inl, inr}
+use Rattle.std.proofs.Common.{◌≡◌, ◌≢◌, ◌↔◌, ◌⊎◌, ℕ, ◌+◌, ◌-◌, zero, suc, List, [], ◌∷◌, ◌++◌, length, Option, Some, option_map, Result, Ok, refl, sym, ap, subst, ◌∙◌, append_assoc, arith, inl, inr}
 use Rattle.std.specs.Result.{result_ok}
 use Rattle.std.proofs.lemmas.List.{append-nil, length-append}
 use Rattle.gw_base.specs.declared.tag.Tag.{Tag}
@@ -11,7 +11,7 @@ use Rattle.ber_frame.specs.Faults.{fault_at, AfterIdentifier, IdentifierRefused}
 use Rattle.ber_frame.specs.Reading.{front_tag, identifier_at, whole_tag, whole_identifier}
 use Rattle.ber_frame.specs.Value.{BerValue}
 use Rattle.ber_frame.proofs.Heads.{identifier_reads, identifier_fails, identifier_decide}
-use Rattle.ber_frame.proofs.Stops.{ok, err}
+use Rattle.ber_frame.proofs.Checks.{decided, err, ok}
 
 trailing : (tag : Tag) (count at : ℕ) (rest : List ℕ) → rest ≢ [] → count ≡ at + length rest → whole_tag count (Ok (tag, rest)) ≡ err (fault_at at Trailing)
 trailing tag count at [] some e = absurd (some refl)
@@ -28,40 +28,25 @@ wrong_reads octets fault (inr h) =
     let read : identifier_at octets ≡ Ok (h.3.0, h.1) = identifier_reads octets h.3.0 h.1 (record { identifier = h.0; joined = h.2; is_identifier = h.3.1 }) in
     ap (whole_tag (length octets)) read ∙ trailing h.3.0 (length octets) (length h.0) h.1 h.4 (omega (arith, ap length h.2, length-append h.0 h.1)) ∙ ap err (sym h.5)
 
-data Judged (octets : List ℕ) : Type 0 where
-  right : (tag : Tag) → IsIdentifier octets tag → Judged octets
-  wrong : (fault : BerFault) → IdentifierRefused octets fault → Judged octets
+judge : (octets : List ℕ) → ((tag : Tag) × IsIdentifier octets tag) ⊎
+    ((fault : BerFault) × IdentifierRefused octets fault)
+judge octets = elim (identifier_decide octets) [ inl i ↦ by i.rest i.after | inr u ↦
+    inr (fault_at 0 u.kind, inl (u.kind, u.fails, refl)) ]
+  where
+    by : {tag : Tag} (rest : List ℕ) → AfterIdentifier octets tag rest →
+        ((tag : Tag) × IsIdentifier octets tag) ⊎ ((fault : BerFault) × IdentifierRefused octets fault)
+    by {tag} [] h = inl (tag, subst (λ (w : List ℕ). IsIdentifier w tag) (sym (h.joined ∙ append-nil h.identifier))
+        h.is_identifier)
+    by {tag} (a ∷ rest) h =
+        let some : a ∷ rest ≢ [] = λ none. absurd (cc (none)) in
+        inr (fault_at (length h.identifier) Trailing, inr (h.identifier, a ∷ rest, h.joined, (tag, h.is_identifier),
+            some, refl))
 
-judge_rest : (octets : List ℕ) (tag : Tag) (rest : List ℕ) → AfterIdentifier octets tag rest → Judged octets
-judge_rest octets tag [] h = right tag (subst (λ (w : List ℕ). IsIdentifier w tag) (sym (h.joined ∙ append-nil h.identifier)) h.is_identifier)
-judge_rest octets tag (a ∷ rest) h =
-    let some : a ∷ rest ≢ [] = λ none. absurd (cc (none)) in
-    wrong (fault_at (length h.identifier) Trailing) (inr (h.identifier, a ∷ rest, h.joined, (tag, h.is_identifier), some, refl))
-
-judge : (octets : List ℕ) → Judged octets
-judge octets =
-    elim (identifier_decide octets) [
-      | inl i ↦ judge_rest octets i.tag i.rest i.after
-      | inr u ↦ wrong (fault_at 0 u.kind) (inl (u.kind, u.fails, refl))
-    ]
-
-ok_only : (octets : List ℕ) (tag : Tag) → Judged octets → whole_identifier octets ≡ ok tag → IsIdentifier octets tag
-ok_only octets tag (right other is) e =
-    let same : other ≡ tag = cc (right_reads octets other is, e) in
-    subst (λ (t : Tag). IsIdentifier octets t) same is
-ok_only octets tag (wrong fault is) e = absurd (cc (wrong_reads octets fault is, e))
-
-err_only : (octets : List ℕ) (fault : BerFault) → Judged octets → whole_identifier octets ≡ err fault → IdentifierRefused octets fault
-err_only octets fault (right tag is) e = absurd (cc (right_reads octets tag is, e))
-err_only octets fault (wrong other is) e =
-    let same : other ≡ fault = cc (wrong_reads octets other is, e) in
-    subst (λ (f : BerFault). IdentifierRefused octets f) same is
-
-pub identifier_accepts : (octets : List ℕ) (result : Result Tag BerFault) → result ≡ whole_identifier octets → (tag : Tag) → (result ≡ ok tag) ↔ IsIdentifier octets tag
-identifier_accepts octets result e tag = (λ r. ok_only octets tag (judge octets) (sym e ∙ r), λ is. e ∙ right_reads octets tag is)
-
-pub identifier_refuses : (octets : List ℕ) (result : Result Tag BerFault) → result ≡ whole_identifier octets → (fault : BerFault) → (result ≡ err fault) ↔ IdentifierRefused octets fault
-identifier_refuses octets result e fault = (λ r. err_only octets fault (judge octets) (sym e ∙ r), λ is. e ∙ wrong_reads octets fault is)
+pub identifier_answers : (octets : List ℕ) (result : Result Tag BerFault) → result ≡ whole_identifier octets
+    → ((tag : Tag) → (result ≡ ok tag) ↔ IsIdentifier octets tag)
+        × ((fault : BerFault) → (result ≡ err fault) ↔ IdentifierRefused octets fault)
+identifier_answers octets result e = decided result (judge octets) (λ tag is. e ∙ right_reads octets tag is)
+    (λ fault is. e ∙ wrong_reads octets fault is)
 
 -- ---- in front of a value
 

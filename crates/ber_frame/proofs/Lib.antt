@@ -1,7 +1,6 @@
 pub mod Heads
 pub mod Values
 pub mod Walks
-pub mod Stops
 pub mod Fates
 pub mod Flats
 pub mod Identifiers

@@ -7,10 +7,13 @@ use Rattle.ber_frame.specs.Faults.{fault_at}
 use Rattle.ber_frame.specs.Walk.{entered, place}
 use Rattle.ber_frame.proofs.Fates.{fate_on, ends_off, ends_out, last_none, last_some}
 use Rattle.ber_frame.proofs.Flats.{flat_walks}
+use Rattle.ber_frame.proofs.Octets.{are_octets}
 use Rattle.ber_frame.proofs.frame.walk_through.Goals as goal
 
 pub returns-in-Some : goal.returns-in-Some
-returns-in-Some c = flat_walks c.args.octets.now c.in-Some.tag (sym c.in-Some.ensures)
+returns-in-Some c =
+    flat_walks c.args.octets.now c.in-Some.tag (are_octets c.args.octets.now (λ i. omega (arith, c.type_inv.octets i)))
+        (sym c.in-Some.ensures)
 
 pub loop-walk-preserved : goal.loop-walk-preserved
 loop-walk-preserved c = λ outcome fate.
