@@ -209,9 +209,11 @@ module _ {A F : Type 0} (tells : areas.Ghosts A) (files : shelves.Ghosts F) (of 
           → length (stream_files (settings_in writer'') s (items_of whole)) ≤ closed_of (settings_in writer'') s
           (items_of whole)
       counted s lt =
-          omega
-          (arith, length-files_from (settings_in writer'').file s 1
-          (stream_division (settings_in writer'') s (items_of whole)).closed)
+          omega (
+            arith,
+            length-files_from (settings_in writer'').file s 1
+                (stream_division (settings_in writer'') s (items_of whole)).closed,
+          )
 
   pub has_served : HasServed tells files of setup area (area_of book'') shelf (shelf_of writer'') links links' whole
   has_served = record { closed = closed; sealed = sealed }

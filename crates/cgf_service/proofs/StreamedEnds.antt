@@ -437,9 +437,9 @@ module _ {A F : Type 0} (tells : areas.Ghosts A) (files : shelves.Ghosts F) (of 
     ends_badly (status.Input place kind) served causes = record {
       told = λ is told. (
         of_them served.text served.sent served.consumed (served.refused place kind refl).0
-        (status.Input place kind) told,
+            (status.Input place kind) told,
         all_answered served.text served.sent served.consumed (served.refused place kind refl).0
-        (status.Input place kind) told
+            (status.Input place kind) told
             (served.refused place kind refl).1 (served.whole (λ e. cc e)) (served.refused place kind refl).3
             (sym (served.refused place kind refl).2),
         kept served.text served.sent served.consumed (served.refused place kind refl).0 (status.Input place kind) told,

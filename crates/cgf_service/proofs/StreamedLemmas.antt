@@ -306,9 +306,11 @@ module _ {A F : Type 0} (tells : areas.Ghosts A) (files : shelves.Ghosts F) (of 
         counted : (s : ℕ) → s < stream_count
             → length (stream_files (settings_in e.after) s (items_of whole)) ≤ closed_of (settings_in e.after) s (items_of whole)
         counted s lt =
-            omega
-            (arith, length-files_from (settings_in e.after).file s 1
-            (stream_division (settings_in e.after) s (items_of whole)).closed)
+            omega (
+              arith,
+              length-files_from (settings_in e.after).file s 1
+                  (stream_division (settings_in e.after) s (items_of whole)).closed,
+            )
 
     pub settled_behind : (ended : Status)
         → HasSettledBehind tells files of job area area' shelf shelf' clock clock' ended (answered ended) whole
