@@ -1,5 +1,5 @@
 -- What an answer may add.
-use Rattle.std.proofs.Common.{◌≡◌, ℕ, ◌+◌, ◌≤◌, Bool, true, false, List, Option, Some, None, refl, sym, ap, subst, ◌∙◌, true≢false, arith}
+use Rattle.std.proofs.Common.{◌≡◌, ℕ, ◌+◌, ◌≤◌, Bool, true, false, List, Option, Some, None, sym, ap, ◌∙◌, true≢false, arith, rules}
 use Rattle.std.specs.Prelude.{IfSome}
 use Rattle.area_disk.specs.declared.area.Area.{Ghosts}
 use Rattle.gate_journal.specs.Format.{longest_batch}
@@ -26,14 +26,12 @@ use Rattle.gateway_index.specs.declared.index.Index.{Index}
 
 -- what holds of what an answer records holds of the act that is decided
 recorded_holds : (P : HistoryAct → Type 0) (given : Given) (a : HistoryAct) → IfRecords (λ number message b. P b) given → act_given given ≡ Some a → P a
-recorded_holds P (Replies number message (Some b)) a is e = let same : b ≡ a = cc e in subst P same is
-recorded_holds P _ a is e = absurd (cc e)
+recorded_holds P given a is e = search rules
 
 module _ {A : Type 0} {tells : Ghosts A} (trail : Trail A tells) (index : Index) (moment : ℕ) (who : Caller) where
   may_add_if : (o : Option HistoryAct) → ((a : HistoryAct) → o ≡ Some a → MayCome a index × IsBrief a) → waiting_octets trail + most_for_one ≤ longest_batch
       → MayAdd o trail index moment who
-  may_add_if None facts free = tt
-  may_add_if (Some a) facts free = let f = facts a refl in (f.0, omega (arith, f.1, free))
+  may_add_if o facts free = search rules
 
   -- what an answer records where there is room for any act may be added
   pub may_add : (from : Addr) (datagram : PreparedValue) (decision : Decided)
@@ -68,8 +66,7 @@ answer_alike o from datagram room other alike = ap decided (room_asked o from da
 pub answer_is_without : (o : Observed) (from : Addr) (datagram : PreparedValue) (room : HistoryAct → Bool) (a : HistoryAct)
     → act_given (answer_within o from datagram (λ b. true)) ≡ Some a → room a ≡ false
     → decided (answer_within o from datagram room) ≡ decided (answer_within o from datagram (λ b. false))
-answer_is_without o from datagram room a recorded none = answer_alike o from datagram room (λ b. false)
-    (λ b e. let there : a ≡ b = cc (recorded, e) in rw (← there) none)
+answer_is_without o from datagram room a recorded none = grind (arith, answer_alike)
 
 if_some : (P : HistoryAct → Type 0) (o : Option HistoryAct) (a : HistoryAct) → IfSome o P → o ≡ Some a → P a
 if_some P o a is e = rw e at is
@@ -91,13 +88,11 @@ module _ {A : Type 0} {tells : Ghosts A} (old new : Trail A tells) (before after
 
   pub silent_with : (why : Why) → (decided_by (λ b. true) ≡ Silent why) × IsSame old new before after
       → (decided_by (room_in old moment who) ≡ Silent why) × IsSame old new before after
-  silent_with why p =
-      (answer_alike (observed_by false before (node_of from)) from datagram (room_in old moment who) (λ b. true) (λ a e. absurd (cc (sym e ∙ ap act_decided p.0))) ∙ p.0, p.1)
+  silent_with why p = grind (arith, answer_alike)
 
   pub said_with : (reply : List ℕ) → (o : Option HistoryAct) × (decided_by (λ b. true) ≡ Says reply o) × IfSome o (λ a. room_in old moment who a ≡ true) × AddsIf old new before after moment who o
       → (o : Option HistoryAct) × (decided_by (room_in old moment who) ≡ Says reply o) × AddsIf old new before after moment who o
-  said_with reply p =
-      (p.0, answer_alike (observed_by false before (node_of from)) from datagram (room_in old moment who) (λ b. true) (λ a e. if_some (λ b. room_in old moment who b ≡ true) p.0 a p.2 (sym (ap act_decided p.1) ∙ e)) ∙ p.1, p.3)
+  said_with reply p = grind (arith, answer_alike, if_some)
 
   -- there isn't room for what is recorded
   abbrev HasNoRoom : Type 0

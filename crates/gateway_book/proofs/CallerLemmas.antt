@@ -1,6 +1,5 @@
 -- What a book's calls tell their caller.
-use Rattle.std.proofs.Common.{◌≡◌, ⊎_elim, inr, ℕ, Bool, true, false, List, [], ◌∷◌, Option, refl, sym, ap, ◌∙◌, arith}
-use Rattle.std.proofs.lemmas.Bool.{false≢true}
+use Rattle.std.proofs.Common.{◌≡◌, ⊎_elim, inr, ℕ, Bool, true, false, List, [], ◌∷◌, Option, refl, ap, ◌∙◌, arith, rules}
 use Rattle.entry_codec.specs.Room.{IsWithin}
 use Rattle.gtpp_message.specs.Message.{Cancel, MessageValue, Release, TransferValue, TransferResponse}
 use Rattle.gtpp_message.specs.Writing.{written}
@@ -11,7 +10,7 @@ use Rattle.gw_base.specs.declared.address.Addr.{Addr}
 use Rattle.gw_base.specs.declared.cause.TheConstants.{NO_RESOURCES, SYSTEM_FAILURE}
 use Rattle.gw_base.specs.declared.history.HistoryAct.{HistoryAct}
 use Rattle.gw_base.specs.declared.history.HistoryEntry.{HistoryEntry}
-use Rattle.gateway_answer.specs.Answer.{Decided, Drops, Given, Replies, Says, Silent, answer_within, decided, may_record, node_of}
+use Rattle.gateway_answer.specs.Answer.{Decided, Given, Replies, Says, Silent, answer_within, decided, may_record, node_of}
 use Rattle.gateway_answer.specs.Answered.{answer_to, room_for}
 use Rattle.gateway_book.specs.Caller.{AnswersBy, HasStorage, IsAnswered, IsServed, TellsFault}
 use Rattle.gateway_book.specs.Calls.{outcome_at}
@@ -43,8 +42,7 @@ abbrev IsBy : ℕ → MessageValue → Type 0
 IsBy cause message = (responded : List ℕ) × (message ≡ TransferResponse cause responded)
 
 by_octets : (number n cause : ℕ) (message : MessageValue) → written n message ≡ written number (TransferResponse cause (number ∷ [])) → IsBy cause message
-by_octets number n cause (TransferResponse other responded) same = (responded, ap (λ (c : ℕ). TransferResponse c responded) (ap cause_in same))
-by_octets number n cause _ same = absurd (omega (arith, ap type_in same))
+by_octets number n cause message same = search rules
 
 tells_by : (n : ℕ) (message : MessageValue) (act : Option HistoryAct) → IsBy SYSTEM_FAILURE message → tells_a_fault (Replies n message act) ≡ true
 tells_by n message act is = rw is.1 refl
@@ -60,14 +58,11 @@ octets_of (Says octets act) = octets
 
 module _ (from : Addr) (octets : List ℕ) where
   never_dropped : (given : Given) → tells_a_fault given ≡ false → ¬ (decided given ≡ Silent Device)
-  never_dropped (Drops why) sound same = let is : why ≡ Device = cc same in false≢true (sym sound ∙ rw is refl)
-  never_dropped (Replies n message act) sound same = cc same
+  never_dropped given is = grind arith
 
   never_failed : (given : Given) → tells_a_fault given ≡ false → (number : ℕ) (reply : List ℕ) (act : Option HistoryAct) → decided given ≡ Says reply act
       → ¬ (reply ≡ written number (TransferResponse SYSTEM_FAILURE (number ∷ [])))
-  never_failed (Drops why) sound number reply act same is = cc same
-  never_failed (Replies n message other) sound number reply act same is =
-      false≢true (sym sound ∙ tells_by n message other (by_octets number n SYSTEM_FAILURE message (ap octets_of same ∙ is)))
+  never_failed given one number reply act two = grind (arith, tells_by, by_octets)
 
   -- what the definition decides tells no fault
   pub running_is_sound : (result : Outcome) → IsAnswered from (prepared_of octets) result → ¬ (TellsFault result)
@@ -86,18 +81,12 @@ pub done_by : (from : Addr) (datagram : PreparedValue) (o : Observed) (room : Hi
     → ((why : Why) → finished ≡ done.Silent why → decided (answer_within o from datagram room) ≡ Silent why)
     → ((reply : List ℕ) → finished ≡ done.Said reply → (a : Option HistoryAct) × (decided (answer_within o from datagram room) ≡ Says reply a))
     → IsDoneBy from datagram finished
-done_by from datagram o room (done.Silent why) silent said = (o, room, silent why refl)
-done_by from datagram o room (done.Said reply) silent said = ((said reply refl).0, (o, room, (said reply refl).1))
+done_by from datagram o room finished silent said = search rules
 
 -- ---- what is stored leaves room
 
 never_refused : (given : Given) → is_without_resources given ≡ false → (after : BookValue) (result : Outcome) → result ≡ outcome_at after (decided given) → (number : ℕ) → ¬ (AnswersBy number NO_RESOURCES result)
-never_refused (Drops why) has after result is number by =
-    let dropped : Answer by.0 ≡ Drop why = sym by.1 ∙ is in cc dropped
-never_refused (Replies n message act) has after result is number by =
-    let same : Answer by.0 ≡ outcome_at after (Says (written n message) act) = sym by.1 ∙ is in
-    let reply : by.0.reply ≡ written n message = cc same in
-    false≢true (sym has ∙ lacks_by n message act (by_octets number n NO_RESOURCES message (sym reply ∙ by.2)))
+never_refused given one after result two number = search (rules, lacks_by, by_octets)
 
 -- the laws of releases and cancels
 abbrev pub HasResources : (List ℕ → TransferValue) → Type 0

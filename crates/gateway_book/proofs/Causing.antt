@@ -1,6 +1,6 @@
 -- What a call of a book counts.
-use Rattle.std.proofs.Common.{◌≡◌, ℕ, ◌≤◌, ◌==◌, Bool, true, false, if◌then◌else◌, refl, sym, ap, ◌∙◌, arith}
-use Rattle.std.proofs.lemmas.Bool.{false≢true, ne_eqb}
+use Rattle.std.proofs.Common.{◌≡◌, ℕ, ◌≤◌, ◌==◌, Bool, true, false, if◌then◌else◌, refl, ap, ◌∙◌, arith, rules}
+use Rattle.std.proofs.lemmas.Bool.{ne_eqb}
 use Rattle.area_disk.specs.Disk.{Rose, counted}
 use Rattle.area_disk.specs.declared.area.Area.{Ghosts}
 use Rattle.cgf_journal.specs.Outcomes.{TornDropped, TornStand}
@@ -21,8 +21,7 @@ kept_on cuts now firm kept after cut at = ap (λ b. if b then firm else after) (
 -- the torn entries stand again or are dropped
 pub not_fewer : {A : Type 0} {tells : Ghosts A} {old new : Trail A tells} (stands : Bool) → (stands ≡ true → TornStand old new)
     → (stands ≡ false → TornDropped old new) → firm_length old ≤ firm_length new
-not_fewer true stand dropped = omega (arith, (stand refl).count)
-not_fewer false stand dropped = omega (arith, (dropped refl).count)
+not_fewer stands stand dropped = grind arith
 
 -- a closed trail has its firm entries alone
 pub closed_length : {A : Type 0} {tells : Ghosts A} (t : Trail A tells) → is_closed t ≡ true → length_of t ≡ firm_length t
@@ -33,32 +32,12 @@ module _ {A : Type 0} {tells : Ghosts A} where
   pub cause_done : (old new : Book A tells) → is_closed new.trail ≡ false → tells.faults (area_of new) ≡ tells.faults (area_of old)
       → firm_length old.trail ≤ firm_length new.trail → length_of old.trail ≤ length_of new.trail → new.cuts ≡ old.cuts → new.kept ≡ old.kept
       → HasCause old new
-  cause_done old new goes faults firm entries cuts kept = record {
-    later = omega (arith, faults);
-    broken = λ closed. absurd (false≢true (sym goes ∙ closed));
-    still = λ is. faults;
-    cut = λ closed. absurd (false≢true (sym goes ∙ closed));
-    uncut = λ is. cuts;
-    more = omega (arith, cuts);
-    firm = firm;
-    entries = λ is. entries;
-    length = λ i. length_at (cuts i) (firm_length new.trail) (kept i);
-  }
+  cause_done old new goes faults firm entries cuts kept = search rules
 
   -- a commit or an opening again that failed
   pub cause_failed : (old new : Book A tells) → is_closed new.trail ≡ true → tells.faults (area_of old) ≤ tells.faults (area_of new) → Rose (tells.faults (area_of old)) (tells.faults (area_of new))
       → firm_length new.trail ≡ firm_length old.trail → old.cuts ≤ new.cuts → new.cuts ≡ counted 1 old.cuts → new.kept ≡ length_at old.cuts (firm_length new.trail) old.kept → HasCause old new
-  cause_failed old new closed later rose count more cut kept = record {
-    later = later;
-    broken = λ is. rose;
-    still = λ goes. absurd (false≢true (sym goes ∙ closed));
-    cut = λ is. cut;
-    uncut = λ goes. absurd (false≢true (sym goes ∙ closed));
-    more = more;
-    firm = omega (arith, count);
-    entries = λ goes. absurd (false≢true (sym goes ∙ closed));
-    length = kept_on old.cuts new.cuts (firm_length new.trail) old.kept new.kept cut kept;
-  }
+  cause_failed old new closed later rose count more cut kept = search (rules, kept_on)
 
   -- the device wasn't asked
   pub cause_same : (book : Book A tells) → is_closed book.trail ≡ false → HasCause book book
@@ -66,19 +45,4 @@ module _ {A : Type 0} {tells : Ghosts A} where
 
   -- then entries were added
   pub cause_then : {old mid new : Book A tells} → HasCause old mid → OnlyAdds mid new → HasCause old new
-  cause_then {old} {mid} {new} cause adds =
-      let faults : tells.faults (area_of new) ≡ tells.faults (area_of mid) = ap (λ (a : A). tells.faults a) adds.stays.area in
-      let opened = adds.stays.opened in
-      let count = adds.stays.count in
-      let cuts = adds.uncut in
-      record {
-        later = omega (arith, cause.later, faults);
-        broken = λ closed. omega (arith, cause.broken (sym opened ∙ closed), faults);
-        still = λ goes. faults ∙ cause.still (sym opened ∙ goes);
-        cut = λ closed. cuts ∙ cause.cut (sym opened ∙ closed);
-        uncut = λ goes. cuts ∙ cause.uncut (sym opened ∙ goes);
-        more = omega (arith, cause.more, cuts);
-        firm = omega (arith, cause.firm, count);
-        entries = λ goes. omega (arith, cause.entries (sym opened ∙ goes), adds.entries);
-        length = (λ i. length_at (cuts i) (count i) (adds.kept i)) ∙ cause.length ∙ (λ i. length_at old.cuts (sym count i) old.kept);
-      }
+  cause_then cause adds = search rules

@@ -1,5 +1,5 @@
 -- How a commit moves a book's value.
-use Rattle.std.proofs.Common.{◌≡◌, ℕ, Bool, true, false, if◌then◌else◌, List, Result, Ok, Err, length, refl}
+use Rattle.std.proofs.Common.{◌≡◌, ℕ, Bool, true, false, if◌then◌else◌, List, Result, Ok, Err, length, refl, rules}
 use Rattle.gw_base.specs.declared.history.HistoryEntry.{HistoryEntry}
 use Rattle.gateway_book.specs.Calls.{commit_answer}
 use Rattle.gateway_index.specs.Index.{Follows}
@@ -15,7 +15,4 @@ answer_broken v after moved broken = rw (← moved, broken) refl
 
 -- the side that the book asks follows its history
 pub asked : (closed side : Bool) (index : Index) (firm all : List HistoryEntry) → side ≡ closed → Follows true index firm → Follows false index all → Follows side index (if closed then firm else all)
-asked true true index firm all e one two = one
-asked true false index firm all e one two = cc
-asked false true index firm all e one two = cc
-asked false false index firm all e one two = two
+asked closed side index firm all e one two = search rules

@@ -1,5 +1,5 @@
 -- A cursor on its way through a history.
-use Rattle.std.proofs.Common.{◌≡◌, ℕ, ◌+◌, ◌-◌, ◌<◌, ◌≤◌, ◌^◌, List, [], ◌∷◌, ◌++◌, length, drop, take, Option, Some, refl, sym, ap, subst, ◌∙◌, arith, length-append, option_and_then}
+use Rattle.std.proofs.Common.{◌≡◌, ℕ, ◌+◌, ◌-◌, ◌<◌, ◌≤◌, ◌^◌, List, [], ◌∷◌, ◌++◌, length, drop, take, Some, sym, ap, subst, ◌∙◌, arith, length-append, rules}
 use Rattle.std.specs.Prelude.{min, slice_get}
 use Rattle.std.specs.Option.{option_map_or}
 use Rattle.std.proofs.lemmas.Option.{none-some, slice_get_within}
@@ -14,7 +14,7 @@ use Rattle.gw_base.specs.declared.item.Item.{Item}
 use Rattle.gateway_book.specs.Cursor.{AreHeldIn, HasPassed, HasStayed, IsAt, IsBegun, IsWithin, NamesOnce, StandsIn, gathered_at_last, items_from}
 use Rattle.gateway_answer.specs.Filed.{along, filed_under, packet_of_hold, present_key, released_records}
 use Rattle.gateway_book.specs.Gathering.{Gathered, gathered}
-use Rattle.gateway_book.specs.HeldCopies.{AreBelow, CopyPlaces, HoldCopies, copies_after, copy_at, no_copies, packet_at, places_of}
+use Rattle.gateway_book.specs.HeldCopies.{AreBelow, CopyPlaces, HoldCopies, copies_after, copy_at, no_copies, places_of}
 use Rattle.gateway_answer.specs.Items.{items_by, items_of}
 use Rattle.gateway_book.specs.Read.{IsRead}
 use Rattle.gateway_book.specs.declared.cursor.Cursor.{Cursor}
@@ -28,18 +28,10 @@ none_below : (n : ℕ) → AreBelow n no_copies
 none_below n = record { hold = λ node number k is. absurd (none-some k is); path = λ node k is. absurd (none-some k is) }
 
 pub begun_within : (n : ℕ) (cursor : Cursor) → IsBegun cursor → IsWithin n cursor
-begun_within n cursor begun = record {
-  entry = omega (arith, begun.entry);
-  copies = subst (λ (c : CopyPlaces). AreBelow cursor.entry c) (sym begun.copies) (none_below cursor.entry);
-}
+begun_within n cursor begun = search (rules, none_below)
 
 pub begun_at : (h : List HistoryEntry) (cursor : Cursor) → IsBegun cursor → IsAt h cursor
-begun_at h cursor begun = record {
-  within = omega (arith, begun.entry);
-  items = begun.items ∙ sym (ap (λ (k : ℕ). min (length (items_of (take k h))) (2 ^ 64 - 1)) begun.entry);
-  copies = subst (λ (c : CopyPlaces). HoldCopies c (take cursor.entry h)) (sym begun.copies)
-      (subst (λ (k : ℕ). HoldCopies no_copies (take k h)) (sym begun.entry) (λ node number. refl));
-}
+begun_at h cursor begun = search rules
 
 -- ---- one entry more
 
@@ -64,13 +56,7 @@ module _ (h : List HistoryEntry) (e : HistoryEntry) (old new : Cursor) (here : s
           (hold_more (places_of old.copies) (take old.entry h) e (subst (λ (k : ℕ). AreBelow k (places_of old.copies)) (sym length_front) below) at.copies))
 
       more : min (old.items + count) (2 ^ 64 - 1) ≡ min (length (items_of (take old.entry h) ++ items_by (take old.entry h) e)) (2 ^ 64 - 1)
-      more = omega (
-        arith,
-        came (items_by (take old.entry h) e) before after is some,
-        counted,
-        at.items,
-        length-append (items_of (take old.entry h)) (items_by (take old.entry h) e),
-      )
+      more = grind (arith, came, length-append)
 
   -- behind the entry's items come those of the entries behind it
   one_gathered : (before : Gathered) {after : Gathered} → after ≡ gathered (items_by (take old.entry h) e) before
@@ -101,11 +87,7 @@ module _ (h : List HistoryEntry) (e : HistoryEntry) (old new : Cursor) (here : s
 
 pub within_more : {n : ℕ} {act : HistoryAct} {count : ℕ} {old new : Cursor} → old.entry < n → AreBelow old.entry (places_of old.copies)
     → HasPassed act count old new → IsWithin n new
-within_more {n} {act} {count} {old} {new} lt below passed = record {
-  entry = omega (arith, passed.entry, lt);
-  copies = subst (λ (k : ℕ). AreBelow k (places_of new.copies)) (sym passed.entry)
-      (subst (λ (c : CopyPlaces). AreBelow (old.entry + 1) c) (sym passed.copies) (below_more old.entry act (places_of old.copies) below));
-}
+within_more lt below passed = search (rules, below_more)
 
 pub at_still : {h : List HistoryEntry} {old new : Cursor} → HasStayed old new → IsAt h old → IsAt h new
 at_still {h} {old} {new} still at = record {
@@ -121,9 +103,7 @@ module _ (before : List HistoryEntry) (copies : CopyPlaces) (n : NodeId) (number
   -- what the entry that holds it has for a packet
   pub one_released : (k : ℕ) (e : HistoryEntry) → copy_at copies n.0 number ≡ Some k → slice_get before k ≡ Some e
       → released_records before moment n number ≡ option_map_or (filed_under (present_key before n number) moment) (packet_of_hold e.act) []
-  one_released k e at here =
-      ap (λ (packet : Option (List ℕ)). option_map_or (filed_under (present_key before n number) moment) packet [])
-      (held n.0 number ∙ ap (packet_at before) at ∙ ap (option_and_then (λ (x : HistoryEntry). packet_of_hold x.act)) here)
+  one_released k e at here = grind arith
 
 -- the records of a released number, as the entry that holds it was read
 pub released_in : {A : Type 0} {tells : Ghosts A} {trail : Trail A tells} {copies : CopyPlaces} {before : List HistoryEntry} (n : NodeId)
@@ -149,10 +129,7 @@ pub stands_still : {A : Type 0} {tells : Ghosts A} {old new : Trail A tells} {h 
 stands_still told read stands at = record { size = stands.size; fit = stands.fit; firm = read.kept.firm_entries told ∙ stands.firm; at = at }
 
 pub below_up : (m n : ℕ) (copies : CopyPlaces) → m ≤ n → AreBelow m copies → AreBelow n copies
-below_up m n copies le below = record {
-  hold = λ node number k is. omega (arith, below.hold node number k is, le);
-  path = λ node k is. omega (arith, below.path node k is, le);
-}
+below_up m n copies le below = search rules
 
 -- ---- the entry behind a cursor
 

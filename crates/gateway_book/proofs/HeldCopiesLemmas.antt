@@ -1,20 +1,17 @@
 -- Where held copies lie, entry by entry.
-use Rattle.std.proofs.Common.{◌≡◌, ℕ, zero, suc, ◌+◌, ◌<◌, ◌≤◌, ◌==◌, ◌&&◌, ◌||◌, Bool, true, false, cond, if◌then◌else◌, List, [], ◌∷◌, ◌++◌, length, drop, get_or, Option, Some, None, option_and_then, refl, sym, ap, ◌∙◌, arith}
-use Rattle.std.specs.Prelude.{OnOk, Result, Ok, Err, nat_lt, slice_get}
+use Rattle.std.proofs.Common.{◌≡◌, ℕ, zero, suc, ◌+◌, ◌<◌, ◌≤◌, ◌==◌, ◌&&◌, ◌||◌, Bool, false, cond, if◌then◌else◌, List, [], ◌∷◌, ◌++◌, length, drop, get_or, Option, Some, None, refl, sym, ap, ◌∙◌, arith, rules}
+use Rattle.std.specs.Prelude.{OnOk, Result, slice_get}
 use Rattle.std.specs.BTreeMap.{BTreeMap, Updates}
 use Rattle.std.specs.List.{list_any}
 use Rattle.std.specs.Option.{ForSome}
 use Rattle.std.specs.Ordering.{is_eq, nat_cmp, ordering_then}
 use Rattle.std.specs.declared.cmp.Ordering.{Ordering}
-use Rattle.std.specs.declared.cmp.Ordering.TheVariants.{Less}
 use Rattle.std.proofs.lemmas.Bool.{le-ltb, lt-ltb, and_right, cond-false, cond_both}
-use Rattle.std.proofs.lemmas.Option.{none-some}
 use Rattle.gw_base.specs.History.{begins_epoch, names}
 use Rattle.gw_base.specs.declared.history.HistoryAct.{HistoryAct}
-use Rattle.gw_base.specs.declared.history.HistoryAct.TheVariants.{Hold}
 use Rattle.gw_base.specs.declared.history.HistoryEntry.{HistoryEntry}
 use Rattle.gateway_answer.specs.Filed.{held_packet, packet_of_hold}
-use Rattle.gateway_book.specs.HeldCopies.{AreBelow, CopyPlaces, HoldCopies, copies_after, copy_at, copy_order, hold_by, hold_in, if_after, packet_at, path_in, with_hold, with_path, without_holds}
+use Rattle.gateway_book.specs.HeldCopies.{AreBelow, CopyPlaces, HoldCopies, copies_after, copy_order, hold_by, hold_in, if_after, packet_at, path_in, with_hold, with_path, without_holds}
 use Rattle.gateway_book.specs.declared.held_copies.CopyKey.{CopyKey}
 use Rattle.gateway_answer.specs.FiledLaws.{held_packet-push}
 use Rattle.std.proofs.lemmas.Bool.Decides.{nat_tests}
@@ -26,22 +23,18 @@ order_is : (a b : ℕ) → is_eq (nat_cmp a b) ≡ (a == b)
 order_is a b = grind (arith, nat_tests)
 
 then_is : (o p : Ordering) → is_eq (ordering_then o p) ≡ (is_eq o && is_eq p)
-then_is Less p = refl
-then_is _ p = refl
+then_is o p = grind arith
 
 pub on_ok : {T E P Q : Type 0} (r : Result T E) → (P → Q) → OnOk r P → OnOk r Q
-on_ok (Ok x) f p = f p
-on_ok (Err e) f p = tt
+on_ok r f p = search rules
 
 copy_order_is : (key other : CopyKey) → is_eq (copy_order key other) ≡ ((key.node == other.node) && (key.number == other.number))
-copy_order_is key other =
-    then_is (nat_cmp key.node other.node) (nat_cmp key.number other.number) ∙ (λ i. order_is key.node other.node i && order_is key.number other.number i)
+copy_order_is key other = grind (arith, then_is, order_is)
 
 -- another entry for one key
 pub with_one : (old new : BTreeMap CopyKey ℕ) (node number : ℕ) (place : Option ℕ) → Updates copy_order old new (record { node = node; number = number }) place
     → hold_in new ≡ with_hold node number place (hold_in old)
-with_one old new node number place u = λ i n x. (u.0 (record { node = n; number = x })
-    ∙ ap (λ (b : Bool). cond b place (hold_in old n x)) (copy_order_is (record { node = node; number = number }) (record { node = n; number = x }))) i
+with_one old new node number place u = grind (arith, copy_order_is)
 
 pub with_last : (old new : BTreeMap ℕ ℕ) (node k : ℕ) → Updates nat_cmp old new node (Some k) → path_in new ≡ with_path node k (path_in old)
 with_last old new node k u = λ i n. (u.0 n ∙ ap (λ (b : Bool). cond b (Some k) (path_in old n)) (order_is node n)) i
@@ -51,9 +44,7 @@ none_dropped node hold = λ i n x. cond-false ((node == n) && false) None (hold 
 
 left_out : {A : Type 0} (b here there : Bool) (none hold : A)
     → (if b && there then none else (if b && here then none else hold)) ≡ (if b && (here || there) then none else hold)
-left_out true true there none hold = grind arith
-left_out true false there none hold = refl
-left_out false here there none hold = refl
+left_out b here there none hold = grind arith
 
 one_dropped : (node y : ℕ) (ys : List ℕ) (hold : ℕ → ℕ → Option ℕ) → without_holds node ys (with_hold node y None hold) ≡ without_holds node (y ∷ ys) hold
 one_dropped node y ys hold = λ i n x. left_out (node == n) (y == x) (list_any (λ z. z == x) ys) None (hold n x) i
@@ -84,31 +75,23 @@ get_last (x ∷ h) e = get_last h e
 
 -- a place that is kept isn't moved
 pub after_is : (path hold : Option ℕ) (P : ℕ → Type 0) → ForSome hold P → ForSome (if_after path hold) P
-after_is None hold P is = is
-after_is (Some p) None P is = λ x e. absurd (none-some x e)
-after_is (Some p) (Some k) P is = cond_both (nat_lt p k) (Some k) None (λ o. ForSome o P) (λ _. is) (λ _. λ x e. absurd (none-some x e))
+after_is path hold P is = search (rules, cond_both)
 
 packet_still : (h : List HistoryEntry) (e : HistoryEntry) (place : Option ℕ) → ForSome place (λ k. k < length h) → packet_at (h ++ e ∷ []) place ≡ packet_at h place
-packet_still h e None lt = refl
-packet_still h e (Some k) lt = ap (option_and_then (λ (x : HistoryEntry). packet_of_hold x.act)) (get_front h (e ∷ []) k (lt k refl))
+packet_still h e place lt = grind (arith, get_front)
 
 none_after : (k : ℕ) (hold : Option ℕ) → ForSome hold (λ j. j ≤ k) → if_after (Some k) hold ≡ None
-none_after k None le = refl
-none_after k (Some j) le = rw (le-ltb k j (le j refl)) refl
+none_after k hold le = grind (arith, le-ltb)
 
 hold_by_is : (k : ℕ) (act : HistoryAct) → ForSome (hold_by k act) (λ j. j ≡ k)
-hold_by_is k (Hold n y packet) = λ x e. let same : k ≡ x = cc in sym same
-hold_by_is k _ = λ x e. absurd (none-some x e)
+hold_by_is k act = grind arith
 
 -- what comes last comes after each path
 last_after : (path : Option ℕ) (k : ℕ) (hold : Option ℕ) → ForSome path (λ p. p < k) → ForSome hold (λ j. j ≡ k) → if_after path hold ≡ hold
-last_after (Some p) k (Some j) lt is = rw (lt-ltb p j (omega (arith, lt p refl, is j refl))) refl
-last_after _ k _ lt is = refl
+last_after path k hold lt is = grind (arith, lt-ltb)
 
 packet_of_last : (h : List HistoryEntry) (e : HistoryEntry) (act : HistoryAct) → e.act ≡ act → packet_at (h ++ e ∷ []) (hold_by (length h) act) ≡ packet_of_hold act
-packet_of_last h e (Hold n y packet) is =
-    ap (option_and_then (λ (x : HistoryEntry). packet_of_hold x.act)) (get_last h e) ∙ ap (λ (a : HistoryAct). packet_of_hold a) is
-packet_of_last h e _ is = refl
+packet_of_last h e act is = grind (arith, get_last)
 
 -- ---- one entry more
 
@@ -128,16 +111,7 @@ hold_more copies h e below held node number =
 
     by_tests : (b n : Bool) → (if b then None else (if n then packet_of_hold e.act else held_packet node number h))
         ≡ packet_at (h ++ e ∷ []) (if_after (if b then Some (length h) else copies.path node) (if n then last else copies.hold node number))
-    by_tests true true = sym (ap at (none_after (length h) last (λ j is. omega (arith, last_is j is))))
-    by_tests true false = sym (ap at (none_after (length h) (copies.hold node number) (λ j is. omega (arith, below.hold node number j is))))
-    by_tests false true = sym (ap at (last_after (copies.path node) (length h) last (below.path node) last_is) ∙ packet_of_last h e e.act refl)
-    by_tests false false = held node number
-        ∙ sym (packet_still h e (copy_at copies node number) (after_is (copies.path node) (copies.hold node number) (λ k. k < length h) (below.hold node number)))
+    by_tests b n = grind (arith, none_after, last_is, last_after, packet_of_last, packet_still, after_is)
 
 pub below_more : (k : ℕ) (act : HistoryAct) (copies : CopyPlaces) → AreBelow k copies → AreBelow (k + 1) (copies_after k act copies)
-below_more k act copies below = record {
-  hold = λ node number. cond_both (names node number act) (hold_by k act) (copies.hold node number) (λ o. ForSome o (λ j. j < k + 1))
-      (λ _. λ j is. omega (arith, hold_by_is k act j is)) (λ _. λ j is. omega (arith, below.hold node number j is));
-  path = λ node. cond_both (begins_epoch node act) (Some k) (copies.path node) (λ o. ForSome o (λ j. j < k + 1))
-      (λ _. λ j is. let same : k ≡ j = cc in omega (arith, same)) (λ _. λ j is. omega (arith, below.path node j is));
-}
+below_more k act copies below = search (rules, cond_both, hold_by_is)

@@ -1,5 +1,5 @@
 -- The items of packets, of releases and of the entries of a history.
-use Rattle.std.proofs.Common.{◌≡◌, ℕ, zero, suc, ◌-◌, List, [], ◌∷◌, ◌++◌, length, take, drop, sym, ap, ◌∙◌, arith, append_assoc, length-append, ◌+◌, ◌<◌, ◌≤◌, ◌==◌, not, Bool, true, false, if◌then◌else◌, filter, get_or, map, Option, Some, None, option_map, refl, subst, true≢false}
+use Rattle.std.proofs.Common.{◌≡◌, ℕ, zero, suc, ◌-◌, List, [], ◌∷◌, ◌++◌, length, take, drop, sym, ap, ◌∙◌, arith, append_assoc, length-append, ◌+◌, ◌<◌, ◌≤◌, ◌==◌, not, Bool, true, false, if◌then◌else◌, filter, get_or, map, Option, Some, None, option_map, refl, subst}
 use Rattle.std.proofs.lemmas.List.{append-nil, map-append, at_drop_all, at_drop_more, drop_more, length-drop, take_all, take_more}
 use Rattle.gw_base.specs.declared.item.Item.{Item}
 use Rattle.gateway_book.specs.Gathering.{Gathered, gathered, packet_items, record_item}
@@ -9,7 +9,6 @@ use Rattle.std.specs.List.{list_all}
 use Rattle.std.proofs.lemmas.Bool.{and_parts}
 use Rattle.std.proofs.lemmas.Option.{get_or_from_slice_get, none-some, slice_get_within}
 use Rattle.gtpp_message.specs.Packet.{PacketForm, PacketValue, Empty, Full, full_packet, is_empty_packet, packet_in, packet_of, packet_reading}
-use Rattle.gtpp_header.specs.Header.{two_octets}
 use Rattle.gw_base.specs.Lists.{once}
 use Rattle.gw_base.specs.Observed.{observed}
 use Rattle.gw_base.specs.declared.address.NodeId.{NodeId}
@@ -89,9 +88,7 @@ no_records : (count format version : ℕ) (octets : List ℕ) → (count == 0) �
 no_records count format version octets none = rw none refl
 
 empty_is_none : (octets : List ℕ) → is_empty_packet octets ≡ true → packet_of octets ≡ None
-empty_is_none (count ∷ format ∷ high ∷ low ∷ []) empty = no_records count format (two_octets high low) [] empty
-empty_is_none (count ∷ format ∷ high ∷ low ∷ x ∷ octets) empty = absurd (true≢false (sym empty))
-empty_is_none _ empty = refl
+empty_is_none octets empty = grind (arith, no_records)
 
 -- the items of what a packet's octets say
 pub items_of_packet : (key : PacketKey) (moment : ℕ) (octets : List ℕ) (value : PacketValue) → Some value ≡ packet_reading octets
@@ -162,9 +159,7 @@ module _ (before : List HistoryEntry) (v : HistoryEntry) where
   file_items n x packet is = sym (ap (items_by_act before v.moment) is)
 
   pub release_items : (n : NodeId) (xs : List ℕ) → v.act ≡ Release n xs → NamesOnce v.act → released_items before v.moment n xs ≡ items_by before v
-  release_items n xs is once_each =
-      ap (λ (ys : List ℕ). released_items before v.moment n ys) (sym (distinct_is_once xs (subst NamesOnce is once_each)))
-      ∙ sym (ap (items_by_act before v.moment) is)
+  release_items n xs is once_each = grind (arith, distinct_is_once)
 
 -- ---- the entries of a history
 
@@ -211,11 +206,4 @@ items_of_more h k e is =
 
 pub came : (items : List Item) (old new : Gathered) → new ≡ gathered items old → (new.room ≡ 0 → ⊥)
     → (old.skip - new.skip) + (length new.items - length old.items) ≡ length items
-came items old new is some =
-    let left : List Item = drop old.skip items in
-    let skips : new.skip ≡ old.skip - length items = ap (λ (g : Gathered). g.skip) is in
-    let rooms : new.room ≡ old.room - length left = ap (λ (g : Gathered). g.room) is in
-    let fits : length left ≤ old.room = omega (arith, rooms, some) in
-    let all : length new.items ≡ length old.items + length left =
-    ap (λ (g : Gathered). length g.items) is ∙ length-append old.items (take old.room left) ∙ ap (λ (xs : List Item). length old.items + length xs) (take_all old.room left fits) in
-    omega (arith, skips, length-drop old.skip items, all)
+came items old new is some = grind (arith, items, length-append, take_all, length-drop)

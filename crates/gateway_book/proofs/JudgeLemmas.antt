@@ -1,6 +1,6 @@
 -- What a judge finds fit.
-use Rattle.std.proofs.Common.{◌≡◌, ℕ, ◌+◌, ◌*◌, ◌≤◌, ◌<◌, ◌^◌, ◌&&◌, true, false, if◌then◌else◌, nat_le, List, [], ◌∷◌, ◌++◌, length, sym, ap, ◌∙◌, arith}
-use Rattle.std.proofs.lemmas.Bool.{and_parts, leb-true, le-leb, and_from, true≢false}
+use Rattle.std.proofs.Common.{◌≡◌, ℕ, ◌+◌, ◌*◌, ◌≤◌, ◌<◌, ◌^◌, ◌&&◌, true, false, if◌then◌else◌, nat_le, List, [], ◌∷◌, ◌++◌, length, sym, ap, ◌∙◌, arith, rules}
+use Rattle.std.proofs.lemmas.Bool.{leb-true, le-leb, and_from, true≢false}
 use Rattle.entry_codec.specs.Laws.{costs_of-append}
 use Rattle.entry_codec.specs.Room.{capacity_of, costs_of, has_room}
 use Rattle.entry_codec.specs.Spelling.{cost_of}
@@ -29,10 +29,7 @@ may_grow judge h judging fits = omega (arith, judging.cost, fits, costs_at_least
 -- one entry more
 pub judged : (judge new : FitJudge) (h : List HistoryEntry) (e : HistoryEntry) → IsJudging judge h → (MayGrow h → Follows false new.index (h ++ e ∷ [])) → new.costs ≡ judge.costs + cost_of e → judge.costs < 2 ^ 64
     → IsJudging new (h ++ e ∷ [])
-judged judge new h e judging follows sum small = record {
-  index = follows (may_grow judge h judging small);
-  cost = omega (arith, sum, judging.cost, costs_of-append h (e ∷ []));
-}
+judged judge new h e judging follows sum small = search (rules, may_grow, costs_of-append)
 
 -- ---- the tests of an entry
 
@@ -45,8 +42,7 @@ module _ (same_act : (index : Index) (h : List HistoryEntry) (act : HistoryAct) 
   -- an entry that isn't fit by its moment or its act
   pub refused : (judge : FitJudge) (h : List HistoryEntry) (size : ℕ) (e : HistoryEntry) → IsJudging judge h
       → (nat_le (side_of false judge.index).totals.moment e.moment && is_act_fit (observed_by false judge.index) e.act) ≡ false → IsFit size h e → ⊥
-  refused judge h size e judging refuses fit = true≢false (sym (and_from _ _
-      (le-leb _ _ (omega (arith, fit.order, same_moment judge.index h judging.index))) (same_act judge.index h e.act judging.index ∙ fit.act)) ∙ refuses)
+  refused judge h size e judging refuses fit = grind (arith, and_from, le-leb, same_moment)
 
   -- what the judge counts after an entry is what room asks
   room_is : (new : FitJudge) (h : List HistoryEntry) (size : ℕ) (e : HistoryEntry) → IsJudging new (h ++ e ∷ []) → is_within new size ≡ has_room h e size
@@ -59,14 +55,7 @@ module _ (same_act : (index : Index) (h : List HistoryEntry) (act : HistoryAct) 
   -- and one that was taken in
   pub is_fit : (judge new : FitJudge) (h : List HistoryEntry) (size : ℕ) (e : HistoryEntry) → IsJudging judge h → IsJudging new (h ++ e ∷ []) → e.moment ≤ latest_moment
       → (nat_le (side_of false judge.index).totals.moment e.moment && is_act_fit (observed_by false judge.index) e.act) ≡ true → is_within new size ≡ true → IsFit size h e
-  is_fit judge new h size e judging now moment may within =
-      let parts = and_parts (nat_le (side_of false judge.index).totals.moment e.moment) (is_act_fit (observed_by false judge.index) e.act) may in
-      record {
-        moment = moment;
-        order = omega (arith, leb-true _ _ parts.0, same_moment judge.index h judging.index);
-        act = sym (same_act judge.index h e.act judging.index) ∙ parts.1;
-        room = sym (room_is new h size e now) ∙ within;
-      }
+  is_fit judge new h size e judging now moment may within = search (rules, leb-true, same_moment, room_is)
 
   pub no_room : (new : FitJudge) (h : List HistoryEntry) (size : ℕ) (e : HistoryEntry) → IsJudging new (h ++ e ∷ []) → is_within new size ≡ false → IsFit size h e → ⊥
   no_room new h size e now past fit = true≢false (sym (room_is new h size e now ∙ fit.room) ∙ past)

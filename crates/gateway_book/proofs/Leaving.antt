@@ -1,5 +1,5 @@
 -- What the area of a book stands for that is handed back.
-use Rattle.std.proofs.Common.{◌≡◌, ⊎_elim, inl, inr, ℕ, ◌≤◌, false, if◌then◌else◌, List, ◌++◌, length, refl, sym, ap, subst, ◌∙◌, arith, [], ◌⊎◌, Bool, true, ◌&&◌}
+use Rattle.std.proofs.Common.{◌≡◌, ⊎_elim, inl, inr, ℕ, ◌≤◌, false, if◌then◌else◌, List, ◌++◌, length, refl, sym, ap, subst, ◌∙◌, arith, [], ◌⊎◌, Bool, true, ◌&&◌, rules}
 use Rattle.std.specs.Prelude.{IsTrue}
 use Rattle.area_disk.specs.declared.area.Area.{Ghosts}
 use Rattle.gate_journal.specs.Moments.{Leaves, Told}
@@ -41,18 +41,13 @@ module _ {A : Type 0} {tells : Ghosts A} (here : (a : A) (c : List ℕ) → IsTr
   pub crash_fit : (book : Book A tells) (new : A) → Told tells → tells.size new ≡ size_of book
       → Leaves tells (area_of book) new (StandsForOr (header_of book) (value_of book).firm ((value_of book).firm ++ (value_of book).rest))
       → Leaves tells (area_of book) new (StandsFitForOr (header_of book) (value_of book).firm ((value_of book).firm ++ (value_of book).rest))
-  crash_fit book new told same leaves =
-      let fit = book.followed.fit told in
-      both_fit (header_of book) (area_of book) new (value_of book).firm ((value_of book).firm ++ (value_of book).rest) told.1 same
-      (fit_front (size_of book) [] (value_of book).firm (value_of book).rest fit) fit leaves
+  crash_fit book new told same leaves = search (rules, both_fit, fit_front)
 
   -- the same where a book that goes on is asked for all its entries
   pub crash_fit_open : (book : Book A tells) (new : A) → is_closed book.trail ≡ false → Told tells → tells.size new ≡ size_of book
       → Leaves tells (area_of book) new (StandsForOr (header_of book) (firm_entries book.trail) (entries book.trail))
       → Leaves tells (area_of book) new (StandsFitForOr (header_of book) (value_of book).firm ((value_of book).firm ++ (value_of book).rest))
-  crash_fit_open book new goes told same leaves = crash_fit book new told same
-      (subst (λ (h : List HistoryEntry). Leaves tells (area_of book) new (StandsForOr (header_of book) (firm_entries book.trail) h))
-      (ap (λ b. if b then firm_entries book.trail else all_entries book.trail) goes) leaves)
+  crash_fit_open book new goes told same leaves = search (rules, crash_fit)
 
 -- ---- what the area of a book stands for that is handed back
 
@@ -69,8 +64,7 @@ module _ {A : Type 0} {tells : Ghosts A} (book : Book A tells) (whole : Told tel
   either_fit : Told tells → (c : List ℕ) → length c ≡ size_of book → (b : Bool)
       → StandsFor (header_of book) c (if b then (value_of book).firm ++ (value_of book).rest else (value_of book).firm)
       → StandsFitFor (header_of book) c (if b then (value_of book).firm ++ (value_of book).rest else (value_of book).firm)
-  either_fit told c size true stands = with_fit c ((value_of book).firm ++ (value_of book).rest) size stands (fit told)
-  either_fit told c size false stands = with_fit c (value_of book).firm size stands (firm_fit told)
+  either_fit told c size b stands = search (rules, with_fit, firm_fit)
 
   module _ (same_size : (c : List ℕ) → IsTrue tells.tells_crash → tells.may_leave (area_of book) c → length c ≡ size_of book) (may_stop : (outcome : Outcome3) → IsTrue tells.tells_fate → tells.may_leave (area_of book) ((tells.fate (area_of book)).leaves outcome))
       (stops_new : IsTrue tells.tells_fate → (tells.fate (area_of book)).leaves New ≡ tells.octets (area_of book)) where
@@ -78,10 +72,7 @@ module _ {A : Type 0} {tells : Ghosts A} (book : Book A tells) (whole : Told tel
     whole_fit told goes c may = with_fit c (value_of book).firm (same_size c told.1 may) ((whole told goes).crash told c may) (firm_fit told)
 
     any_fit : Told tells → (c : List ℕ) → tells.may_leave (area_of book) c → StandsFitFor (header_of book) c (value_of book).firm ⊎ StandsFitFor (header_of book) c ((value_of book).firm ++ (value_of book).rest)
-    any_fit told c may = ⊎_elim
-        (λ (stands : StandsFor (header_of book) c (value_of book).firm). inl (with_fit c (value_of book).firm (same_size c told.1 may) stands (firm_fit told)))
-        (λ (stands : StandsFor (header_of book) c ((value_of book).firm ++ (value_of book).rest)). inr (with_fit c ((value_of book).firm ++ (value_of book).rest) (same_size c told.1 may) stands (fit told)))
-        ((rests.still told).now c may)
+    any_fit told c may = search (rules, with_fit, firm_fit)
 
     stop_fit : IsTrue tells.tells_fate → Told tells → (outcome : Outcome3) → StandsFitFor (header_of book) ((tells.fate (area_of book)).leaves outcome) (left_by_stop outcome book)
     stop_fit fate told outcome = by_state (trail.is_closed book.trail) refl
@@ -95,9 +86,4 @@ module _ {A : Type 0} {tells : Ghosts A} (book : Book A tells) (whole : Told tel
             (either_fit told ((tells.fate (area_of book)).leaves outcome) (same_size ((tells.fate (area_of book)).leaves outcome) told.1 (may_stop outcome fate)) (trail.stop_stands outcome book.trail) (stop fate told outcome))
 
     pub leaves_fit : LeavesFit book
-    leaves_fit = record {
-      whole = whole_fit;
-      any = any_fit;
-      stop = stop_fit;
-      reads = λ fate told. subst (λ (c : List ℕ). StandsFitFor (header_of book) c (left_by_stop New book)) (stops_new fate) (stop_fit fate told New);
-    }
+    leaves_fit = search (rules, whole_fit, any_fit, stop_fit)

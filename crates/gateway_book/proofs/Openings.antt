@@ -1,11 +1,11 @@
 -- A book that is opened: what its index follows, and the Start that it adds.
-use Rattle.std.proofs.Common.{◌≡◌, ◌⊎◌, inl, inr, ℕ, ◌≤◌, true, false, if◌then◌else◌, max, List, [], ◌∷◌, ◌++◌, length, refl, sym, ap, subst, ◌∙◌, arith, zero, suc, Bool, Ok, Err}
+use Rattle.std.proofs.Common.{◌≡◌, ◌⊎◌, ℕ, ◌≤◌, true, false, if◌then◌else◌, max, List, [], ◌∷◌, ◌++◌, length, refl, sym, ap, subst, ◌∙◌, arith, suc, Bool, Ok, Err, rules}
 use Rattle.area_disk.specs.declared.area.Area.{Ghosts}
 use Rattle.gate_journal.specs.Format.{most_octets}
 use Rattle.gate_journal.specs.Moments.{Told}
 use Rattle.gate_journal.specs.declared.faults.OpenFault.{OpenFault}
 use Rattle.gate_journal.specs.declared.faults.OpenFault.TheVariants as opening
-use Rattle.entry_codec.specs.Room.{IsWithin, has_room}
+use Rattle.entry_codec.specs.Room.{has_room}
 use Rattle.gw_base.specs.History.{last_moment, moment_after}
 use Rattle.gw_base.specs.declared.history.HistoryAct.TheVariants.{Start}
 use Rattle.gw_base.specs.declared.history.HistoryEntry.{HistoryEntry}
@@ -28,7 +28,7 @@ use Rattle.gateway_index.specs.Index.{MayGrow}
 use Rattle.gateway_answer.specs.Value.{BookValue, history_of, opened, recorded, started}
 use Rattle.gateway_book.proofs.JudgeLemmas.{costs_at_least}
 use Rattle.area_disk.specs.Armed.{Armed, Came, IsArmed, after_one, calls_under, one_later, planned_in}
-use Rattle.area_disk.specs.Armed.Armed.{Nothing, Fail, Stop}
+use Rattle.area_disk.specs.Armed.Armed.{Nothing}
 use Rattle.area_disk.specs.Armed.Came.{Ran}
 use Rattle.area_disk.specs.ArmedLaws.{armed_ran, armed_reads}
 use Rattle.area_disk.specs.Course.{Course, IsTied, after_sync, after_write, course_of, fate_of_sync, fate_of_write}
@@ -46,19 +46,12 @@ use Rattle.gateway_book.specs.OpenPlan.{OpensAsPlanned, is_device_fault, is_memo
 
 -- a fit history may grow
 pub fit_may_grow : (size : ℕ) (h : List HistoryEntry) → size ≤ most_octets → AllFit size h → MayGrow h
-fit_may_grow size h short fit =
-    let within : IsWithin h size = fit_is_within size h fit in
-    omega (arith, short, within, costs_at_least h)
+fit_may_grow size h short fit = search (rules, fit_is_within, costs_at_least)
 
 -- a Start for which there is room is fit
 pub start_is_fit : (size : ℕ) (h : List HistoryEntry) (e : HistoryEntry) → AllFit size h → e.moment ≡ last_moment h → e.act ≡ Start
     → has_room h e size ≡ true → IsFit size h e
-start_is_fit size h e fit moment act room = record {
-  moment = omega (arith, moment, last_is_in_range size h fit);
-  order = omega (arith, moment);
-  act = rw act refl;
-  room = room;
-}
+start_is_fit size h e fit moment act room = search (rules, last_is_in_range)
 
 -- ---- the Start
 
@@ -79,9 +72,7 @@ module _ (v : BookValue) (size : ℕ) (e : HistoryEntry) (whole : v.is_broken �
   room = λ i. has_room (history i) (entry i) size
 
   pub start_added : has_room (v.firm ++ v.rest) e size ≡ true → (let w : BookValue = record v { rest = v.rest ++ e ∷ [] } in w) ≡ started size v
-  start_added has =
-      (λ i. record v { rest = v.rest ++ entry i ∷ [] })
-      ∙ sym (ap (λ b. if b then recorded v 0 no_caller Start else v) (sym room ∙ has))
+  start_added has = grind (arith, entry, room)
 
   pub start_left_out : has_room (v.firm ++ v.rest) e size ≡ false → v ≡ started size v
   start_left_out none = sym (ap (λ b. if b then recorded v 0 no_caller Start else v) (sym room ∙ none))
@@ -89,12 +80,10 @@ module _ (v : BookValue) (size : ℕ) (e : HistoryEntry) (whole : v.is_broken �
 -- ---- from the trail's opening to the book's
 
 pub not_ours_is : (fault : OpenFault) (at : ℕ) → book_fault fault ≡ NotOurs at → fault ≡ opening.NotOurs at
-not_ours_is (opening.NotOurs k) at e = let same : k ≡ at = cc in ap opening.NotOurs same
-not_ours_is _ at e = cc
+not_ours_is fault at e = grind arith
 
 pub device_is : (fault : OpenFault) → book_fault fault ≡ Device → fault ≡ opening.Device
-device_is opening.Device e = refl
-device_is _ e = cc
+device_is fault e = grind arith
 
 module _ {A : Type 0} {tells : Ghosts A} {t : Trail A tells} {open_time : ℕ} {book : Book A tells} (begun : IsBegun t open_time book) where
   -- what the trail's area is, the book's is
@@ -106,46 +95,29 @@ module _ {A : Type 0} {tells : Ghosts A} {t : Trail A tells} {open_time : ℕ} {
     value_is h told listed = begun.value told ∙ (λ i. opened (size i) (listed i))
 
     pub ok_is : {header : List ℕ} → trails.IsOpened tells header area (StandsFit IsFit header) t → IsOpened header area open_time book
-    ok_is found = record {
-      found = λ told. (firm_entries t, found.found told, value_is (firm_entries t) told refl);
-      whole = begun.whole;
-      firm = begun.firm;
-      uncut = begun.uncut;
-      named = begun.named ∙ found.fresh.named;
-      set = begun.set;
-      faults = ap (λ (a : A). tells.faults a) begun.area ∙ found.faults;
-    }
+    ok_is found = search (rules, value_is)
 
 pub foreign_is : {fault : OpenFault} {at : ℕ} {told : BookFault} → told ≡ book_fault fault
     → (fault ≡ opening.NotOurs at) ⊎ ((fault ≡ opening.Device) ⊎ (fault ≡ opening.NoMemory)) → (told ≡ NotOurs at) ⊎ ((told ≡ Device) ⊎ (told ≡ NoMemory))
-foreign_is is (inl e) = inl (is ∙ ap book_fault e)
-foreign_is is (inr (inl e)) = inr (inl (is ∙ ap book_fault e))
-foreign_is is (inr (inr e)) = inr (inr (is ∙ ap book_fault e))
+foreign_is is holds = grind arith
 
 -- what an opening found is fit
 pub found_fit : {header octets : List ℕ} {h : List HistoryEntry} {size n : ℕ} → length octets ≡ size → n ≡ size → StandsOrStarts header octets h → AllFit n h
-found_fit {h = h} long same (inl stands) = subst (λ (m : ℕ). AllFit m h) (long ∙ sym same) stands.fit
-found_fit {h = h} long same (inr starts) = rw starts.1 tt
+found_fit one two three = search rules
 
 -- ---- what comes of the opening of a book by a plan
 
 -- ---- calls that all run
 
 nothing_comes : (n : ℕ) → calls_under Nothing n ≡ Ran Nothing
-nothing_comes zero = refl
-nothing_comes (suc n) = refl
+nothing_comes n = grind arith
 
 earlier : (came : Came) (b : Armed) → one_later came ≡ Ran b → came ≡ Ran b
-earlier (Ran a) b is = is
-earlier _ b is = cc
+earlier came b is = grind arith
 
 -- the first of them runs, and so do the others
 ran_first : (a b : Armed) (n : ℕ) → calls_under a (suc n) ≡ Ran b → (planned_in a 0 ≡ Runs) × (calls_under (after_one a) n ≡ Ran b)
-ran_first Nothing b n is = (refl, nothing_comes n ∙ is)
-ran_first (Fail zero) b n is = absurd (cc is)
-ran_first (Fail (suc k)) b n is = (refl, earlier (calls_under (Fail k) n) b is)
-ran_first (Stop zero outcome) b n is = absurd (cc is)
-ran_first (Stop (suc k) outcome) b n is = (refl, earlier (calls_under (Stop k outcome) n) b is)
+ran_first a b n is = grind (arith, nothing_comes, earlier)
 
 ran_none : (a b : Armed) → calls_under a 0 ≡ Ran b → a ≡ b
 ran_none a b is = cc
@@ -185,13 +157,7 @@ module _ {A : Type 0} (tells : Ghosts A) (area : A) (a b : Armed) (armed : IsArm
   all_run : (planned_in a 0 ≡ Runs) × (planned_in (after_one a) 0 ≡ Runs) × (planned_in (after_one (after_one a)) 0 ≡ Runs)
       × (planned_in (after_one (after_one (after_one a))) 0 ≡ Runs) × (planned_in (after_one (after_one (after_one (after_one a)))) 0 ≡ Runs)
       × (after_one (after_one (after_one (after_one (after_one a)))) ≡ b)
-  all_run =
-      let one = ran_first a b 4 ran in
-      let two = ran_first (after_one a) b 3 one.1 in
-      let three = ran_first (after_one (after_one a)) b 2 two.1 in
-      let four = ran_first (after_one (after_one (after_one a))) b 1 three.1 in
-      let five = ran_first (after_one (after_one (after_one (after_one a)))) b 0 four.1 in
-      (one.0, two.0, three.0, four.0, five.0, ran_none (after_one (after_one (after_one (after_one (after_one a))))) b five.1)
+  all_run = grind (arith, ran_first, ran_none)
 
   calm : IsCalm (tells.fate area)
   calm = record { reads = armed.reads; runs = ap is_failure (tied_sync a (course_of (tells.fate area)) armed ∙ all_run.0) }
@@ -227,12 +193,10 @@ module _ {A : Type 0} (tells : Ghosts A) (area : A) (a b : Armed) (armed : IsArm
 -- ---- from the trail's opening to the book's
 
 memory_is : (fault : OpenFault) → is_memory_fault (book_fault fault) ≡ plans.is_memory_fault fault
-memory_is opening.Device = refl
-memory_is _ = refl
+memory_is fault = grind arith
 
 device_fault_is : (fault : OpenFault) → is_device_fault (book_fault fault) ≡ gates.is_device_fault fault
-device_fault_is opening.Device = refl
-device_fault_is _ = refl
+device_fault_is fault = grind arith
 
 module _ {A : Type 0} {tells : Ghosts A} (header : List ℕ) (area : A) where
   -- where the trail was opened

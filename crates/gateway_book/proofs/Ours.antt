@@ -57,5 +57,4 @@ stands_or_not_ours back header octets h at long is (inr spoiled) =
 
 -- what isn't ours doesn't start
 pub not_ours_or_starts : (header octets : List ℕ) (at : ℕ) → length header ≡ 32 → get_or header 0 0 ≡ 67 → IsNotOurs header octets at → Starts header octets → ⊥
-not_ours_or_starts header octets at long begins (inl differs) starts = differs.begun starts
-not_ours_or_starts header octets at long begins (inr spoiled) starts = same_not_starts header long octets (front_before header long octets at spoiled.batches spoiled.before) begins starts
+not_ours_or_starts header octets at long begins is starts = grind (arith, same_not_starts, front_before)

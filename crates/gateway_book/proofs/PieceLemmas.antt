@@ -1,5 +1,5 @@
 -- How many records of a history's items are counted, piece by piece.
-use Rattle.std.proofs.Common.{◌≡◌, ℕ, ◌+◌, ◌-◌, ◌<◌, ◌≤◌, ◌^◌, min, List, ◌++◌, length, take, drop, cond, sym, ap, ◌∙◌, arith, length-drop}
+use Rattle.std.proofs.Common.{◌≡◌, ℕ, ◌+◌, ◌-◌, ◌<◌, ◌≤◌, ◌^◌, min, List, ◌++◌, length, take, drop, cond, ap, ◌∙◌, arith, length-drop, rules}
 use Rattle.std.proofs.Math.Seq.{take-add}
 use Rattle.std.proofs.lemmas.List.{length-take, take_all}
 use Rattle.std.proofs.lemmas.List.Sums.{count_by-le-length, sum_by-append}
@@ -19,9 +19,7 @@ few_parts xs = count_by-le-length is_part xs
 -- with the next piece
 pub counted_on : (xs items : List Item) (from n : ℕ) → items ≡ take n (drop from xs)
     → part_count (take from xs) + part_count items ≡ part_count (take (from + n) xs)
-counted_on xs items from n is =
-    ap (λ (l : List Item). part_count (take from xs) + part_count l) is
-    ∙ sym (counts_both (take from xs) (take n (drop from xs))) ∙ sym (ap (λ (l : List Item). part_count l) (take-add from n xs))
+counted_on xs items from n is = grind (arith, counts_both, take-add)
 
 -- with a last piece, which is shorter
 pub counted_all : (xs items : List Item) (from n : ℕ) → items ≡ take n (drop from xs) → length items < n
@@ -34,10 +32,7 @@ counted_all xs items from n is short =
 -- a whole piece was there to be taken
 pub goes_on_within : (xs items : List Item) (from n : ℕ) → items ≡ take n (drop from xs) → n ≤ length items → from ≤ length xs
     → from + n ≤ length xs
-goes_on_within xs items from n is long within =
-    let counted : length items ≡ min n (length (drop from xs)) = ap (λ (l : List Item). length l) is ∙ length-take n (drop from xs) in
-    let rest = length-drop from xs in
-    omega (arith, counted, long, rest, within)
+goes_on_within xs items from n is long within = grind (arith, length-take, length-drop)
 
 -- a sum that isn't too large is exact
 exact_sum : (xs items : List Item) (records n sum from : ℕ) → sum ≡ min (records + n) (2 ^ 64 - 1) → n ≡ part_count items
@@ -61,19 +56,4 @@ counted_last xs items records n sum from is_sum is_n is few counted short =
 
 module _ {A : Type 0} {tells : Ghosts A} where
   pub unchanged_then : (a b c : Book A tells) → IsUnchanged a b → IsUnchanged b c → IsUnchanged a c
-  unchanged_then a b c first second = record {
-    value = λ told. second.value told ∙ first.value told;
-    broken = second.broken ∙ first.broken;
-    cuts = second.cuts ∙ first.cuts;
-    kept = second.kept ∙ first.kept;
-    entries = second.entries ∙ first.entries;
-    firm = second.firm ∙ first.firm;
-    free = second.free ∙ first.free;
-    index = second.index ∙ first.index;
-    torn_stands = second.torn_stands ∙ first.torn_stands;
-    stays = record {
-      size = second.stays.size ∙ first.stays.size;
-      header = second.stays.header ∙ first.stays.header;
-      open_time = second.stays.open_time ∙ first.stays.open_time;
-    };
-  }
+  unchanged_then a b c first second = search rules

@@ -1,5 +1,5 @@
 -- Reads of a trail, one after the other.
-use Rattle.std.proofs.Common.{ℕ, List, [], ◌∷◌, ◌∙◌}
+use Rattle.std.proofs.Common.{ℕ, List, [], ◌∷◌, ◌∙◌, rules}
 use Rattle.std.proofs.lemmas.List.Concat.{flat_map-cons}
 use Rattle.std.proofs.lemmas.List.Elements.{All-head}
 use Rattle.area_disk.specs.CourseLaws.{read_on_trans}
@@ -16,19 +16,7 @@ use Rattle.gateway_book.specs.Read.{IsRead}
 
 module _ {A : Type 0} {tells : Ghosts A} where
   kept_on : {a b c : Trail A tells} → IsKept a b → IsKept b c → IsKept a c
-  kept_on one two = record {
-    size = two.size ∙ one.size;
-    header = two.header ∙ one.header;
-    closed = two.closed ∙ one.closed;
-    firm_entries = λ told. two.firm_entries told ∙ one.firm_entries told;
-    waiting = two.waiting ∙ one.waiting;
-    waiting_octets = two.waiting_octets ∙ one.waiting_octets;
-    firm_length = two.firm_length ∙ one.firm_length;
-    length = two.length ∙ one.length;
-    room = λ e. two.room e ∙ one.room e;
-    free = two.free ∙ one.free;
-    places = λ k place is. two.places k place (one.places k place is);
-  }
+  kept_on one two = search rules
 
   -- one read after the other
   pub read_on : {a b c : Trail A tells} → IsRead a b → IsRead b c → IsRead a c

@@ -1,5 +1,5 @@
 -- A book's cursor, as firm entries come after the others.
-use Rattle.std.proofs.Common.{◌≡◌, ◌≤◌, not, Bool, true, false, List, [], ◌++◌, refl, sym, subst, ◌∙◌, ℕ, if◌then◌else◌, length, arith, ◌+◌, ◌-◌, ◌<◌, ◌==◌, ◌^◌, drop, take, ap, length-append}
+use Rattle.std.proofs.Common.{◌≡◌, ◌≤◌, not, Bool, true, false, List, [], ◌++◌, sym, subst, ◌∙◌, ℕ, if◌then◌else◌, length, arith, ◌-◌, ◌<◌, ◌==◌, drop, take, ap, length-append, rules}
 use Rattle.std.proofs.lemmas.List.{append-nil, take-append-drop, take-append-le, drop_all}
 use Rattle.area_disk.specs.declared.area.Area.{Ghosts}
 use Rattle.gate_journal.specs.Format.{most_octets}
@@ -17,14 +17,12 @@ use Rattle.entry_codec.specs.Room.{capacity_of, costs_of}
 use Rattle.gw_base.specs.Known.{known_nodes}
 use Rattle.gateway_answer.specs.Items.{items_of, items_between, items_by}
 use Rattle.gateway_index.specs.Limits.{most_nodes}
-use Rattle.std.specs.Prelude.{min}
 use Rattle.area_disk.specs.Disk.{Rose, counted}
 use Rattle.gw_base.specs.declared.item.Item.{Item}
 use Rattle.gateway_book.specs.Calls.{length_at}
 use Rattle.gateway_book.specs.Cursor.{IsAt, IsBegun, IsWithin, StandsIn, gathered_at_last, items_from}
 use Rattle.gateway_answer.specs.FiledLaws.{along-append}
 use Rattle.gateway_book.specs.Gathering.{Gathered}
-use Rattle.gateway_book.specs.HeldCopies.{HoldCopies, places_of}
 use Rattle.gateway_book.specs.Standing.{HasCursor, IsCounting}
 use Rattle.gateway_book.specs.declared.cursor.Cursor.{Cursor}
 use Rattle.gateway_book.proofs.CursorLemmas.{begun_at, begun_within}
@@ -50,37 +48,25 @@ module _ {A : Type 0} {tells : Ghosts A} (old new : Trail A tells) (before after
   pub followed_again : (stands : Bool) → IsFollowed old before → IsReopened old new stands → (stands ≡ true → TornStand old new)
       → (stands ≡ false → TornDropped old new) → tells.size (area_of new) ≡ tells.size (area_of old)
       → ((side : Bool) (h : List HistoryEntry) → Follows (not stands) before h → Follows side after h) → IsFollowed new after
-  followed_again true followed reopened stand dropped size keeps =
-      settled_on (all_entries old) size followed.short (λ told. (stand refl).listed told) reopened.none_waits
-      (λ told side. keeps side (all_entries old) (followed.live told)) followed.fit
-  followed_again false followed reopened stand dropped size keeps =
-      settled_on (firm_entries old) size followed.short (λ told. (dropped refl).listed told) reopened.none_waits
-      (λ told side. keeps side (firm_entries old) (followed.firm told))
-      (λ told. fit_front (tells.size (area_of old)) [] (firm_entries old) (waiting old) (followed.fit told))
+  followed_again stands followed reopened stand dropped size keeps = search (rules, settled_on, fit_front)
 
 -- ---- the front of a fit history, which is what is firm of it
 
 -- its items are few
 pub front_few : ((h : List HistoryEntry) → length (items_of h) ≤ costs_of h) → (size : ℕ) (h more : List HistoryEntry) → AllFit size (h ++ more) → length (items_of h) ≤ capacity_of size
-front_few law size h more fit =
-    omega (arith, law h, fit_is_within size h (fit_front size [] h more fit))
+front_few law size h more fit = grind (arith, fit_is_within, fit_front)
 
 -- so are the nodes that the history of a book knows, broken or not
 pub history_knows_few : (size : ℕ) (is_broken : Bool) (firm rest : List HistoryEntry) → AllFit size (firm ++ rest)
     → length (known_nodes (if is_broken then firm else firm ++ rest)) ≤ most_nodes
-history_knows_few size true firm rest fit = fit_knows_few size firm (fit_front size [] firm rest fit)
-history_knows_few size false firm rest fit = fit_knows_few size (firm ++ rest) fit
+history_knows_few size is_broken firm rest fit = grind (arith, fit_knows_few, fit_front)
 
 -- ---- a book's cursor, as firm entries come after the others
 
 -- ---- more entries
 
 at_longer : (h more : List HistoryEntry) (c : Cursor) → IsAt h c → IsAt (h ++ more) c
-at_longer h more c at = record {
-  within = omega (arith, at.within, length-append h more);
-  items = at.items ∙ sym (ap (λ (xs : List HistoryEntry). min (length (items_of xs)) (2 ^ 64 - 1)) (take-append-le c.entry h more at.within));
-  copies = subst (λ (xs : List HistoryEntry). HoldCopies (places_of c.copies) xs) (sym (take-append-le c.entry h more at.within)) at.copies;
-}
+at_longer h more c at = search (rules, length-append, take-append-le)
 
 -- a cursor before all entries stands among any
 pub stands_begun : {A : Type 0} {tells : Ghosts A} {trail : Trail A tells} {cursor : Cursor} → IsBegun cursor → HasCursor trail cursor
@@ -95,20 +81,12 @@ stands_moved at stands = record { size = stands.size; fit = stands.fit; firm = s
 -- a book's cursor stands in its firm part
 pub stands_in : {A : Type 0} {tells : Ghosts A} {trail : Trail A tells} {cursor : Cursor} → HasCursor trail cursor → Told tells
     → AllFit (tells.size (area_of trail)) (all_entries trail) → StandsIn trail (firm_entries trail) cursor
-stands_in {A} {tells} {trail} stands told fit = record {
-  size = tells.size (area_of trail);
-  fit = fit_front (tells.size (area_of trail)) [] (firm_entries trail) (waiting trail) fit;
-  firm = refl;
-  at = stands.at told;
-}
+stands_in stands told fit = search (rules, fit_front)
 
 -- after a reading
 pub stands_read : {A : Type 0} {tells : Ghosts A} {old new : Trail A tells} {now : Cursor} → IsKept old new → IsWithin (firm_length old) now
     → (Told tells → IsAt (firm_entries old) now) → HasCursor new now
-stands_read {now = now} kept within at = record {
-  within = subst (λ (n : ℕ). IsWithin n now) (sym kept.firm_length) within;
-  at = λ told. subst (λ (h : List HistoryEntry). IsAt h now) (sym (kept.firm_entries told)) (at told);
-}
+stands_read one two three = search rules
 
 module _ {A : Type 0} {tells : Ghosts A} {old new : Trail A tells} {cursor : Cursor} (stands : HasCursor old cursor) where
   -- the firm entries are those that were firm, and others after them
@@ -126,14 +104,11 @@ module _ {A : Type 0} {tells : Ghosts A} {old new : Trail A tells} {cursor : Cur
 
   -- a commit
   pub stands_all : {n : ℕ} → is_closed old ≡ false → firm_length old ≤ length_of old → AllFirm old new n → HasCursor new cursor
-  stands_all open_now longer all =
-      stands_longer (omega (arith, longer, all.firm_count, all.count)) (waiting old)
-      (λ told. all.listed told ∙ ap (λ b. if b then firm_entries old else firm_entries old ++ waiting old) open_now)
+  stands_all open_now is all = search (rules, stands_longer)
 
   -- an opening again
   pub stands_again : (stood : Bool) → (stood ≡ true → TornStand old new) → (stood ≡ false → TornDropped old new) → HasCursor new cursor
-  stands_again true stand dropped = stands_longer (omega (arith, (stand refl).count)) (waiting old) (stand refl).listed
-  stands_again false stand dropped = stands_same (dropped refl).count (dropped refl).listed
+  stands_again stood stand dropped = search (rules, stands_longer, stands_same)
 
 -- ---- what is gathered from a cursor on
 
@@ -173,6 +148,4 @@ module _ {A : Type 0} {tells : Ghosts A} {old new : Trail A tells} {cuts kept : 
   -- a commit or an opening again that failed
   pub counting_failed : {now after : ℕ} → Rose (tells.faults (area_of old)) (tells.faults (area_of new)) → firm_length new ≡ firm_length old
       → now ≡ counted 1 cuts → after ≡ length_at cuts (firm_length new) kept → IsCounting new now after
-  counting_failed rose count cut at =
-      let most = at_most cuts (firm_length new) kept (omega (arith, counting.within, count)) in
-      record { fewer = omega (arith, counting.fewer, rose, cut); within = omega (arith, most, at) }
+  counting_failed rose count cut at = search (rules, at_most)

@@ -1,5 +1,5 @@
 -- What an answer leaves of a book.
-use Rattle.std.proofs.Common.{◌≡◌, ℕ, ◌≤◌, Bool, false, if◌then◌else◌, List, [], ◌∷◌, ◌++◌, Option, Some, None, refl, sym, ap, subst, ◌∙◌, append_assoc, arith, inl, inr, true}
+use Rattle.std.proofs.Common.{◌≡◌, ℕ, ◌≤◌, Bool, false, if◌then◌else◌, List, [], ◌∷◌, ◌++◌, Option, Some, None, refl, sym, ap, subst, ◌∙◌, append_assoc, arith, true, rules}
 use Rattle.area_disk.specs.declared.area.Area.{Ghosts}
 use Rattle.gate_journal.specs.Moments.{Told}
 use Rattle.cgf_journal.specs.Outcomes.{FirmStays}
@@ -14,9 +14,9 @@ use Rattle.gw_base.specs.declared.history.Caller.{Caller}
 use Rattle.gw_base.specs.declared.history.HistoryAct.{HistoryAct}
 use Rattle.gw_base.specs.declared.history.HistoryEntry.{HistoryEntry}
 use Rattle.gateway_book.specs.Adding.{AddsIf, IsAdded, IsSame, entry_of, room_told}
-use Rattle.gateway_answer.specs.Answer.{Decided, Given, Replies, Says, Silent, answer_within, decided, node_of}
+use Rattle.gateway_answer.specs.Answer.{Decided, Given, Says, Silent, answer_within, decided, node_of}
 use Rattle.gateway_answer.specs.Answered.{act_decided, answer_to, entry_by, room_for}
-use Rattle.gateway_book.specs.Calls.{left_by, outcome_at, Left, marked_at, marked_if_ready, ticked}
+use Rattle.gateway_book.specs.Calls.{left_by, outcome_at, marked_at, ticked}
 use Rattle.gateway_answer.specs.Fit.{IsFit, latest_moment}
 use Rattle.gateway_answer.specs.FitHistory.{AllFit}
 use Rattle.gateway_answer.specs.FitHistoryLaws.{last_is_in_range, fit_more}
@@ -35,8 +35,6 @@ use Rattle.gateway_book.proofs.Openings.{fit_may_grow}
 use Rattle.gw_base.specs.declared.history.HistoryAct.TheVariants.{Close}
 use Rattle.gateway_book.specs.Marking.{IsMark, with_entry}
 use Rattle.gateway_answer.specs.Marks.{close_mark, made_if, tick_mark}
-use Rattle.gateway_book.specs.declared.outcome.Marked.{Marked}
-use Rattle.gateway_book.specs.declared.outcome.Marked.TheVariants as marked
 
 -- what a step did with an answer, by its trails and indices
 abbrev pub IfSilent : {A : Type 0} {tells : Ghosts A} → Trail A tells → Trail A tells → Index → Index → Decided → Done → Type 0
@@ -99,8 +97,7 @@ answered_is trail index from datagram now moment who open_now at answers =
 -- what is recorded is fit
 pub fit_of : (size : ℕ) (h : List HistoryEntry) (now : ℕ) (who : Caller) (given : Given) (reply : List ℕ) (a : HistoryAct)
     → IfRecords (λ number message b. IsFit size h (entry_by h now who b)) given → decided given ≡ Says reply (Some a) → IsFit size h (entry_by h now who a)
-fit_of size h now who (Replies number message (Some b)) reply a fits e = let same : b ≡ a = cc e in rw (← same) fits
-fit_of size h now who _ reply a fits e = absurd (cc e)
+fit_of size h now who given reply a fits e = search rules
 
 -- ---- what a book stands for afterwards
 
@@ -117,14 +114,7 @@ stands_same {A} {tells} cuts e = ap (λ (t : Trail A tells). standing t cuts) e
 pub stands_after : {A : Type 0} {tells : Ghosts A} (old new : Trail A tells) (before after : Index) (cuts now moment : ℕ) (who : Caller)
     (a : Option HistoryAct) → is_closed old ≡ false → moment ≡ moment_after (all_entries old) now → AddsIf old new before after moment who a
     → standing new cuts ≡ recorded_if (standing old cuts) now who a
-stands_after old new before after cuts now moment who None open_now at same = stands_same cuts same.trail
-stands_after old new before after cuts now moment who (Some a) open_now at added = λ i. record {
-  firm = added.stays.listed i;
-  rest = (added.pushed.waits ∙ ap (λ (m : ℕ). waiting old ++ entry_of m who a ∷ [])
-      (at ∙ ap (λ (h : List HistoryEntry). moment_after h now) (sym (history_is old cuts open_now)))) i;
-  cuts = cuts;
-  is_broken = added.stays.opened i;
-}
+stands_after old new before after cuts now moment who a open_now at same = grind (arith, stands_same, history_is)
 
 -- ---- the whole of an answer
 
@@ -132,8 +122,7 @@ module _ {A : Type 0} {tells : Ghosts A} {old new : Trail A tells} {before after
   -- what is so where nothing changed, and where an entry was added, is so whatever an answer did
   adds_hold : (P : Trail A tells → Trail A tells → Type 0) → P old old → ((e : HistoryEntry) → IsAdded old new before after e → P old new)
       → (a : Option HistoryAct) → AddsIf old new before after moment who a → P old new
-  adds_hold P same added None is = rw is.trail same
-  adds_hold P same added (Some a) is = added (entry_of moment who a) is
+  adds_hold P same added a is = search rules
 
   done_holds : {decision : Decided} (P : Trail A tells → Trail A tells → Type 0) → P old old → ((e : HistoryEntry) → IsAdded old new before after e → P old new)
       → (finished : Done) → IfSilent old new before after decision finished → IfSaid old new before after moment who decision finished → P old new
@@ -157,9 +146,7 @@ module _ {A : Type 0} {tells : Ghosts A} {old new : Trail A tells} {before after
   pub done_is : (now cuts : ℕ) {decision told_decision : Decided} (finished : Done) → is_closed old ≡ false → moment ≡ moment_after (all_entries old) now
       → decision ≡ told_decision → IfSilent old new before after decision finished → IfSaid old new before after moment who decision finished
       → IsDone finished (standing old cuts) (standing new cuts) now who told_decision
-  done_is now cuts (done.Silent why) open_now at is silent said = (sym is ∙ (silent why refl).0, stands_same cuts (silent why refl).1.trail)
-  done_is now cuts (done.Said reply) open_now at is silent said =
-      ((said reply refl).0, sym is ∙ (said reply refl).1, stands_after old new before after cuts now moment who (said reply refl).0 open_now at (said reply refl).2)
+  done_is now cuts finished open_now at is silent said = search (rules, stands_same, stands_after)
 
 -- what an answer records is fit
 pub recorded_is_fit : {size : ℕ} {h : List HistoryEntry} (from : Addr) (datagram : PreparedValue) {now moment : ℕ} (who : Caller) {decision : Decided}
@@ -182,8 +169,7 @@ module _ (old new : BookValue) (now : ℕ) (who : Caller) (decision : Decided) w
 
 -- a mark may always come
 pub mark_may_come : (index : Index) (act : HistoryAct) → IsMark act → MayCome act index
-mark_may_come index act (inl tick) = rw tick refl
-mark_may_come index act (inr close) = rw close refl
+mark_may_come index act is = search rules
 
 -- the room for an entry of an open trail
 pub room_of_open : {A : Type 0} {tells : Ghosts A} (trail : Trail A tells) (e : HistoryEntry) → is_closed trail ≡ false
@@ -207,7 +193,4 @@ close_made h all is size due room = rw (room, is, due) refl
 pub tick_of_ready : (f : Fortune) (v ready : BookValue) (open_time size time_then size_then now : ℕ) (who : Caller) → ready ≡ readied f v
     → ready.is_broken ≡ false → time_then ≡ open_time → size_then ≡ size
     → marked_at ready now who (tick_mark time_then now (history_of ready) size_then) ≡ ticked f open_time size now who v
-tick_of_ready f v ready open_time size time_then size_then now who is goes times sizes =
-    (λ i. marked_at ready now who (tick_mark (times i) now (history_of ready) (sizes i)))
-    ∙ sym (ap (λ b. let left : Left Marked = if b then record { value = ready; answer = marked.Device } else marked_at ready now who (tick_mark open_time now (history_of ready) size) in left) goes)
-    ∙ ap (λ (m : BookValue). marked_if_ready m now who (tick_mark open_time now (history_of m) size)) is
+tick_of_ready f v ready open_time size time_then size_then now who is goes times sizes = grind arith

@@ -1,12 +1,11 @@
 -- What each call of a book owes and adds as a turn.
-use Rattle.std.proofs.Common.{◌≡◌, inl, inr, ℕ, zero, suc, ◌<◌, ◌≤◌, ◌==◌, ◌&&◌, Bool, true, false, if◌then◌else◌, List, [], ◌∷◌, ◌++◌, take, Option, Some, None, refl, sym, ap, subst, ◌∙◌, append_assoc, arith, drop}
-use Rattle.std.proofs.lemmas.Bool.{and_parts, false≢true, cases_Bool, cond_both, false_from_ne_true}
+use Rattle.std.proofs.Common.{◌≡◌, inl, inr, ℕ, zero, suc, ◌<◌, ◌≤◌, ◌==◌, ◌&&◌, Bool, true, false, if◌then◌else◌, List, [], ◌∷◌, ◌++◌, take, Option, Some, None, refl, sym, ap, subst, ◌∙◌, append_assoc, arith, drop, rules}
+use Rattle.std.proofs.lemmas.Bool.{and_parts, cases_Bool, cond_both, false_from_ne_true}
 use Rattle.std.specs.Prelude.{All}
 use Rattle.std.proofs.lemmas.List.{append-nil, take-append-drop}
-use Rattle.std.proofs.lemmas.List.Elements.{All-cons}
 use Rattle.area_disk.specs.declared.area.Area.{Ghosts}
 use Rattle.gate_journal.specs.Moments.{Told}
-use Rattle.cgf_journal.specs.Trail.{firm_length, is_closed, torn_stands}
+use Rattle.cgf_journal.specs.Trail.{firm_length, is_closed}
 use Rattle.gw_base.specs.Facts.{joined}
 use Rattle.gw_base.specs.Faults.{Stood}
 use Rattle.gw_base.specs.Owes.{AreAligned, AreBy, Begins, base}
@@ -16,13 +15,13 @@ use Rattle.gw_base.specs.declared.history.HistoryEntry.{HistoryEntry}
 use Rattle.gw_base.specs.declared.address.Addr.{Addr}
 use Rattle.gateway_answer.specs.Answer.{decided, failure_answer}
 use Rattle.gateway_answer.specs.Answered.{act_decided, entry_by}
-use Rattle.gateway_book.specs.Book.{HasCause, Stays, area_of, fortune_of, reopening_of, value_of}
+use Rattle.gateway_book.specs.Book.{HasCause, Stays, area_of, fortune_of, value_of}
 use Rattle.gateway_book.specs.Calls.{given_at, length_at, marked_if_ready, taken}
-use Rattle.gateway_answer.specs.Marks.{Mark, NotDue}
-use Rattle.gateway_answer.specs.Preparing.{PreparedValue, Drop}
+use Rattle.gateway_answer.specs.Marks.{Mark}
+use Rattle.gateway_answer.specs.Preparing.{PreparedValue}
 use Rattle.gateway_book.specs.Read.{IsUnchanged}
 use Rattle.gateway_book.specs.Turning.{IsTurn, act_in, added_to, drops_of, facts_of, is_gone, tells_lists}
-use Rattle.gateway_answer.specs.Value.{BookValue, Fortune, Gone, Refused, Reopening, Whole, after_commit, faulted, history_of, is_batch_full, readied, recorded_if, reopened, torn_of, tried, tried_with}
+use Rattle.gateway_answer.specs.Value.{BookValue, Fortune, Reopening, after_commit, history_of, is_batch_full, readied, recorded_if, reopened, torn_of, tried, tried_with}
 use Rattle.gateway_book.specs.declared.book.Book.{Book}
 use Rattle.gateway_book.proofs.Causing.{not_zero}
 
@@ -105,16 +104,11 @@ module _ (f : Fortune) (v : BookValue) where
 
   -- an opening again
   opened_again : v.is_broken ≡ true → (r : Reopening) → f.reopening ≡ r → Moves f v (reopened v r) []
-  opened_again broken Whole is = firm_all (drops_by f v true false broken (ap is_gone is))
-  opened_again broken Gone is = dropped_torn broken (drops_by f v true true broken (ap is_gone is))
-  opened_again broken Refused is = stayed (faulted v) (drops_by f v true false broken (ap is_gone is)) refl refl (λ goes. absurd (false≢true (sym goes)))
+  opened_again broken r is = search (rules, firm_all, drops_by, dropped_torn, stayed)
 
   -- a commit that the device is asked for
   asked_again : v.is_broken ≡ false → (b : Bool) → f.fails ≡ b → Moves f v (tried f v) []
-  asked_again goes true is = subst (λ (w : BookValue). Moves f v w []) (sym (ap (λ b. let w : BookValue = if b then faulted v else record v { firm = v.firm ++ v.rest; rest = [] } in w) is))
-      (stayed (faulted v) (kept_open goes) refl refl (λ runs. absurd (false≢true (sym runs))))
-  asked_again goes false is = subst (λ (w : BookValue). Moves f v w []) (sym (ap (λ b. let w : BookValue = if b then faulted v else record v { firm = v.firm ++ v.rest; rest = [] } in w) is))
-      (subst (λ (b : Bool). Moves f v (record v { firm = v.firm ++ v.rest; rest = []; is_broken = b }) []) (sym goes) (firm_all (kept_open goes)))
+  asked_again goes b is = search (rules, stayed, kept_open, firm_all)
 
   left_so : v.is_broken ≡ false → Moves f v v []
   left_so goes = stayed v (kept_open goes) refl refl (λ runs. goes)
@@ -124,8 +118,7 @@ module _ (f : Fortune) (v : BookValue) where
   asked_with goes (e ∷ rest) = asked_again goes f.fails refl
 
   moves_by : (b : Bool) → v.is_broken ≡ b → (w : BookValue) → (v.is_broken ≡ false → Moves f v w []) → Moves f v (if b then reopened v f.reopening else w) []
-  moves_by true is w other = opened_again is f.reopening refl
-  moves_by false is w other = other is
+  moves_by b is w other = search (rules, opened_again)
 
   if_full : v.is_broken ≡ false → (b : Bool) → Moves f v (if b then tried f v else v) []
   if_full goes true = asked_again goes f.fails refl
@@ -178,8 +171,7 @@ module _ {A : Type 0} {tells : Ghosts A} where
 
   base_at : (book : Book A tells) (drops : Bool)
       → base drops (facts_of book) ≡ (if drops then (value_of book).firm else (value_of book).firm ++ (value_of book).rest)
-  base_at book true = refl
-  base_at book false = joined_at book
+  base_at book drops = grind (arith, joined_at)
 
   module _ (old new : Book A tells) (cause : HasCause old new) where
     -- a count that stood tells that the book goes on
@@ -221,29 +213,22 @@ none_by : (session : ℕ) → All {X = HistoryEntry} (λ (e : HistoryEntry). e.c
 none_by session = λ k d le. absurd (omega (arith, le))
 
 by_none : (session : Option ℕ) → AreBy session []
-by_none None = refl
-by_none (Some session) = none_by session
+by_none session = search (rules, none_by)
 
 by_caller : (m : BookValue) (now : ℕ) (who : Caller) (act : Option HistoryAct) → AreBy (Some who.session) (added_to m now who act)
-by_caller m now who None = none_by who.session
-by_caller m now who (Some a) =
-    All-cons (λ (e : HistoryEntry). e.caller.session ≡ who.session) (entry_by (history_of m) now who a) [] refl (none_by who.session)
+by_caller m now who act = search (rules, none_by)
 
 failure_has_none : (datagram : PreparedValue) → act_decided (decided (failure_answer datagram)) ≡ None
-failure_has_none (Drop why) = refl
-failure_has_none _ = refl
+failure_has_none datagram = grind arith
 
 -- what a book records goes on
 records_open : (m : BookValue) (from : Addr) (datagram : PreparedValue) (size : ℕ) (a : HistoryAct)
     → act_decided (decided (given_at m from datagram size)) ≡ Some a → m.is_broken ≡ false
-records_open m from datagram size a is = false_from_ne_true _ (λ broken.
-    let both : ◌≡◌ {A = Option HistoryAct} None (Some a) = sym (failure_has_none datagram) ∙ (rw broken at is) in cc both)
+records_open m from datagram size a is = grind (arith, false_from_ne_true, failure_has_none)
 
 marked_is : (m : BookValue) (now : ℕ) (who : Caller) (mark : Mark) (b : Bool) → m.is_broken ≡ b
     → (marked_if_ready m now who mark).value ≡ recorded_if m now who (act_in m mark)
-marked_is m now who mark true is = rw is refl
-marked_is m now who NotDue false is = rw is refl
-marked_is m now who _ false is = rw is refl
+marked_is m now who mark b is = grind arith
 
 marks_open : (m : BookValue) (mark : Mark) (a : HistoryAct) → act_in m mark ≡ Some a → m.is_broken ≡ false
 marks_open m mark a is = false_from_ne_true _ (λ broken. let both : ◌≡◌ {A = Option HistoryAct} None (Some a) = rw broken at is in cc both)
@@ -274,9 +259,7 @@ module _ {A : Type 0} {tells : Ghosts A} (old new : Book A tells) (stays : Stays
 
   pub taken_turn : (from : Addr) (datagram : PreparedValue) (size now : ℕ) (who : Caller) → (Told tells → value_of new ≡ (taken (fortune_of old new) from datagram size now who (value_of old)).value)
       → IsTurn old new (Some who.session) (added_to (readied (fortune_of old new) (value_of old)) now who (act_decided (decided (given_at (readied (fortune_of old new) (value_of old)) from datagram size))))
-  taken_turn from datagram size now who moved =
-      let m = readied (fortune_of old new) (value_of old) in
-      recorded_turn now who (act_decided (decided (given_at m from datagram size))) (λ a is. records_open m from datagram size a is) moved
+  taken_turn from datagram size now who moved = search (rules, recorded_turn, records_open)
 
 -- a book that was made ready stands for the list behind which entries are added
 pub readied_behind : {A : Type 0} {tells : Ghosts A} (old new : Book A tells) → (readied (fortune_of old new) (value_of old)).is_broken ≡ false
@@ -322,5 +305,4 @@ read_turn {tells = tells} old new session same later = record {
     same_length = λ i. length_at (same.cuts i) (same.firm i) (same.kept i)
 
     kept_by : (b : Bool) → is_closed old.trail ≡ b → drops_of (fortune_of old new) (value_of old) ≡ false
-    kept_by true is = λ i. is i && is_gone (reopening_of ((same.broken ∙ is) i) (torn_stands old.trail))
-    kept_by false is = rw is refl
+    kept_by b is = grind arith
