@@ -233,8 +233,11 @@ Judged octets = ((tag : Tag) × BerValue 32 octets tag) ⊎ ((fault : BerFault) 
 
 judge_rest : (octets rest : List ℕ) (f : Fronted (IsOneValue 32) octets) → f.rest ≡ rest → Judged octets
 judge_rest octets [] f e =
-    inl (f.is_value.0, subst (λ (w : List ℕ). BerValue 32 w f.is_value.0)
-    (sym (f.joined ∙ ap (λ (r : List ℕ). f.value ++ r) e ∙ append-nil f.value)) f.is_value.1)
+    inl (
+      f.is_value.0,
+      subst (λ (w : List ℕ). BerValue 32 w f.is_value.0)
+          (sym (f.joined ∙ ap (λ (r : List ℕ). f.value ++ r) e ∙ append-nil f.value)) f.is_value.1,
+    )
 judge_rest octets (a ∷ rest) f e =
     let some : f.rest ≢ [] = λ none. absurd (cc (e, none)) in
     inr (fault_at (length f.value) Trailing, inr (f.value, f.rest, f.joined, f.is_value, some, refl))
@@ -270,9 +273,11 @@ checked_fails octets small = (decided (checked octets) (judge octets small) (che
     (checked_wrong octets)).1
 
 pub one_value : (octets : List ℕ) → IsOctets octets → (is_one_value octets ≡ true) ↔ IsOneValue 32 octets
-one_value octets small =
-    (λ e. there (judge octets small) e, λ is. ap (λ (r : Result Tag BerFault). is_ok r)
-        (checked_right octets is.0 is.1))
+one_value octets small = (
+  λ e. there (judge octets small) e,
+  λ is. ap (λ (r : Result Tag BerFault). is_ok r)
+      (checked_right octets is.0 is.1),
+)
   where
     there : Judged octets → is_one_value octets ≡ true → IsOneValue 32 octets
     there (inl is) e = is

@@ -31,12 +31,12 @@ sized_read levels at octets rest tag size more false false head form fits is =
     let same : drop size more ≡ rest = cc in
     rw head
     (ap (λ (b : Bool). contents_at (value_at levels) at (at + (length octets - length more)) b (Some size) more
-        >>= λ behind. read tag behind) form
+    >>= λ behind. read tag behind) form
     ∙ rw fits (ap (λ (o : List ℕ). read tag o) same))
 
 primitive_read : (levels at : ℕ) (octets rest : List ℕ) (h : Result (Tag × Option ℕ × List ℕ) BerKind)
     → head_at octets ≡ h → behind_value h ≡ some_octets rest →
-        (tag : Tag) × (value_at (suc levels) at octets ≡ read tag rest)
+    (tag : Tag) × (value_at (suc levels) at octets ≡ read tag rest)
 primitive_read levels at octets rest (Err kind) head is = absurd cc
 primitive_read levels at octets rest (Ok (tag, None, more)) head is = absurd cc
 primitive_read levels at octets rest (Ok (tag, Some size, more)) head is =
@@ -44,10 +44,10 @@ primitive_read levels at octets rest (Ok (tag, Some size, more)) head is =
 
 read_behind : (levels count at : ℕ) (octets : List ℕ)
     → ((n : ℕ) (rest : List ℕ) → fewer_primitive count rest ≡ true →
-        inner_values_at (value_at (suc levels)) false count n rest ≡ rest_is [])
+    inner_values_at (value_at (suc levels)) false count n rest ≡ rest_is [])
     → are_over false octets ≡ false → (behind : Option (List ℕ)) → behind_primitive octets ≡ behind
     → go_behind (fewer_primitive count) behind ≡ true → inner_values_at (value_at (suc levels)) false (suc count) at
-        octets ≡ rest_is []
+    octets ≡ rest_is []
 unfolding inner_values_at behind_primitive
 read_behind levels count at octets again goes_on None is go = absurd cc
 read_behind levels count at octets again goes_on (Some rest) is go =
@@ -62,7 +62,7 @@ all_read levels zero at octets are = absurd cc
 all_read levels (suc count) at [] are = refl
 all_read levels (suc count) at (a ∷ octets) are =
     read_behind levels count at (a ∷ octets) (λ n rest fewer. all_read levels count n rest fewer) refl
-        (behind_primitive (a ∷ octets)) refl are
+    (behind_primitive (a ∷ octets)) refl are
 
 -- ---- what `flat` tells
 
@@ -78,17 +78,20 @@ flat_read levels octets tag t size rest true false primitive head ends form are 
     let same : t ≡ tag = cc in
     let size_is = eqb-true size (length rest) ends in
     rw (head, size_is) (ap (λ (b : Bool). contents_at (value_at (suc levels)) 0 (0 + (length octets - length rest)) b
-        (Some (length rest)) rest >>= λ behind. read t behind) form
+    (Some (length rest)) rest >>= λ behind. read t behind) form
     ∙ rw (le-ltb (length rest) (length rest) (omega arith), drop_all (length rest) rest (omega arith))
     (ap (λ (x : Tag). read x []) same))
 flat_read levels octets tag t size rest true true true head ends form are is =
     let same : t ≡ tag = cc in
     let size_is = eqb-true size (length rest) ends in
     rw (head, size_is) (ap (λ (b : Bool). contents_at (value_at (suc levels)) 0 (0 + (length octets - length rest)) b
-        (Some (length rest)) rest >>= λ behind. read t behind) form
-    ∙ rw (le-ltb (length rest) (length rest) (omega arith), take_all (length rest) rest (omega arith),
-    all_read levels (suc (length rest)) (0 + (length octets - length rest)) rest are,
-    drop_all (length rest) rest (omega arith)) (ap (λ (x : Tag). read x []) same))
+    (Some (length rest)) rest >>= λ behind. read t behind) form
+    ∙ rw (
+      le-ltb (length rest) (length rest) (omega arith),
+      take_all (length rest) rest (omega arith),
+      all_read levels (suc (length rest)) (0 + (length octets - length rest)) rest are,
+      drop_all (length rest) rest (omega arith),
+    ) (ap (λ (x : Tag). read x []) same))
 
 flat_head : (octets : List ℕ) (tag : Tag) (h : Result (Tag × Option ℕ × List ℕ) BerKind) → head_at octets ≡ h →
     flat_value h ≡ some_tag tag → checked octets ≡ ok tag
@@ -97,7 +100,7 @@ flat_head octets tag (Err kind) head is = absurd cc
 flat_head octets tag (Ok (t, None, rest)) head is = absurd cc
 flat_head octets tag (Ok (t, Some size, rest)) head is =
     rw (flat_read 30 octets tag t size rest (size == length rest) t.constructed (are_primitive rest) head refl refl
-        refl is) refl
+    refl is) refl
 
 pub flat_walks : (octets : List ℕ) (tag : Tag) → IsOctets octets → flat octets ≡ Some tag → Walks octets (Ok tag)
 unfolding flat

@@ -30,21 +30,36 @@ wrong_reads octets fault (inr h) =
 
 judge : (octets : List ℕ) → ((tag : Tag) × IsIdentifier octets tag) ⊎
     ((fault : BerFault) × IdentifierRefused octets fault)
-judge octets = elim (identifier_decide octets) [ inl i ↦ by i.rest i.after | inr u ↦
-    inr (fault_at 0 u.kind, inl (u.kind, u.fails, refl)) ]
+judge octets = elim (identifier_decide octets) [
+  | inl i ↦ by i.rest i.after
+  | inr u ↦
+      inr (fault_at 0 u.kind, inl (u.kind, u.fails, refl))
+]
   where
     by : {tag : Tag} (rest : List ℕ) → AfterIdentifier octets tag rest →
         ((tag : Tag) × IsIdentifier octets tag) ⊎ ((fault : BerFault) × IdentifierRefused octets fault)
-    by {tag} [] h = inl (tag, subst (λ (w : List ℕ). IsIdentifier w tag) (sym (h.joined ∙ append-nil h.identifier))
-        h.is_identifier)
+    by {tag} [] h = inl (
+      tag,
+      subst (λ (w : List ℕ). IsIdentifier w tag) (sym (h.joined ∙ append-nil h.identifier))
+          h.is_identifier,
+    )
     by {tag} (a ∷ rest) h =
         let some : a ∷ rest ≢ [] = λ none. absurd (cc (none)) in
-        inr (fault_at (length h.identifier) Trailing, inr (h.identifier, a ∷ rest, h.joined, (tag, h.is_identifier),
-            some, refl))
+        inr (
+          fault_at (length h.identifier) Trailing,
+          inr (
+            h.identifier,
+            a ∷ rest,
+            h.joined,
+            (tag, h.is_identifier),
+            some,
+            refl,
+          ),
+        )
 
 pub identifier_answers : (octets : List ℕ) (result : Result Tag BerFault) → result ≡ whole_identifier octets
     → ((tag : Tag) → (result ≡ ok tag) ↔ IsIdentifier octets tag)
-        × ((fault : BerFault) → (result ≡ err fault) ↔ IdentifierRefused octets fault)
+    × ((fault : BerFault) → (result ≡ err fault) ↔ IdentifierRefused octets fault)
 identifier_answers octets result e = decided result (judge octets) (λ tag is. e ∙ right_reads octets tag is)
     (λ fault is. e ∙ wrong_reads octets fault is)
 

@@ -46,7 +46,7 @@ abbrev Enters : List Opened → ℕ → List ℕ → Result (Tag × List ℕ) Be
 Enters opened at octets (Ok x) =
     (q : Place) × (entered (place at octets opened) ≡ Ok (x.0, q)) × (length x.1 < length octets) × IsOctets x.1
     × ((outcome : Result Place BerFault) → Fate (place (at + (length octets - length x.1)) x.1 opened) outcome →
-        Fate q outcome)
+    Fate q outcome)
 Enters opened at octets (Err fault) =
     (entered (place at octets opened) ≡ Err fault)
     ⊎ ((tag : Tag) × (q : Place) × (entered (place at octets opened) ≡ Ok (tag, q)) × Fate q (Err fault))
@@ -60,19 +60,19 @@ abbrev Walked : Opened → List Opened → ℕ → List ℕ → Result (List ℕ
 Walked o outer at octets (Ok rest) =
     (are_over o.endless rest ≡ true) × (length rest ≤ length octets) × IsOctets rest
     × ((outcome : Result Place BerFault) → Fate (place (at + (length octets - length rest)) rest (o ∷ outer)) outcome →
-        Fate (place at octets (o ∷ outer)) outcome)
+    Fate (place at octets (o ∷ outer)) outcome)
 Walked o outer at octets (Err fault) = Fate (place at octets (o ∷ outer)) (Err fault)
 
 -- a value in front, and those behind it
 walked_more : (o : Opened) (outer : List Opened) (at : ℕ) (octets rest : List ℕ) (q : Place) →
     step_from (place at octets (o ∷ outer)) (o ∷ outer) ≡ Ok q → length rest < length octets
     → ((outcome : Result Place BerFault) → Fate (place (at + (length octets - length rest)) rest (o ∷ outer)) outcome →
-        Fate q outcome)
+    Fate q outcome)
     → (r : Result (List ℕ) BerFault) → Walked o outer (at + (length octets - length rest)) rest r →
-        Walked o outer at octets r
+    Walked o outer at octets r
 walked_more o outer at octets rest q step shorter passes (Ok left) row =
     let there : at + (length octets - length left) ≡ at + (length octets - length rest) + (length rest - length left) =
-        omega (arith, row.1) in (
+    omega (arith, row.1) in (
       row.0,
       omega (arith, row.1),
       row.2,
@@ -85,17 +85,17 @@ walked_more o outer at octets rest q step shorter passes (Err fault) row =
 walked_step : (value : Reader) (o : Opened) (outer : List Opened) (limit at : ℕ) (octets : List ℕ) → IsOctets octets →
     length octets < suc limit
     → ((n : ℕ) (rest : List ℕ) → IsOctets rest → length rest < limit →
-        Walked o outer n rest (inner_values_at value o.endless limit n rest))
+    Walked o outer n rest (inner_values_at value o.endless limit n rest))
     → (over : Bool) → are_over o.endless octets ≡ over → (r : Result (Tag × List ℕ) BerFault) →
-        Enters (o ∷ outer) at octets r
+    Enters (o ∷ outer) at octets r
     → Walked o outer at octets (if over then Ok octets else (r >>= λ first. inner_values_at value o.endless limit
-        (at + (length octets - length first.1)) first.1))
+    (at + (length octets - length first.1)) first.1))
 walked_step value o outer limit at octets small below again true is r enters =
     let same : at + (length octets - length octets) ≡ at = omega arith in
     (is, omega arith, small, λ outcome fate. subst (λ (n : ℕ). Fate (place n octets (o ∷ outer)) outcome) same fate)
 walked_step value o outer limit at octets small below again false is (Ok x) enters =
     walked_more o outer at octets x.1 enters.0 (step_into at octets o outer is ∙ ap without_tag enters.1) enters.2
-        enters.4
+    enters.4
     (inner_values_at value o.endless limit (at + (length octets - length x.1)) x.1)
     (again (at + (length octets - length x.1)) x.1 enters.3 (omega (arith, enters.2)))
 walked_step value o outer limit at octets small below again false is (Err fault) enters = elim enters [
@@ -106,12 +106,12 @@ walked_step value o outer limit at octets small below again false is (Err fault)
 are_walked : (value : Reader) (depth : ℕ) → AreEntered value depth → (o : Opened) (outer : List Opened) →
     length (o ∷ outer) ≡ depth
     → (limit at : ℕ) (octets : List ℕ) → IsOctets octets → length octets < limit →
-        Walked o outer at octets (inner_values_at value o.endless limit at octets)
+    Walked o outer at octets (inner_values_at value o.endless limit at octets)
 unfolding inner_values_at
 are_walked value depth enter o outer deep zero at octets small below = absurd (omega arith)
 are_walked value depth enter o outer deep (suc limit) at octets small below =
     walked_step value o outer limit at octets small below (λ n rest s b. are_walked value depth enter o outer deep
-        limit n rest s b)
+    limit n rest s b)
     (are_over o.endless octets) refl (value at octets) (enter at octets (o ∷ outer) small deep)
 
 -- ---- contents
@@ -121,7 +121,7 @@ abbrev Fills : List Opened → ℕ → List ℕ → Result Place BerFault → Re
 Fills opened from octets enter (Ok rest) =
     (q : Place) × (enter ≡ Ok q) × (length rest ≤ length octets) × IsOctets rest
     × ((outcome : Result Place BerFault) → Fate (place (from + (length octets - length rest)) rest opened) outcome →
-        Fate q outcome)
+    Fate q outcome)
 Fills opened from octets enter (Err fault) = (enter ≡ Err fault) ⊎ ((q : Place) × (enter ≡ Ok q) × Fate q (Err fault))
 
 -- where the inner values are over, one step leads out of the value
@@ -129,7 +129,7 @@ fills_over : (endless : Bool) (after window : List ℕ) (opened : List Opened) (
     (past : ℕ)
     → Walked (open_with endless after) opened from window (Ok rest)
     → closed (place (from + (length window - length rest)) rest (open_with endless after ∷ opened))
-        (open_with endless after) opened ≡ place past left opened
+    (open_with endless after) opened ≡ place past left opened
     → length left ≤ length octets → IsOctets left → past ≡ from + (length octets - length left)
     → Fills opened from octets (Ok (place from window (open_with endless after ∷ opened))) (Ok left)
 fills_over endless after window opened from octets rest left past row is shorter small there = (
@@ -139,9 +139,9 @@ fills_over endless after window opened from octets rest left past row is shorter
   small,
   λ outcome fate. row.3 outcome
       (fate_goes (from + (length window - length rest)) rest (open_with endless after) opened (place past left opened)
-          outcome
+      outcome
       (step_over (from + (length window - length rest)) rest (open_with endless after) opened row.0 ∙
-          ap (λ (q : Place). Ok q) is)
+      ap (λ (q : Place). Ok q) is)
       (subst (λ (n : ℕ). Fate (place n left opened) outcome) (sym there) fate)),
 )
 
@@ -159,7 +159,7 @@ definite_fills : (opened : List Opened) (from size : ℕ) (octets : List ℕ) �
     IsOctets (drop size octets)
     → (r : Result (List ℕ) BerFault) → Walked (open_with false (drop size octets)) opened from (take size octets) r
     → Fills opened from octets (Ok (place from (take size octets) (open_with false (drop size octets) ∷ opened)))
-        (r >>= λ rest. Ok (drop size octets))
+    (r >>= λ rest. Ok (drop size octets))
 definite_fills opened from size octets le small (Ok rest) row =
     fills_over false (drop size octets) (take size octets) opened from octets rest (drop size octets)
     (from + (length (take size octets) - length rest)) row refl (omega (arith, length-drop size octets)) small
@@ -171,39 +171,42 @@ fills : (value : Reader) (depth : ℕ) → AreEntered value depth →
     (start from : ℕ) (constructed : Bool) (size : Option ℕ) (octets : List ℕ) (opened : List Opened)
     → IsOctets octets → suc (length opened) ≡ depth
     → Fills opened from octets (at_contents start from octets opened constructed size)
-        (contents_at value start from constructed size octets)
+    (contents_at value start from constructed size octets)
 fills value depth enter start from constructed None octets opened small deep =
     endless_fills opened from octets (inner_values_at value true (suc (length octets)) from octets)
     (are_walked value depth enter (open_with true []) opened deep (suc (length octets)) from octets small (omega arith))
 fills value depth enter start from constructed (Some size) octets opened small deep =
     elim (cases_lt (length octets) size) [
-  | inl lt ↦ cut constructed lt
-  | inr le ↦ whole constructed le (subst IsOctets (sym (take-append-drop size octets)) small)
-]
+      | inl lt ↦ cut constructed lt
+      | inr le ↦ whole constructed le (subst IsOctets (sym (take-append-drop size octets)) small)
+    ]
   where
     cut : (constructed : Bool) → length octets < size
         → Fills opened from octets (at_contents start from octets opened constructed (Some size))
-            (contents_at value start from constructed (Some size) octets)
+        (contents_at value start from constructed (Some size) octets)
     cut true lt = rw (lt-ltb (length octets) size lt) (inl refl)
     cut false lt = rw (lt-ltb (length octets) size lt) (inl refl)
 
     whole : (constructed : Bool) → size ≤ length octets → IsOctets (take size octets ++ drop size octets)
         → Fills opened from octets (at_contents start from octets opened constructed (Some size))
-            (contents_at value start from constructed (Some size) octets)
+        (contents_at value start from constructed (Some size) octets)
     whole true le parts =
         rw (le-ltb (length octets) size le)
         (definite_fills opened from size octets le (IsOctets-back (take size octets) (drop size octets) parts)
         (inner_values_at value false (suc size) from (take size octets))
         (are_walked value depth enter (open_with false (drop size octets)) opened deep (suc size) from
-            (take size octets)
+        (take size octets)
         (IsOctets-front (take size octets) (drop size octets) parts) (omega (arith, length-take-le size octets le))))
     whole false le parts =
         let there : from + (length octets - length (drop size octets)) ≡ from + size =
-            omega (arith, length-drop size octets) in
-        rw (le-ltb (length octets) size le)
-        (place (from + size) (drop size octets) opened, refl, omega (arith, length-drop size octets),
-        IsOctets-back (take size octets) (drop size octets) parts,
-        λ outcome fate. subst (λ (n : ℕ). Fate (place n (drop size octets) opened) outcome) there fate)
+        omega (arith, length-drop size octets) in
+        rw (le-ltb (length octets) size le) (
+          place (from + size) (drop size octets) opened,
+          refl,
+          omega (arith, length-drop size octets),
+          IsOctets-back (take size octets) (drop size octets) parts,
+          λ outcome fate. subst (λ (n : ℕ). Fate (place n (drop size octets) opened) outcome) there fate,
+        )
 
 -- ---- values
 
@@ -231,13 +234,13 @@ deep_stops at octets tag size head rest opened h deep =
 past_head : (opened : List Opened) (at : ℕ) (octets : List ℕ) (h : Headed octets) → length opened < 32 →
     (r : Result (List ℕ) BerFault)
     → Fills opened (at + length h.head) h.rest (at_contents at (at + length h.head) h.rest opened h.tag.constructed
-        h.size) r
+    h.size) r
     → Enters opened at octets (tagged h.tag r)
 past_head opened at octets h room (Ok rest) fill =
     let sizes = ap length h.after.joined in
     let sum = length-append h.head h.rest in
     let there : at + (length octets - length rest) ≡ at + length h.head + (length h.rest - length rest) =
-        omega (arith, sizes, sum, fill.2) in (
+    omega (arith, sizes, sum, fill.2) in (
       fill.0,
       enters_so at octets opened h.tag h.size h.head h.rest h.after room ∙ ap (with_tag h.tag) fill.1,
       omega (arith, sizes, sum, fill.2, head_long h.head h.tag h.size h.after.is_head),
@@ -246,8 +249,13 @@ past_head opened at octets h room (Ok rest) fill =
     )
 past_head opened at octets h room (Err fault) fill = elim fill [
   | inl e ↦ inl (enters_so at octets opened h.tag h.size h.head h.rest h.after room ∙ ap (with_tag h.tag) e)
-  | inr t ↦ inr (h.tag, t.0, enters_so at octets opened h.tag h.size h.head h.rest h.after room ∙
-      ap (with_tag h.tag) t.1, t.2)
+  | inr t ↦ inr (
+    h.tag,
+    t.0,
+    enters_so at octets opened h.tag h.size h.head h.rest h.after room ∙
+        ap (with_tag h.tag) t.1,
+    t.2,
+  )
 ]
 
 values_entered : (levels depth : ℕ) → depth + levels ≡ 32 → AreEntered (value_at levels) depth
@@ -262,10 +270,10 @@ values_entered (suc levels) depth deep at octets opened small here = elim (head_
       let outcome = contents_at (value_at levels) at (at + length h.head) h.tag.constructed h.size h.rest in
       let below : suc depth + levels ≡ 32 = omega arith in
       subst (Enters opened at octets) (sym (reads_after_head levels at octets h.tag h.size h.head h.rest h.after
-          outcome refl))
+      outcome refl))
       (past_head opened at octets h (omega arith) outcome
       (fills (value_at levels) (suc depth) (values_entered levels (suc depth) below) at (at + length h.head)
-          h.tag.constructed h.size h.rest opened
+      h.tag.constructed h.size h.rest opened
       (IsOctets-back h.head h.rest (subst IsOctets h.after.joined small)) (ap suc here)))
   | inr u ↦ subst (Enters opened at octets) (sym (head_wrong (suc levels) at octets u.kind u.fails))
       (inl (head_stops at octets u.kind opened u.fails))
@@ -308,10 +316,10 @@ walk_both octets (Ok x) enters answer is =
 walk_both octets (Err fault) enters answer is = elim enters [
   | inl e ↦ rw e (sym is, λ result walks. walks ∙ is)
   | inr t ↦ rw t.2 (
-      λ outcome other. sym is ∙ ap (finish t.0) (run_once t.3.steps other.steps t.1 (Err fault) outcome t.3.comes
-          other.comes),
-      λ result walks. walks (Err fault) t.3 ∙ is,
-    )
+    λ outcome other. sym is ∙ ap (finish t.0) (run_once t.3.steps other.steps t.1 (Err fault) outcome t.3.comes
+        other.comes),
+    λ result walks. walks (Err fault) t.3 ∙ is,
+  )
 ]
 
 pub walks_checked : (octets : List ℕ) → IsOctets octets → Walks octets (checked octets)
@@ -327,8 +335,8 @@ walk_reads octets result small walks =
 
 pub answers : (octets : List ℕ) (result : Result Tag BerFault) → IsOctets octets → Walks octets result
     → ((tag : Tag) → (result ≡ ok tag) ↔ BerValue 32 octets tag)
-        × ((fault : BerFault) → (result ≡ err fault) ↔ BerFails octets fault)
+    × ((fault : BerFault) → (result ≡ err fault) ↔ BerFails octets fault)
 answers octets result small walks =
     let same = walk_reads octets result small walks in
     decided result (judge octets small) (λ tag is. same ∙ checked_right octets tag is)
-        (λ fault is. same ∙ checked_wrong octets fault is)
+    (λ fault is. same ∙ checked_wrong octets fault is)

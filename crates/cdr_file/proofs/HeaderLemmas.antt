@@ -136,18 +136,18 @@ sevens_if false a b = refl
 pub extended_by : (octets : List ℕ) (h : FileHeader) (rest : List ℕ) (e : ℕ) → extension_end octets ≡ e →
     drop e octets ≡ release_octets h ++ rest → header_end octets ≡ e + length (release_octets h) →
     is_seven 8 octets ≡ (h.high_release == 7) → is_seven 9 octets ≡ (h.low_release == 7) → IsFileHeader h →
-        Extended octets h
+    Extended octets h
 extended_by octets h rest e at past end high_seven low_seven fits = record {
   high = (λ i. extension_if (same i && high_seven i) (slice_index octets (extension_end octets)))
       ∙ extension_again (extends h && (h.high_release == 7)) h.high_extension
-          (slice_index octets (extension_end octets)) (low ++ rest)
+      (slice_index octets (extension_end octets)) (low ++ rest)
       fits.high_extension (λ holds. there (extension_end octets) 0 (omega (arith, at)));
   low = (λ i. extension_if (same i && low_seven i) (slice_index octets
       (extension_end octets + one_if (is_seven 8 octets))))
       ∙ extension_again (extends h && (h.low_release == 7)) h.low_extension
-          (slice_index octets (extension_end octets + one_if (is_seven 8 octets))) rest
+      (slice_index octets (extension_end octets + one_if (is_seven 8 octets))) rest
       fits.low_extension (λ holds. there (extension_end octets + one_if (is_seven 8 octets)) (length high) (next holds)
-          ∙ octet_past (length high) high (low ++ rest) refl);
+      ∙ octet_past (length high) high (low ++ rest) refl);
   extends = same;
   count = (λ i. if same i then one_if (high_seven i) + one_if (low_seven i) else 0) ∙
       sevens_if (extends h) (h.high_release == 7) (h.low_release == 7)
@@ -179,7 +179,7 @@ extended_by octets h rest e at past end high_seven low_seven fits = record {
     next holds =
         let some : extends h ≡ true = (and_parts (extends h) (h.low_release == 7) holds).0 in
         (λ i. at i + one_if (high_seven i)) ∙ ap (λ (n : ℕ). e + n)
-            (sym (high_count ∙ ap (λ (b : Bool). one_if (b && (h.high_release == 7))) some))
+        (sym (high_count ∙ ap (λ (b : Bool). one_if (b && (h.high_release == 7))) some))
 
 -- a header that is whole has no fault
 pub no_header_fault : (octets : List ℕ) → HasHeader octets → header_fault octets ≡ None
@@ -307,7 +307,7 @@ releases_are octets fit has = by (extends_in octets) has.extension
     by : (e : Bool) → place + (if e then sevens octets else 0) ≡ header_end octets → drop place octets ≡
         (extension_octets (extension_if (e && is_seven 8 octets) (slice_index octets place))
         ++ extension_octets (extension_if (e && is_seven 9 octets) (slice_index octets next))) ++ drop
-            (header_end octets) octets
+        (header_end octets) octets
     by false total = let same : place ≡ header_end octets = omega (arith, total) in ap (λ (n : ℕ). drop n octets) same
     by true total =
         let end : next + one_if (is_seven 9 octets) ≡ header_end octets = omega (arith, total) in
@@ -335,7 +335,7 @@ releases_count octets =
     length-append (extension_octets (high_extension_in octets)) (extension_octets (low_extension_in octets))
     ∙ (λ i. count (extends_in octets && is_seven 8 octets) (slice_index octets (extension_end octets)) i
     + count (extends_in octets && is_seven 9 octets) (slice_index octets
-        (extension_end octets + one_if (is_seven 8 octets))) i)
+    (extension_end octets + one_if (is_seven 8 octets))) i)
     ∙ sym (sevens_if (extends_in octets) (is_seven 8 octets) (is_seven 9 octets))
   where
     count : (holds : Bool) (octet : ℕ) → length (extension_octets (extension_if holds octet)) ≡ one_if holds

@@ -28,7 +28,7 @@ pub number_front_4 : (octets : List ℕ) → AreOctets octets → 4 ≤ length o
 number_front_4 octets fit long =
     let front : List ℕ = take 4 octets in
     let back = be_bytes_4 front (big_number 4 front) (omega (arith, length-take 4 octets))
-        (AreOctets-take 4 octets fit) (omega arith) in
+    (AreOctets-take 4 octets fit) (omega arith) in
     sym (take-append-drop 4 octets) ∙ ap (λ (o : List ℕ). o ++ drop 4 octets) (sym back)
     ∙ ap (λ (n : ℕ). big_bytes 4 n ++ drop 4 octets) (big_from-take 0 4 4 octets (omega arith))
 
@@ -36,7 +36,7 @@ pub number_front_2 : (octets : List ℕ) → AreOctets octets → 2 ≤ length o
 number_front_2 octets fit long =
     let front : List ℕ = take 2 octets in
     let back = be_bytes_2 front (big_number 2 front) (omega (arith, length-take 2 octets))
-        (AreOctets-take 2 octets fit) (omega arith) in
+    (AreOctets-take 2 octets fit) (omega arith) in
     sym (take-append-drop 2 octets) ∙ ap (λ (o : List ℕ). o ++ drop 2 octets) (sym back)
     ∙ ap (λ (n : ℕ). big_bytes 2 n ++ drop 2 octets) (big_from-take 0 2 2 octets (omega arith))
 

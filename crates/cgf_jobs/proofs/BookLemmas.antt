@@ -6,26 +6,16 @@ use Rattle.area_disk.specs.Disk.{zeros}
 use Rattle.area_disk.specs.declared.area.Area.{Ghosts}
 use Rattle.file_writer.specs.AllStreams.{IsFit}
 use Rattle.gate_journal.specs.Format.{Starts, header, spelled}
-use Rattle.gateway_answer.specs.Answer.{Decided, Says, Silent, decided}
-use Rattle.gateway_answer.specs.Answered.{act_decided, answer_to, entry_by, no_caller, room_for, with_act}
-use Rattle.gateway_book.specs.Book.{Stays, open_time_of, size_of, value_of}
-use Rattle.gateway_book.specs.Calls.{outcome_at, taken}
-use Rattle.gateway_answer.specs.Items.{IsWritable}
+use Rattle.cgf_jobs.proofs.Names.{act_decided, after_commit, answer_to, BookValue, committed, Decided, decided, entry_by, Fortune, GatewayValue, history_of, HistoryEntry, IsWritable, Item, new_gateway, no_caller, open_time_of, opened, outcome_at, outcome_line, recorded, recorded_if, recording, reply_line, room_for, Says, Silent, size_of, standing_for, Stays, taken, value_of, with_act}
 use Rattle.gateway_book.specs.Opened.{IsNotOurs}
 use Rattle.gateway_answer.specs.Preparing.{PreparedValue}
-use Rattle.gateway_answer.specs.Value.{BookValue, Fortune, after_commit, committed, history_of, opened, recorded, recorded_if, standing_for}
 use Rattle.gateway_book.specs.declared.book.Book.{Book}
 use Rattle.gateway_book.specs.declared.outcome.Outcome.{Outcome}
 use Rattle.gw_base.specs.declared.address.Addr.{Addr}
 use Rattle.gw_base.specs.declared.history.HistoryAct.{HistoryAct}
 use Rattle.gw_base.specs.declared.history.HistoryAct.TheVariants.{Start}
-use Rattle.gw_base.specs.declared.history.HistoryEntry.{HistoryEntry}
-use Rattle.gw_base.specs.declared.item.Item.{Item}
 use Rattle.gw_base.specs.declared.item.Item.TheVariants as item
 use Rattle.cgf_jobs.specs.BookSteps.{IsAllFirm, Records, gateway_of}
-use Rattle.cgf_jobs.specs.FeedReport.{reply_line}
-use Rattle.cgf_jobs.specs.Gateway.{GatewayValue, new_gateway, recording}
-use Rattle.cgf_jobs.specs.Steps.{outcome_line}
 
 -- ---- commits
 

@@ -1,17 +1,9 @@
 -- The clauses of the job, where its report was made: it was written, or not, or the grammar refuses the input.
 use Rattle.std.proofs.Common.{◌≡◌, ◌∙◌, refl, sym, ap, ℕ, true, false, true≢false, List, Option, Some, None, Result, Ok, Err, arith}
-use Rattle.std.proofs.lemmas.Option.{same_Some}
+use Rattle.cgf_jobs.proofs.Names.{Command, Drill, ended_by, has_input, is_reported, IsReport, may_have_written, most_read, Refusal, Report, same_Some, Sample, Status, status_number}
 use Rattle.std.specs.Prelude.{is_ok}
-use Rattle.cgf_jobs.specs.Command.{has_input, most_read}
 use Rattle.cgf_jobs.specs.Ending.{HasCause, WordsDecide}
-use Rattle.cgf_jobs.specs.Run.{is_reported, may_have_written, status_number}
-use Rattle.cgf_jobs.specs.Steps.{IsReport, ended_by}
-use Rattle.cgf_jobs.specs.declared.command.Command.{Command}
-use Rattle.cgf_jobs.specs.declared.command.Command.TheVariants.{Sample, Drill}
 use Rattle.cgf_jobs.specs.declared.input_kind.InputKind.{InputKind}
-use Rattle.cgf_jobs.specs.declared.report.Refusal.{Refusal}
-use Rattle.cgf_jobs.specs.declared.report.Report.{Report}
-use Rattle.cgf_jobs.specs.declared.status.Status.{Status}
 use Rattle.cgf_jobs.specs.declared.status.Status.TheVariants as status
 use Rattle.cgf_jobs.proofs.EndingLemmas.{some_is_none}
 

@@ -1,19 +1,12 @@
 -- What words ask for, by what clap found in them; and that it is nothing where one of them is an option.
 use Rattle.std.proofs.Common.{◌≡◌, ◌∙◌, refl, sym, ap, ap₂, ℕ, Bool, true, false, cond, ◌||◌, ◌==◌, true≢false, List, [], ◌∷◌, length, map, codes, Option, Some, None, inl, inr, if◌then◌else◌, eqb-true, arith}
 use Rattle.std.proofs.lemmas.Bool.{or_cases}
-use Rattle.std.specs.Option.{option_and_then, option_map}
-use Rattle.std.specs.List.{list_any}
-use Rattle.clap.specs.Words.{Text, all_of, first_of, first_value, matched_of, raw_values, rows_of}
+use Rattle.cgf_jobs.proofs.Names.{all_of, Command, command_named, command_of, counted, first_of, first_value, found_in, is_option, last_seed, list_any, matched_of, option_and_then, option_map, raw_values, rows_of, same_Some, Seeded, seeded_named, seeded_of, Text}
 use Rattle.clap.specs.declared.parser.matches.Found.{Found}
 use Rattle.clap.proofs.WalkLemmas.{first_value-rows, raw_values-rows}
 use Rattle.route_filter.specs.Words.{number_up_to}
-use Rattle.std.proofs.lemmas.Option.{same_Some}
 use Rattle.cgf_jobs.proofs.EndingLemmas.{some_is_none}
 use Rattle.cgf_jobs.proofs.WordLemmas.{any_of_map, neither_second}
-use Rattle.cgf_jobs.specs.Command.{command_named, command_of, counted, last_seed, seeded_named, seeded_of}
-use Rattle.cgf_jobs.specs.Words.{is_option, found_in}
-use Rattle.cgf_jobs.specs.declared.command.Command.{Command}
-use Rattle.cgf_jobs.specs.declared.command.Seeded.{Seeded}
 
 -- values of another number ask for nothing
 pub other_values : {A : Type 0} (text : A → List ℕ) (name : List ℕ) (values : List A) → (length values ≡ 1 → ⊥) → (length values ≡ 4 → ⊥) →

@@ -1,26 +1,18 @@
 -- A script that the grammar takes ends with `end`, but for blank lines; so all files of its network are written, and what
 -- it prints ends with its report.
 use Rattle.std.proofs.Common.{◌≡◌, ◌∙◌, refl, sym, ap, subst, ℕ, suc, ◌+◌, Bool, true, false, true≢false, ◌||◌, if◌then◌else◌, List, [], ◌∷◌, ◌++◌, length, Option, Some, None, Result, Ok, Err, append_assoc, append-nil}
-use Rattle.std.specs.List.{AllByRecursion, list_any}
+use Rattle.cgf_jobs.proofs.Names.{AllByRecursion, AreWritten, contented, EndsByReport, formed, HaveMachines, is_end_line, keyed, Line, line_after, line_notices, line_text, lines_after, list_any, onward, printed, printed_by, progress_of, reading_of, ReadsBack, refusal_of_line, refusal_of_lines, refused_from, refused_or, replay_of, ReplayValue, report_of, script_after, script_in, settled, worded, WorldKind}
 use Rattle.world_script.specs.Forms.{keyword_of}
-use Rattle.world_script.specs.Printing.{ReadsBack, printed}
-use Rattle.world_script.specs.Script.{Refusal, contented, formed, is_end_line, keyed, onward, progress_of, reading_of, script_after, script_in, worded}
+use Rattle.world_script.specs.Script.{Refusal}
 use Rattle.world_script.specs.Text.{RawLine, is_blank, is_printable, line_content, line_size, raw_lines}
 use Rattle.route_filter.specs.Words.{words_of}
 use Rattle.world_script.specs.declared.fault.InputKind.{InputKind}
 use Rattle.world_script.specs.declared.fault.InputKind.TheVariants as kind
 use Rattle.world_script.specs.declared.keyword.Keyword.{Keyword}
 use Rattle.world_script.specs.declared.kind.ScriptKind.{ScriptKind}
-use Rattle.world_script.specs.declared.line.Line.{Line}
 use Rattle.world_script.specs.declared.line.Line.TheVariants as line
 use Rattle.world_script.specs.declared.progress.Progress.{Progress}
-use Rattle.once_core.specs.declared.event.WorldKind.{WorldKind}
-use Rattle.replay_world.specs.Lines.{line_after, line_notices, refusal_of_line, settled}
 use Rattle.replay_world.specs.Notices.{notice_lines}
-use Rattle.replay_world.specs.Report.{line_text, lines_after, printed_by, refusal_of_lines, refused_from, refused_or, report_of}
-use Rattle.replay_world.specs.Settled.{AreWritten, HaveMachines}
-use Rattle.replay_world.specs.Value.{ReplayValue, replay_of}
-use Rattle.cgf_jobs.specs.NetworkReport.{EndsByReport}
 
 -- The lines end with `end`, but for blank lines.
 pub record EndsByEnd (lines : List Line) : Type 0 where

@@ -1,12 +1,8 @@
 -- What was read decides how the job ends, and an input that is shorter than the bound is read whole.
 use Rattle.std.proofs.Common.{◌≡◌, ℕ, ◌<◌, ◌⊎◌, inl, inr, List, ◌++◌, length, take, take_all, Option, Some, None, ap, sym, ◌∙◌, subst, arith, length-append, append-nil}
-use Rattle.std.proofs.lemmas.Option.{same_Some}
+use Rattle.cgf_jobs.proofs.Names.{Command, command_of, end_of, IsRead, most_read, same_Some, Status, TakesUpTo}
 use Rattle.std.proofs.Math.Seq.{take-append_seam}
-use Rattle.cgf_jobs.specs.Command.{command_of, most_read}
 use Rattle.cgf_jobs.specs.Ending.{EndsByInput, EndsByWhole, IsBounded, IsComplete}
-use Rattle.cgf_jobs.specs.Run.{IsRead, TakesUpTo, end_of}
-use Rattle.cgf_jobs.specs.declared.command.Command.{Command}
-use Rattle.cgf_jobs.specs.declared.status.Status.{Status}
 use Rattle.cgf_jobs.specs.declared.status.Status.TheVariants as status
 
 pub read_whole : (most : ℕ) (octets read : List ℕ) (rest_left : Option (List ℕ)) → length octets < most → IsRead most (Some octets) rest_left read → read ≡ octets

@@ -2,32 +2,13 @@
 use Rattle.std.proofs.Common.{◌≡◌, ℕ, ◌+◌, true, false, List, [], ◌∷◌, ◌++◌, drop, length, Option, Some, None, slice_get, Result, Ok, Err, refl, ap, subst, sym, ◌∙◌, append_assoc}
 use Rattle.std.specs.Prelude.{IfOk}
 use Rattle.gw_base.specs.declared.fault.NoMemory.{NoMemory}
-use Rattle.gateway_book.specs.Calls.{counts_of}
-use Rattle.gateway_answer.specs.Filed.{filed}
-use Rattle.gateway_answer.specs.Items.{items_of}
-use Rattle.gateway_answer.specs.Value.{history_of, standing_for}
+use Rattle.cgf_jobs.proofs.Names.{after_close, after_line, begun, counts_line, counts_of, counts_text, end_lines, ended_by, Fed, fed_from, fed_of, Feed, FeedState, file_lines, filed, HandsBack, history_of, HistoryEntry, is_earlier, IsFed, IsRefusal, IsReport, Item, items_of, Line, LineRefusal, lines_run, may_have_written, of_line, Played, printed_for, Refusal, refusal_at, Report, run_end, script_end, script_of, script_report, Setup, setup_of, setup_seen, standing_for, with_print}
 use Rattle.gateway_book.specs.declared.outcome.Counts.{Counts}
 use Rattle.gw_base.specs.History.{copies_of}
-use Rattle.gw_base.specs.declared.history.HistoryEntry.{HistoryEntry}
-use Rattle.gw_base.specs.declared.item.Item.{Item}
-use Rattle.world_script.specs.Script.{Refusal as LineRefusal, script_of}
-use Rattle.world_script.specs.declared.line.Line.{Line}
 use Rattle.cgf_jobs.proofs.KindLemmas.{line_not_of_run}
-use Rattle.cgf_jobs.specs.FeedReport.{Fed, FeedState, after_line, begun, end_lines, fed_from, fed_of, is_earlier, printed_for, with_print}
-use Rattle.cgf_jobs.specs.Gateway.{after_close}
-use Rattle.cgf_jobs.specs.NetworkReport.{HandsBack, lines_run}
-use Rattle.cgf_jobs.specs.Run.{may_have_written, run_end, script_end, script_report}
-use Rattle.replay_gateway.specs.GatewayReport.{counts_line, counts_text, file_lines}
 use Rattle.replay_gateway.specs.Settings.{AreSet}
-use Rattle.replay_gateway.specs.Setup.{Setup, setup_of}
-use Rattle.replay_world.specs.declared.replay.Played.{Played}
 use Rattle.replay_gateway.specs.declared.settings.Settings.{Settings}
 use Rattle.route_filter.specs.declared.rule.Rule.{Rule}
-use Rattle.cgf_jobs.specs.Steps.{IsFed, IsRefusal, IsReport, ended_by, refusal_at, setup_seen}
-use Rattle.cgf_jobs.specs.declared.command.Command.TheVariants.{Feed}
-use Rattle.cgf_jobs.specs.Kinds.{of_line}
-use Rattle.cgf_jobs.specs.declared.report.Refusal.{Refusal}
-use Rattle.cgf_jobs.specs.declared.report.Report.{Report}
 use Rattle.cgf_jobs.proofs.ReportLemmas.{line_refused, line_run}
 use Rattle.cgf_jobs.proofs.PlaceLemmas.{none_at, rest_at}
 

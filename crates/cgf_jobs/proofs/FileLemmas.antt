@@ -1,21 +1,14 @@
 -- The files that a writer leaves on a shelf that was empty.
 use Rattle.std.proofs.Common.{◌≡◌, ℕ, suc, ◌+◌, ◌-◌, ◌<◌, ◌≤◌, max, IsTrue, cond, List, [], ◌∷◌, ◌++◌, count_by, drop, length, length-take, take, take-add, Ok, refl, ap, sym, ◌∙◌, arith, append-nil}
-use Rattle.std.proofs.lemmas.List.{take_all, take_min}
+use Rattle.cgf_jobs.proofs.Names.{closed_of, files_from, greatest_in, Holds, in_stream, is_part, Item, part_of, sealed_in, Settings, settings_in, shelf_of, stream_count, stream_division, stream_files, take_all, take_min}
 use Rattle.std.proofs.lemmas.List.Sums.{sum_by-append}
 use Rattle.area_disk.specs.Disk.{Rose}
 use Rattle.cdr_file.specs.CdrFile.{FileSettings}
-use Rattle.cdr_shelf.specs.Files.{greatest_in, in_stream}
 use Rattle.cdr_shelf.specs.declared.shelf.Shelf.{Ghosts}
 use Rattle.file_rotate.specs.Division.{ClosedRun}
 use Rattle.file_writer.specs.Advancing.{Advances, HasRecovered}
-use Rattle.file_writer.specs.Files.{files_from, stream_files}
 use Rattle.file_writer.specs.Holding.{files_after}
-use Rattle.file_writer.specs.Parts.{part_of}
-use Rattle.file_writer.specs.Streams.{Settings, closed_of, stream_count, stream_division}
-use Rattle.file_writer.specs.Writer.{Holds, sealed_in, settings_in, shelf_of}
 use Rattle.file_writer.specs.declared.writer.Writer.{Writer}
-use Rattle.gw_base.specs.declared.item.Item.{Item}
-use Rattle.gateway_answer.specs.Items.{is_part}
 
 -- a count that is 0 didn't rise
 pub never_rose : Rose 0 0 → ⊥

@@ -1,12 +1,9 @@
 -- Which kinds are those of a line that is run.
 use Rattle.std.proofs.Common.{◌≡◌, true, false, refl}
-use Rattle.cdr_file.specs.declared.fault.FileKind.{FileKind}
+use Rattle.cgf_jobs.proofs.Names.{FileKind, is_of_run, LineKind, of_file, of_line, of_world, WorldKind}
 use Rattle.cdr_file.specs.declared.fault.FileKind.TheVariants as file
-use Rattle.once_core.specs.declared.event.WorldKind.{WorldKind}
 use Rattle.once_core.specs.declared.event.WorldKind.TheVariants as world
-use Rattle.world_script.specs.declared.fault.InputKind.{InputKind as LineKind}
 use Rattle.world_script.specs.declared.fault.InputKind.TheVariants as line
-use Rattle.cgf_jobs.specs.Kinds.{is_of_run, of_file, of_line, of_world}
 
 pub line_not_of_run : (kind : LineKind) → is_of_run (of_line kind) ≡ false
 line_not_of_run line.TooLong = refl

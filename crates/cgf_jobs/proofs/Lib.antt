@@ -6,6 +6,7 @@ pub mod Ends
 pub mod FeedLemmas
 pub mod FileLemmas
 pub mod KindLemmas
+pub mod Names
 pub mod NetworkLemmas
 pub mod PlaceLemmas
 pub mod PrintLemmas

@@ -1,30 +1,12 @@
 -- A network that is run line by line, and its report.
 use Rattle.std.proofs.Common.{◌≡◌, ◌∙◌, refl, sym, ap, subst, ℕ, suc, ◌+◌, ◌≤◌, true, List, [], ◌∷◌, ◌++◌, drop, Option, Some, None, slice_get, Result, Ok, Err, append_assoc, append-nil, arith}
 use Rattle.once_core.specs.StandsOnce.{StandsOnce}
-use Rattle.once_core.specs.declared.event.WorldKind.{WorldKind}
+use Rattle.cgf_jobs.proofs.Names.{AreRead, AreWritten, Drill, ended_by, EndsByReport, files_in, HandsBack, HasDrilled, HasPlayedOut, HasRun, IsAt, IsRefusal, IsReplayed, IsReport, Line, line_after, line_text, LineKind, LineRefusal, lines_after, lines_ok, lines_run, lines_unless, may_have_written, network_end, of_line, of_world, OfReplay, Played, PlayedOf, printed_by, printed_unless, Refusal, refusal_at_line, refusal_of_line, refusal_of_lines, refused_from, refused_or, replay_end, replay_of, replay_report, replayed, ReplayValue, Report, report_of_lines, script_in, Seeded, seeded_lines, setup_of, StandInFiles, WorldKind, WorldRefusal}
 use Rattle.replay_world.specs.Does.{LineRan}
-use Rattle.replay_world.specs.Lines.{line_after, refusal_of_line}
-use Rattle.replay_world.specs.Report.{Refusal as WorldRefusal, line_text, lines_after, printed_by, printed_unless, refusal_of_lines, refused_from, refused_or, replayed, report_of_lines}
-use Rattle.replay_world.specs.Settled.{AreRead, AreWritten, HasPlayedOut, StandInFiles}
-use Rattle.replay_gateway.specs.Setup.{files_in, setup_of}
 use Rattle.replay_world.specs.Stands.{Stands}
-use Rattle.replay_world.specs.Value.{ReplayValue, replay_of}
-use Rattle.replay_world.specs.declared.replay.Played.{Played}
 use Rattle.replay_world.specs.declared.replay.Replay.{Replay}
-use Rattle.world_script.specs.Script.{Refusal as LineRefusal, script_in}
-use Rattle.world_script.specs.declared.fault.InputKind.{InputKind as LineKind}
 use Rattle.world_script.specs.declared.kind.ScriptKind.TheVariants as kind
-use Rattle.world_script.specs.declared.line.Line.{Line}
 use Rattle.cgf_jobs.proofs.KindLemmas.{world_of_run, line_not_of_run}
-use Rattle.cgf_jobs.specs.NetworkReport.{EndsByReport, HandsBack, lines_ok, lines_run, network_end, replay_end, replay_report, seeded_lines}
-use Rattle.cgf_jobs.specs.NetworkSteps.{HasDrilled, HasRun, IsAt, IsReplayed, PlayedOf, lines_unless, refusal_at_line}
-use Rattle.cgf_jobs.specs.Run.{may_have_written}
-use Rattle.cgf_jobs.specs.Steps.{IsRefusal, IsReport, ended_by}
-use Rattle.cgf_jobs.specs.declared.command.Command.TheVariants.{Drill, Replay as OfReplay}
-use Rattle.cgf_jobs.specs.declared.command.Seeded.{Seeded}
-use Rattle.cgf_jobs.specs.Kinds.{of_line, of_world}
-use Rattle.cgf_jobs.specs.declared.report.Refusal.{Refusal}
-use Rattle.cgf_jobs.specs.declared.report.Report.{Report}
 use Rattle.cgf_jobs.proofs.EndingLemmas.{some_is_none}
 use Rattle.cgf_jobs.proofs.PlaceLemmas.{none_at, rest_at}
 

@@ -1,16 +1,8 @@
 -- The lines that are printed, step by step.
 use Rattle.std.proofs.Common.{◌≡◌, ℕ, ◌+◌, ◌-◌, ◌*◌, ◌^◌, ◌<◌, ◌≤◌, min, ◌==◌, List, [], ◌∷◌, ◌++◌, length, length-append, take, drop, slice_set, Some, None, slice_get, ap, sym, ◌∙◌, arith, add-one, append_assoc, append-nil}
-use Rattle.std.specs.List.{flat_map}
+use Rattle.cgf_jobs.proofs.Names.{at_drop_all, encode_upper, encode_with, file_line, files_below, flat_map, in_stream, Item, length-set, lines_size, SealedFile, Settings, stream_files, take_all, take_at, take_more_set}
 use Rattle.std.proofs.lemmas.Grind.{flat_map-append}
 use Rattle.std.proofs.lemmas.List.Elements.{filter-append}
-use Rattle.std.proofs.lemmas.List.{at_drop_all, length-set, take_all, take_at, take_more_set}
-use Rattle.hex.specs.Hex.{encode_upper, encode_with}
-use Rattle.cdr_shelf.specs.Files.{SealedFile, in_stream}
-use Rattle.file_writer.specs.Files.{files_below, stream_files}
-use Rattle.file_writer.specs.Streams.{Settings}
-use Rattle.gw_base.specs.declared.item.Item.{Item}
-use Rattle.cgf_jobs.specs.FeedReport.{lines_size}
-use Rattle.replay_gateway.specs.GatewayReport.{file_line}
 use Rattle.cgf_jobs.proofs.PlaceLemmas.{none_at, rest_at}
 
 -- the digits of all octets are spelt, and the end of the line behind them

@@ -1,8 +1,6 @@
 -- What is printed for the lines of a script, step by step.
 use Rattle.std.proofs.Common.{◌≡◌, ℕ, ◌+◌, true, false, List, ◌∷◌, ◌++◌, Some, ap, sym, append_assoc, append-nil}
-use Rattle.replay_gateway.specs.Setup.{Setup}
-use Rattle.world_script.specs.declared.line.Line.{Line}
-use Rattle.cgf_jobs.specs.FeedReport.{Fed, FeedState, after_line, fed_from, is_earlier, printed_for, with_print}
+use Rattle.cgf_jobs.proofs.Names.{after_line, Fed, fed_from, FeedState, is_earlier, Line, printed_for, Setup, with_print}
 
 -- two prints in front of the later lines are one
 prints_joined : (a b : List ℕ) (later : Fed) → with_print a (with_print b later) ≡ with_print (a ++ b) later

@@ -1,11 +1,8 @@
 -- Lemmas on what is known to be read and written over several calls.
 use Rattle.std.proofs.Common.{◌≡◌, ℕ, ◌+◌, ◌≤◌, List, [], ◌++◌, length, take, drop, Option, Some, None, refl, ap, sym, ◌∙◌, subst, arith, append_assoc, length-append, length-drop, append-nil}
 use Rattle.std.proofs.Math.Seq.{take-add, take-length}
-use Rattle.std.specs.Io.KnownBytes.{Appends, Consumes, Keeps}
+use Rattle.cgf_jobs.proofs.Names.{Appends, AppendsFront, Consumes, Keeps, TakesPiece, TakesUpTo}
 use Rattle.gw_base.specs.Faults.{Rose}
-use Rattle.gw_base.specs.Written.{AppendsFront}
-use Rattle.cgf_jobs.specs.Run.{TakesUpTo}
-use Rattle.cgf_jobs.specs.Steps.{TakesPiece}
 
 -- Writing.
 

@@ -1,32 +1,18 @@
 -- An input that the grammar takes has fewer octets than are read at most, so that it was read to its end.
 use Rattle.std.proofs.Common.{◌≡◌, ℕ, ◌<◌, ◌^◌, ◌++◌, inl, inr, true, false, sym, ◌∙◌, List, [], length, Option, Some, None, Result, Ok, Err, refl, ap, subst, arith, append-nil}
 use Rattle.std.specs.Prelude.{◌≢◌, IsSomeAnd}
-use Rattle.std.specs.Io.KnownBytes.{Appends, Consumes, IsAtEnd}
-use Rattle.gw_base.specs.Written.{AppendsFront}
+use Rattle.cgf_jobs.proofs.Names.{Appends, AppendsFront, Command, command_of, Consumes, Drill, end_of, ended_by, FileKind, HandsBack, has_input, HasRead, HasReported, is_reported, IsAtEnd, IsRead, IsRefusal, IsReport, Line, LineRefusal, lines_ok, lines_run, may_have_written, most_read, of_file, Played, RanNetwork, Refusal, Report, script_in, Seeded, seeded_lines, Show, shown_end, Status, WritesFront}
 use Rattle.cdr_file.specs.Spelling.{Spells}
 use Rattle.cdr_file.specs.Reading.{file_in}
 use Rattle.cdr_file.specs.declared.fault.FileFault.{FileFault}
 use Rattle.cdr_file.specs.declared.fault.FileFault.TheVariants as fault
-use Rattle.cdr_file.specs.declared.fault.FileKind.{FileKind}
 use Rattle.cdr_file.specs.declared.file.CdrFile.{CdrFile}
-use Rattle.replay_world.specs.declared.replay.Played.{Played}
-use Rattle.world_script.specs.Script.{Refusal as LineRefusal, script_in}
 use Rattle.world_script.specs.declared.kind.ScriptKind.TheVariants as kind
-use Rattle.world_script.specs.declared.line.Line.{Line}
 use Rattle.cgf_jobs.proofs.KindLemmas.{file_not_of_run}
-use Rattle.cgf_jobs.specs.Command.{command_of, has_input, most_read}
 use Rattle.cgf_jobs.specs.Job.{Job}
-use Rattle.cgf_jobs.specs.Run.{HasRead, HasReported, IsRead, WritesFront, end_of, is_reported, may_have_written, report_of, shown_end}
-use Rattle.cgf_jobs.specs.NetworkReport.{HandsBack, RanNetwork, lines_ok, lines_run, seeded_lines}
+use Rattle.cgf_jobs.specs.Run.{report_of}
 use Rattle.cgf_jobs.specs.ShowReport.{listed}
-use Rattle.cgf_jobs.specs.Steps.{IsRefusal, IsReport, ended_by}
-use Rattle.cgf_jobs.specs.declared.command.Command.TheVariants.{Drill, Replay, Show}
-use Rattle.cgf_jobs.specs.declared.command.Command.{Command}
-use Rattle.cgf_jobs.specs.declared.command.Seeded.{Seeded}
-use Rattle.cgf_jobs.specs.Kinds.{of_file}
-use Rattle.cgf_jobs.specs.declared.report.Refusal.{Refusal}
-use Rattle.cgf_jobs.specs.declared.report.Report.{Report}
-use Rattle.cgf_jobs.specs.declared.status.Status.{Status}
+use Rattle.cgf_jobs.specs.declared.command.Command.TheVariants.{Replay}
 use Rattle.cgf_jobs.specs.declared.status.Status.TheVariants as status
 use Rattle.cgf_jobs.proofs.Ends.{same_command}
 use Rattle.cgf_jobs.proofs.Streams.{appends_none}

@@ -1,14 +1,12 @@
 -- What clap makes of words that are no options: it takes any number of them, the first as the command's name and the
 -- others as its values.
 use Rattle.std.proofs.Common.{◌≡◌, ◌∙◌, refl, sym, ap, ℕ, ◌==◌, ◌&&◌, ◌||◌, Bool, true, false, List, [], ◌∷◌, ◌++◌, map, Some, None, codes, append_assoc, true≢false, cond}
-use Rattle.std.specs.List.{fold, list_any}
-use Rattle.std.specs.Option.{option_and_then}
+use Rattle.cgf_jobs.proofs.Names.{fold, found_in, is_option, list_any, option_and_then, words_app}
 use Rattle.std.specs.Str.{bytes_eq}
 use Rattle.clap.specs.Lexer.{long_of, long_of_rest, short_of, short_of_rest, strip_byte}
 use Rattle.clap.specs.Walk.{Held, Rule, Text, Waiting, Walk, idle, positional, arg_by_index, finished, nothing_held, to_positional, walk_from, walked}
 use Rattle.clap.specs.Simple.{Shape, built, is_simple, matches_of}
 use Rattle.clap.specs.Takes.{takes, walk_passes}
-use Rattle.cgf_jobs.specs.Words.{found_in, is_option, words_app}
 
 -- A word that is no option isn't `--`, and is no option of clap.
 

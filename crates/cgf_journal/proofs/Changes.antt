@@ -1,24 +1,9 @@
 -- What a change of sorted keys makes of those that are held.
 use Rattle.std.proofs.Common.{inl, inr, ◌≡◌, ◌⊎◌, ℕ, ◌+◌, ◌<◌, ◌≤◌, ◌==◌, ◌&&◌, ◌||◌, not, Bool, true, false, List, [], ◌∷◌, ◌++◌, length, take, drop, filter, refl, sym, ap, ◌∙◌, arith, zero, suc, rules}
-use Rattle.std.specs.Prelude.{slice_index_or, slice_set}
+use Rattle.cgf_journal.proofs.Names.{Act, act_view, and_parts, and_right, cases_Bool, cases_eq, cases_lt, changed_key, counted_keys, counts, eq-eqb, eqb-true, firm_keys, get_or-set_other, get_or-set_same, get_or_default, GrowsBy, held_after, held_by, held_with, HeldKey, HistoryAct, is_named, IsAbsent, IsChanged, IsFirstOf, IsFound, KeptKey, key_in_order, key_of, length-set, live_keys, ne_eqb, NodeId, not-false, Path, Release, Seal, slice_index_or, slice_set, SortedKeys, stays_held, true≢false}
 use Rattle.std.specs.List.{list_any}
-use Rattle.std.proofs.lemmas.Bool.{and_parts, and_right, cases_eq, cases_lt, eq-eqb, eqb-true, ne_eqb, true≢false, cases_Bool, not-false}
-use Rattle.std.proofs.lemmas.List.{get_or_default, get_or-set_other, get_or-set_same, length-set}
 use Rattle.std.proofs.lemmas.List.Folds.{list_any-append}
-use Rattle.gw_base.specs.declared.address.NodeId.{NodeId}
-use Rattle.gw_base.specs.declared.entry.Act.{Act}
 use Rattle.gw_base.specs.declared.entry.Act.TheVariants as lent
-use Rattle.gw_base.specs.Entry.{act_view}
-use Rattle.gw_base.specs.declared.history.HistoryAct.{HistoryAct}
-use Rattle.gw_base.specs.declared.held.HeldKey.{HeldKey}
-use Rattle.gw_base.specs.declared.history.HistoryAct.TheVariants.{Path, Release, Seal}
-use Rattle.gw_base.specs.HeldKeys.{held_by}
-use Rattle.gw_base.specs.View.{stays_held}
-use Rattle.cgf_journal.specs.Keys.{IsAbsent, IsFirstOf, IsFound, changed_key, counted_keys, counts, is_named, key_of}
-use Rattle.cgf_journal.specs.Sorted.{GrowsBy, IsChanged, firm_keys, live_keys}
-use Rattle.cgf_journal.specs.Tally.{held_after, held_with, key_in_order}
-use Rattle.cgf_journal.specs.declared.key.KeptKey.{KeptKey}
-use Rattle.cgf_journal.specs.declared.sorted.SortedKeys.{SortedKeys}
 use Rattle.cgf_journal.specs.Rank.{rank_of}
 use Rattle.cgf_journal.proofs.KeysLemmas.{count-changed, firm-changed, firm-inserted, all_kept, length-key_in_order, let_go, live-changed, live-inserted, others_stay, with_change, before_node, not_of_node, of_node, past_node, Before, Later, one, other_stays, stays}
 use Rattle.cgf_journal.proofs.Orders.{field-set}

@@ -1,25 +1,17 @@
 -- What a plan that arms one call of the device makes of the calls of a commit and of an opening again.
 use Rattle.std.proofs.Common.{◌≡◌, ◌≢◌, ℕ, zero, suc, ◌||◌, Bool, true, false, sym, ◌∙◌, ap, subst, rules}
-use Rattle.std.specs.Prelude.{IsTrue, Result, is_err}
+use Rattle.cgf_journal.proofs.Names.{after_put, append_fails, batch_stands, course_after, course_by, Ending, ending_by, ending_of, Fate, Ghosts, is_ended, is_err, is_failure, IsTrue, Outcome3, outcome_left, Result, stop_stands, Told, Trail, waiting_octets, with_reads}
 use Rattle.area_disk.specs.Armed.{Armed, IsArmed, after_one, calls_under, planned_in}
 use Rattle.area_disk.specs.Armed.Armed.{Nothing, Fail, Stop}
 use Rattle.area_disk.specs.ArmedLaws.{armed_failed, armed_ran, armed_reads}
 use Rattle.area_disk.specs.Course.{Course, IsTied, after_sync, after_write, fate_of_sync, fate_of_write}
 use Rattle.area_disk.specs.CourseLaws.{tied_put, tied_sync, tied_synced, tied_write}
-use Rattle.area_disk.specs.Plan.{is_failure}
-use Rattle.area_disk.specs.declared.area.Area.{Ghosts}
-use Rattle.area_disk.specs.declared.plan.Fate.{Fate}
 use Rattle.area_disk.specs.declared.plan.Fate.TheVariants.{Runs, Fails}
-use Rattle.area_disk.specs.declared.plan.Outcome3.{Outcome3}
 use Rattle.gate_journal.specs.Appending.{AppendFollows}
-use Rattle.gate_journal.specs.Moments.{Told}
-use Rattle.gate_journal.specs.Planned.{Ending, after_put, append_fails, batch_stands, course_after, course_by, ending_by, ending_of, is_ended, outcome_left, with_reads}
 use Rattle.gate_journal.specs.Planned.Ending.{BothRan}
 use Rattle.gate_journal.specs.Reopening as reopening
 use Rattle.cgf_journal.specs.Comes.{CommitComes, HasFailed, HasRun, HasStopped, ReopenComes, plan_of}
 use Rattle.cgf_journal.specs.Outcomes.{CommitPlanned, ReopenPlanned}
-use Rattle.cgf_journal.specs.Trail.{stop_stands, waiting_octets}
-use Rattle.cgf_journal.specs.declared.trail.Trail.{Trail}
 use Rattle.cgf_journal.proofs.Trails.{waiting-none}
 
 stop_is_one : (b : Bool) → b ≡ false → (b || true) ≡ true

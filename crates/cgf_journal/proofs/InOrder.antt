@@ -1,20 +1,7 @@
 -- How many keys pass a test.
 use Rattle.std.proofs.Common.{inl, inr, ◌≡◌, ℕ, suc, ◌+◌, ◌<◌, ◌≤◌, ◌^◌, ◌==◌, ◌&&◌, Bool, true, cond, nat_lt, List, [], ◌∷◌, length, map, filter, refl, sym, ap, arith, ◌++◌}
-use Rattle.std.specs.Prelude.{slice_index_or, ⊤}
-use Rattle.std.proofs.lemmas.Bool.{cases_order, cond_both, eq-eqb, ltb-false, ltb-true, ne_eqb, cases_Bool}
-use Rattle.std.proofs.lemmas.List.Sums.{count_by-le-length, length-filter}
-use Rattle.gw_base.specs.declared.held.HeldKey.{HeldKey}
-use Rattle.gw_base.specs.declared.history.HistoryAct.{HistoryAct}
-use Rattle.gw_base.specs.HeldKeys.{held_by}
-use Rattle.gw_base.specs.View.{stays_held}
-use Rattle.cgf_journal.specs.Held.{passing}
-use Rattle.cgf_journal.specs.Kept.{held_in, held_in_order}
-use Rattle.cgf_journal.specs.Keys.{AreAscending, AreUpTo, counted_keys, counts, key_of, rank}
+use Rattle.cgf_journal.proofs.Names.{AreAscending, AreUpTo, cases_Bool, cases_order, cond_both, count_by-le-length, counted_keys, counts, eq-eqb, held_after, held_by, held_in, held_in_order, HeldKey, HistoryAct, KeptKey, key_in_order, key_of, keys_in_order, keys_of, length-filter, ltb-false, ltb-true, ne_eqb, passing, rank, slice_index_or, SortedKeys, stays_held, ⊤}
 use Rattle.cgf_journal.specs.Rank.{rank_of}
-use Rattle.cgf_journal.specs.Sorted.{keys_of}
-use Rattle.cgf_journal.specs.Tally.{held_after, key_in_order, keys_in_order}
-use Rattle.cgf_journal.specs.declared.key.KeptKey.{KeptKey}
-use Rattle.cgf_journal.specs.declared.sorted.SortedKeys.{SortedKeys}
 use Rattle.cgf_journal.proofs.KeysLemmas.{same_node}
 
 pub passing_both : (p q : HeldKey → Bool) (keys : List HeldKey) → passing p (filter q keys) ≡ passing (λ (key : HeldKey). q key && p key) keys

@@ -1,27 +1,8 @@
 -- What sorted keys and sums tell of a tally.
 use Rattle.std.proofs.Common.{◌≡◌, ℕ, ◌+◌, ◌<◌, ◌≤◌, ◌==◌, ◌&&◌, not, ◌^◌, Bool, true, false, List, [], ◌∷◌, length, filter, refl, ap, ◌∙◌, arith, ◌-◌, ◌*◌, if◌then◌else◌, nat_le, map, count_by, sym, rules}
-use Rattle.std.proofs.lemmas.Bool.{and_parts, cond_both, eqb-true, le-leb, leb-true}
-use Rattle.std.proofs.lemmas.List.{length-map}
-use Rattle.std.proofs.lemmas.List.Sums.{count_by-le-length, length-filter}
-use Rattle.gw_base.specs.declared.address.NodeId.{NodeId}
-use Rattle.gw_base.specs.declared.held.HeldKey.{HeldKey}
-use Rattle.gw_base.specs.declared.history.HistoryAct.{HistoryAct}
-use Rattle.gw_base.specs.declared.history.HistoryAct.TheVariants.{Hold, Seal}
-use Rattle.gw_base.specs.HeldKeys.{held_by}
-use Rattle.gw_base.specs.View.{stays_held}
-use Rattle.gw_base.specs.declared.history.HistoryEntry.{HistoryEntry}
-use Rattle.gw_base.specs.History.{due_after}
-use Rattle.entry_codec.specs.Room.{capacity_of}
-use Rattle.entry_codec.specs.Spelling.{cost_of}
-use Rattle.cgf_journal.specs.Held.{IsOnceEach, held_behind, passing}
-use Rattle.cgf_journal.specs.Kept.{AreNoted, AreReady, KeepsFirm, Kept, held_in, held_in_order, held_of, ArePaid, HasNoRoom}
-use Rattle.cgf_journal.specs.Keys.{is_named, counted_keys, counts, key_of}
-use Rattle.cgf_journal.specs.Sorted.{GrowsBy, count_held, firm_keys, keys_of, live_keys}
-use Rattle.cgf_journal.specs.Tally.{held_after, keys_in_order, Tallies, free_beside, has_room_behind, tally_behind}
-use Rattle.cgf_journal.specs.declared.sorted.SortedKeys.{SortedKeys}
-use Rattle.cgf_journal.specs.Reserved.{cheapest_hold}
+use Rattle.cgf_journal.proofs.Names.{and_parts, AreNoted, ArePaid, AreReady, capacity_of, cheapest_hold, cond_both, cost_of, count_by-le-length, count_held, counted_keys, counts, due_after, eqb-true, firm_keys, free_beside, GrowsBy, has_room_behind, HasNoRoom, held_after, held_behind, held_by, held_in, held_in_order, held_of, HeldKey, HistoryAct, HistoryEntry, Hold, is_named, IsOnceEach, KeepsFirm, KeptKey, key_of, keys_in_order, keys_of, le-leb, leb-true, length-filter, length-map, live_keys, NodeId, passing, Seal, SortedKeys, stays_held, Tallies, tally_behind}
+use Rattle.cgf_journal.specs.Kept.{Kept}
 use Rattle.cgf_journal.specs.Sums.{sum_after, tally_with}
-use Rattle.cgf_journal.specs.declared.key.KeptKey.{KeptKey}
 use Rattle.cgf_journal.specs.declared.sum.Sum.{Sum}
 use Rattle.cgf_journal.proofs.KeysLemmas.{counted_le, length-key_in_order}
 use Rattle.cgf_journal.proofs.InOrder.{passing_after, passing_le, passing_of, AreInOrder, held_as, held_then, same_held}

@@ -1,17 +1,7 @@
 -- The order of keys.
 use Rattle.std.proofs.Common.{◌≡◌, ℕ, zero, suc, ◌+◌, ◌-◌, ◌<◌, ◌≤◌, ◌==◌, ◌&&◌, not, Bool, true, false, if◌then◌else◌, nat_lt, List, [], ◌∷◌, ◌++◌, length, take, drop, map, filter, refl, sym, ap, ◌∙◌, arith, inl, inr, ◌^◌, nat_le}
-use Rattle.std.specs.Prelude.{slice_index_or, slice_set}
-use Rattle.std.proofs.lemmas.Bool.{cases_Bool, cond_both, eq-eqb, le-ltb, lt-ltb, ne_eqb, eqb-true, false_from_ne_true, le-leb, lt-leb}
-use Rattle.std.proofs.lemmas.List.{length-map, length-set}
-use Rattle.std.proofs.lemmas.List.Sums.{count_by-le-length, length-filter}
-use Rattle.gw_base.specs.declared.address.NodeId.{NodeId}
-use Rattle.gw_base.specs.declared.held.HeldKey.{HeldKey}
-use Rattle.gw_base.specs.declared.history.HistoryAct.TheVariants.{Seal}
-use Rattle.gw_base.specs.View.{stays_held}
-use Rattle.cgf_journal.specs.Keys.{AreUpTo, changed_key, counted_keys, counts, is_named, key_of, rank, settled_key}
+use Rattle.cgf_journal.proofs.Names.{AreUpTo, cases_Bool, changed_key, cond_both, count_by-le-length, counted_keys, counts, eq-eqb, eqb-true, false_from_ne_true, held_with, HeldKey, is_named, KeptKey, key_in_order, key_of, le-leb, le-ltb, length-filter, length-map, length-set, lt-leb, lt-ltb, ne_eqb, NodeId, rank, Seal, settled_key, slice_index_or, slice_set, stays_held}
 use Rattle.cgf_journal.specs.Rank.{rank_of}
-use Rattle.cgf_journal.specs.Tally.{held_with, key_in_order}
-use Rattle.cgf_journal.specs.declared.key.KeptKey.{KeptKey}
 
 pub node_apart : (a b x y : ℕ) → x < 2 ^ 64 → y < 2 ^ 64 → (a ≡ b → ⊥) → rank_of a x ≡ rank_of b y → ⊥
 unfolding rank_of

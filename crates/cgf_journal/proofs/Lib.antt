@@ -6,6 +6,7 @@ pub mod KeptLemmas
 pub mod Listings
 pub mod Meanings
 pub mod MergedLemmas
+pub mod Names
 pub mod Opened
 pub mod Orders
 pub mod Placing

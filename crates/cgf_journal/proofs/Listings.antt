@@ -1,27 +1,6 @@
 -- Batches that an opening takes in, one after the other.
 use Rattle.std.proofs.Common.{◌≡◌, ℕ, ◌+◌, ◌<◌, ◌≤◌, List, [], ◌∷◌, ◌++◌, Result, Ok, Err, length, take, drop, refl, sym, ◌∙◌, ap, subst, arith, append_assoc, ◌≢◌, ◌*◌, ◌==◌, true, false, rules}
-use Rattle.std.specs.Prelude.{All, IfOk, OnOk, Option, Some}
-use Rattle.std.proofs.lemmas.List.{append-nil, drop_at, take_all, length-append, nil_from_length, take-append-drop}
-use Rattle.std.proofs.lemmas.List.Elements.{All-drop, All-head}
-use Rattle.std.proofs.lemmas.Option.{some_pair_parts}
-use Rattle.std.proofs.lemmas.Bool.{eqb-false, eqb-true}
-use Rattle.gw_base.specs.declared.history.HistoryEntry.{HistoryEntry}
-use Rattle.gw_base.specs.declared.place.Place.{Place}
-use Rattle.gate_journal.specs.Format.{end_of, taken}
-use Rattle.gate_journal.specs.Spelling.{taken-append}
-use Rattle.gate_journal.specs.declared.faults.OpenFault.{OpenFault}
-use Rattle.entry_codec.specs.Content.{IsContent, entries_of, AreEntries, spelled}
-use Rattle.entry_codec.specs.Room.{capacity_of, costs_of}
-use Rattle.entry_codec.specs.Spelling.{entry_length, spelling}
-use Rattle.entry_codec.specs.LawTypes.{EntriesAreReadBack}
-use Rattle.entry_codec.specs.Laws.{length_of_spelling, more_entries, no_entries, one_entry}
-use Rattle.cgf_journal.specs.Fit.{AreFit}
-use Rattle.cgf_journal.specs.Format.{AreBatches, entries_in}
-use Rattle.cgf_journal.specs.Judged.{IsJudged}
-use Rattle.cgf_journal.specs.Opening.{AreTakenIn, BreaksAt, IsTakenUpTo}
-use Rattle.cgf_journal.specs.Reserved.{Placed}
-use Rattle.cgf_journal.specs.Sound.{places_from}
-use Rattle.cgf_journal.specs.Tally.{Tallies, TallyValue, tally_behind_all, tally_of}
+use Rattle.cgf_journal.proofs.Names.{All, All-drop, All-head, append-nil, AreBatches, AreEntries, AreFit, AreTakenIn, BreaksAt, capacity_of, costs_of, drop_at, end_of, entries_in, entries_of, EntriesAreReadBack, entry_length, eqb-false, eqb-true, HistoryEntry, IfOk, IsContent, IsJudged, IsTakenUpTo, length-append, length_of_spelling, more_entries, nil_from_length, no_entries, one_entry, OnOk, OpenFault, Option, Place, Placed, places_from, Some, some_pair_parts, spelled, spelling, take-append-drop, take_all, taken, taken-append, Tallies, tally_behind_all, tally_of, TallyValue}
 use Rattle.cgf_journal.specs.declared.judge.Judge.{Ghosts}
 use Rattle.cgf_journal.specs.Contents.{IsTakenIn}
 use Rattle.cgf_journal.proofs.Tallies.{are_batches-push, entries_in-push, tally_all, tally_of-costs, tally_all-append, tally_all-costs}

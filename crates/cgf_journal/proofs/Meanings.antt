@@ -1,24 +1,8 @@
 -- Octets stand for one history, or start, or are foreign at one place.
 use Rattle.std.proofs.Common.{◌≡◌, inl, inr, ℕ, List, [], ◌∷◌, ◌++◌, length, get_or, take, refl, sym, ◌∙◌, ap, subst, arith, append_assoc, ◌≢◌, drop, rules}
-use Rattle.std.specs.Prelude.{All}
-use Rattle.std.proofs.lemmas.Grind.{flat_map-append}
-use Rattle.std.proofs.lemmas.List.{take_at, append-nil, take-append-drop}
-use Rattle.std.proofs.lemmas.List.Elements.{All-take, All-head}
-use Rattle.gw_base.specs.declared.history.HistoryEntry.{HistoryEntry}
+use Rattle.cgf_journal.proofs.Names.{All, All-head, All-take, AllFit, append-nil, AreBatches, AreEntries, AreFit, batch_before, BreaksAt, compare, costs_of, costs_of-append, end_of, entries_in, entries_of, EntriesAreReadBack, EntriesDivide, equal, flat_map-append, front_before, gate_at, HasSpelling, HistoryEntry, IsBroken, IsContent, IsForeignBy, IsForeignTo, IsJudged, IsJudgedEntry, IsJudgedUpTo, IsSpoiledBy, IsUnfitIn, IsUnfitTo, IsWhole, longer, more_entries, no_entries, one_difference, one_entry, part_before, place_of, same_not_differs, same_not_starts, shorter, spelled, spelling, Stands, stands_before, StandsByBatches, StandsFit, StandsFor, Starts, take-append-drop, take_at}
 use Rattle.gate_journal.specs.Before.{AreBefore, batch_at}
-use Rattle.gate_journal.specs.Format.{IsBroken, IsWhole, Stands, Starts, end_of, gate_at}
-use Rattle.gate_journal.specs.Agreeing.{equal, longer, shorter, batch_before, compare, front_before, one_difference, part_before, place_of, same_not_differs, same_not_starts, stands_before}
-use Rattle.entry_codec.specs.Content.{IsContent, entries_of, spelled, AreEntries}
-use Rattle.entry_codec.specs.Room.{costs_of}
-use Rattle.entry_codec.specs.Laws.{costs_of-append, more_entries, no_entries, one_entry}
 use Rattle.entry_codec.specs.Fault.{BeginsWith}
-use Rattle.entry_codec.specs.Spelling.{HasSpelling, spelling}
-use Rattle.entry_codec.specs.LawTypes.{EntriesAreReadBack, EntriesDivide}
-use Rattle.cgf_journal.specs.BatchLaws.{StandsByBatches}
-use Rattle.cgf_journal.specs.Format.{AreBatches, IsForeignBy, IsSpoiledBy, StandsFor, entries_in, IsForeignTo}
-use Rattle.cgf_journal.specs.Opening.{BreaksAt}
-use Rattle.cgf_journal.specs.Fit.{AllFit, AreFit, IsUnfitTo, StandsFit}
-use Rattle.cgf_journal.specs.Judged.{IsJudged, IsJudgedEntry, IsJudgedUpTo, IsUnfitIn}
 use Rattle.cgf_journal.specs.declared.judge.Judge.{Ghosts}
 
 -- the first of some batches of entries are such batches

@@ -1,17 +1,6 @@
 -- Two lists of kept keys as one.
 use Rattle.std.proofs.Common.{◌≡◌, ℕ, zero, suc, ◌+◌, ◌<◌, ◌≤◌, ◌^◌, ◌==◌, ◌||◌, Bool, true, false, if◌then◌else◌, List, [], ◌∷◌, ◌++◌, length, drop, take, refl, sym, ap, ◌∙◌, arith, inl, inr}
-use Rattle.std.specs.Prelude.{All, slice_index_or}
-use Rattle.std.proofs.lemmas.Bool.{cases_order, eq-eqb, false_from_ne_true, le-ltb, lt-ltb, true≢false}
-use Rattle.std.proofs.lemmas.List.{drop_all, length-map}
-use Rattle.std.proofs.lemmas.List.Elements.{All-cons, All-map, All-tail}
-use Rattle.std.proofs.lemmas.List.Kept.{AllPairs-cons}
-use Rattle.gw_base.specs.declared.held.HeldKey.{HeldKey}
-use Rattle.cgf_journal.specs.Held.{IsOnceEach, passing}
-use Rattle.cgf_journal.specs.Keys.{AreAscending, AreUpTo, counted_keys, counts, is_named, key_of, rank}
-use Rattle.cgf_journal.specs.Merged.{joined_key, merged, moved_key, moved_keys}
-use Rattle.cgf_journal.specs.declared.key.KeptKey.{KeptKey}
-use Rattle.cgf_journal.specs.Sorted.{keys_of}
-use Rattle.cgf_journal.specs.declared.sorted.SortedKeys.{SortedKeys}
+use Rattle.cgf_journal.proofs.Names.{All, All-cons, All-map, All-tail, AllPairs-cons, AreAscending, AreUpTo, cases_order, counted_keys, counts, drop_all, eq-eqb, false_from_ne_true, HeldKey, is_named, IsOnceEach, joined_key, KeptKey, key_of, keys_of, le-ltb, length-map, lt-ltb, merged, moved_key, moved_keys, passing, rank, slice_index_or, SortedKeys, true≢false}
 use Rattle.cgf_journal.proofs.InOrder.{passing_all}
 use Rattle.cgf_journal.proofs.KeysLemmas.{counted-cons, same_node, one}
 use Rattle.cgf_journal.proofs.Orders.{Precedes, UpTo, ascending-map}

@@ -1,37 +1,13 @@
 -- How an opening comes out as planned.
 use Rattle.std.proofs.Common.{◌≡◌, ◌≢◌, ◌⊎◌, inl, inr, ⊎_elim, ℕ, ◌≤◌, List, [], ◌++◌, Result, Ok, Err, length, get_or, refl, sym, ◌∙◌, ap, arith, Bool, false, rules}
-use Rattle.std.specs.Prelude.{IfErr, IfOk, IsTrue, OnErr, ◌||◌}
-use Rattle.std.proofs.lemmas.List.Elements.{All-nil}
-use Rattle.std.proofs.lemmas.Bool.{false_from_ne_true, true≢false}
-use Rattle.area_disk.specs.AreaLaws.{AreaLaws}
-use Rattle.area_disk.specs.declared.area.Area.{Ghosts}
-use Rattle.area_disk.specs.MomentLaws.{follow, widen}
+use Rattle.cgf_journal.proofs.Names.{after_append, after_look, All-nil, area_of, AreaLaws, AreFit, AreListedBefore, BreaksAt, by_batches, course_of, Device, end_of, entries_in, EntriesAreReadBack, false_from_ne_true, Fate, firm_entries, first-header, follow, Ghosts, header, HistoryEntry, IfErr, IfOk, in_batches, is_device, is_device_fault, is_failure, is_stop, IsContent, IsForeign, IsForeignTo, IsMaking, IsTrue, IsUnfitTo, Journal, Kept, Leaves, length-header, next_fate, NoMemory, NotOurs, OnErr, OpenCounts, OpenFault, OpenLeaves, Prospect, ReadOn, ReadsRun, Schedule, Stands, stands_before, StandsFit, StandsFor, Starts, SyncPlanned, Told, Trail, true≢false, widen, with_reads, ◌||◌}
 use Rattle.area_disk.specs.ArmedLaws.{stopped_fails}
-use Rattle.area_disk.specs.Plan.{Prospect, Schedule, is_failure, is_stop, next_fate}
-use Rattle.area_disk.specs.declared.plan.Fate.{Fate}
-use Rattle.gw_base.specs.declared.history.HistoryEntry.{HistoryEntry}
-use Rattle.gate_journal.specs.Format.{IsForeign, Stands, Starts, end_of, header}
 use Rattle.gate_journal.specs.Journal as journal
-use Rattle.gate_journal.specs.Moments.{Kept, Leaves, Told}
 use Rattle.gate_journal.specs.OpenPlanned as gates
 use Rattle.gate_journal.specs.Opening as opening
-use Rattle.gate_journal.specs.Opening.{IsMaking, OpenCounts, OpenLeaves, after_look, is_device, is_device_fault}
-use Rattle.gate_journal.specs.Planned.{ReadsRun, Course, ReadOn, SyncPlanned, after_append, course_of, with_reads}
-use Rattle.gate_journal.specs.Spelling.{first-header, length-header}
-use Rattle.gate_journal.specs.declared.faults.OpenFault.{OpenFault}
-use Rattle.gate_journal.specs.declared.faults.OpenFault.TheVariants.{Device, NoMemory, NotOurs}
-use Rattle.gate_journal.specs.declared.journal.Journal.{Journal}
-use Rattle.gate_journal.specs.Agreeing.{stands_before}
-use Rattle.entry_codec.specs.Content.{IsContent}
-use Rattle.entry_codec.specs.LawTypes.{EntriesAreReadBack}
-use Rattle.cgf_journal.specs.BatchLaws.{by_batches, in_batches}
-use Rattle.cgf_journal.specs.Fit.{AreFit, IsUnfitTo, StandsFit}
-use Rattle.cgf_journal.specs.Format.{IsForeignTo, StandsFor, entries_in}
+use Rattle.gate_journal.specs.Planned.{Course}
 use Rattle.cgf_journal.specs.OpenPlan.{OpenFollows}
-use Rattle.cgf_journal.specs.Opening.{AreListedBefore, BreaksAt}
 use Rattle.cgf_journal.specs.Results.{FindsHistory, IsFresh, IsMadeAnew, IsOpened, IsRefused, IsTrailOf, OnArea, RefusesForeign, RoseByDevice}
-use Rattle.cgf_journal.specs.Trail.{area_of, firm_entries}
-use Rattle.cgf_journal.specs.declared.trail.Trail.{Trail}
 use Rattle.cgf_journal.proofs.Meanings.{are_fit, are_fit-first, unfit_foreign, broken_off, broken_or_starts, foreign_or_starts, one_place, spoiled_by, stands_or_foreign, stands_or_starts}
 
 pub not_device : (fault : OpenFault) → fault ≢ Device → is_device_fault fault ≡ false

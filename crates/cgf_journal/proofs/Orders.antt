@@ -1,13 +1,7 @@
 -- Keys stay in order, each once.
 use Rattle.std.proofs.Common.{inl, inr, ◌≡◌, ℕ, zero, suc, ◌<◌, ◌≤◌, ◌^◌, List, [], ◌∷◌, ◌++◌, length, take, drop, map, nat_lt, true, false, ap, ◌∙◌, arith, rules}
-use Rattle.std.specs.Prelude.{All, slice_index_or, slice_set}
-use Rattle.std.proofs.lemmas.Bool.{cases_eq, ltb-false, ltb-true}
+use Rattle.cgf_journal.proofs.Names.{All, All-append, All-cons, All-drop, All-nil, All-take, AllPairs-cons, AreAscending, cases_eq, get_or-map, get_or-set_other, get_or-set_same, get_or_default, is_named, IsAbsent, IsFound, KeptKey, key_of, length-map, length-set, ltb-false, ltb-true, rank, rank_of, slice_index_or, slice_set, take_at}
 use Rattle.std.specs.List.Sorted.{IsNonDecreasingBy, IsPartitionPoint}
-use Rattle.std.proofs.lemmas.List.{get_or-map, get_or_default, get_or-set_other, get_or-set_same, length-map, length-set, take_at}
-use Rattle.std.proofs.lemmas.List.Elements.{All-append, All-cons, All-drop, All-nil, All-take}
-use Rattle.std.proofs.lemmas.List.Kept.{AllPairs-cons}
-use Rattle.cgf_journal.specs.Keys.{AreAscending, IsAbsent, IsFound, is_named, key_of, rank, rank_of}
-use Rattle.cgf_journal.specs.declared.key.KeptKey.{KeptKey}
 use Rattle.cgf_journal.proofs.KeysLemmas.{Before, Later, named_rank}
 
 -- one key comes before another; and what each key has by the round

@@ -1,24 +1,8 @@
 -- The places of entries, and what stands at them.
 use Rattle.std.proofs.Common.{◌≡◌, inl, inr, ℕ, zero, suc, ◌+◌, ◌-◌, ◌<◌, ◌≤◌, List, [], ◌∷◌, ◌++◌, length, take, drop, Some, refl, sym, ◌∙◌, ap, subst, arith, length-append, append_assoc, true, false, rules}
-use Rattle.std.specs.Prelude.{All, slice_get}
+use Rattle.cgf_journal.proofs.Names.{All, All-cons, All-head, All-nil, All-tail, append-nil, batches_spelled, cases_lt, Draft, drop-append-le, end_of, EndsBy, entries_in, entries_of, entry_length, Founded, Founding, Front, header_length, HistoryEntry, is_founded, IsContent, KeepsOr, length-spelled, length-take, length_of_spelling, LiesAt, Place, places_behind, places_from, slice_get, spelled, spelling, Stands, take_at, taken}
 use Rattle.std.proofs.Math.Seq.{drop-append-add}
-use Rattle.std.proofs.lemmas.List.{append-nil, take_at, drop-append-le, length-take}
-use Rattle.std.proofs.lemmas.List.Elements.{All-cons, All-head, All-nil, All-tail}
-use Rattle.std.proofs.lemmas.Bool.{cases_lt}
-use Rattle.gw_base.specs.declared.history.HistoryEntry.{HistoryEntry}
-use Rattle.gw_base.specs.declared.place.Place.{Place}
-use Rattle.gate_journal.specs.Format.{taken, Stands, end_of, header_length, spelled as batches_spelled}
-use Rattle.gate_journal.specs.Journal.{KeepsOr}
 use Rattle.gate_journal.specs.Places.{part_is, small_among}
-use Rattle.gate_journal.specs.Spelling.{length-spelled}
-use Rattle.gate_journal.specs.declared.journal.Front.{Front}
-use Rattle.gate_journal.specs.declared.journal.Front.TheVariants.{Founded, Draft, Founding}
-use Rattle.entry_codec.specs.Content.{IsContent, entries_of, spelled}
-use Rattle.entry_codec.specs.Spelling.{entry_length, spelling}
-use Rattle.entry_codec.specs.Laws.{length_of_spelling}
-use Rattle.cgf_journal.specs.Format.{entries_in}
-use Rattle.cgf_journal.specs.Sound.{EndsBy, places_behind, places_from, is_founded}
-use Rattle.cgf_journal.specs.Trail.{LiesAt}
 
 abbrev place_of : ℕ → HistoryEntry → Place
 place_of at e = record { at = at; length = entry_length e }

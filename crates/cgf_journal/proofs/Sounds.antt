@@ -1,29 +1,7 @@
 -- What stays true of a trail over its calls.
 use Rattle.std.proofs.Common.{◌≡◌, ◌≢◌, ℕ, ◌+◌, ◌*◌, ◌≤◌, true, false, List, [], ◌∷◌, ◌++◌, length, take, drop, refl, sym, ◌∙◌, ap, subst, arith, length-append, rules}
-use Rattle.std.specs.Prelude.{All}
-use Rattle.std.proofs.lemmas.List.{drop-append-le, drop_all, length-drop, length-take-le, nil_from_length, take-append-drop, take-append-le, take_all}
-use Rattle.std.proofs.lemmas.List.Elements.{All-append, All-weaker, All-head, All-nil, All-tail}
-use Rattle.std.proofs.lemmas.Bool.{both_ways}
-use Rattle.area_disk.specs.declared.area.Area.{Ghosts}
-use Rattle.gw_base.specs.declared.history.HistoryEntry.{HistoryEntry}
-use Rattle.gw_base.specs.declared.place.Place.{Place}
-use Rattle.gate_journal.specs.Format.{end_of, header_length, longest_batch, taken}
-use Rattle.gate_journal.specs.Journal.{area_of, batches, end, front_of, is_closed}
-use Rattle.gate_journal.specs.Moments.{Told}
-use Rattle.gate_journal.specs.Spelling.{taken-append}
-use Rattle.gate_journal.specs.declared.journal.Journal.{Journal}
-use Rattle.gate_journal.specs.declared.journal.Front.TheVariants.{Founded}
-use Rattle.entry_codec.specs.Content.{AreEntries, entries_of, IsContent}
-use Rattle.entry_codec.specs.Room.{capacity_of, costs_of}
-use Rattle.entry_codec.specs.Spelling.{HasSpelling, cost_of, entry_length, spelling}
-use Rattle.entry_codec.specs.LawTypes.{EntriesAreReadBack}
-use Rattle.entry_codec.specs.Laws.{costs_of-spelled, entries_of-nil, length_of_spelling, more_entries, no_entries, one_entry, costs_of-append}
-use Rattle.cgf_journal.specs.Format.{AreBatches, cheapest_entry, entries_in}
-use Rattle.cgf_journal.specs.Sound.{EndsBy, IsSound, is_founded, places_behind, places_from}
-use Rattle.cgf_journal.specs.Tally.{TallyValue, tally_behind, tally_behind_all, tally_of, Tallies}
-use Rattle.cgf_journal.specs.declared.trail.Trail.{Trail}
-use Rattle.cgf_journal.specs.Opening.{AreListed, IsTakenUpTo}
-use Rattle.cgf_journal.specs.Reserved.{Placed}
+use Rattle.cgf_journal.proofs.Names.{All, All-append, All-head, All-nil, All-tail, All-weaker, AreBatches, AreEntries, AreListed, batches, both_ways, capacity_of, cheapest_entry, cost_of, costs_of, costs_of-append, costs_of-spelled, drop-append-le, drop_all, end, end_of, EndsBy, entries_in, entries_of, entries_of-nil, EntriesAreReadBack, entry_length, Founded, front_of, Ghosts, HasSpelling, header_length, HistoryEntry, is_founded, IsContent, IsSound, IsTakenUpTo, Journal, length-drop, length-take-le, length_of_spelling, longest_batch, more_entries, nil_from_length, no_entries, one_entry, Place, Placed, places_behind, places_from, spelling, take-append-drop, take-append-le, take_all, taken, taken-append, Tallies, tally_behind, tally_behind_all, tally_of, TallyValue, Told, Trail}
+use Rattle.gate_journal.specs.Journal.{area_of, is_closed}
 use Rattle.cgf_journal.proofs.Tallies.{are_batches-push, costs_at_least, entries_in-push, tally_all, tally_all-append, tally_all-costs, tally_of-costs}
 use Rattle.cgf_journal.proofs.Placing.{length-places_from, places_behind-push, places_from-append, places_from-ends, length-places_behind}
 use Rattle.cgf_journal.proofs.Listings.{no_more}

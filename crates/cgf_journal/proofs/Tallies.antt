@@ -1,25 +1,7 @@
 -- The tally of a history tells what its entries cost and promise.
 use Rattle.std.proofs.Common.{◌≡◌, ℕ, ◌+◌, ◌-◌, ◌*◌, ◌&&◌, Bool, true, nat_le, List, [], ◌∷◌, ◌++◌, length, filter, refl, sym, ap, ◌∙◌, arith, append_assoc, subst, ◌≤◌, rules}
-use Rattle.std.proofs.lemmas.List.{append-nil}
-use Rattle.std.proofs.lemmas.Grind.{flat_map-append}
-use Rattle.std.proofs.lemmas.List.Elements.{All-push}
-use Rattle.gw_base.specs.declared.held.HeldKey.{HeldKey}
-use Rattle.gw_base.specs.declared.history.HistoryAct.{HistoryAct}
-use Rattle.gw_base.specs.declared.history.HistoryEntry.{HistoryEntry}
-use Rattle.gw_base.specs.HeldKeys.{held_by, held_keys, promised_octets}
-use Rattle.gw_base.specs.History.{due_after, is_close_due}
-use Rattle.gw_base.specs.View.{HistoryView, stays_held}
+use Rattle.cgf_journal.proofs.Names.{All-push, append-nil, AreBatches, AreEnough, capacity_of, cheapest_entry, cost_of, costs_of, costs_of-append, count_held, due_after, entries_in, entries_of, flat_map-append, free_beside, has_room, has_room_behind, held_after, held_by, held_keys, HeldKey, HistoryAct, HistoryEntry, HistoryView, is_close_due, IsContent, no_tally, passing, promised_by, promised_octets, Start, stays_held, tally_behind, tally_behind_all, tally_of, TallyValue}
 use Rattle.gw_base.specs.ViewLaws.{view_of-append}
-use Rattle.gw_base.specs.declared.history.HistoryAct.TheVariants.{Start}
-use Rattle.entry_codec.specs.Laws.{costs_of-append}
-use Rattle.entry_codec.specs.Room.{capacity_of, costs_of, has_room}
-use Rattle.entry_codec.specs.Spelling.{cost_of}
-use Rattle.entry_codec.specs.Content.{IsContent, entries_of}
-use Rattle.cgf_journal.specs.Held.{passing}
-use Rattle.cgf_journal.specs.Tally.{TallyValue, free_beside, has_room_behind, held_after, no_tally, promised_by, tally_behind, tally_behind_all, tally_of}
-use Rattle.cgf_journal.specs.Format.{AreBatches, cheapest_entry, entries_in}
-use Rattle.cgf_journal.specs.Reserved.{AreEnough}
-use Rattle.cgf_journal.specs.Sorted.{count_held}
 use Rattle.cgf_journal.proofs.InOrder.{passing-append, passing_all, passing_all_in_order, passing_both}
 
 -- ---- one entry after the other

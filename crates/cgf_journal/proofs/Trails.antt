@@ -1,32 +1,9 @@
 -- What a trail tells of its entries.
 use Rattle.std.proofs.Common.{◌≡◌, ◌≢◌, inl, inr, ℕ, ◌+◌, ◌-◌, ◌*◌, ◌<◌, ◌≤◌, true, false, List, [], ◌∷◌, ◌++◌, length, take, drop, refl, sym, ◌∙◌, ap, subst, arith, length-append, rules}
-use Rattle.std.specs.Prelude.{IsTrue, OnErr, Result, Some, if◌then◌else◌, slice_get}
-use Rattle.std.proofs.lemmas.Bool.{false_from_ne_true, both_ways, cases_Bool, cases_lt, cond_both, leb-true, true_from_ne_false}
-use Rattle.std.proofs.lemmas.List.{append-nil, length-take-le, nil_from_length, take-append-drop}
-use Rattle.std.proofs.lemmas.Option.{get_or_from_slice_get, slice_get_within}
-use Rattle.area_disk.specs.declared.area.Area.{Ghosts}
-use Rattle.area_disk.specs.declared.plan.Outcome3.{Outcome3}
-use Rattle.gw_base.specs.declared.history.HistoryEntry.{HistoryEntry}
-use Rattle.gw_base.specs.declared.place.Place.{Place}
-use Rattle.gate_journal.specs.Format.{header_length}
+use Rattle.cgf_journal.proofs.Names.{append-nil, area_of, AreaLaws, AreBatches, begin, both, both_ways, by_batches, capacity_of, cases_Bool, cases_lt, cheapest_entry, cond_both, cost_of, costs_of, costs_of-spelled, each_spelled, EndsBy, entries, entries_in, entries_of, entries_of-nil, entry_length, false_from_ne_true, firm_entries, Founded, free_beside, free_of, Front, get_or_from_slice_get, Ghosts, has_room_behind, has_room_of, HasSpelling, header_length, header_of, HistoryEntry, if◌then◌else◌, is_closed, is_founded, IsAtRest, IsFirmPlaceOf, IsPlaceOf, IsSettled, IsTrue, Leaves, leb-true, left_by_stop, length-take-le, length_of, nil_from_length, OnErr, Outcome3, Place, Result, slice_get, slice_get_within, Some, spelled, StandsFor, StandsForOr, stop_stands, take-append-drop, tally, tally_of, TallyValue, Told, Trail, true_from_ne_false, waiting, waiting_octets, widen}
 use Rattle.gate_journal.specs.Journal as journal
-use Rattle.gate_journal.specs.Moments.{Leaves, Told}
 use Rattle.gate_journal.specs.State.{Keeps}
-use Rattle.area_disk.specs.AreaLaws.{AreaLaws}
-use Rattle.area_disk.specs.MomentLaws.{begin, both, widen}
-use Rattle.entry_codec.specs.Content.{entries_of, spelled}
-use Rattle.entry_codec.specs.Room.{capacity_of, costs_of}
-use Rattle.entry_codec.specs.Spelling.{HasSpelling, cost_of, entry_length}
-use Rattle.entry_codec.specs.Laws.{costs_of-spelled, entries_of-nil}
-use Rattle.cgf_journal.specs.Format.{AreBatches, StandsFor, cheapest_entry, entries_in}
-use Rattle.cgf_journal.specs.Sound.{EndsBy, is_founded}
-use Rattle.gate_journal.specs.declared.journal.Front.{Front}
-use Rattle.gate_journal.specs.declared.journal.Front.TheVariants.{Founded}
 use Rattle.cgf_journal.specs.Outcomes.{IsKept}
-use Rattle.cgf_journal.specs.Tally.{TallyValue, free_beside, has_room_behind, tally_of}
-use Rattle.cgf_journal.specs.Trail.{IsAtRest, IsFirmPlaceOf, IsPlaceOf, IsSettled, StandsForOr, area_of, entries, firm_entries, free_of, has_room_of, header_of, is_closed, left_by_stop, length_of, stop_stands, tally, waiting, waiting_octets}
-use Rattle.cgf_journal.specs.declared.trail.Trail.{Trail}
-use Rattle.cgf_journal.specs.BatchLaws.{by_batches, each_spelled}
 use Rattle.cgf_journal.proofs.Tallies.{entries_in-push, tally_of-costs}
 use Rattle.cgf_journal.proofs.Placing.{IsAmong, IsFound, behind_is, from_is, get_left, get_right, length-places_behind}
 use Rattle.cgf_journal.proofs.Sounds.{dear_places, live_costs, live_is, one_more_batch, waiting_count}

@@ -1,27 +1,9 @@
 -- The messages of a stream, one after the other.
 use Rattle.std.proofs.Common.{◌≡◌, ℕ, ◌+◌, ◌<◌, ◌≤◌, ◌⊎◌, ⊎_elim, inl, inr, Bool, true, false, if◌then◌else◌, List, [], ◌∷◌, length, Option, None, Some, refl, sym, ap, ◌∙◌, arith}
-use Rattle.std.proofs.lemmas.Bool.{cases_lt, lt-ltb}
-use Rattle.area_disk.specs.Disk.{counted, last_count}
+use Rattle.cgf_service.proofs.Names.{Addr, after_commit, after_message, Answers, area_of, Book, BookValue, cases_lt, Connection, counted, CutsByFaults, Decided, decided, decided_by_fault, end_by, failure_answer, failure_reply, first_fault, Follows, fortune_of, FrameKind, given_at, HasCause, is_closed, IsGoingOn, IsLeft, last_count, lt-ltb, most_stream, no_caller, octets_said, outcome_at, prepared_of, readied, reply_in, reply_of, rest_end, rest_of, rest_place, Says, Silent, size_of, Stays, Stream, stream_end, taken, Tried, value_of}
 use Rattle.area_disk.specs.declared.area.Area as areas
-use Rattle.cgf_journal.specs.Trail.{is_closed}
-use Rattle.gateway_answer.specs.Answer.{Decided, Says, Silent, decided, failure_answer, failure_reply, reply_in}
-use Rattle.gateway_answer.specs.Answered.{no_caller}
-use Rattle.gateway_book.specs.Book.{HasCause, IsLeft, Stays, area_of, fortune_of, size_of, value_of}
-use Rattle.gateway_book.specs.Calls.{given_at, outcome_at, taken}
-use Rattle.gateway_answer.specs.Preparing.{prepared_of}
-use Rattle.gateway_answer.specs.Value.{BookValue, after_commit, readied}
-use Rattle.gateway_book.specs.declared.book.Book.{Book}
 use Rattle.gateway_book.specs.declared.outcome.Outcome.{Outcome}
 use Rattle.gateway_book.specs.declared.outcome.Outcome.TheVariants as outcome
-use Rattle.gtpp_stream.specs.Frames.{first_fault, rest_of}
-use Rattle.gtpp_stream.specs.Stream.{Follows, Stream}
-use Rattle.gtpp_stream.specs.declared.frame.FrameKind.{FrameKind}
-use Rattle.gw_base.specs.declared.address.Addr.{Addr}
-use Rattle.node_session.specs.Turns.{decided_by_fault}
-use Rattle.cgf_service.specs.Replies.{Tried, after_message, octets_said}
-use Rattle.cgf_service.specs.StreamEnds.{end_by, most_stream, rest_end, rest_place, stream_end}
-use Rattle.cgf_service.specs.StreamSteps.{Answers, CutsByFaults, IsGoingOn, reply_of}
-use Rattle.cgf_service.specs.declared.connection.Connection.{Connection}
 use Rattle.cgf_jobs.specs.declared.input_kind.InputKind.TheVariants as input
 use Rattle.cgf_jobs.specs.declared.status.Status.TheVariants as status
 

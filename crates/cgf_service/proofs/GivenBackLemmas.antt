@@ -1,18 +1,9 @@
 -- What is told of an address once links of it were given back.
 use Rattle.std.proofs.Common.{◌≡◌, ◌≢◌, ◌⊎◌, ⊎_elim, inl, inr, ℕ, ◌-◌, ◌≤◌, ◌^◌, List, [], ◌∷◌, ◌++◌, Option, None, Some, refl, sym, ap, ◌∙◌, arith}
-use Rattle.std.proofs.lemmas.Bool.{cases_eq}
-use Rattle.std.specs.Prelude.{All, IfSome}
-use Rattle.std.proofs.lemmas.List.Elements.{All-append, All-head, All-nil, All-tail, All-weaker, Contains-append_right}
-use Rattle.gw_base.specs.Facts.{Facts}
+use Rattle.cgf_service.proofs.Names.{added, All, All-append, All-head, All-nil, All-tail, All-weaker, cases_eq, Contains-append_right, Datagram, Facts, GoesOnUntil, GrowsBy, HistoryEntry, IfSome, IsCalledFor, IsEmpty, IsHeard, IsReply, placed, received_with, sent_by, sent_with, turns_with}
 use Rattle.gw_base.specs.Faults.{Rose}
-use Rattle.gw_base.specs.declared.history.HistoryEntry.{HistoryEntry}
-use Rattle.net_link.specs.Datagrams.{Datagram, IsEmpty, added, joined}
-use Rattle.net_link.specs.Making.{GrowsBy}
+use Rattle.net_link.specs.Datagrams.{joined}
 use Rattle.net_link.specs.declared.link.Link as paths
-use Rattle.session_run.specs.History.{GoesOnUntil, IsCalledFor, IsHeard, IsReply}
-use Rattle.session_run.specs.Links.{received_with, sent_with, turns_with}
-use Rattle.session_run.specs.Running.{sent_by}
-use Rattle.turn_cell.specs.Placed.{placed}
 use Rattle.cgf_service.proofs.ServiceLemmas.{HeardInTurn}
 
 abbrev Told : Type 0

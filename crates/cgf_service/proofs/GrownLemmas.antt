@@ -1,23 +1,10 @@
 -- How a history has grown from the one that was found to the one that was settled.
 use Rattle.std.proofs.Common.{◌≡◌, ◌⊎◌, ⊎_elim, inl, inr, ℕ, Bool, true, false, if◌then◌else◌, List, [], ◌∷◌, ◌++◌, Option, refl, sym, ap, subst, ◌∙◌, append_assoc}
-use Rattle.std.proofs.lemmas.List.{append-nil, append_cancel_left}
-use Rattle.gateway_answer.specs.Answered.{entry_by, no_caller, room_for, with_act}
+use Rattle.cgf_service.proofs.Names.{act_marked, AnswerInTurn, append-nil, append_cancel_left, base, Begins, BookValue, closed_behind, Datagram, entry_by, Facts, GoesOn, GoesOnUntil, HasGrown, history_of, HistoryEntry, is_close_due, IsAtMost, Jobs, joined, moment_of, no_caller, opened, placed, recorded, room_for, standing_for, with_act}
 use Rattle.gateway_answer.specs.Marks.{Makes, NotDue}
-use Rattle.gateway_book.specs.Turning.{act_marked}
-use Rattle.gateway_answer.specs.Value.{BookValue, history_of, opened, recorded, standing_for}
 use Rattle.gw_base.specs.EntryLaws.{is_close_due-append}
-use Rattle.gw_base.specs.Facts.{Facts, joined}
-use Rattle.gw_base.specs.Owes.{Begins, base}
-use Rattle.gw_base.specs.History.{is_close_due}
 use Rattle.gw_base.specs.declared.history.Caller.{Caller}
 use Rattle.gw_base.specs.declared.history.HistoryAct.TheVariants as act
-use Rattle.gw_base.specs.declared.history.HistoryEntry.{HistoryEntry}
-use Rattle.net_link.specs.Datagrams.{Datagram}
-use Rattle.node_session.specs.Settling.{closed_behind}
-use Rattle.session_run.specs.History.{AnswerInTurn, GoesOn, GoesOnUntil}
-use Rattle.session_run.specs.Latest.{Jobs}
-use Rattle.turn_cell.specs.Placed.{placed}
-use Rattle.cgf_service.specs.Served.{HasGrown, IsAtMost, moment_of}
 use Rattle.cgf_service.proofs.ServiceLemmas.{StaysInTurn}
 
 abbrev Entries : Type 0

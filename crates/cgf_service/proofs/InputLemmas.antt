@@ -1,10 +1,8 @@
 -- What is read of an input piece by piece, and how many files are made of runs.
 use Rattle.std.proofs.Common.{◌≡◌, ℕ, suc, ◌+◌, List, [], ◌∷◌, ◌++◌, inl, inr, length, take, take_all, Option, Some, None, refl, ap, sym, ◌∙◌, append_assoc, append-nil}
-use Rattle.std.specs.Io.KnownBytes.{Appends, Consumes}
+use Rattle.cgf_service.proofs.Names.{Appends, Consumes, files_from, IsRead}
 use Rattle.cdr_file.specs.CdrFile.{FileSettings}
-use Rattle.cgf_jobs.specs.Run.{IsRead}
 use Rattle.file_rotate.specs.Division.{ClosedRun}
-use Rattle.file_writer.specs.Files.{files_from}
 
 -- nothing was written of these octets yet
 pub appends_none : (a : Option (List ℕ)) (octets : List ℕ) → Appends a a (take 0 octets)

@@ -1,30 +1,8 @@
 -- What a gateway keeps that was handed an area: its history, and what it answered.
 use Rattle.std.proofs.Common.{◌≡◌, ℕ, ◌≤◌, Bool, true, ◌&&◌, List, [], Option, None, Some, refl, ap, ◌∙◌, arith}
-use Rattle.std.proofs.lemmas.List.{append-nil}
-use Rattle.std.proofs.lemmas.List.Elements.{All-nil, All-weaker}
-use Rattle.std.proofs.lemmas.Option.{IfSome_then}
-use Rattle.area_disk.specs.Disk.{Rose}
+use Rattle.cgf_service.proofs.Names.{address_in, All-nil, All-weaker, append-nil, area_of, Begins, Book, Datagram, files_at, GoesOnIn, GrowsBy, HasFirstFiles, HasReplied, HasServedAt, header_at, HistoryEntry, IfSome_then, IsFiledIn, IsOpened, IsReply, KeepsShelf, LinksState, LosesNothing, Rose, Service, Serving, Setup, size_of, StandsOrStarts, tells_lists, Told, UsesLinks, value_of, Writer}
 use Rattle.area_disk.specs.declared.area.Area as areas
 use Rattle.cdr_shelf.specs.declared.shelf.Shelf as shelves
-use Rattle.file_writer.specs.declared.writer.Writer.{Writer}
-use Rattle.gate_journal.specs.Moments.{Told}
-use Rattle.gateway_book.specs.Book.{area_of, size_of, value_of}
-use Rattle.gateway_book.specs.Opened.{IsOpened, StandsOrStarts}
-use Rattle.gateway_book.specs.Turning.{tells_lists}
-use Rattle.gateway_book.specs.declared.book.Book.{Book}
-use Rattle.gw_base.specs.Owes.{Begins}
-use Rattle.gw_base.specs.declared.history.HistoryEntry.{HistoryEntry}
-use Rattle.net_link.specs.Datagrams.{Datagram}
-use Rattle.net_link.specs.Making.{GrowsBy, LinksState}
-use Rattle.replay_gateway.specs.Setup.{Setup}
-use Rattle.session_run.specs.History.{IsReply}
-use Rattle.cgf_service.specs.Linked.{UsesLinks}
-use Rattle.cgf_service.specs.ServeSteps.{HasServedAt}
-use Rattle.cgf_service.specs.Served.{GoesOnIn, HasFirstFiles, HasReplied, LosesNothing, files_at, header_at}
-use Rattle.cgf_service.specs.Serving.{address_in}
-use Rattle.cgf_service.specs.Shelved.{IsFiledIn, KeepsShelf}
-use Rattle.cgf_service.specs.declared.serving.Serving.{Serving}
-use Rattle.cgf_service.specs.declared.settling.Service.{Service}
 use Rattle.cgf_service.proofs.ServiceLemmas.{ReplyLater, begins_self, none_in_turn, reply_later, same_heard}
 
 pub told_lists : {A : Type 0} (tells : areas.Ghosts A) → Told tells → tells_lists tells ≡ true

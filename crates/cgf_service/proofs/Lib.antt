@@ -5,6 +5,7 @@ pub mod InputLemmas
 pub mod KeptLemmas
 pub mod LineLemmas
 pub mod LookLemmas
+pub mod Names
 pub mod PieceLemmas
 pub mod ReplyLemmas
 pub mod SealedLemmas

@@ -1,34 +1,14 @@
 -- The line that is written of a gateway that was settled.
 use Rattle.std.proofs.Common.{◌≡◌, ◌≢◌, inl, inr, ℕ, ◌≤◌, true, false, List, [], length, None, Result, Ok, Err, IfErr, IfOk, count_by, sym, ap, subst, ◌∙◌, arith}
-use Rattle.area_disk.specs.Disk.{Rose}
+use Rattle.cgf_service.proofs.Names.{area_of, base, Book, BookValue, closed_behind, counts_of, facts_of, FailsBy, Grows, HasLine, HasNoLine, HasSettled, HasSettledAll, HasTakenAll, HistoryEntry, is_closed, is_part, IsSettled, items_of, moment_of, no_caller, part_count, Rose, served_line, Service, settings_in, SettleFault, shelf_of, size_of, Status, Stays, tells_lists, Told, value_of, WhereTold, Writer}
 use Rattle.area_disk.specs.declared.area.Area as areas
 use Rattle.cdr_shelf.specs.declared.shelf.Shelf as shelves
-use Rattle.cgf_journal.specs.Trail.{is_closed}
-use Rattle.file_writer.specs.Writer.{settings_in, shelf_of}
-use Rattle.file_writer.specs.declared.writer.Writer.{Writer}
-use Rattle.gate_journal.specs.Moments.{Told}
-use Rattle.gateway_answer.specs.Answered.{no_caller}
-use Rattle.gateway_book.specs.Book.{Stays, area_of, size_of, value_of}
-use Rattle.gateway_book.specs.Calls.{counts_of}
 use Rattle.gateway_answer.specs.Filed.{filed}
-use Rattle.gateway_answer.specs.Items.{is_part, items_of, part_count}
 use Rattle.gateway_book.specs.Read.{IsUnchanged}
-use Rattle.gateway_book.specs.Turning.{facts_of, tells_lists}
-use Rattle.gateway_answer.specs.Value.{BookValue}
-use Rattle.gateway_book.specs.declared.book.Book.{Book}
 use Rattle.gateway_book.specs.declared.outcome.Counts.{Counts}
-use Rattle.gw_base.specs.Facts.{WhereTold}
-use Rattle.gw_base.specs.Owes.{base}
-use Rattle.gw_base.specs.declared.history.HistoryEntry.{HistoryEntry}
-use Rattle.node_session.specs.Settling.{Grows, HasSettled, HasTakenAll, IsSettled, closed_behind}
 use Rattle.node_session.specs.Writing.{KeepsFiles}
-use Rattle.node_session.specs.declared.settling.SettleFault.{SettleFault}
 use Rattle.node_session.specs.declared.settling.SettleFault.TheVariants as settle
 use Rattle.replay_gateway.specs.GatewayReport.{counts_text}
-use Rattle.cgf_service.specs.ServeSteps.{FailsBy, HasLine, HasNoLine, HasSettledAll}
-use Rattle.cgf_service.specs.Served.{moment_of, served_line}
-use Rattle.cgf_service.specs.declared.settling.Service.{Service}
-use Rattle.cgf_jobs.specs.declared.status.Status.{Status}
 
 -- the counts of a book in which nothing waits, and that isn't broken, are those of its history
 pub line_is : (v : BookValue) (size : ℕ) (counts : Counts) (records : ℕ) → v.is_broken ≡ false → v.rest ≡ [] → counts ≡ counts_of v size

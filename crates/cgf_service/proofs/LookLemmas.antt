@@ -1,17 +1,8 @@
 -- A shelf that was looked at, and didn't fail, has the files and the count of faults that it had.
 use Rattle.std.proofs.Common.{◌≡◌, ⊎_elim, inl, inr, ℕ, ◌≤◌, List, Result, Ok, Err, IfErr, IfOk, sym, subst, ◌∙◌}
-use Rattle.area_disk.specs.Disk.{Rose}
+use Rattle.cgf_service.proofs.Names.{files_at, HasFirstFiles, HasServed, HistoryEntry, KeepsShelf, LinksState, NeverFalls, Rose, SealedFile, served_line, Serving, Setup, Status, StopsServing}
 use Rattle.area_disk.specs.declared.area.Area as areas
-use Rattle.cdr_shelf.specs.Files.{SealedFile}
 use Rattle.cdr_shelf.specs.declared.shelf.Shelf as shelves
-use Rattle.gw_base.specs.declared.history.HistoryEntry.{HistoryEntry}
-use Rattle.net_link.specs.Making.{LinksState}
-use Rattle.replay_gateway.specs.Setup.{Setup}
-use Rattle.cgf_service.specs.ServeSteps.{NeverFalls, StopsServing}
-use Rattle.cgf_service.specs.Served.{HasFirstFiles, HasServed, files_at, served_line}
-use Rattle.cgf_service.specs.Shelved.{KeepsShelf}
-use Rattle.cgf_service.specs.declared.serving.Serving.{Serving}
-use Rattle.cgf_jobs.specs.declared.status.Status.{Status}
 use Rattle.cgf_jobs.specs.declared.status.Status.TheVariants as status
 use Rattle.cgf_jobs.specs.declared.status.StoreFault.TheVariants as fault
 

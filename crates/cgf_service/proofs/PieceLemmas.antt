@@ -1,28 +1,12 @@
 -- A piece of a stream is taken in, up to the end of a message or whole.
 use Rattle.std.proofs.Common.{◌≡◌, ◌≢◌, ℕ, ◌+◌, ◌-◌, ◌<◌, ◌≤◌, ◌⊎◌, inl, inr, Bool, true, false, if◌then◌else◌, List, [], ◌∷◌, ◌++◌, length, length-append, take, drop, Option, Some, None, Ok, Err, refl, sym, ap, subst, ◌∙◌, append_assoc, append-nil, arith}
 use Rattle.std.proofs.Math.Seq.{take-add, take-length}
-use Rattle.std.proofs.lemmas.List.{length-take, map_push, take-append-drop}
+use Rattle.cgf_service.proofs.Names.{Addr, after_all, after_message, answer_of, Answers, AnswersAll, Appends, area_of, Book, BookValue, Connection, CutsByFaults, earlier_fault, end_by, fault_before, first_fault, Follows, FrameKind, frames, HasAnsweredOne, HasGoneTo, IsGoingOn, IsLastOf, IsSteady, last_count, last_moment, length-take, map_push, most_stream, of_frame, rest_of, rest_place, sent_for, sent_for_all, size_of, Status, Stays, StopsAtMessage, StopsIn, Stream, take-append-drop, Told, Tried, value_of}
 use Rattle.std.specs.Option.{option_or}
-use Rattle.std.specs.Io.KnownBytes.{Appends}
-use Rattle.area_disk.specs.Disk.{last_count}
 use Rattle.area_disk.specs.declared.area.Area as areas
-use Rattle.gate_journal.specs.Moments.{Told}
-use Rattle.gateway_book.specs.Book.{Stays, area_of, size_of, value_of}
-use Rattle.gateway_answer.specs.Value.{BookValue}
-use Rattle.gateway_book.specs.declared.book.Book.{Book}
-use Rattle.gtpp_stream.specs.Frames.{first_fault, frames, rest_of}
 use Rattle.gtpp_stream.specs.Kept.{IsPart}
-use Rattle.gtpp_stream.specs.Stream.{Follows, Stream, answer_of, earlier_fault, fault_before}
 use Rattle.gtpp_stream.specs.Taking.{IsBegun, Takes}
 use Rattle.gtpp_stream.specs.declared.frame.FrameEnd.TheVariants as ends
-use Rattle.gtpp_stream.specs.declared.frame.FrameKind.{FrameKind}
-use Rattle.gw_base.specs.declared.address.Addr.{Addr}
-use Rattle.cgf_jobs.specs.Kinds.{of_frame}
-use Rattle.cgf_service.specs.Replies.{Tried, after_all, after_message, last_moment, sent_for, sent_for_all}
-use Rattle.cgf_service.specs.StreamEnds.{end_by, most_stream, rest_place}
-use Rattle.cgf_service.specs.StreamSteps.{Answers, AnswersAll, CutsByFaults, HasAnsweredOne, HasGoneTo, IsGoingOn, IsLastOf, IsSteady, StopsAtMessage, StopsIn}
-use Rattle.cgf_service.specs.declared.connection.Connection.{Connection}
-use Rattle.cgf_jobs.specs.declared.status.Status.{Status}
 use Rattle.cgf_jobs.specs.declared.status.Status.TheVariants as status
 use Rattle.cgf_service.proofs.ConnectionLemmas.{cuts_on, rest_is, stays_on}
 use Rattle.cgf_service.proofs.InputLemmas.{appends_none, appends_two}

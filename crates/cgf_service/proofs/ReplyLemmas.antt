@@ -1,17 +1,7 @@
 -- What is sent for the messages of a stream where no call of the device fails.
 use Rattle.std.proofs.Common.{◌≡◌, ℕ, Bool, true, false, if◌then◌else◌, List, [], ◌∷◌, ◌++◌, map, Option, Some, None, refl, sym, ap, subst, ◌∙◌, append_assoc, append-nil, arith}
-use Rattle.area_disk.specs.Disk.{counted}
-use Rattle.gw_base.specs.declared.address.Addr.{Addr}
-use Rattle.gw_base.specs.declared.history.HistoryAct.{HistoryAct}
+use Rattle.cgf_service.proofs.Names.{act_decided, Addr, after_all, after_commit, after_message, behind_one, BookValue, committed, counted, decided, decided_at, decided_by_fault, entry_by, faulted, Fortune, given_at, history_of, HistoryAct, HistoryEntry, is_batch_full, message_of, no_caller, octets_said, opened, prepared_of, readied, recorded_if, Refused, reopened, Reopening, replies, room_for, sent_for, sent_for_all, Tried, tried, tried_with, with_act}
 use Rattle.gw_base.specs.declared.history.HistoryAct.TheVariants.{Start}
-use Rattle.gw_base.specs.declared.history.HistoryEntry.{HistoryEntry}
-use Rattle.gateway_answer.specs.Answer.{decided}
-use Rattle.gateway_answer.specs.Answered.{act_decided, entry_by, no_caller, room_for, with_act}
-use Rattle.gateway_book.specs.Calls.{given_at}
-use Rattle.gateway_answer.specs.Preparing.{prepared_of}
-use Rattle.gateway_answer.specs.Value.{BookValue, Fortune, Reopening, Refused, after_commit, committed, faulted, history_of, is_batch_full, opened, readied, recorded_if, reopened, tried, tried_with}
-use Rattle.node_session.specs.Turns.{decided_at, decided_by_fault}
-use Rattle.cgf_service.specs.Replies.{Tried, after_all, after_message, behind_one, message_of, octets_said, replies, sent_for, sent_for_all}
 
 abbrev pub Entries : Type 0
 Entries = List HistoryEntry

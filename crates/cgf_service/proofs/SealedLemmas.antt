@@ -1,14 +1,8 @@
 -- Which files a shelf has whose writer was given all items of a history.
 use Rattle.std.proofs.Common.{◌≡◌, ℕ, ◌+◌, ◌-◌, ◌<◌, ◌≤◌, false, List, ◌++◌, length, take, max, min, sym, ap, subst, ◌∙◌, arith}
-use Rattle.std.proofs.lemmas.List.{take-append-le, take_all, take_min}
-use Rattle.cdr_shelf.specs.Files.{SealedFile, in_stream}
+use Rattle.cgf_service.proofs.Names.{closed_of, Holds, in_stream, is_broken, Item, later_files, sealed_in, SealedFile, Settings, settings_in, shelf_of, stream_count, stream_files, take-append-le, take_all, take_min, taken_of, Writer}
 use Rattle.cdr_shelf.specs.declared.shelf.Shelf.{Ghosts}
-use Rattle.file_writer.specs.Files.{later_files, stream_files}
 use Rattle.file_writer.specs.Holding.{IsBegun}
-use Rattle.file_writer.specs.Streams.{Settings, closed_of, stream_count}
-use Rattle.file_writer.specs.Writer.{Holds, is_broken, sealed_in, settings_in, shelf_of, taken_of}
-use Rattle.file_writer.specs.declared.writer.Writer.{Writer}
-use Rattle.gw_base.specs.declared.item.Item.{Item}
 use Rattle.node_session.specs.Writing.{HoldsFilesOf, none_closed, none_stood}
 
 record Front {A : Type 0} (n : ℕ) (xs ys : List A) : Type 0 where

@@ -1,33 +1,14 @@
 -- What `serve` does, by what it read, how the gateway served, and what was written.
 use Rattle.std.proofs.Common.{◌≡◌, ◌⊎◌, ⊎_elim, inl, inr, ℕ, ◌+◌, true, List, take, None, Some, Result, Ok, Err, IfErr, IfOk, OnOk, refl, sym, ap, subst, ◌∙◌}
-use Rattle.std.specs.Io.KnownBytes.{Appends}
+use Rattle.cgf_service.proofs.Names.{Appends, AppendsFront, AreOf, CausesRead, FileSettings, HasServed, header_at, HistoryEntry, InputKind, IsNotOurs, IsRead, IsSetBy, Job, KeepsShelf, LinksState, LosesNothing, may_have_written, of_line, RefusesAsForeign, RefusesSettings, RefusesText, served_line, Serving, SettlesStill, Setup, setup_of, StandsFitFor, StandsOrStarts, Starts, Status, StopsServing, TakesAllTurns, TakesUpTo, Told, UsesLinks, WritesLine}
 use Rattle.area_disk.specs.declared.area.Area as areas
 use Rattle.cdr_shelf.specs.declared.shelf.Shelf as shelves
-use Rattle.gate_journal.specs.Format.{Starts}
-use Rattle.gate_journal.specs.Moments.{Told}
-use Rattle.gateway_answer.specs.FitHistory.{StandsFitFor}
-use Rattle.gateway_book.specs.Opened.{IsNotOurs, StandsOrStarts}
 use Rattle.gw_base.specs.Faults.{Rose}
-use Rattle.gw_base.specs.Written.{AppendsFront}
-use Rattle.gw_base.specs.declared.history.HistoryEntry.{HistoryEntry}
-use Rattle.net_link.specs.Making.{LinksState}
-use Rattle.replay_gateway.specs.Setup.{Setup, setup_of}
 use Rattle.world_script.specs.Script.{Refusal, most_text, script_in}
 use Rattle.world_script.specs.declared.kind.ScriptKind.TheVariants as kind
 use Rattle.world_script.specs.declared.line.Line.{Line}
 use Rattle.cgf_jobs.specs.Ending.{HasCause}
-use Rattle.cgf_jobs.specs.Job.{Job}
-use Rattle.cgf_jobs.specs.Kinds.{of_line}
-use Rattle.cgf_service.specs.Linked.{TakesAllTurns, UsesLinks}
-use Rattle.cgf_jobs.specs.Run.{IsRead, TakesUpTo, may_have_written}
 use Rattle.cgf_service.specs.ServeEnds.{EndsBy, IsCalm, IsGatewayEnd, IsRefusedAt, ServedBy, Serves, may_have_opened}
-use Rattle.cgf_service.specs.ServeSteps.{AreOf, CausesRead, IsSetBy, RefusesAsForeign, RefusesSettings, RefusesText, StopsServing, WritesLine}
-use Rattle.cgf_service.specs.Served.{HasServed, LosesNothing, SettlesStill, header_at, served_line}
-use Rattle.cgf_service.specs.Shelved.{KeepsShelf}
-use Rattle.cgf_jobs.specs.declared.input_kind.InputKind.{InputKind}
-use Rattle.cgf_service.specs.declared.serve.FileSettings.{FileSettings}
-use Rattle.cgf_service.specs.declared.serving.Serving.{Serving}
-use Rattle.cgf_jobs.specs.declared.status.Status.{Status}
 use Rattle.cgf_jobs.specs.declared.status.Status.TheVariants as status
 use Rattle.cgf_jobs.specs.declared.status.StoreFault.{StoreFault}
 use Rattle.cgf_jobs.specs.declared.status.StoreFault.TheVariants as fault

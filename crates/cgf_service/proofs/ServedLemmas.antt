@@ -1,42 +1,10 @@
 -- What a gateway hands back that was opened, served and was settled.
 use Rattle.std.proofs.Common.{◌≡◌, ℕ, ◌+◌, ◌-◌, ◌<◌, ◌≤◌, max, Bool, true, false, List, [], ◌++◌, length, take, refl, sym, ap, subst, ◌∙◌, true≢false, arith}
-use Rattle.std.specs.Prelude.{IsTrue}
-use Rattle.std.proofs.lemmas.List.{append-nil}
-use Rattle.area_disk.specs.AreaLaws.{AreaLaws}
+use Rattle.cgf_service.proofs.Names.{address_in, append-nil, area_of, AreaLaws, AreOf, AreShut, base, Begins, Book, BookValue, closed_of, facts_of, files_at, FileSettings, GoesOnUntil, HasAllFiles, HasFirstFiles, HasGrown, HasLine, HasReplied, HasServed, HasServedAt, header_at, header_of, history_of, HistoryEntry, is_broken, is_close_due, IsOpened, IsSettled, IsTrue, Item, items_by, items_of, joined, later_files, LeavesClosed, LeavesFit, LinksState, moment_of, no_caller, sealed_in, Service, Serving, Settings, settings_in, Setup, shelf_of, StandsFitFor, Stays, stream_count, stream_division, stream_files, taken_of, tells_lists, Told, torn_of, value_of, Writer}
 use Rattle.area_disk.specs.declared.area.Area as areas
 use Rattle.cdr_shelf.specs.declared.shelf.Shelf as shelves
-use Rattle.file_writer.specs.Files.{later_files, stream_files}
-use Rattle.file_writer.specs.Streams.{Settings, closed_of, stream_count, stream_division}
-use Rattle.file_writer.specs.Writer.{is_broken, sealed_in, settings_in, shelf_of, taken_of}
-use Rattle.file_writer.specs.declared.writer.Writer.{Writer}
-use Rattle.gate_journal.specs.Moments.{Told}
-use Rattle.gateway_answer.specs.Answered.{no_caller}
-use Rattle.gateway_book.specs.Book.{Stays, area_of, header_of, value_of}
-use Rattle.gateway_book.specs.Comes.{LeavesFit}
 use Rattle.gateway_answer.specs.Filed.{along}
-use Rattle.gateway_answer.specs.FitHistory.{StandsFitFor}
-use Rattle.gateway_answer.specs.Items.{items_by, items_of}
-use Rattle.gateway_book.specs.Opened.{IsOpened}
-use Rattle.gateway_book.specs.Turning.{facts_of, tells_lists}
-use Rattle.gateway_answer.specs.Value.{BookValue, history_of, torn_of}
-use Rattle.gateway_book.specs.declared.book.Book.{Book}
-use Rattle.gw_base.specs.Facts.{joined}
-use Rattle.gw_base.specs.History.{is_close_due}
-use Rattle.gw_base.specs.Owes.{Begins, base}
-use Rattle.gw_base.specs.declared.history.HistoryEntry.{HistoryEntry}
-use Rattle.gw_base.specs.declared.item.Item.{Item}
-use Rattle.net_link.specs.Making.{LinksState}
-use Rattle.node_session.specs.Settling.{IsSettled}
 use Rattle.node_session.specs.Writing as writing
-use Rattle.replay_gateway.specs.AtRest.{AreShut}
-use Rattle.replay_gateway.specs.Setup.{Setup}
-use Rattle.session_run.specs.History.{GoesOnUntil}
-use Rattle.cgf_service.specs.ServeSteps.{AreOf, HasLine, HasServedAt}
-use Rattle.cgf_service.specs.Served.{HasAllFiles, HasFirstFiles, HasGrown, HasReplied, HasServed, LeavesClosed, files_at, header_at, moment_of}
-use Rattle.cgf_service.specs.Serving.{address_in}
-use Rattle.cgf_service.specs.declared.serve.FileSettings.{FileSettings}
-use Rattle.cgf_service.specs.declared.serving.Serving.{Serving}
-use Rattle.cgf_service.specs.declared.settling.Service.{Service}
 use Rattle.cgf_service.proofs.InputLemmas.{length-files_from}
 use Rattle.cgf_service.proofs.GrownLemmas as grow
 use Rattle.cgf_service.proofs.KeptLemmas.{replies_rest, told_lists}

@@ -1,19 +1,6 @@
 -- What a service comes to, by what was run and what was given back.
 use Rattle.std.proofs.Common.{◌≡◌, ⊎_elim, inl, inr, ℕ, Bool, true, List, [], arith, ◌++◌, Option, None, Some, refl, sym, ap, ◌∙◌, append_assoc}
-use Rattle.std.specs.Prelude.{IfSome}
-use Rattle.std.proofs.lemmas.List.{append-nil}
-use Rattle.std.proofs.lemmas.List.Elements.{All-nil}
-use Rattle.area_disk.specs.Disk.{Rose}
-use Rattle.gw_base.specs.Facts.{AreSound, Facts, WhereTold, joined}
-use Rattle.gw_base.specs.Owes.{Begins}
-use Rattle.gw_base.specs.declared.history.HistoryEntry.{HistoryEntry}
-use Rattle.net_link.specs.Datagrams.{Datagram, IsEmpty}
-use Rattle.net_link.specs.Making.{GrowsBy}
-use Rattle.node_session.specs.Turns.{entries_of}
-use Rattle.session_run.specs.History.{AnswerInTurn, GoesOnUntil, InTurn, IsAnswered, IsCalledFor, IsJobOf, IsReply, ReplyInTurn, TellsFailure}
-use Rattle.session_run.specs.Latest.{Jobs}
-use Rattle.session_run.specs.Running.{StaysAs}
-use Rattle.turn_cell.specs.Placed.{placed}
+use Rattle.cgf_service.proofs.Names.{All-nil, AnswerInTurn, append-nil, AreSound, Begins, Datagram, entries_of, Facts, GoesOnUntil, GrowsBy, HistoryEntry, IfSome, InTurn, IsAnswered, IsCalledFor, IsEmpty, IsJobOf, IsReply, Jobs, joined, placed, ReplyInTurn, Rose, StaysAs, TellsFailure, WhereTold}
 
 pub begins_self : (xs : List HistoryEntry) → Begins xs xs
 begins_self xs = ([], sym (append-nil xs))

@@ -1,34 +1,16 @@
 -- What a service comes to on links that were made, and given back.
 use Rattle.std.proofs.Common.{◌≡◌, ◌⊎◌, ⊎_elim, ℕ, ◌+◌, ◌<◌, ◌≤◌, ◌^◌, true, true≢false, List, [], ◌∷◌, Option, None, Some, refl, sym, ap, subst, ◌∙◌, arith}
-use Rattle.std.specs.Prelude.{All, IfSome}
-use Rattle.std.proofs.lemmas.List.Elements.{All-cons, All-nil, All-weaker}
-use Rattle.std.proofs.lemmas.Option.{IfSome_then}
+use Rattle.cgf_service.proofs.Names.{added, address_in, All, All-cons, All-nil, All-weaker, AnyOf, area_of, AreFiveOf, AreSound, Book, Datagram, facts_of, GivesBack, GoesOnUntil, HasFailed, HasMade, HasReplied, HasServedAt, HasStopCause, HaveReplied, heard_by, HistoryEntry, IfSome, IfSome_then, is_broken, IsEmpty, IsHeard, IsIdleAt, IsReply, LinksState, NoneFailed, received_with, sent_by, sent_with, Serving, size_of, StaysAs, TakesAtMost, tells_lists, turns_with, UsesLinks, value_of, WhereTold, Writer}
 use Rattle.area_disk.specs.declared.area.Area as areas
 use Rattle.cdr_shelf.specs.declared.shelf.Shelf as shelves
-use Rattle.file_writer.specs.Writer.{is_broken}
-use Rattle.file_writer.specs.declared.writer.Writer.{Writer}
-use Rattle.gateway_book.specs.Book.{area_of, size_of, value_of}
-use Rattle.gateway_book.specs.Turning.{facts_of, tells_lists}
-use Rattle.gateway_book.specs.declared.book.Book.{Book}
-use Rattle.gw_base.specs.Facts.{AreSound, WhereTold}
 use Rattle.gw_base.specs.Faults.{Rose}
-use Rattle.gw_base.specs.declared.history.HistoryEntry.{HistoryEntry}
 use Rattle.gw_base.specs.declared.moment.Moment.{Moment}
-use Rattle.net_link.specs.Datagrams.{Datagram, IsEmpty, added, joined}
-use Rattle.net_link.specs.Making.{LinksState}
+use Rattle.net_link.specs.Datagrams.{joined}
 use Rattle.net_link.specs.declared.link.Link as paths
 use Rattle.session_run.specs.Desks.{HearsNothing}
 use Rattle.session_run.specs.Filing.{KeepsWriter}
-use Rattle.session_run.specs.History.{GoesOnUntil, IsHeard, IsReply}
-use Rattle.session_run.specs.Links.{GivesBack, HasMade, IsIdleAt, received_with, sent_with, turns_with}
-use Rattle.session_run.specs.Running.{AnyOf, AreFiveOf, HasFailed, HasStopCause, HaveReplied, NoneFailed, StaysAs, TakesAtMost, heard_by, sent_by}
 use Rattle.session_run.specs.declared.stop.Stop.{Stop}
 use Rattle.session_run.specs.declared.stop.Stop.TheVariants as stop
-use Rattle.cgf_service.specs.Linked.{UsesLinks}
-use Rattle.cgf_service.specs.ServeSteps.{HasServedAt}
-use Rattle.cgf_service.specs.Served.{HasReplied}
-use Rattle.cgf_service.specs.Serving.{address_in}
-use Rattle.cgf_service.specs.declared.serving.Serving.{Serving}
 use Rattle.cgf_service.proofs.GivenBackLemmas.{all_sent, goes_on_there, heard_there, none_sent_by, reply_there, rose_before, rose_still, sent_grows, turns_none}
 use Rattle.cgf_service.proofs.ServiceLemmas.{HeardInTurn, ReplyLater, begins_self, none_in_turn, nothing_befell, same_facts}
 

@@ -1,10 +1,6 @@
 -- Which words are those of `serve`.
 use Rattle.std.proofs.Common.{◌≡◌, ℕ, true, false, List, [], ◌∷◌, length, map, codes, get_or, Option, None, Some, option_map, refl, sym, ap, ◌∙◌, arith}
-use Rattle.std.specs.Str.{bytes_eq}
-use Rattle.std.proofs.lemmas.Option.{none-some}
-use Rattle.cgf_service.specs.Serving.{ServePlacesValue, serve_places_in, serve_places_of, serving_by, serving_of}
-use Rattle.cgf_jobs.specs.Words.{is_option}
-use Rattle.cgf_service.specs.declared.serving.Serving.{Serving}
+use Rattle.cgf_service.proofs.Names.{bytes_eq, is_option, none-some, serve_places_in, serve_places_of, ServePlacesValue, Serving, serving_by, serving_of}
 
 -- words that aren't seven are none
 pub other_words : {A : Type 0} (text : A → List ℕ) (words : List A) → (length words ≡ 7 → ⊥) → serving_of (map text words) ≡ None

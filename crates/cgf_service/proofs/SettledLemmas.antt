@@ -1,39 +1,9 @@
 -- How a gateway that was to serve ends: it wasn't opened, or it was settled.
 use Rattle.std.proofs.Common.{◌≡◌, ◌⊎◌, ⊎_elim, inl, inr, ℕ, ◌≤◌, true, false, List, [], ◌++◌, Result, Ok, Err, IfErr, IfOk, OnOk, refl, sym, ap, subst, ◌∙◌, arith}
-use Rattle.std.specs.Prelude.{IsTrue}
-use Rattle.area_disk.specs.AreaLaws.{AreaLaws}
-use Rattle.area_disk.specs.Disk.{Rose}
+use Rattle.cgf_service.proofs.Names.{area_of, AreaLaws, AreShut, Begins, Book, BookFault, BookValue, files_at, FindsHistory, GoesOnIn, HasFirstFiles, HasLine, HasNoLine, HasServed, HasServedAt, HasSettledAll, header_at, header_of, HistoryEntry, HoldsHistory, is_broken, is_close_due, IsFiledIn, IsMadeAnew, IsNotOurs, IsOpened, IsRefused, IsSettled, IsTrue, items_of, KeepsShelf, LeavesClosed, LeavesFit, LinksState, LosesNothing, moment_of, NeverFalls, no_caller, RefusesAsForeign, Rose, served_line, Service, Serving, settings_in, SettlesStill, Setup, shelf_of, StandsFitFor, StandsFor, StandsOrStarts, Starts, Status, status_by, StopsServing, TakesAllTurns, Told, value_of, Writer}
 use Rattle.area_disk.specs.declared.area.Area as areas
 use Rattle.cdr_shelf.specs.declared.shelf.Shelf as shelves
-use Rattle.file_writer.specs.Writer.{is_broken, settings_in, shelf_of}
-use Rattle.file_writer.specs.declared.writer.Writer.{Writer}
-use Rattle.cgf_journal.specs.Format.{StandsFor}
-use Rattle.gate_journal.specs.Format.{Starts}
-use Rattle.gate_journal.specs.Moments.{Told}
-use Rattle.gateway_answer.specs.Answered.{no_caller}
-use Rattle.gateway_book.specs.Book.{area_of, header_of, value_of}
-use Rattle.gateway_book.specs.Comes.{LeavesFit}
-use Rattle.gateway_answer.specs.FitHistory.{StandsFitFor}
-use Rattle.gateway_answer.specs.Items.{items_of}
-use Rattle.gateway_book.specs.Opened.{FindsHistory, IsMadeAnew, IsNotOurs, IsOpened, IsRefused, StandsOrStarts}
-use Rattle.gateway_answer.specs.Value.{BookValue}
-use Rattle.gateway_book.specs.declared.book.Book.{Book}
-use Rattle.gateway_book.specs.declared.outcome.BookFault.{BookFault}
 use Rattle.gateway_book.specs.declared.outcome.BookFault.TheVariants as of_book
-use Rattle.gw_base.specs.History.{is_close_due}
-use Rattle.gw_base.specs.Owes.{Begins}
-use Rattle.gw_base.specs.declared.history.HistoryEntry.{HistoryEntry}
-use Rattle.net_link.specs.Making.{LinksState}
-use Rattle.node_session.specs.Settling.{IsSettled}
-use Rattle.replay_gateway.specs.AtRest.{AreShut}
-use Rattle.replay_gateway.specs.Setup.{Setup}
-use Rattle.cgf_service.specs.Linked.{TakesAllTurns}
-use Rattle.cgf_service.specs.ServeSteps.{HasLine, HasNoLine, HasServedAt, HasSettledAll, NeverFalls, RefusesAsForeign, StopsServing, status_by}
-use Rattle.cgf_service.specs.Served.{GoesOnIn, HasFirstFiles, HasServed, HoldsHistory, LeavesClosed, LosesNothing, SettlesStill, files_at, header_at, moment_of, served_line}
-use Rattle.cgf_service.specs.Shelved.{IsFiledIn, KeepsShelf}
-use Rattle.cgf_service.specs.declared.serving.Serving.{Serving}
-use Rattle.cgf_service.specs.declared.settling.Service.{Service}
-use Rattle.cgf_jobs.specs.declared.status.Status.{Status}
 use Rattle.cgf_jobs.specs.declared.status.Status.TheVariants as status
 use Rattle.cgf_jobs.specs.declared.status.StoreFault.TheVariants as fault
 use Rattle.cgf_service.proofs.GrownLemmas.{opened_is_fresh}

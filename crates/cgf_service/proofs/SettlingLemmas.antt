@@ -1,12 +1,7 @@
 -- How the settling of a gateway that answered a stream is a commit of its value, and a Close behind it.
 use Rattle.std.proofs.Common.{◌≡◌, ℕ, Bool, true, false, if◌then◌else◌, List, [], ◌∷◌, ◌++◌, refl, ◌∙◌, append-nil}
 use Rattle.area_disk.specs.declared.area.Area as areas
-use Rattle.gateway_book.specs.Book.{value_of}
-use Rattle.gateway_book.specs.Turning.{facts_of}
-use Rattle.gateway_answer.specs.Value.{BookValue, Fortune, Whole, Gone, after_commit, history_of, torn_of}
-use Rattle.gateway_book.specs.declared.book.Book.{Book}
-use Rattle.gw_base.specs.Owes.{base}
-use Rattle.gw_base.specs.declared.history.HistoryEntry.{HistoryEntry}
+use Rattle.cgf_service.proofs.Names.{after_commit, base, Book, BookValue, facts_of, Fortune, Gone, history_of, HistoryEntry, torn_of, value_of, Whole}
 
 abbrev pub Entries : Type 0
 Entries = List HistoryEntry

@@ -1,22 +1,9 @@
 -- A stream from its beginning to its end.
 use Rattle.std.proofs.Common.{◌≡◌, ℕ, ◌+◌, ◌<◌, ◌≤◌, ◌⊎◌, ⊎_elim, inl, inr, true, Bool, if◌then◌else◌, List, [], ◌∷◌, ◌++◌, length, length-append, take, Option, Some, None, Result, Ok, Err, IfErr, refl, sym, ap, subst, ◌∙◌, append-nil, arith}
-use Rattle.std.proofs.lemmas.Bool.{cases_lt, le-ltb}
+use Rattle.cgf_service.proofs.Names.{Appends, AppendsFront, Book, cases_lt, Connection, Consumes, counted, end_by, end_of_result, ends_serving, first_fault, Follows, FrameKind, frames, HasGoneTo, HasServedStream, InputKind, IsAtEnd, IsBegunOn, IsGoingOn, IsSome, IsStreamRead, Keeps, last_count, le-ltb, LeavesUnanswered, most_stream, no_stream, rest_end, rest_of, rest_place, Rose, Status, StopsIn, Stream, stream_end}
 use Rattle.std.proofs.Math.Seq.{take-append-add}
-use Rattle.std.specs.Prelude.{IsSome}
-use Rattle.std.specs.Io.KnownBytes.{Appends, Consumes, IsAtEnd, Keeps}
-use Rattle.area_disk.specs.Disk.{Rose, counted, last_count}
 use Rattle.area_disk.specs.declared.area.Area as areas
-use Rattle.gtpp_stream.specs.Frames.{first_fault, frames, rest_of}
-use Rattle.gtpp_stream.specs.Stream.{Follows, Stream, no_stream}
-use Rattle.gtpp_stream.specs.declared.frame.FrameKind.{FrameKind}
-use Rattle.gateway_book.specs.declared.book.Book.{Book}
-use Rattle.gw_base.specs.Written.{AppendsFront}
-use Rattle.cgf_service.specs.StreamEnds.{IsStreamRead, LeavesUnanswered, end_by, most_stream, rest_end, rest_place, stream_end}
-use Rattle.cgf_service.specs.StreamSteps.{HasGoneTo, HasServedStream, IsBegunOn, IsGoingOn, StopsIn, end_of_result, ends_serving}
-use Rattle.cgf_service.specs.declared.connection.Connection.{Connection}
-use Rattle.cgf_jobs.specs.declared.input_kind.InputKind.{InputKind}
 use Rattle.cgf_jobs.specs.declared.input_kind.InputKind.TheVariants as input
-use Rattle.cgf_jobs.specs.declared.status.Status.{Status}
 use Rattle.cgf_jobs.specs.declared.status.Status.TheVariants as status
 use Rattle.cgf_service.proofs.ConnectionLemmas.{not_bad}
 use Rattle.cgf_service.proofs.InputLemmas.{appends_two, consumes_more}

@@ -1,10 +1,6 @@
 -- Which words are those of `stream`.
 use Rattle.std.proofs.Common.{◌≡◌, ℕ, true, false, List, [], ◌∷◌, length, map, codes, get_or, Option, None, Some, option_map, refl, sym, ap, ◌∙◌}
-use Rattle.std.specs.Str.{bytes_eq}
-use Rattle.std.proofs.lemmas.Option.{none-some}
-use Rattle.cgf_service.specs.Streaming.{StreamPlacesValue, stream_places_in, stream_places_of, streaming_by, streaming_of}
-use Rattle.cgf_jobs.specs.Words.{is_option}
-use Rattle.cgf_service.specs.declared.streaming.Streaming.{Streaming}
+use Rattle.cgf_service.proofs.Names.{bytes_eq, is_option, none-some, stream_places_in, stream_places_of, Streaming, streaming_by, streaming_of, StreamPlacesValue}
 
 -- words that aren't seven are none
 pub other_words : {A : Type 0} (text : A → List ℕ) (words : List A) → (length words ≡ 7 → ⊥) → streaming_of (map text words) ≡ None

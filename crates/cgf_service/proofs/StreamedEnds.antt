@@ -1,46 +1,17 @@
 -- How the job ends that answers a stream, and why.
 use Rattle.std.proofs.Common.{◌≡◌, ◌≢◌, ℕ, ◌≤◌, ◌⊎◌, ⊎_elim, inl, inr, true, false, List, [], ◌∷◌, ◌++◌, length, length-append, Option, Some, None, Result, Ok, Err, refl, sym, ap, subst, ◌∙◌, append-nil, arith}
-use Rattle.std.specs.Io.KnownBytes.{Appends, Consumes}
-use Rattle.std.proofs.lemmas.List.{nil_from_length}
-use Rattle.area_disk.specs.AreaLaws.{AreaLaws}
+use Rattle.cgf_service.proofs.Names.{Appends, area_of, AreaLaws, AreShut, Book, BookFault, CausesStop, Connection, Consumes, default_setup, end_by, EndsAsSaid, FindsHistory, first_fault, FrameKind, frames, HasAnswered, HasAnsweredAll, HasClosed, HasGoneTo, HasServedStream, HasSettledStream, header_at, HistoryEntry, HoldsHistory, is_broken, is_close_due, IsGoingOn, IsMadeAnew, IsNotOurs, IsOpened, IsRefused, IsStreamRead, IsUnopened, items_of, Job, KeepsAnswers, LeavesBehind, LeavesUnanswered, most_stream, nil_from_length, octets_sent, of_frame, rest_of, rest_place, Settings, settings_in, SettlesAs, shelf_of, StandsFitFor, StandsFor, StandsOrStarts, Starts, Status, status_by, stream_end, stream_settings, Streaming, Streams, Told, Writer}
 use Rattle.area_disk.specs.Disk as disk
 use Rattle.area_disk.specs.declared.area.Area as areas
 use Rattle.cdr_shelf.specs.declared.shelf.Shelf as shelves
-use Rattle.file_writer.specs.Streams.{Settings}
-use Rattle.file_writer.specs.Writer.{is_broken, settings_in, shelf_of}
-use Rattle.file_writer.specs.declared.writer.Writer.{Writer}
-use Rattle.cgf_journal.specs.Format.{StandsFor}
-use Rattle.gate_journal.specs.Format.{Starts}
-use Rattle.gate_journal.specs.Moments.{Told}
-use Rattle.gateway_book.specs.Book.{area_of}
-use Rattle.gateway_answer.specs.FitHistory.{StandsFitFor}
-use Rattle.gateway_answer.specs.Items.{items_of}
-use Rattle.gateway_book.specs.Opened.{FindsHistory, IsMadeAnew, IsNotOurs, IsOpened, IsRefused, StandsOrStarts}
-use Rattle.gateway_book.specs.declared.book.Book.{Book}
-use Rattle.gateway_book.specs.declared.outcome.BookFault.{BookFault}
 use Rattle.gateway_book.specs.declared.outcome.BookFault.TheVariants as of_book
-use Rattle.gtpp_stream.specs.Frames.{first_fault, frames, rest_of}
-use Rattle.gtpp_stream.specs.declared.frame.FrameKind.{FrameKind}
 use Rattle.gw_base.specs.Faults.{Rose}
-use Rattle.gw_base.specs.History.{is_close_due}
-use Rattle.gw_base.specs.declared.history.HistoryEntry.{HistoryEntry}
 use Rattle.replay_gateway.specs.Settings.{AreSet}
-use Rattle.replay_gateway.specs.AtRest.{AreShut}
-use Rattle.replay_gateway.specs.Setup.{default_setup}
 use Rattle.replay_world.specs.declared.replay.Played.{Played}
 use Rattle.replay_gateway.specs.declared.settings.Settings.{Settings as ReplaySettings}
 use Rattle.route_filter.specs.declared.rule.Rule.{Rule}
-use Rattle.cgf_jobs.specs.Job.{Job}
-use Rattle.cgf_jobs.specs.Kinds.{of_frame}
-use Rattle.cgf_service.specs.ServeSteps.{status_by}
-use Rattle.cgf_service.specs.Served.{HoldsHistory, header_at}
-use Rattle.cgf_service.specs.StreamEnds.{EndsAsSaid, HasAnswered, HasAnsweredAll, IsStreamRead, IsUnopened, KeepsAnswers, LeavesUnanswered, Streams, end_by, most_stream, octets_sent, rest_place, stream_end, stream_settings}
-use Rattle.cgf_service.specs.StreamSteps.{CausesStop, HasClosed, HasGoneTo, HasServedStream, HasSettledStream, IsGoingOn, LeavesBehind, SettlesAs}
-use Rattle.cgf_service.specs.declared.connection.Connection.{Connection}
-use Rattle.cgf_jobs.specs.declared.status.Status.{Status}
 use Rattle.cgf_jobs.specs.declared.status.Status.TheVariants as status
 use Rattle.cgf_jobs.specs.declared.status.StoreFault.TheVariants as fault
-use Rattle.cgf_service.specs.declared.streaming.Streaming.{Streaming}
 use Rattle.cgf_service.proofs.PieceLemmas.{ok_not_err}
 use Rattle.cgf_service.proofs.ServedLemmas.{FilesGrow, ItemsStay}
 use Rattle.cgf_service.proofs.StreamLemmas.{all_gone}

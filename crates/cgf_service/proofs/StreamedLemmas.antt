@@ -1,48 +1,12 @@
 -- What a gateway leaves that answered a stream: its replies, its journal and its files.
 use Rattle.std.proofs.Common.{◌≡◌, ℕ, ◌+◌, ◌<◌, ◌≤◌, ◌⊎◌, ⊎_elim, inl, inr, Bool, true, false, if◌then◌else◌, List, [], ◌∷◌, ◌++◌, length, take, Option, Some, None, Result, Ok, Err, IfErr, refl, sym, ap, subst, ◌∙◌, append-nil, arith}
-use Rattle.std.specs.Prelude.{IsTrue}
-use Rattle.std.specs.Io.KnownBytes.{Appends, Consumes}
-use Rattle.area_disk.specs.AreaLaws.{AreaLaws}
+use Rattle.cgf_service.proofs.Names.{act_decided, Addr, after_all, after_commit, after_message, AnswersAll, Appends, AppendsFront, area_of, AreaLaws, AreShut, base, Begins, Book, BookValue, closed_behind, closed_of, committed, Connection, Consumes, decided, facts_of, faulted, Fortune, given_at, Grows, HasAllFiles, HasAnswered, HasAnsweredAll, HasClosed, HasClosedBehind, HasEnded, HasFirstFiles, HasGoneTo, HasSettledBehind, HasSettledStream, HasTakenAll, header_at, header_of, history_of, HistoryAct, HistoryEntry, is_batch_full, is_broken, is_close_due, IsCutInLast, IsLastOf, IsOpened, IsSettled, IsStreamRead, IsTrue, items_of, Job, KeepsAnswers, LeavesBehind, LeavesFit, moment_of, no_caller, octets_sent, opened, prepared_of, readied, recorded_if, reopened, Reopening, sent_for, sent_for_all, Settings, settings_in, SettlesAs, shelf_of, size_of, StandsBehind, StandsFitFor, Status, Stays, stream_count, stream_division, stream_end, stream_files, stream_settings, Streaming, tells_lists, Told, Tried, tried, tried_with, value_of, WhereTold, Whole, Writer}
 use Rattle.area_disk.specs.Disk as disk
 use Rattle.area_disk.specs.declared.area.Area as areas
 use Rattle.cdr_shelf.specs.declared.shelf.Shelf as shelves
-use Rattle.file_writer.specs.Files.{stream_files}
-use Rattle.file_writer.specs.Streams.{Settings, closed_of, stream_count, stream_division}
-use Rattle.file_writer.specs.Writer.{is_broken, settings_in, shelf_of}
-use Rattle.file_writer.specs.declared.writer.Writer.{Writer}
-use Rattle.gate_journal.specs.Moments.{Told}
-use Rattle.gateway_answer.specs.Answer.{decided}
-use Rattle.gateway_answer.specs.Answered.{act_decided, no_caller}
-use Rattle.gateway_book.specs.Book.{Stays, area_of, header_of, size_of, value_of}
-use Rattle.gateway_book.specs.Calls.{given_at}
-use Rattle.gateway_book.specs.Comes.{LeavesFit}
-use Rattle.gateway_answer.specs.FitHistory.{StandsFitFor}
-use Rattle.gateway_answer.specs.Items.{items_of}
-use Rattle.gateway_book.specs.Opened.{IsOpened}
-use Rattle.gateway_answer.specs.Preparing.{prepared_of}
-use Rattle.gateway_book.specs.Turning.{facts_of, tells_lists}
-use Rattle.gateway_answer.specs.Value.{BookValue, Fortune, Reopening, Whole, after_commit, committed, faulted, history_of, is_batch_full, opened, readied, recorded_if, reopened, tried, tried_with}
-use Rattle.gateway_book.specs.declared.book.Book.{Book}
-use Rattle.gw_base.specs.Facts.{WhereTold}
-use Rattle.gw_base.specs.History.{is_close_due}
-use Rattle.gw_base.specs.Owes.{Begins, base}
-use Rattle.gw_base.specs.Written.{AppendsFront}
-use Rattle.gw_base.specs.declared.address.Addr.{Addr}
-use Rattle.gw_base.specs.declared.history.HistoryAct.{HistoryAct}
-use Rattle.gw_base.specs.declared.history.HistoryEntry.{HistoryEntry}
-use Rattle.node_session.specs.Settling.{Grows, HasTakenAll, IsSettled, closed_behind}
 use Rattle.node_session.specs.Writing as writing
-use Rattle.replay_gateway.specs.AtRest.{AreShut}
-use Rattle.cgf_jobs.specs.Job.{Job}
-use Rattle.cgf_service.specs.Replies.{Tried, after_all, after_message, sent_for, sent_for_all}
-use Rattle.cgf_service.specs.Served.{HasAllFiles, HasFirstFiles, header_at, moment_of}
-use Rattle.cgf_service.specs.StreamEnds.{HasAnswered, HasAnsweredAll, HasClosedBehind, HasSettledBehind, IsCutInLast, IsStreamRead, KeepsAnswers, StandsBehind, octets_sent, stream_end, stream_settings}
-use Rattle.cgf_service.specs.StreamSteps.{AnswersAll, HasClosed, HasEnded, HasGoneTo, HasSettledStream, IsLastOf, LeavesBehind, SettlesAs}
-use Rattle.cgf_service.specs.declared.connection.Connection.{Connection}
-use Rattle.cgf_jobs.specs.declared.status.Status.{Status}
 use Rattle.cgf_jobs.specs.declared.status.Status.TheVariants as status
 use Rattle.cgf_jobs.specs.declared.status.StoreFault.TheVariants as fault
-use Rattle.cgf_service.specs.declared.streaming.Streaming.{Streaming}
 use Rattle.cgf_service.proofs.InputLemmas.{length-files_from}
 use Rattle.cgf_service.proofs.GrownLemmas.{closed_begins, none_due_behind, opened_is_fresh}
 use Rattle.cgf_service.proofs.KeptLemmas.{told_lists}

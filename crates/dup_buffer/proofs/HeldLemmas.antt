@@ -23,10 +23,10 @@ held_found n k copies at d is = find-filter (is_copy_of n k) (λ c. c.held) copi
   | inl held ↦ rw held (first_here p copies at d is.inside (rw (held, is.named d) refl)
       (λ j e lt. other j e (is.others j e (omega (arith, lt, is.inside)) (λ same. omega (arith, same, lt)))))
   | inr out ↦ rw out (none_found p copies (λ j e lt. elim (cases_eq j at) [
-      | inl same ↦ ap (λ (c : HeldCopy). p c) (ap (λ (m : ℕ). slice_index_or copies m e) same ∙
-          get_or_default copies at e d is.inside) ∙ rw out refl
-      | inr ne ↦ other j e (is.others j e lt ne)
-    ]))
+    | inl same ↦ ap (λ (c : HeldCopy). p c) (ap (λ (m : ℕ). slice_index_or copies m e) same ∙
+        get_or_default copies at e d is.inside) ∙ rw out refl
+    | inr ne ↦ other j e (is.others j e lt ne)
+  ]))
 ]
   where
     one : HeldCopy

@@ -52,16 +52,22 @@ drop-set copies at one lt =
 placed : (kept late copies : List HeldCopy) (i j m l : ℕ) (x : HeldCopy) → IsMerging kept late i j copies → i + j
     ≡ m + l + 1 → l ≤ j
     → ((p : HeldCopy → Bool) → count_by p (take i copies) + count_by p (take j late) ≡
-        count_by p (take m copies) + count_by p (take l late) + (if p x then 1 else 0))
+    count_by p (take m copies) + count_by p (take l late) + (if p x then 1 else 0))
     → AreFrom 0 (take m copies) → above 0 (take m copies) ≤ rank x → above 0 (take l late) ≤ rank x →
-        AreFrom (rank x + 1) (drop (i + j) copies)
+    AreFrom (rank x + 1) (drop (i + j) copies)
     → IsMerging kept late m l (slice_set copies (i + j - 1) x)
 placed kept late copies i j m l x is left fewer counts waits le le_late after = record {
   size = length-set copies (i + j - 1) x ∙ is.size;
   inside = omega (arith, is.inside, length-set copies (i + j - 1) x);
   within = omega (arith, is.within);
-  same = λ p. omega (arith, is.same p, counts p, ap (count_by p) front, ap (count_by p) back,
-      sum_by-cons (λ c. if p c then 1 else 0) x (drop (i + j) copies));
+  same = λ p. omega (
+    arith,
+    is.same p,
+    counts p,
+    ap (count_by p) front,
+    ap (count_by p) back,
+    sum_by-cons (λ c. if p c then 1 else 0) x (drop (i + j) copies),
+  );
   waits = rw front waits;
   behind = rw (front, back) (le, after);
   behind_late = rw back (le_late, after);
@@ -112,7 +118,7 @@ place_late kept late copies i j d some_j order is lt =
 pub last_apart : (kept late copies : List HeldCopy) (i j : ℕ) (d : HeldCopy) → 0 < i → 0 < j → IsOnce (kept ++ late) →
     IsMerging kept late i j copies
     → is_copy_of (slice_index_or late (j - 1) d).node (slice_index_or late (j - 1) d).number
-        (slice_index_or copies (i - 1) d) ≡ false
+    (slice_index_or copies (i - 1) d) ≡ false
 last_apart kept late copies i j d some_i some_j once is = false_from_ne_true (p x) (λ e.
     omega (
       arith,

@@ -91,14 +91,14 @@ from_point copies at q inside point = record {
 
 absent_from : (copies : List HeldCopy) (at n k : ℕ) → IsFrom copies at (rank_of n k)
     → ((j : ℕ) (d : HeldCopy) → at ≤ j → j < length copies → rank_of n k < rank (slice_index_or copies j d)) →
-        IsAbsent copies at n k
+    IsAbsent copies at n k
 absent_from copies at n k from past = record {
   inside = from.inside;
   none = none_found (is_copy_of n k) copies (λ j d lt. not_named n k (slice_index_or copies j d)
       (λ q. elim (cases_lt j at) [
-    | inl less ↦ omega (arith, q, from.before j d less)
-    | inr le ↦ omega (arith, q, past j d le lt)
-  ]));
+        | inl less ↦ omega (arith, q, from.before j d less)
+        | inr le ↦ omega (arith, q, past j d le lt)
+      ]));
   before = from.before;
   later = past;
 }

@@ -137,8 +137,14 @@ pub gone_count : (node : ℕ) (kept late new_kept new_late : List HeldCopy) → 
     → length new_kept + length new_late + count_by (is_of node) (all_held kept late) ≡ length (all_held kept late)
 gone_count node kept late new_kept new_late held k l =
     let size : List HeldCopy → ℕ = λ xs. length xs in
-    omega (arith, ap size k, ap size l, left_length node kept late, ap size (left_all node kept late held),
-        count_by-is_of node (all_held kept late))
+    omega (
+      arith,
+      ap size k,
+      ap size l,
+      left_length node kept late,
+      ap size (left_all node kept late held),
+      count_by-is_of node (all_held kept late),
+    )
 
 once_filter : (q : HeldCopy → Bool) (xs : List HeldCopy) → IsOnce xs → IsOnce (filter q xs)
 once_filter q xs once n k = omega (arith, once n k, count_parts (is_copy_of n k) q xs)

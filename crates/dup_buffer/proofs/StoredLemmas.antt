@@ -127,15 +127,25 @@ copies_of-same xs ys same once = same_copies _ _ (λ i n k. place n k i)
               | inl at ↦
                   let parts = and_parts (d.0.at == c.0.at) (d.0.length == c.0.length) at in
                   let here : place_of c.0 ≡ place_of d.0 =
-                      λ i. record { at = sym (eqb-true d.0.at c.0.at parts.0) i;
-                          length = sym (eqb-true d.0.length c.0.length parts.1) i } in
+                  λ i. record {
+                    at = sym (eqb-true d.0.at c.0.at parts.0) i;
+                    length = sym (eqb-true d.0.length c.0.length parts.1) i;
+                  } in
                   rw (c.1, d.1) (ap (λ (q : Place). Some q) here)
               | inr apart ↦
                   let one = c.3 (λ x. lies c.0 x && p x) (rw (itself c.0, c.2) refl) in
                   let other = d.3 (λ x. not (lies c.0 x) && p x) (rw (apart, d.2) refl) in
-                  absurd (omega (arith, one, other, same (λ x. lies c.0 x && p x), same p, once n k,
-                      count_parts p (lies c.0) ys,
-                  count-filter p (lies c.0) ys, count-filter p (λ x. not (lies c.0 x)) ys))
+                  absurd (omega (
+                    arith,
+                    one,
+                    other,
+                    same (λ x. lies c.0 x && p x),
+                    same p,
+                    once n k,
+                    count_parts p (lies c.0) ys,
+                    count-filter p (lies c.0) ys,
+                    count-filter p (λ x. not (lies c.0 x)) ys,
+                  ))
             ]
           ]
         ]
@@ -151,7 +161,7 @@ once_more ys one none once n k = elim (cases_Bool (is_copy_of n k one)) [
   | inl is ↦
       let key = key_of n k one is in
       let none_here : find (is_copy_of n k) ys ≡ None = (λ i. find (is_copy_of (sym key.0 i) (sym key.1 i)) ys) ∙
-          none in
+      none in
       omega (arith, none_if_none (is_copy_of n k) ys none_here, count_by-pass (is_copy_of n k) one ys true is)
   | inr other ↦ omega (arith, once n k, count_by-pass (is_copy_of n k) one ys false other)
 ]
@@ -169,7 +179,7 @@ copies_of-one_more one copies = same_copies _ _ (λ i n k. place n k i) (omega a
     count n = cond_both (one.node == n) (count_by (is_of n) copies + 1) (count_by (is_of n) copies)
         (λ m. count_by (is_of n) (one ∷ copies) ≡ m)
         (λ e. omega (arith, count_by-pass (is_of n) one copies true e))
-            (λ e. omega (arith, count_by-pass (is_of n) one copies false e))
+        (λ e. omega (arith, count_by-pass (is_of n) one copies false e))
 
 -- ---- one copy less
 
@@ -243,7 +253,7 @@ copies_of-node_out node copies = same_copies _ _
     count n =
         count-filter (is_of n) (λ c. not (c.node == node)) copies
         ∙ ap (λ (p : HeldCopy → Bool). count_by p copies) (λ i c. all_or_none node n c.node (c.node == n)
-            (λ e. eqb-true c.node n e) i)
+        (λ e. eqb-true c.node n e) i)
         ∙ elim (cases_Bool (n == node)) [
           | inl is ↦ rw is (none_if_none (λ c. false) copies (none_found (λ c. false) copies (λ j d lt. refl)))
           | inr other ↦ rw other refl

@@ -107,9 +107,12 @@ path_part : (n : ℕ) → IsKind n kinds.Path → IsPart (IsActOf n kinds.Path) 
 unfolding path_at
 path_part n fits =
     onto_part (λ t. Path (record { 0 = t.0 }) t.1.0 t.1.1) (pair_part (number_part 4 wide4)
-        (λ a f. pair_part (number_part 2 wide2) (λ b g. number_part 1 wide1)))
-    (record { fits = λ t f. ((f.0, f.1.0, f.1.1), refl, sym (eqb-true n 32 fits)); spelled = λ t f. refl;
-        from = λ act f. from act f })
+    (λ a f. pair_part (number_part 2 wide2) (λ b g. number_part 1 wide1)))
+    (record {
+      fits = λ t f. ((f.0, f.1.0, f.1.1), refl, sym (eqb-true n 32 fits));
+      spelled = λ t f. refl;
+      from = λ act f. from act f;
+    })
     (λ octets. simp bind_assoc)
   where
     from : (act : HistoryAct) → IsActOf n kinds.Path act → Made IsRoute (λ t. Path (record { 0 = t.0 }) t.1.0 t.1.1) act
@@ -131,8 +134,11 @@ file_part : (n : ℕ) → IsKind n kinds.File → IsPart (IsActOf n kinds.File) 
 unfolding packet_at
 file_part n fits =
     onto_part (λ t. File (record { 0 = t.0.0 }) t.0.1 t.1) (pair_part key_part (λ key f. octets_part (n - 37)))
-    (record { fits = λ t f. ((f.0.0, f.0.1, f.1.1), refl, omega (arith, f.1.0, leb-true 37 n fits));
-        spelled = λ t f. refl; from = λ act f. from act f })
+    (record {
+      fits = λ t f. ((f.0.0, f.0.1, f.1.1), refl, omega (arith, f.1.0, leb-true 37 n fits));
+      spelled = λ t f. refl;
+      from = λ act f. from act f;
+    })
     (λ octets. simp bind_assoc)
   where
     from : (act : HistoryAct) → IsActOf n kinds.File act → Made (IsPacket n)
@@ -144,8 +150,11 @@ hold_part : (n : ℕ) → IsKind n kinds.Hold → IsPart (IsActOf n kinds.Hold) 
 unfolding packet_at
 hold_part n fits =
     onto_part (λ t. Hold (record { 0 = t.0.0 }) t.0.1 t.1) (pair_part key_part (λ key f. octets_part (n - 37)))
-    (record { fits = λ t f. ((f.0.0, f.0.1, f.1.1), refl, omega (arith, f.1.0, leb-true 37 n fits));
-        spelled = λ t f. refl; from = λ act f. from act f })
+    (record {
+      fits = λ t f. ((f.0.0, f.0.1, f.1.1), refl, omega (arith, f.1.0, leb-true 37 n fits));
+      spelled = λ t f. refl;
+      from = λ act f. from act f;
+    })
     (λ octets. simp bind_assoc)
   where
     from : (act : HistoryAct) → IsActOf n kinds.Hold act → Made (IsPacket n)
@@ -160,15 +169,20 @@ release_part n fits =
     onto_part (λ t. Release (record { 0 = t.0 }) t.1.1)
     (pair_part (number_part 4 wide4)
     (λ a f. pair_part (given_part (big_bytes 4 (number_count n))) (λ u g. numbers_part (number_count n))))
-    (record { fits = λ t f. ((f.0, f.1.1.1), refl, omega (arith, f.1.1.0, length_list t.0 t.1.1, test.0, test.1));
-        spelled = λ t f. ap (λ (k : ℕ). big_bytes 4 t.0 ++ (big_bytes 4 k ++ flat_map (big_bytes 8) t.1.1)) f.1.1.0;
-        from = λ act f. from act f })
+    (record {
+      fits = λ t f. ((f.0, f.1.1.1), refl, omega (arith, f.1.1.0, length_list t.0 t.1.1, test.0, test.1));
+      spelled = λ t f. ap (λ (k : ℕ). big_bytes 4 t.0 ++ (big_bytes 4 k ++ flat_map (big_bytes 8) t.1.1)) f.1.1.0;
+      from = λ act f. from act f;
+    })
     (λ octets. simp bind_assoc)
   where
     from : (act : HistoryAct) → IsActOf n kinds.Release act →
         Made (IsListed n) (λ t. Release (record { 0 = t.0 }) t.1.1) act
-    from (Release node numbers) f = ((node.0, (tt, numbers)),
-        (f.0.0, (tt, (omega (arith, f.2, length_list node.0 numbers), f.0.1))), refl)
+    from (Release node numbers) f = (
+      (node.0, (tt, numbers)),
+      (f.0.0, (tt, (omega (arith, f.2, length_list node.0 numbers), f.0.1))),
+      refl,
+    )
     from act f = absurd (let e = f.1 in cc)
 
 cancel_part : (n : ℕ) → IsKind n kinds.Cancel → IsPart (IsActOf n kinds.Cancel) body (act_at n kinds.Cancel)
@@ -178,15 +192,20 @@ cancel_part n fits =
     onto_part (λ t. Cancel (record { 0 = t.0 }) t.1.1)
     (pair_part (number_part 4 wide4)
     (λ a f. pair_part (given_part (big_bytes 4 (number_count n))) (λ u g. numbers_part (number_count n))))
-    (record { fits = λ t f. ((f.0, f.1.1.1), refl, omega (arith, f.1.1.0, length_list t.0 t.1.1, test.0, test.1));
-        spelled = λ t f. ap (λ (k : ℕ). big_bytes 4 t.0 ++ (big_bytes 4 k ++ flat_map (big_bytes 8) t.1.1)) f.1.1.0;
-        from = λ act f. from act f })
+    (record {
+      fits = λ t f. ((f.0, f.1.1.1), refl, omega (arith, f.1.1.0, length_list t.0 t.1.1, test.0, test.1));
+      spelled = λ t f. ap (λ (k : ℕ). big_bytes 4 t.0 ++ (big_bytes 4 k ++ flat_map (big_bytes 8) t.1.1)) f.1.1.0;
+      from = λ act f. from act f;
+    })
     (λ octets. simp bind_assoc)
   where
     from : (act : HistoryAct) → IsActOf n kinds.Cancel act →
         Made (IsListed n) (λ t. Cancel (record { 0 = t.0 }) t.1.1) act
-    from (Cancel node numbers) f = ((node.0, (tt, numbers)),
-        (f.0.0, (tt, (omega (arith, f.2, length_list node.0 numbers), f.0.1))), refl)
+    from (Cancel node numbers) f = (
+      (node.0, (tt, numbers)),
+      (f.0.0, (tt, (omega (arith, f.2, length_list node.0 numbers), f.0.1))),
+      refl,
+    )
     from act f = absurd (let e = f.1 in cc)
 
 pub act_part : (n : ℕ) (kind : Kind) → IsKind n kind → IsPart (IsActOf n kind) body (act_at n kind)

@@ -42,6 +42,6 @@ first_entries (x ∷ h) [] b p q e = absurd (omega (arith, ap (λ (o : List ℕ)
 first_entries (x ∷ h) (y ∷ g) b p q e =
     let regrouped : spelling x ++ (spelled h ++ b) ≡ spelling y ++ spelled g = sym (append_assoc (spelling x) (spelled h) b) ∙ e in
     let same = same_first entry_part x y (spelled h ++ b) (spelled g) (All-head HasSpelling x h p)
-        (All-head HasSpelling y g q) regrouped in
+    (All-head HasSpelling y g q) regrouped in
     let others = first_entries h g b (All-tail HasSpelling x h p) (All-tail HasSpelling y g q) same.1 in
     (others.0, (λ i. sym same.0 i ∷ others.1 i), others.2)

@@ -67,16 +67,24 @@ entry_part =
     (record {
       fits = λ t f.
           let act = f.1.1.1.1.1 in
-          record { moment = f.1.1.0; session = f.1.1.1.0; serial = f.1.1.1.1.0; act = act.0;
-              short = omega (arith, act.2, f.0.1) };
+          record {
+            moment = f.1.1.0;
+            session = f.1.1.1.0;
+            serial = f.1.1.1.1.0;
+            act = act.0;
+            short = omega (arith, act.2, f.0.1);
+          };
       spelled = λ t f. let act = f.1.1.1.1.1 in
           λ i. big_bytes 4 (act.2 i) ++ (code_of (act.1 i) ∷ (big_bytes 8 t.1.1.0
-              ++ (big_bytes 4 t.1.1.1.0 ++ (big_bytes 8 t.1.1.1.1.0 ++ body t.1.1.1.1.1))));
-      from = λ e f.
-          ((entry_length e, (kind_of e.act, (e.moment, (e.caller.session, (e.caller.serial, e.act))))),
-          ((is_length_of (entry_length e) (kind_of e.act) (act_length e.act), f.short),
-              (act_length e.act, (f.moment, (f.session, (f.serial, (f.act, refl, refl)))))),
-          refl);
+          ++ (big_bytes 4 t.1.1.1.0 ++ (big_bytes 8 t.1.1.1.1.0 ++ body t.1.1.1.1.1))));
+      from = λ e f. (
+        (entry_length e, (kind_of e.act, (e.moment, (e.caller.session, (e.caller.serial, e.act))))),
+        (
+          (is_length_of (entry_length e) (kind_of e.act) (act_length e.act), f.short),
+          (act_length e.act, (f.moment, (f.session, (f.serial, (f.act, refl, refl))))),
+        ),
+        refl,
+      );
     })
     (λ octets. simp bind_assoc)
 
@@ -88,11 +96,16 @@ none_longer : (octets rest front : List ℕ) → octets ≡ front ++ rest → ((
 none_longer octets [] front parts refused n le b = omega (arith, ap (λ (o : List ℕ). length o) parts, length-append front [])
 none_longer octets (h ∷ t) front parts refused n le b =
     elim (fronts (take n octets) (drop n octets) front h t (take-append-drop n octets ∙ parts)) [
-      | inl p ↦ omega (arith, ap (λ (o : List ℕ). length o) p.1, length-append (take n octets) p.0,
-          length-take n octets, le)
+      | inl p ↦ omega (
+        arith,
+        ap (λ (o : List ℕ). length o) p.1,
+        length-append (take n octets) p.0,
+        length-take n octets,
+        le,
+      )
       | inr p ↦
           absurd (refused h t refl b.0 (p.0 ++ b.1) b.2 (b.3 ∙ ap (λ (o : List ℕ). o ++ b.1) p.1 ∙
-              append_assoc front (h ∷ p.0) b.1))
+          append_assoc front (h ∷ p.0) b.1))
     ]
 
 -- the first octet of the rest is the first wrong one

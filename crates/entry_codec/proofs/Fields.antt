@@ -31,9 +31,10 @@ octets_part count = record {
     | inl lt ↦ absurd (not_both (raw, rest) [] (sym e ∙ octets_cut count octets lt))
     | inr le ↦
         let same = ok_is (take count octets, drop count octets) (raw, rest) (sym (octets_long count octets le) ∙ e) in
-        subst (λ (p : List ℕ × List ℕ). AreOctets count p.0 × (octets ≡ p.0 ++ p.1)) same
-        ((omega (arith, length-take count octets, le), AreBelow-take 256 count octets small),
-            sym (take-append-drop count octets))
+        subst (λ (p : List ℕ × List ℕ). AreOctets count p.0 × (octets ≡ p.0 ++ p.1)) same (
+          (omega (arith, length-take count octets, le), AreBelow-take 256 count octets small),
+          sym (take-append-drop count octets),
+        )
   ];
   again = λ raw rest fits.
       octets_long count (raw ++ rest) (omega (arith, length-append raw rest, fits.0))
@@ -46,8 +47,10 @@ octets_part count = record {
           front = octets;
           parts = sym (append-nil octets) ∙ ap (λ (t : List ℕ). octets ++ t) none;
           value = octets ++ pad;
-          fits = (omega (arith, length-append octets pad, length-replicate {A = ℕ} (count - length octets) 0, lt),
-          AreBelow-append 256 octets pad small (AreBelow-replicate 256 (count - length octets) (omega arith)));
+          fits = (
+            omega (arith, length-append octets pad, length-replicate {A = ℕ} (count - length octets) 0, lt),
+            AreBelow-append 256 octets pad small (AreBelow-replicate 256 (count - length octets) (omega arith)),
+          );
           more = pad;
           begins = refl;
           refused = λ h t at c z fits begins. let both = none ∙ at in absurd cc;
@@ -89,8 +92,8 @@ IsNumber w x = x < 256 ^ w
 
 if_read : (w : ℕ) (octets : List ℕ) (b : Bool)
     → (let r : Read ℕ = cond b (Err []) (Ok (big_number w (take w octets), drop w octets)) in r) ≡
-      ((let r : Read (List ℕ) = cond b (Err []) (Ok (take w octets, drop w octets)) in r) >>= λ x.
-          Ok (big_number w x.0, x.1))
+    ((let r : Read (List ℕ) = cond b (Err []) (Ok (take w octets, drop w octets)) in r) >>= λ x.
+    Ok (big_number w x.0, x.1))
 if_read w octets true = refl
 if_read w octets false = refl
 
@@ -134,8 +137,11 @@ one_and count o =
 
 pub numbers_part : (count : ℕ) → IsPart (AreNumbers count) (flat_map (big_bytes 8)) (numbers_at count)
 numbers_part zero =
-    onto_part (λ u. []) nothing_part (record { fits = λ u f. (refl, tt); spelled = λ u f. refl;
-        from = λ xs f. none xs f })
+    onto_part (λ u. []) nothing_part (record {
+      fits = λ u f. (refl, tt);
+      spelled = λ u f. refl;
+      from = λ xs f. none xs f;
+    })
     (λ octets. rw (le-ltb (length octets) 0 (omega arith)) refl)
   where
     none : (xs : List ℕ) → AreNumbers 0 xs → (u : Unit {0}) × Unit {0} × ([] ≡ xs)

@@ -19,8 +19,11 @@ given_at wanted octets = exactly wanted octets >>= λ rest. Ok (tt, rest)
 given_octet : (b : ℕ) → IsPart (λ u. Unit {0}) (λ u. b ∷ []) (given_at (b ∷ []))
 given_octet b =
     one_part (λ u. b) (tt, tt) refl (λ u x octets f is. rw (eq-eqb x b is) refl)
-    (λ x octets small. elim (cases_Bool (x == b)) [ inl is ↦ inl (tt, tt, eqb-true x b is) | inr other ↦
-        inr (rw other refl) ])
+    (λ x octets small. elim (cases_Bool (x == b)) [
+      | inl is ↦ inl (tt, tt, eqb-true x b is)
+      | inr other ↦
+          inr (rw other refl)
+    ])
 
 given_more : (b : ℕ) (wanted octets : List ℕ) → given_at (b ∷ wanted) octets ≡
     (given_at (b ∷ []) octets >>= λ x. given_at wanted x.1 >>= λ y. Ok (tt, y.1))
@@ -99,35 +102,42 @@ IsRest b bound x raw = AreOctets (length bound) raw × (x ≡ b →
 rest_part : (b : ℕ) (bound : List ℕ) → IsPart (AreAtMost bound) (λ raw. raw) (at_most_at bound) → (x : ℕ) (t : Bool) →
     (x == b) ≡ t
     → IsPart (IsRest b bound x) (λ raw. raw) (λ octets. cond t (at_most_at bound octets)
-        (octets_at (length bound) octets))
+    (octets_at (length bound) octets))
 rest_part b bound p x true is =
     onto_part (λ raw. raw) p
-    (record { fits = λ raw f. (f.0, λ e. f.1); spelled = λ raw f. refl;
-        from = λ raw f. (raw, (f.0, f.1 (eqb-true x b is)), refl) })
+    (record {
+      fits = λ raw f. (f.0, λ e. f.1);
+      spelled = λ raw f. refl;
+      from = λ raw f. (raw, (f.0, f.1 (eqb-true x b is)), refl);
+    })
     (λ octets. simp bind_assoc)
 rest_part b bound p x false is =
     onto_part (λ raw. raw) (octets_part (length bound))
-    (record { fits = λ raw f. (f, λ e. absurd (eqb-false x b is e)); spelled = λ raw f. refl;
-        from = λ raw f. (raw, f.0, refl) })
+    (record {
+      fits = λ raw f. (f, λ e. absurd (eqb-false x b is e));
+      spelled = λ raw f. refl;
+      from = λ raw f. (raw, f.0, refl);
+    })
     (λ octets. elim (cases_Bool (ltb (length octets) (length bound)))
-        [ inl cut ↦ rw cut refl | inr long ↦ rw long refl ])
+    [ inl cut ↦ rw cut refl | inr long ↦ rw long refl ])
 
 -- numbers of octets are compared so
 at_most_cons : (b : ℕ) (bound : List ℕ) (x : ℕ) (raw : List ℕ) → AreBelow 256 (b ∷ bound) → AreOctets (length bound) raw
     → (big_number (suc (length bound)) (x ∷ raw) ≤ big_number (suc (length bound)) (b ∷ bound)) ↔
-      IsLess x (big_number (length bound) raw) b (big_number (length bound) bound)
+    IsLess x (big_number (length bound) raw) b (big_number (length bound) bound)
 at_most_cons b bound x raw small are =
     let below : (o : List ℕ) → AreBelow 256 o → big_number (length bound) o < 256 ^ length bound =
-        λ o low. big_from-lt 0 (length bound) o (places-AreBelow 256 o (omega arith) low) in
-    rw (big_from-cons 0 (length bound) x raw, big_from-cons 0 (length bound) b bound)
-    (less_from (256 ^ length bound) x _ b _ (below raw are.1) (below bound small.1),
-        less_to (256 ^ length bound) x _ b _ (below raw are.1))
+    λ o low. big_from-lt 0 (length bound) o (places-AreBelow 256 o (omega arith) low) in
+    rw (big_from-cons 0 (length bound) x raw, big_from-cons 0 (length bound) b bound) (
+      less_from (256 ^ length bound) x _ b _ (below raw are.1) (below bound small.1),
+      less_to (256 ^ length bound) x _ b _ (below raw are.1),
+    )
 
 at_most_part : (bound : List ℕ) → AreBelow 256 bound → IsPart (AreAtMost bound) (λ raw. raw) (at_most_at bound)
 at_most_part [] small =
     onto_part (λ u. []) nothing_part
     (record { fits = λ u f. ((refl, tt), omega arith); spelled = λ u f. refl; from = λ raw f. none raw f.0.0 })
-        (λ octets. refl)
+    (λ octets. refl)
   where
     none : (raw : List ℕ) → length raw ≡ 0 → (u : Unit {0}) × Unit {0} × ([] ≡ raw)
     none [] e = (tt, tt, refl)
@@ -136,9 +146,10 @@ at_most_part (b ∷ bound) small =
     let p = at_most_part bound small.1 in
     onto_part (λ t. t.0 ∷ t.1) (pair_part (first_part b) (λ x le. rest_part b bound p x (x == b) refl))
     (record {
-      fits = λ t f.
-          ((ap suc f.1.0.0, (omega (arith, f.0, small.0), f.1.0.1)),
-              (at_most_cons b bound t.0 t.1 small f.1.0).1 (f.0, f.1.1));
+      fits = λ t f. (
+        (ap suc f.1.0.0, (omega (arith, f.0, small.0), f.1.0.1)),
+        (at_most_cons b bound t.0 t.1 small f.1.0).1 (f.0, f.1.1),
+      );
       spelled = λ t f. refl;
       from = λ raw f. from raw f;
     })
@@ -203,29 +214,41 @@ pub length_part : IsPart IsLength (big_bytes 4) length_at
 length_part =
     onto_part (λ t. big_number 4 (t.0 ++ t.1 ∷ [])) (pair_part (octets_part 3) (λ raw fits. last_part raw fits))
     (record {
-      fits = λ t f. (f.1.0, big_from-lt 0 4 (t.0 ++ t.1 ∷ [])
-          (places-AreBelow 256 _ (omega arith) (four t.0 t.1 f.0 f.1.1).1));
+      fits = λ t f. (
+        f.1.0,
+        big_from-lt 0 4 (t.0 ++ t.1 ∷ [])
+            (places-AreBelow 256 _ (omega arith) (four t.0 t.1 f.0 f.1.1).1),
+      );
       spelled = λ t f. wide4 (t.0 ++ t.1 ∷ []) (four t.0 t.1 f.0 f.1.1);
       from = λ n f.
           let raw = take 3 (big_bytes 4 n) in
           let small = bytes_below 4 n in
-          let same = number_of_bytes 4 n f.1 in
-          ((raw, get_or (big_bytes 4 n) 3 0), ((refl, (small.0, (small.1.0, (small.1.1.0, tt)))),
-              (rw same f.0, small.1.1.1.0)), same);
+          let same = number_of_bytes 4 n f.1 in (
+            (raw, get_or (big_bytes 4 n) 3 0),
+            (
+              (refl, (small.0, (small.1.0, (small.1.1.0, tt)))),
+              (rw same f.0, small.1.1.1.0),
+            ),
+            same,
+          );
     })
     (λ octets. by_four octets ∙ simp bind_assoc)
   where
     four : (raw : List ℕ) (x : ℕ) → AreOctets 3 raw → x < 256 → AreOctets 4 (raw ++ x ∷ [])
-    four raw x fits lt = (omega (arith, fits.0, length-append raw (x ∷ [])),
-        AreBelow-append 256 raw (x ∷ []) fits.1 (lt, tt))
+    four raw x fits lt = (
+      omega (arith, fits.0, length-append raw (x ∷ [])),
+      AreBelow-append 256 raw (x ∷ []) fits.1 (lt, tt),
+    )
 
     by_four : (octets : List ℕ) → length_at octets ≡ (octets_at 3 octets >>= λ r. last_at r.0 r.1 >>= λ x.
         Ok (big_number 4 (r.0 ++ x.0 ∷ []), x.1))
     by_four (a ∷ b ∷ c ∷ d ∷ octets) =
-        rw (le-ltb (length (a ∷ b ∷ c ∷ d ∷ octets)) 4 (omega arith),
-            le-ltb (length (a ∷ b ∷ c ∷ d ∷ octets)) 3 (omega arith))
+        rw (
+          le-ltb (length (a ∷ b ∷ c ∷ d ∷ octets)) 4 (omega arith),
+          le-ltb (length (a ∷ b ∷ c ∷ d ∷ octets)) 3 (omega arith),
+        )
         (elim (cases_Bool (is_length (big_number 4 (a ∷ b ∷ c ∷ d ∷ octets))))
-            [ inl good ↦ rw good refl | inr bad ↦ rw bad refl ])
+        [ inl good ↦ rw good refl | inr bad ↦ rw bad refl ])
     by_four [] = refl
     by_four (a ∷ []) = refl
     by_four (a ∷ b ∷ []) = refl

@@ -25,15 +25,15 @@ numbers_are (suc count) src [] len read = absurd (omega (arith, len))
 numbers_are (suc count) src (x ∷ dst) len read =
     let first : x ≡ big_number 8 src = read 0 (omega arith) in
     let later : IsRead (λ n xs. big_number n xs) 8 (drop 8 src) dst =
-        λ k lt. let size : 8 * suc k ≡ 8 + 8 * k = omega arith in read (suc k) (omega arith) ∙
-            rw (size, drop-drop (8 * k) 8 src) refl in
+    λ k lt. let size : 8 * suc k ≡ 8 + 8 * k = omega arith in read (suc k) (omega arith) ∙
+    rw (size, drop-drop (8 * k) 8 src) refl in
     let others = numbers_are count (drop 8 src) dst (omega (arith, len)) later in
     cc
 
 pub numbers_given : (count : ℕ) (octets front rest dst : List ℕ) → count ≤ length octets / 8 → front ≡ take (8 * count) octets → rest ≡ drop (8 * count) octets → length dst ≡ count → IsRead (λ n xs. big_number n xs) 8 front dst → numbers_at count octets ≡ ok (dst, rest)
 numbers_given count octets front rest dst enough front-is rest-is len read =
     let each : IsRead (λ n xs. big_number n xs) 8 octets dst = λ k lt.
-        let size : 8 * count ≡ 8 * k + 8 * (count - k) = omega arith in
-        read k lt ∙ rw (front-is, size, drop-take (8 * k) (8 * (count - k)) octets)
-        (big_from-take 0 8 (8 * (count - k)) (drop (8 * k) octets) (omega arith)) in
+    let size : 8 * count ≡ 8 * k + 8 * (count - k) = omega arith in
+    read k lt ∙ rw (front-is, size, drop-take (8 * k) (8 * (count - k)) octets)
+    (big_from-take 0 8 (8 * (count - k)) (drop (8 * k) octets) (omega arith)) in
     rw (le-ltb (length octets) (8 * count) (omega arith), ← rest-is, ← numbers_are count octets dst len each) refl

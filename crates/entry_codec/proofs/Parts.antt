@@ -83,15 +83,17 @@ one_part {A} {Fits} {read} code some none again decides = record {
       | inl is ↦
           let same = ok_is (is.0, octets) (a, rest) (sym (again is.0 x octets is.1 is.2) ∙ e) in
           subst (λ (p : A × List ℕ). Fits p.0 × (x ∷ octets ≡ code p.0 ∷ p.1)) same
-              (is.1, ap (λ (y : ℕ). y ∷ octets) is.2)
+          (is.1, ap (λ (y : ℕ). y ∷ octets) is.2)
       | inr bad ↦ absurd (not_both (a, rest) (x ∷ octets) (sym e ∙ bad))
     ]
+
     all : (octets rest : List ℕ) → AreBelow 256 octets → read octets ≡ Err rest → octets ≡ rest
     all [] rest small e = err_is {A = A × List ℕ} [] rest (sym none ∙ e)
     all (x ∷ octets) rest small e = elim (decides x octets small.0) [
       | inl is ↦ absurd (not_both (is.0, octets) rest (sym (again is.0 x octets is.1 is.2) ∙ e))
       | inr bad ↦ err_is {A = A × List ℕ} (x ∷ octets) rest (sym bad ∙ e)
     ]
+
     stops : (octets rest : List ℕ) → octets ≡ rest → read octets ≡ Err rest → Stops Fits (λ a. code a ∷ []) octets rest
     stops octets rest all e = record {
       front = [];
@@ -130,15 +132,18 @@ pair_part {A} {B} {FitsA} {spellA} {readA} {FitsB} {spellB} {readB} p q = record
       let b = (q x.0.0 a.0).takes x.0.1 y.0.0 y.0.1 (behind x.0.0 x.0.1 small a.1) y.1 in
       let same = ok_is ((x.0.0, y.0.0), y.0.1) (c, rest) y.2 in
       subst (λ (r : (A × B) × List ℕ). (FitsA r.0.0 × FitsB r.0.0 r.0.1)
-          × (octets ≡ (spellA r.0.0 ++ spellB r.0.1) ++ r.1))
+      × (octets ≡ (spellA r.0.0 ++ spellB r.0.1) ++ r.1))
       same ((a.0, b.0), rw append_assoc (a.1 ∙ ap (λ (o : List ℕ). spellA x.0.0 ++ o) b.1));
-  again = λ c rest fits. rw (append_assoc, p.again c.0 (spellB c.1 ++ rest) fits.0,
-      (q c.0 fits.0).again c.1 rest fits.1) refl;
+  again = λ c rest fits. rw (
+    append_assoc,
+    p.again c.0 (spellB c.1 ++ rest) fits.0,
+    (q c.0 fits.0).again c.1 rest fits.1,
+  ) refl;
   stops = λ octets rest small e. elim (bind_err (readA octets) _ _ e) [
     | inl x ↦
         let a = p.takes octets x.0.0 x.0.1 small x.1 in
         let s = (q x.0.0 a.0).stops x.0.1 rest (behind x.0.0 x.0.1 small a.1)
-            (second (readB x.0.0 x.0.1) x.0.0 rest x.2) in
+        (second (readB x.0.0 x.0.1) x.0.0 rest x.2) in
         record {
           front = spellA x.0.0 ++ s.front;
           parts = rw append_assoc (a.1 ∙ ap (λ (o : List ℕ). spellA x.0.0 ++ o) s.parts);
@@ -148,7 +153,7 @@ pair_part {A} {B} {FitsA} {spellA} {readA} {FitsB} {spellB} {readB} p q = record
           begins = rw append_assoc (ap (λ (o : List ℕ). spellA x.0.0 ++ o) s.begins);
           refused = λ h t at c z fits begins.
               let both = same_first p c.0 x.0.0 (spellB c.1) _ fits.0 a.0
-                  (begins ∙ append_assoc (spellA x.0.0) s.front (h ∷ z)) in
+              (begins ∙ append_assoc (spellA x.0.0) s.front (h ∷ z)) in
               s.refused h t at c.1 z (subst (λ (a : A). FitsB a c.1) both.0 fits.1) both.1;
         }
     | inr bad ↦
@@ -164,7 +169,7 @@ pair_part {A} {B} {FitsA} {spellA} {readA} {FitsB} {spellB} {readB} p q = record
           refused = λ h t at c z fits begins. elim (fronts (spellA c.0) (spellB c.1) s.front h z begins) [
             | inl r ↦
                 let whole : octets ≡ spellA c.0 ++ (r.0 ++ rest) = s.parts ∙ ap (λ (o : List ℕ). o ++ rest) r.1 ∙
-                    append_assoc (spellA c.0) r.0 rest in
+                append_assoc (spellA c.0) r.0 rest in
                 not_both (c.0, r.0 ++ rest) rest (sym (p.again c.0 (r.0 ++ rest) fits.0) ∙ ap readA (sym whole) ∙ bad)
             | inr r ↦ s.refused h t at c.0 r.0 fits.0 r.1
           ];
@@ -175,6 +180,7 @@ pair_part {A} {B} {FitsA} {spellA} {readA} {FitsB} {spellB} {readB} p q = record
     behind : {octets : List ℕ} (a : A) (rest : List ℕ) → AreBelow 256 octets → octets ≡ spellA a ++ rest →
         AreBelow 256 rest
     behind a rest small is = AreBelow-back 256 (spellA a) rest (subst (λ (o : List ℕ). AreBelow 256 o) is small)
+
     second : (r : Read B) (a : A) (rest : List ℕ) → (r >>= λ y. let s : Read (A × B) = Ok ((a, y.0), y.1) in s)
         ≡ Err rest → r ≡ Err rest
     second r a rest e = elim (bind_err r _ _ e) [ inl y ↦ absurd (not_both _ rest y.2) | inr bad ↦ bad ]

@@ -1,27 +1,7 @@
 -- One stream of all takes an item, and the others stay.
 use Rattle.std.proofs.Common.{◌≡◌, ◌≢◌, inl, inr, ℕ, zero, suc, ◌+◌, ◌<◌, ◌≤◌, Bool, IsTrue, List, [], ◌∷◌, ◌++◌, length, take, Option, slice_index_or, slice_set, refl, sym, ap, ◌∙◌, subst, arith, append_assoc}
-use Rattle.std.proofs.lemmas.Bool.{cases_eq, eq-eqb, le-ltb, lt-ltb, ne_eqb, cases_lt}
-use Rattle.std.proofs.lemmas.Bool.Decides.{nat_tests}
-use Rattle.std.proofs.lemmas.List.{append-nil, get_or-set_other, get_or-set_same, take_more}
-use Rattle.cdr_file.specs.CdrFile.{FileSettings}
-use Rattle.cdr_file.specs.declared.closure.ClosureReason.{ClosureReason}
-use Rattle.cdr_shelf.specs.declared.shelf.Shelf.{Ghosts}
-use Rattle.file_rotate.specs.Division.{Cuts, Division, cuts_at, divided_from, run_after, with_cuts}
-use Rattle.file_rotate.specs.Items.{Filed}
+use Rattle.file_writer.proofs.Names.{append-nil, Call, calls_at, calls_below, calls_from, calls_of, cases_eq, cases_lt, CdrKind, closed_by, closed_of, ClosureReason, Cuts, cuts_at, divided_from, Division, DivisionGoesOn, EachSafe, eq-eqb, Filed, FileSettings, get_or-set_other, get_or-set_same, Ghosts, GoesTo, HasTaken, IsBehind, IsSafe, Item, later_division, le-ltb, Limits, lt-ltb, mark_item, mark_told, nat_tests, ne_eqb, part_of, Rule, run_after, Settings, Stays, Stream, stream_calls, stream_count, stream_division, stream_item, stream_items, stream_of, stream_record, StreamAt, Tag, take_more, up_to, with_cuts, with_item}
 use Rattle.file_rotate.specs.Items as rotate
-use Rattle.file_rotate.specs.declared.limits.Limits.{Limits}
-use Rattle.gw_base.specs.declared.item.Item.{Item}
-use Rattle.gw_base.specs.declared.kind.CdrKind.{CdrKind}
-use Rattle.gw_base.specs.declared.tag.Tag.{Tag}
-use Rattle.route_filter.specs.Rules.{stream_of}
-use Rattle.file_writer.specs.AllStreams.{GoesTo, StreamAt, mark_told, part_of, up_to, with_item, EachSafe}
-use Rattle.file_writer.specs.Calls.{Call, calls_at, calls_below, calls_from, calls_of, closed_by, stream_calls}
-use Rattle.file_writer.specs.Files.{later_division}
-use Rattle.file_writer.specs.Following.{HasTaken, IsBehind, IsSafe, Stays, mark_item}
-use Rattle.route_filter.specs.declared.rule.Rule.{Rule}
-use Rattle.file_writer.specs.Laws.{DivisionGoesOn}
-use Rattle.file_writer.specs.Streams.{Settings, closed_of, stream_count, stream_division, stream_item, stream_items, stream_record}
-use Rattle.file_writer.specs.declared.stream.Stream.{Stream}
 use Rattle.file_writer.proofs.FilesLemmas.{closed_of-append, left_open-append}
 use Rattle.file_writer.proofs.CallsLemmas.{of_one}
 
@@ -87,7 +67,7 @@ module _ (law : DivisionGoesOn) {A : Type 0} (tells : Ghosts A) (settings : Sett
       → StreamAt tells settings closed sealed (before ++ item ∷ []) s stream shelf
   not_taken stream shelf e at =
       let left : (stream_division settings s (before ++ item ∷ [])).left_open ≡ run =
-          cc (left_open-append law settings s before (item ∷ []), later_is [] e) in
+      cc (left_open-append law settings s before (item ∷ []), later_is [] e) in
       record {
         behind = subst (λ (r : List (Filed (List ℕ))). IsBehind tells s r stream shelf) (sym left) at.behind;
         has_closed = omega (

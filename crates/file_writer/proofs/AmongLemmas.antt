@@ -1,23 +1,8 @@
 -- How many files items begin: more items begin no fewer, and a record goes to the last one that is begun. What is open
 -- then, and what isn't.
 use Rattle.std.proofs.Common.{◌≡◌, ◌↔◌, inl, inr, ℕ, ◌+◌, ◌<◌, ◌≤◌, max, nat_lt, if◌then◌else◌, Bool, IsTrue, List, [], ◌∷◌, ◌++◌, length, take, drop, Option, None, Some, refl, ap, ◌∙◌, arith, append_assoc}
-use Rattle.std.proofs.lemmas.Bool.{cases_lt, le-ltb, lt-ltb}
-use Rattle.std.proofs.lemmas.List.{append-nil, take-append-drop}
-use Rattle.cdr_file.specs.declared.closure.ClosureReason.{ClosureReason}
-use Rattle.cdr_shelf.specs.Files.{SealedFile, UnsealedFile, greatest_in}
-use Rattle.cdr_shelf.specs.declared.file_name.FileName.{FileName}
-use Rattle.cdr_shelf.specs.declared.shelf.Shelf.{Ghosts}
-use Rattle.file_rotate.specs.Division.{Cuts, Division, cuts_at, divided_from, run_after, with_cuts}
-use Rattle.file_rotate.specs.Items.{Filed, Record}
+use Rattle.file_writer.proofs.Names.{append-nil, AreAmong, AreOpenFiles, AreShut, begun_after, begun_of, cases_lt, closed_by, closed_of, ClosureReason, count_open, Cuts, cuts_at, divided_from, Division, DivisionGoesOn, Filed, FileName, Ghosts, GoesShut, greatest_in, IsOpenFile, IsOpenFileOf, Item, later_division, le-ltb, LeavesUnsealed, Limits, lt-ltb, Record, run_after, SealedFile, Settings, stream_count, stream_division, stream_item, stream_items, take-append-drop, UnsealedFile, with_cuts}
 use Rattle.file_rotate.specs.Items as rotate
-use Rattle.file_rotate.specs.declared.limits.Limits.{Limits}
-use Rattle.gw_base.specs.declared.item.Item.{Item}
-use Rattle.file_writer.specs.AllStreams.{GoesShut}
-use Rattle.file_writer.specs.Calls.{closed_by}
-use Rattle.file_writer.specs.Files.{later_division}
-use Rattle.file_writer.specs.Laws.{DivisionGoesOn}
-use Rattle.file_writer.specs.Leaving.{AreAmong, AreOpenFiles, AreShut, IsOpenFile, IsOpenFileOf, LeavesUnsealed, begun_after, begun_of, count_open}
-use Rattle.file_writer.specs.Streams.{Settings, closed_of, stream_count, stream_division, stream_item, stream_items}
 use Rattle.file_writer.proofs.FilesLemmas.{closed_of-append, left_open-append}
 
 -- ---- more items

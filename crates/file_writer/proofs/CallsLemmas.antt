@@ -1,25 +1,9 @@
 -- What calls for items seal: of each stream the files that the items close, but for those that are sealed already,
 -- which get no call.
 use Rattle.std.proofs.Common.{◌≡◌, ◌≢◌, ℕ, zero, suc, ◌+◌, ◌-◌, ◌≤◌, ◌<◌, Bool, true, false, nat_le, if◌then◌else◌, List, [], ◌∷◌, ◌++◌, length, take, drop, Option, refl, sym, ap, ◌∙◌, subst, arith, append_assoc, max}
-use Rattle.std.proofs.lemmas.Bool.{cases_eq, leb-false, leb-true}
-use Rattle.std.proofs.lemmas.Grind.{flat_map-append}
-use Rattle.std.proofs.lemmas.List.{append-nil}
-use Rattle.std.proofs.lemmas.List.Elements.{All-append, All-cons, All-drop, All-head, All-nil, All-tail}
-use Rattle.std.proofs.Math.Seq.{drop-nil}
-use Rattle.cdr_file.specs.CdrFile.{FileSettings}
-use Rattle.cdr_file.specs.declared.closure.ClosureReason.{ClosureReason}
-use Rattle.cdr_shelf.specs.FileLaws.{in_stream-append}
-use Rattle.cdr_shelf.specs.Files.{SealedFile, in_stream}
-use Rattle.file_rotate.specs.Division.{ClosedRun, Cuts, Division, closed_first, cuts_at, divided_from, run_after, with_cuts}
-use Rattle.file_rotate.specs.Items.{Filed}
+use Rattle.file_writer.proofs.Names.{All-append, All-cons, All-drop, All-head, All-nil, All-tail, append-nil, appending, AreOfStreams, Call, calls_at, calls_below, calls_from, calls_of, cases_eq, closed_by, closed_first, closed_of, ClosedRun, closing, ClosureReason, Cuts, cuts_at, divided_from, Division, DivisionGoesOn, drop-nil, Filed, files_from, FileSettings, flat_map-append, in_stream, in_stream-append, Item, later_division, leb-false, leb-true, nat_tests, run_after, SealedFile, Seals, seals, Settings, stream_calls, stream_count, stream_division, stream_items, unless_sealed, with_cuts, Writes}
 use Rattle.file_rotate.specs.Items as stream
-use Rattle.gw_base.specs.declared.item.Item.{Item}
-use Rattle.file_writer.specs.Calls.{Call, Writes, Seals, appending, calls_at, calls_below, calls_from, calls_of, closed_by, closing, seals, stream_calls, unless_sealed}
-use Rattle.file_writer.specs.Files.{AreOfStreams, files_from, later_division}
-use Rattle.file_writer.specs.Laws.{DivisionGoesOn}
-use Rattle.file_writer.specs.Streams.{Settings, closed_of, stream_count, stream_division, stream_items}
 use Rattle.file_writer.proofs.FilesLemmas.{closed_of-append, files_from-append, in_stream-other, in_stream-own, left_open-append, length-files_from}
-use Rattle.std.proofs.lemmas.Bool.Decides.{nat_tests}
 
 pub seals-append : (xs ys : List Call) → seals (xs ++ ys) ≡ seals xs ++ seals ys
 seals-append [] ys = refl
@@ -178,8 +162,14 @@ module _ (settings : Settings) (closed sealed : ℕ → ℕ) where
   unfolding calls_below
   below_of_streams before item zero h = All-nil IsOfStream
   below_of_streams before item (suc n) h =
-      search (arith, both_of_streams, (below_of_streams before item n (omega arith)), seals-calls_from, All-drop,
-      files_of_stream)
+      search (
+        arith,
+        both_of_streams,
+        (below_of_streams before item n (omega arith)),
+        seals-calls_from,
+        All-drop,
+        files_of_stream,
+      )
 
   calls_of_streams : (before items : List Item) → AreOfStreams (seals (calls_of settings closed sealed before items))
   calls_of_streams before [] = All-nil IsOfStream

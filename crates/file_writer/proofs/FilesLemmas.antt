@@ -1,14 +1,6 @@
 -- Files of closed runs, and what more items add to them.
 use Rattle.std.proofs.Common.{◌≡◌, ◌≢◌, ℕ, zero, suc, ◌+◌, List, [], ◌∷◌, ◌++◌, length, drop, refl, ap, arith, length-append}
-use Rattle.std.proofs.lemmas.Grind.{flat_map-append}
-use Rattle.std.proofs.lemmas.Bool.{eq-eqb, ne_eqb}
-use Rattle.cdr_file.specs.CdrFile.{FileSettings}
-use Rattle.cdr_shelf.specs.Files.{in_stream}
-use Rattle.file_rotate.specs.Division.{ClosedRun, goes_on}
-use Rattle.gw_base.specs.declared.item.Item.{Item}
-use Rattle.file_writer.specs.Files.{files_from, later_division, later_files, stream_files}
-use Rattle.file_writer.specs.Laws.{DivisionGoesOn}
-use Rattle.file_writer.specs.Streams.{Settings, closed_of, stream_division, stream_items}
+use Rattle.file_writer.proofs.Names.{closed_of, ClosedRun, DivisionGoesOn, eq-eqb, files_from, FileSettings, flat_map-append, goes_on, in_stream, Item, later_division, later_files, ne_eqb, Settings, stream_division, stream_files, stream_items}
 
 pub files_from-append : (settings : FileSettings) (s n : ℕ) (xs ys : List (ClosedRun (List ℕ)))
     → files_from settings s n (xs ++ ys) ≡ files_from settings s n xs ++ files_from settings s (n + length xs) ys

@@ -1,31 +1,6 @@
 -- How a stream's file and what is kept of it go on through closings and records.
 use Rattle.std.proofs.Common.{◌≡◌, ◌≢◌, ℕ, max, ◌+◌, ◌≤◌, Bool, if◌then◌else◌, IsTrue, IfOk, OnOk, List, [], ◌∷◌, ◌++◌, length, Option, None, Some, Result, sym, ap, arith}
-use Rattle.std.proofs.lemmas.Bool.Decides.{nat_tests}
-use Rattle.std.specs.Result.{IsErr, IsErrAnd}
-use Rattle.std.proofs.lemmas.Bool.{ne_eqb}
-use Rattle.std.proofs.lemmas.List.{append-nil, map-append}
-use Rattle.std.proofs.lemmas.Option.{same_Some}
-use Rattle.cdr_file.specs.CdrFile.{FileSettings, FiledRecord, cdr_octets, facts_of, facts_of_one, facts_with, file_octets, run_octets}
-use Rattle.cdr_file.specs.Profile.{IsFiledKind}
-use Rattle.cdr_file.specs.declared.closure.ClosureReason.{ClosureReason}
-use Rattle.cdr_file.specs.declared.filed_kind.FiledKind.{FiledKind}
-use Rattle.cdr_file.specs.declared.run.RunFacts.{RunFacts}
-use Rattle.cdr_shelf.specs.FileLaws.{greatest_in-append}
-use Rattle.cdr_shelf.specs.Files.{SealedFile, UnsealedFile, greatest_in, number_in}
-use Rattle.cdr_shelf.specs.declared.file_name.FileName.{FileName}
-use Rattle.cdr_shelf.specs.declared.shelf.Shelf.{Ghosts}
-use Rattle.file_rotate.specs.Cutting.{item_cuts, item_file, kind_change, mark_cuts, mark_file, mark_reason, with_record}
-use Rattle.file_rotate.specs.Division.{Cuts, run_after, still}
-use Rattle.file_rotate.specs.Items.{Filed, Record}
-use Rattle.file_rotate.specs.declared.limits.Limits.{Limits}
-use Rattle.file_rotate.specs.declared.open_file.OpenFile.{OpenFile}
-use Rattle.file_writer.specs.Calls.{Call, Writes, Seals, appending, beginning, calls_at, closed_by, closing, seals}
-use Rattle.file_writer.specs.Files.{record_of, run_records}
-use Rattle.file_writer.specs.Following.{BodyWhere, Follows, IsUp, Pairs, Stays, mark_item}
-use Rattle.file_writer.specs.Making.{Ending, Makes, Went}
-use Rattle.file_writer.specs.Writing.{ClosesOpen, GrownWhere, IsGrown, ReadyWhere, StillOpen, appending_of, beginning_of, body_behind, closed_file, closed_progress, closing_of, grown, grown_facts, growing_of, is_sealed, name_in}
-use Rattle.file_writer.specs.declared.fault.ShelfFault.{ShelfFault}
-use Rattle.file_writer.specs.declared.progress.Progress.{Progress}
+use Rattle.file_writer.proofs.Names.{append-nil, appending, appending_of, beginning, beginning_of, body_behind, BodyWhere, Call, calls_at, cdr_octets, closed_by, closed_file, closed_progress, ClosesOpen, closing, closing_of, ClosureReason, Cuts, Ending, facts_of, facts_of_one, facts_with, file_octets, Filed, FiledKind, FiledRecord, FileName, FileSettings, Follows, Ghosts, greatest_in, greatest_in-append, growing_of, grown, grown_facts, GrownWhere, is_sealed, IsErr, IsErrAnd, IsFiledKind, IsGrown, IsUp, item_cuts, item_file, kind_change, Limits, Makes, map-append, mark_cuts, mark_file, mark_item, mark_reason, name_in, nat_tests, ne_eqb, number_in, OpenFile, Pairs, Progress, ReadyWhere, Record, record_of, run_after, run_octets, run_records, RunFacts, same_Some, SealedFile, Seals, seals, ShelfFault, Stays, still, StillOpen, UnsealedFile, Went, with_record, Writes}
 use Rattle.file_writer.proofs.MakingLemmas.{all_sealed, makes_as}
 use Rattle.file_writer.proofs.WritingLemmas.{own_number}
 

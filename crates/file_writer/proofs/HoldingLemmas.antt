@@ -1,18 +1,8 @@
 -- What stands of the files of items after some of the calls for more of them, and when a writer recovers on a shelf that
 -- holds the first ones.
 use Rattle.std.proofs.Common.{◌≡◌, ℕ, suc, max, min, ◌+◌, ◌-◌, ◌<◌, ◌≤◌, Bool, ◌==◌, if◌then◌else◌, List, [], ◌∷◌, ◌++◌, length, take, drop, refl, sym, ap, ◌∙◌, arith, append_assoc, length-drop}
-use Rattle.std.proofs.lemmas.List.{append-nil, take-append-drop, take_min}
-use Rattle.std.proofs.Math.Seq.{take-add, take-append_seam, take-append-add}
-use Rattle.cdr_file.specs.CdrFile.{FileSettings}
-use Rattle.cdr_shelf.specs.FileLaws.{greatest_in-append, in_stream-append}
-use Rattle.cdr_shelf.specs.Files.{SealedFile, greatest_in, in_stream, number_in}
-use Rattle.file_rotate.specs.Division.{ClosedRun, Division}
-use Rattle.gw_base.specs.declared.item.Item.{Item}
-use Rattle.file_writer.specs.Calls.{Call, calls_of, seals}
-use Rattle.file_writer.specs.Files.{files_from, later_division, stream_files}
+use Rattle.file_writer.proofs.Names.{append-nil, Call, calls_of, closed_of, ClosedRun, Division, DivisionGoesOn, files_from, FileSettings, greatest_in, greatest_in-append, in_stream, in_stream-append, Item, later_division, number_in, SealedFile, seals, Settings, stream_count, stream_division, stream_files, take-add, take-append-add, take-append-drop, take-append_seam, take_min}
 use Rattle.file_writer.specs.Holding.{HoldsOf, files_after}
-use Rattle.file_writer.specs.Laws.{DivisionGoesOn}
-use Rattle.file_writer.specs.Streams.{Settings, closed_of, stream_count, stream_division}
 use Rattle.file_writer.proofs.CallsLemmas.{drop-append, in_stream-seals, seals-calls_of}
 use Rattle.file_writer.proofs.FilesLemmas.{closed_of-append, division-append, files_from-append, length-files_from}
 use Rattle.file_writer.proofs.WritingLemmas.{own_number}

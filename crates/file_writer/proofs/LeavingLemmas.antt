@@ -1,28 +1,7 @@
 -- What a writer keeps when it recovers, and what calls for items leave unsealed.
 use Rattle.std.proofs.Common.{◌≡◌, ℕ, suc, ◌+◌, ◌<◌, List, [], length, map, replicate, Option, None, slice_index, slice_index_or, slice_set, refl, ◌∙◌, arith, ◌≢◌, max, ◌≤◌, false, IsTrue, Some}
-use Rattle.std.proofs.lemmas.Bool.Decides.{nat_tests}
-use Rattle.std.proofs.lemmas.Bool.{cases_eq}
-use Rattle.std.proofs.lemmas.List.{get_or-map, get_or-set_other, get_or-set_same, get_or_default}
-use Rattle.cdr_file.specs.declared.run.RunFacts.{RunFacts}
-use Rattle.cdr_shelf.specs.declared.shelf.Shelf.{Ghosts}
-use Rattle.gw_base.specs.declared.item.Item.{Item}
-use Rattle.file_writer.specs.AllStreams.{AllAt, EachBelow, AreLeft, EachSafe}
-use Rattle.file_writer.specs.Asking.{HasAsked}
-use Rattle.file_writer.specs.Following.{BodyWhere, IsLeft}
-use Rattle.file_writer.specs.Streams.{Settings, stream_count, closed_of, stream_division}
-use Rattle.file_writer.specs.Writing.{ClosesOpen, IsGrown, ReadyWhere, StillOpen, closed_progress, grown, growing_of, open_count, weight_of}
-use Rattle.file_writer.specs.declared.stream.Stream.{Stream}
+use Rattle.file_writer.proofs.Names.{AllAt, AreLeft, begun_of, BodyWhere, cases_eq, closed_of, closed_progress, ClosesOpen, ClosureReason, count_open, EachBelow, EachSafe, Filed, FiledRecord, FileName, get_or-map, get_or-set_other, get_or-set_same, get_or_default, Ghosts, growing_of, grown, HasAsked, IsGrown, IsLeft, IsOpenFile, IsOpenFileOf, Item, LeavesUnsealed, leb_tells, nat_tests, open_count, Progress, ReadyWhere, run_octets, run_records, RunFacts, same_Some, Settings, StillOpen, Stream, stream_count, stream_division, UnsealedFile, weight_of}
 use Rattle.file_writer.proofs.FollowingLemmas.{none_body}
-use Rattle.std.proofs.lemmas.Bool.Decides.{leb_tells}
-use Rattle.std.proofs.lemmas.Option.{same_Some}
-use Rattle.cdr_file.specs.CdrFile.{FiledRecord, run_octets}
-use Rattle.cdr_file.specs.declared.closure.ClosureReason.{ClosureReason}
-use Rattle.cdr_shelf.specs.Files.{UnsealedFile}
-use Rattle.cdr_shelf.specs.declared.file_name.FileName.{FileName}
-use Rattle.file_rotate.specs.Items.{Filed}
-use Rattle.file_writer.specs.Files.{run_records}
-use Rattle.file_writer.specs.Leaving.{IsOpenFile, IsOpenFileOf, LeavesUnsealed, begun_of, count_open}
-use Rattle.file_writer.specs.declared.progress.Progress.{Progress}
 use Rattle.file_writer.proofs.AllLemmas.{each_set}
 
 -- any stream

@@ -2,6 +2,7 @@ pub mod FilesLemmas
 pub mod CallsLemmas
 pub mod HoldingLemmas
 pub mod MakingLemmas
+pub mod Names
 pub mod WritingLemmas
 pub mod FollowingLemmas
 pub mod AllLemmas

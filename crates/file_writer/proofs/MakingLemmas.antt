@@ -1,24 +1,13 @@
 -- One call, and calls one after the other.
 use Rattle.std.proofs.Common.{◌≡◌, ◌≢◌, ◌⊎◌, ℕ, zero, suc, ◌+◌, ◌-◌, ◌≤◌, Bool, true, false, ◌||◌, if◌then◌else◌, IsTrue, List, [], ◌∷◌, ◌++◌, length, take, Result, Ok, Err, refl, sym, ap, ◌∙◌, arith, append_assoc, length-append, subst}
-use Rattle.std.proofs.lemmas.List.{append-nil, take-append-le}
-use Rattle.std.proofs.Math.Seq.{take-append-add, take-length}
+use Rattle.file_writer.proofs.Names.{after_call, AllRan, append-nil, Call, CallAsPlanned, calls_after, Comes, done_at, Ending, ending_at, ending_of, Failed, Fails, Fate, Ghosts, HasSealed, is_done, is_failure, IsErr, IsErrAnd, Makes, next_fate, Runs, Schedule, SealedFile, seals, ShelfFault, Stops, take-append-add, take-append-le, take-length, Went}
 use Rattle.area_disk.specs.Armed.{Armed, Came, IsArmed, after_one, calls_under, later_by, one_later, then_calls}
 use Rattle.area_disk.specs.Armed.Armed.{Fail, Stop}
 use Rattle.area_disk.specs.Armed.Came.{Ran, FailedAt, StoppedAt}
 use Rattle.area_disk.specs.ArmedLaws.{armed_failed, armed_next, armed_ran, calls_go_on}
 use Rattle.area_disk.specs.Disk.{Rose, counted}
-use Rattle.area_disk.specs.Plan.{after_call, is_failure, next_fate, Schedule}
-use Rattle.area_disk.specs.declared.plan.Fate.{Fate}
-use Rattle.area_disk.specs.declared.plan.Fate.TheVariants.{Runs, Fails, Stops}
 use Rattle.area_disk.specs.declared.plan.Outcome3.{Outcome3}
 use Rattle.area_disk.specs.declared.plan.Outcome3.TheVariants.{New}
-use Rattle.cdr_shelf.specs.Files.{SealedFile}
-use Rattle.cdr_shelf.specs.Steps.{is_done, CallAsPlanned}
-use Rattle.cdr_shelf.specs.declared.shelf.Shelf.{Ghosts}
-use Rattle.file_writer.specs.Calls.{Call, seals}
-use Rattle.file_writer.specs.Making.{Comes, Ending, Failed, HasSealed, Makes, Went, calls_after, done_at, ending_at, ending_of, AllRan}
-use Rattle.std.specs.Result.{IsErr, IsErrAnd}
-use Rattle.file_writer.specs.declared.fault.ShelfFault.{ShelfFault}
 use Rattle.file_writer.proofs.CallsLemmas.{seals-append}
 
 -- ---- one call

@@ -1,17 +1,8 @@
 -- Where the files have a record, it is that of an item with this place.
 use Rattle.std.proofs.Common.{◌≡◌, ℕ, zero, suc, ◌+◌, ◌-◌, ◌<◌, ◌==◌, Bool, true, List, [], ◌∷◌, length, take, slice_get, Option, Some, refl, ap, ◌∙◌, arith, length-append, inl, inr, ◌≤◌}
-use Rattle.std.proofs.lemmas.Bool.{eqb-true, le-ltb, lt-ltb, cases_lt}
-use Rattle.std.proofs.lemmas.Option.{none-some, slice_get_within}
-use Rattle.file_rotate.specs.Items.{Filed, records_of}
-use Rattle.gw_base.specs.declared.item.Item.{Item}
+use Rattle.file_writer.proofs.Names.{cases_lt, CdrKind, eqb-true, Filed, FilePlace, in_run, Item, le-ltb, lt-ltb, none-some, nth_place, place_in, record_at, record_if, records_of, Rule, run_with, runs_of, Settings, slice_get_within, stream_division, stream_item, stream_items, stream_of, stream_record, Tag}
 use Rattle.gw_base.specs.declared.item.Item.TheVariants as item
-use Rattle.gw_base.specs.declared.kind.CdrKind.{CdrKind}
-use Rattle.gw_base.specs.declared.tag.Tag.{Tag}
-use Rattle.route_filter.specs.Rules.{stream_of}
-use Rattle.route_filter.specs.declared.rule.Rule.{Rule}
 use Rattle.file_writer.proofs.RecordsLemmas.{HasAll, all_of, all_of-runs, length-records}
-use Rattle.file_writer.specs.Places.{FilePlace, in_run, nth_place, place_in, record_at, run_with, runs_of}
-use Rattle.file_writer.specs.Streams.{Settings, record_if, stream_division, stream_item, stream_items, stream_record}
 
 -- ---- places of runs
 

@@ -1,20 +1,9 @@
 -- A writer that takes items in parts.
 use Rattle.std.proofs.Common.{◌≡◌, ◌∙◌, refl, sym, ap, subst, ℕ, ◌+◌, ◌<◌, max, IsTrue, List, [], ◌++◌, length, take, drop, Result, Ok, Err, Option, inl, inr, arith, append_assoc, length-take, take-add, take-append-drop}
 use Rattle.std.specs.Prelude.{OnOk}
-use Rattle.std.proofs.lemmas.Bool.{cases_lt}
-use Rattle.std.proofs.lemmas.List.{take_min}
-use Rattle.cdr_shelf.specs.Files.{SealedFile, UnsealedFile}
-use Rattle.cdr_shelf.specs.declared.shelf.Shelf.{Ghosts}
-use Rattle.gw_base.specs.declared.item.Item.{Item}
+use Rattle.file_writer.proofs.Names.{AreAmong, begun_of, Call, calls_of, cases_lt, closed_of, DivisionGoesOn, Ending, ending_at, ending_of, Ghosts, Holds, IsAt, Item, LeavesUnsealed, Makes, sealed_in, SealedFile, Settings, settings_in, shelf_of, ShelfFault, stream_count, take_min, UnsealedFile, Went}
 use Rattle.file_writer.specs.Advancing.{Advances, KeepsFiles, calls}
-use Rattle.file_writer.specs.Calls.{Call, calls_of}
-use Rattle.file_writer.specs.Laws.{DivisionGoesOn}
-use Rattle.file_writer.specs.Leaving.{AreAmong, LeavesUnsealed, begun_of}
-use Rattle.file_writer.specs.Making.{Ending, Makes, Went, ending_at, ending_of}
 use Rattle.file_writer.specs.Parts.{HasAdvanced, part_of}
-use Rattle.file_writer.specs.Streams.{Settings, closed_of, stream_count}
-use Rattle.file_writer.specs.Writer.{Holds, IsAt, sealed_in, settings_in, shelf_of}
-use Rattle.file_writer.specs.declared.fault.ShelfFault.{ShelfFault}
 use Rattle.file_writer.specs.declared.writer.Writer.{Writer}
 use Rattle.file_writer.proofs.CallsLemmas.{same_of}
 use Rattle.file_writer.proofs.AllLemmas.{calls-append}

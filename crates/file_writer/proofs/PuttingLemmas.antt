@@ -1,24 +1,9 @@
 -- What comes of a record that a stream takes: a closing before it, its appending, and a closing behind it.
 use Rattle.std.proofs.Common.{◌≡◌, ℕ, ◌+◌, List, [], ◌∷◌, ◌++◌, IsTrue, Option, Result, Ok, ap, ◌∙◌, subst, arith}
-use Rattle.std.specs.Result.{IsErr, IsErrAnd}
-use Rattle.cdr_file.specs.CdrFile.{FileSettings}
-use Rattle.cdr_file.specs.declared.closure.ClosureReason.{ClosureReason}
-use Rattle.cdr_shelf.specs.declared.shelf.Shelf.{Ghosts}
-use Rattle.file_rotate.specs.Cutting.{file_of, file_with, item_cuts, kind_change, limit_reached}
-use Rattle.file_rotate.specs.Division.{Cuts, cuts_at, run_after, still}
-use Rattle.file_rotate.specs.Items.{Filed, Item, Record}
-use Rattle.file_rotate.specs.declared.limits.Limits.{Limits}
-use Rattle.file_rotate.specs.declared.open_file.OpenFile.{OpenFile}
-use Rattle.file_writer.specs.Calls.{Call, appending, calls_at, closed_by, closing}
-use Rattle.file_writer.specs.Files.{record_of}
-use Rattle.file_writer.specs.Following.{Follows, IsBehind, Pairs, Takes}
-use Rattle.file_writer.specs.Making.{Ending, Makes, Went, ending_at, ending_of}
-use Rattle.file_writer.specs.Writing.{ClosesOpen, IsGrown, StillOpen, appending_of, closed_progress, closing_of, grown}
+use Rattle.file_writer.proofs.Names.{appending, appending_of, Call, calls_at, closed_by, closed_progress, ClosesOpen, closing, closing_of, ClosureReason, Cuts, cuts_at, Ending, ending_at, ending_of, file_of, file_with, Filed, FileSettings, Follows, Ghosts, grown, IsBehind, IsErr, IsErrAnd, IsGrown, item_cuts, kind_change, limit_reached, Limits, Makes, OpenFile, Pairs, Progress, Record, record_of, run_after, ShelfFault, still, StillOpen, Stream, Takes, Went}
+use Rattle.file_rotate.specs.Items.{Item}
 use Rattle.file_writer.proofs.FollowingLemmas.{FactsLaws, append_follows, appending_is, close_follows, closed_count, closed_sealed, grown_closes, makes_closing, no_answer, record_closes}
 use Rattle.file_writer.proofs.MakingLemmas.{ended_at, makes_then, stopped_at}
-use Rattle.file_writer.specs.declared.fault.ShelfFault.{ShelfFault}
-use Rattle.file_writer.specs.declared.progress.Progress.{Progress}
-use Rattle.file_writer.specs.declared.stream.Stream.{Stream}
 
 -- a cutter cuts where the division does
 abbrev pub CutsAlike : Type 0

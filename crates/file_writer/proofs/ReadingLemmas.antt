@@ -1,34 +1,18 @@
 -- The files of items are read back: each number that a header says of their records fits its field.
 use Rattle.std.proofs.Common.{◌≡◌, ℕ, zero, suc, ◌+◌, ◌^◌, ◌<◌, ◌≤◌, ◌||◌, true, All, Contains, List, [], ◌∷◌, ◌++◌, length, map, slice_get, sum_by, Option, None, Some, Ok, refl, sym, ap, ◌∙◌, arith, ℤ, append-nil}
-use Rattle.std.proofs.lemmas.Bool.Decides.{nat_tests}
+use Rattle.file_writer.proofs.Names.{All-head, All-tail, and_parts, AreLimits, cases_Bool, cases_lt, cdr_length, cdr_of, closed_first, closed_of, ClosedRun, ClosureReason, divided_from, Division, ends_after, ends_before, eqb-true, extension_octets, file_header, file_octets, Filed, FiledKind, FiledRecord, FilePlace, files_from, FileSettings, get_or_from_slice_get, in_run, IsFiledKind, IsFit, Item, joined, last_moment, le-leb, Limits, nat_tests, node_address, none-some, read_file, Record, record_at, record_of, Rule, run_length, run_limit_reached, run_records, run_with, runs_of, same_extension, same_kind, sealed_file, Settings, slice_get_within, still, stream_division, stream_files, stream_item, stream_items}
 use Rattle.std.specs.Prelude.{is_some}
-use Rattle.std.proofs.lemmas.Bool.{and_parts, eqb-true, cases_Bool, cases_lt, le-leb}
-use Rattle.std.proofs.lemmas.List.Elements.{All-head, All-tail}
 use Rattle.std.proofs.lemmas.List.Sums.{sum_by-append, sum_by-cons}
-use Rattle.std.proofs.lemmas.Option.{get_or_from_slice_get, none-some, slice_get_within}
-use Rattle.cdr_file.specs.CdrFile.{FileSettings, FiledRecord, cdr_of, file_header, file_octets, last_moment, node_address, read_file}
 use Rattle.cdr_file.specs.CdrFile as cdr
 use Rattle.cdr_file.specs.CdrHeader.{AreCdrs}
 use Rattle.cdr_file.specs.ClosureReason.{code_of}
 use Rattle.cdr_file.specs.FileHeader.{IsFileHeader, extends}
 use Rattle.cdr_file.specs.Laws.{extends_one, in_profile-fits}
-use Rattle.cdr_file.specs.Profile.{IsFiledKind, extension_octets}
 use Rattle.cdr_file.specs.Reading as reading
 use Rattle.cdr_file.specs.Timestamp.{stamp_of}
-use Rattle.cdr_file.specs.declared.closure.ClosureReason.{ClosureReason}
 use Rattle.cdr_file.specs.declared.closure.ClosureReason.TheVariants as reason
-use Rattle.cdr_file.specs.declared.filed_kind.FiledKind.{FiledKind}
-use Rattle.file_rotate.specs.Division.{ClosedRun, Division, cdr_length, closed_first, divided_from, ends_after, ends_before, joined, run_length, run_limit_reached, still}
-use Rattle.file_rotate.specs.Items.{AreLimits, Filed, Record, same_extension, same_kind}
 use Rattle.file_rotate.specs.Items as stream
-use Rattle.file_rotate.specs.declared.limits.Limits.{Limits}
-use Rattle.gw_base.specs.declared.item.Item.{Item}
-use Rattle.route_filter.specs.declared.rule.Rule.{Rule}
-use Rattle.file_writer.specs.AllStreams.{IsFit}
-use Rattle.file_writer.specs.Files.{files_from, record_of, run_records, sealed_file, stream_files}
-use Rattle.file_writer.specs.Places.{FilePlace, in_run, record_at, run_with, runs_of}
 use Rattle.file_writer.specs.Reading.{IsStamped, ReadsAt}
-use Rattle.file_writer.specs.Streams.{Settings, closed_of, stream_division, stream_items, stream_item}
 
 -- ---- what a header says of a record
 
@@ -59,10 +43,15 @@ items_sayable : (profile : ℕ) (rules : List Rule) (file : FileSettings) (s : �
     → All (IsStamped file) items → AreItemsSayable file.offset (stream_items profile rules s items)
 items_sayable profile rules file s [] fit stamped = tt
 items_sayable profile rules file s (first ∷ items) fit stamped =
-    search (arith, both_sayable, item_sayable, All-head,
-    (items_sayable profile rules file s items (All-tail IsFit first items fit)
-        (All-tail (IsStamped file) first items stamped)),
-    All-tail)
+    search (
+      arith,
+      both_sayable,
+      item_sayable,
+      All-head,
+      (items_sayable profile rules file s items (All-tail IsFit first items fit)
+          (All-tail (IsStamped file) first items stamped)),
+      All-tail,
+    )
 
 -- ---- of which kind the records of runs are
 

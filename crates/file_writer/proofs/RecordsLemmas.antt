@@ -1,25 +1,10 @@
 -- Where records stand in runs, that more items leave them there, and that each record has one place.
 use Rattle.std.proofs.Common.{◌≡◌, ℕ, ◌+◌, ◌-◌, ◌<◌, nat_lt, if◌then◌else◌, Bool, true, false, List, [], ◌∷◌, ◌++◌, length, map, take, slice_get, Option, None, Some, refl, sym, ap, ◌∙◌, arith, append_assoc, append-nil, length-append, inl, inr, ◌⊎◌, zero, suc, ◌≤◌, subst}
-use Rattle.std.proofs.lemmas.Bool.Decides.{nat_tests}
-use Rattle.std.proofs.lemmas.List.{take-append-le, map-append}
-use Rattle.std.proofs.lemmas.Option.{none-some, slice_get_within, same_Some}
-use Rattle.cdr_file.specs.declared.closure.ClosureReason.{ClosureReason}
-use Rattle.file_rotate.specs.Division.{ClosedRun, Division, closed_first, divided_from, goes_on, joined, still, with_cuts, Cuts, cuts_at, run_after, division_of}
-use Rattle.file_rotate.specs.Items.{Filed, record_in, Record, records_of}
+use Rattle.file_writer.proofs.Names.{cases_lt, cases_order, CdrKind, closed_first, ClosedRun, ClosureReason, Cuts, cuts_at, divided_from, Division, division_of, DivisionGoesOn, eq-eqb, Filed, FilePlace, goes_on, HasPlace, in_run, Item, joined, le-ltb, Limits, lt-ltb, ltb-false, map-append, nat_tests, none-some, nth_place, place_after, place_in, place_of_item, Record, record_at, record_if, record_in, records_of, records_to, Rule, run_after, run_with, runs_of, same_Some, Settings, slice_get_within, still, stream_division, stream_item, stream_items, stream_of, stream_record, Tag, take-append-le, with_cuts}
 use Rattle.file_rotate.specs.Items as stream
-use Rattle.file_rotate.specs.declared.limits.Limits.{Limits}
-use Rattle.gw_base.specs.declared.item.Item.{Item}
 use Rattle.gw_base.specs.declared.item.Item.TheVariants as item
-use Rattle.route_filter.specs.Rules.{stream_of}
 use Rattle.file_writer.proofs.FilesLemmas.{division-append}
-use Rattle.file_writer.specs.Laws.{DivisionGoesOn}
-use Rattle.file_writer.specs.Places.{FilePlace, nth_place, place_after, place_in, place_of_item, records_to, runs_of, HasPlace, in_run, record_at, run_with}
-use Rattle.file_writer.specs.Streams.{Settings, stream_division, stream_items, record_if, stream_item, stream_record}
-use Rattle.std.proofs.lemmas.Bool.{cases_lt, le-ltb, lt-ltb, cases_order, eq-eqb, ltb-false}
 use Rattle.std.specs.List.{flat_map}
-use Rattle.gw_base.specs.declared.kind.CdrKind.{CdrKind}
-use Rattle.gw_base.specs.declared.tag.Tag.{Tag}
-use Rattle.route_filter.specs.declared.rule.Rule.{Rule}
 
 -- ---- elements of joined lists
 
@@ -191,8 +176,12 @@ same_number s q (run ∷ later) n m p h k =
           elim (of_test (nat_lt m (length run)) _ p _ k) [
             | inl here ↦ absurd (omega (arith, ap (λ (at : FilePlace). at.sequence) here.1, (beyond n past.1).1))
             | inr there ↦
-                search (arith, nat_tests,
-                (same_number s (q + 1) later (n - length run) (m - length run) p past.1 there.1), ltb-false)
+                search (
+                  arith,
+                  nat_tests,
+                  (same_number s (q + 1) later (n - length run) (m - length run) p past.1 there.1),
+                  ltb-false,
+                )
           ]
     ]
   where
@@ -219,8 +208,13 @@ record_there : (profile : ℕ) (rules : List Rule) (s : ℕ) (items : List Item)
 record_there profile rules s [] k found filed h is = let no : ⊥ = none-some found h in absurd no
 record_there profile rules s (x ∷ xs) zero found filed h is = cc (same_Some x found h)
 record_there profile rules s (x ∷ xs) (suc k) found filed h is =
-    search (arith, length-records, records_of-append, slice_get-after,
-    (record_there profile rules s xs k found filed h is))
+    search (
+      arith,
+      length-records,
+      records_of-append,
+      slice_get-after,
+      (record_there profile rules s xs k found filed h is),
+    )
 
 -- a record of a stream is one more for the items after it
 one_more_after : (profile : ℕ) (rules : List Rule) (s : ℕ) (items : List Item) (k l : ℕ) (found : Item) (filed : Filed (List ℕ))
@@ -262,7 +256,7 @@ place-has law settings items k kind tag octets moment h =
     record_there settings.profile settings.rules s items k (item.Part kind tag octets moment) filed h is in
     let division : Division (List ℕ) = stream_division settings s items in
     let all : all_of (runs_of division) ≡ records_of (stream_items settings.profile settings.rules s items) =
-        search (arith, all_of-runs) in
+    search (arith, all_of-runs) in
     let p = placed s 1 (runs_of division) n
     (omega (
       arith,

@@ -1,18 +1,9 @@
 -- Calls keep streams shut of which all files are sealed, whatever comes of them.
 use Rattle.std.proofs.Common.{◌≡◌, ◌≢◌, inl, ℕ, ◌<◌, ◌≤◌, Bool, false, if◌then◌else◌, IsTrue, List, [], ◌∷◌, ◌++◌, None, Some, Result, refl, sym, ap, ◌∙◌, subst, arith, Ok, Err}
-use Rattle.std.proofs.lemmas.Bool.{cases_eq, ne_eqb}
-use Rattle.area_disk.specs.declared.plan.Fate.{Fate}
-use Rattle.area_disk.specs.declared.plan.Fate.TheVariants.{Fails}
-use Rattle.area_disk.specs.Plan.{next_fate}
+use Rattle.file_writer.proofs.Names.{cases_eq, Failed, Fails, Fate, FileName, Ghosts, greatest_in, greatest_in-append, is_done, LeavesAfter, left_unsealed, Makes, ne_eqb, next_fate, number_in, seal_step, sealed_as, SealedFile, SealLeaves, synced, Unsealed, UnsealedFile, Went, Writes, written}
 use Rattle.cdr_shelf.specs.Calls.{Seals, State, Steps, Told}
-use Rattle.cdr_shelf.specs.FileLaws.{greatest_in-append}
-use Rattle.cdr_shelf.specs.Files.{SealedFile, Unsealed, UnsealedFile, greatest_in, number_in, sealed_as}
-use Rattle.cdr_shelf.specs.Steps.{LeavesAfter, SealLeaves, files_after, is_done, left_unsealed, seal_step, synced, written}
-use Rattle.cdr_shelf.specs.declared.file_name.FileName.{FileName}
-use Rattle.cdr_shelf.specs.declared.shelf.Shelf.{Ghosts}
+use Rattle.cdr_shelf.specs.Steps.{files_after}
 use Rattle.file_writer.specs.Shutting.{BeginsShut, StaysShut}
-use Rattle.file_writer.specs.Calls.{Writes}
-use Rattle.file_writer.specs.Making.{Failed, Makes, Went}
 use Rattle.file_writer.proofs.MakingLemmas.{left_by_write, one_failed, one_went, unsealed_by}
 
 -- ---- one call

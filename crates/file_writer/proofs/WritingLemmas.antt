@@ -1,21 +1,9 @@
 -- What writes do to the file that is being written.
 use Rattle.std.proofs.Common.{◌≡◌, ◌≢◌, ℕ, max, ◌+◌, ◌≤◌, ◌<◌, Bool, if◌then◌else◌, List, [], ◌∷◌, ◌++◌, length, Option, None, Some, Result, OnOk, refl, ap, ◌∙◌, arith, append_assoc, length-append}
-use Rattle.std.proofs.lemmas.Bool.{eq-eqb, lt-leb}
-use Rattle.std.proofs.lemmas.List.{append-nil, drop-append-le, drop_all}
-use Rattle.std.proofs.lemmas.List.Elements.{All-cons, All-nil}
-use Rattle.std.proofs.Math.Seq.{take-length}
+use Rattle.file_writer.proofs.Names.{All-cons, All-nil, append-nil, appended, begun, body_behind, body_of, Call, cdr_octets, drop-append-le, drop_all, Ending, eq-eqb, FiledKind, FiledRecord, FileName, Ghosts, greatest_in, grown_facts, HasLength, header_length, IsBegun, IsFresh, IsOpenAt, lt-leb, Makes, number_in, RunFacts, sealed_as, SealedFile, StepsAt, synced, take-length, TakesWrite, unless_sealed, UnsealedFile, written}
 use Rattle.area_disk.specs.Disk.{overwritten}
-use Rattle.cdr_file.specs.CdrFile.{FiledRecord, cdr_length, cdr_octets, header_length}
+use Rattle.cdr_file.specs.CdrFile.{cdr_length}
 use Rattle.cdr_file.specs.Laws.{length-cdr_octets}
-use Rattle.cdr_file.specs.declared.filed_kind.FiledKind.{FiledKind}
-use Rattle.cdr_file.specs.declared.run.RunFacts.{RunFacts}
-use Rattle.cdr_shelf.specs.Files.{IsFresh, SealedFile, UnsealedFile, greatest_in, number_in, sealed_as}
-use Rattle.cdr_shelf.specs.declared.file_name.FileName.{FileName}
-use Rattle.cdr_shelf.specs.declared.shelf.Shelf.{Ghosts}
-use Rattle.cdr_shelf.specs.Steps.{StepsAt, TakesWrite, begun, synced, written}
-use Rattle.file_writer.specs.Calls.{Call, unless_sealed}
-use Rattle.file_writer.specs.Making.{Ending, Makes}
-use Rattle.file_writer.specs.Writing.{HasLength, IsBegun, IsOpenAt, appended, body_behind, body_of, grown_facts}
 
 -- octets written at the end
 overwritten-end : (xs from : List ℕ) → overwritten xs (length xs) from ≡ xs ++ from

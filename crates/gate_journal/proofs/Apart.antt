@@ -1,8 +1,7 @@
 -- Octets stand for one list of batches, or start, or are foreign at one place.
 use Rattle.std.proofs.Common.{◌≡◌, ℕ, List, ◌∷◌, ◌++◌, length, take, sym, ◌∙◌, ap, subst, arith}
 use Rattle.gate_journal.specs.Before.{AreBefore}
-use Rattle.gate_journal.specs.Format.{open_gate, end_of, IsWhole, gate_at, Stands, IsBroken}
-use Rattle.gate_journal.specs.Agreeing.{equal, longer, shorter, compare, place_of, front_before, batch_before, stands_before}
+use Rattle.gate_journal.proofs.Names.{batch_before, compare, end_of, equal, front_before, gate_at, IsBroken, IsWhole, longer, open_gate, place_of, shorter, Stands, stands_before}
 
 -- the batches before a gate that is closed or has no whole batch behind it
 pub record Stop (header octets : List ℕ) (at : ℕ) (batches : List (List ℕ)) : Type 0 where

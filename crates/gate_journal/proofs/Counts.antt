@@ -1,7 +1,6 @@
 -- How many counted calls a run of calls makes.
 use Rattle.std.proofs.Common.{◌≡◌, ℕ, ◌+◌, Result, Ok, Err, arith, rules}
-use Rattle.area_disk.specs.Disk.{counted}
-use Rattle.gate_journal.specs.Moments.{Calls}
+use Rattle.gate_journal.proofs.Names.{Calls, counted}
 
 -- one call, whatever came of it
 pub one_call : {T E : Type 0} (before now : ℕ) (result : Result T E) → now ≡ counted 1 before → Calls 1 before now result

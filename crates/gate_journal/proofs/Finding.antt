@@ -1,20 +1,8 @@
 -- What a gate that was read says of the content behind it.
 use Rattle.std.proofs.Common.{◌≡◌, ℕ, ◌+◌, ◌<◌, ◌≤◌, List, ◌∷◌, ◌++◌, length, take, drop, ⊎_elim, ◌⊎◌, inl, inr, suc, Bool, true, false, sym, ◌∙◌, ap, subst, arith, rules}
-use Rattle.std.specs.Prelude.{Option, Some, None, IfSome, nat_lt, if◌then◌else◌}
-use Rattle.std.proofs.lemmas.Bool.Decides.{leb_tells}
-use Rattle.area_disk.specs.AreaLaws.{AreaLaws}
-use Rattle.area_disk.specs.declared.area.Area.{Ghosts}
-use Rattle.gate_journal.specs.Format.{header, spelled, end_of, longest_batch, IsSmall}
-use Rattle.gate_journal.specs.Journal.{batches, is_closed}
-use Rattle.gate_journal.specs.Moments.{Told}
+use Rattle.gate_journal.proofs.Names.{AreaLaws, batches, batches_below, behind_some, content_at, Cut, end_of, Fits, gate_before, gate_is_open, Ghosts, header, IfSome, if◌then◌else◌, is_closed, IsBehind, IsSmall, Journal, leb_tells, length-header, length_is, longest_batch, nat_lt, None, Option, Shut, small_among, Some, spelled, Told, Whole, whole_there}
 use Rattle.gate_journal.specs.Reading.{IsGate}
-use Rattle.gate_journal.specs.Spelling.{length-header}
-use Rattle.gate_journal.specs.State.{batches_below}
-use Rattle.gate_journal.specs.Places.{behind_some, gate_before, gate_is_open, length_is, small_among, whole_there}
-use Rattle.gate_journal.specs.Verdicts.{Fits, IsBehind, content_at}
-use Rattle.gate_journal.specs.declared.journal.Journal.{Journal}
 use Rattle.gate_journal.specs.declared.reading.Behind.{Behind}
-use Rattle.gate_journal.specs.declared.reading.Behind.TheVariants.{Shut, Whole, Cut}
 use Rattle.gate_journal.proofs.States.{settled, now, inside}
 
 ltb_tells : (a b : ℕ) → ((nat_lt a b ≡ true) × (a < b)) ⊎ ((nat_lt a b ≡ false) × (b ≤ a))

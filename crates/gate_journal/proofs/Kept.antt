@@ -1,12 +1,7 @@
 -- How a call on the area of a journal leaves the journal as it was.
 use Rattle.std.proofs.Common.{◌≡◌, rules}
-use Rattle.std.specs.Prelude.{IsTrue}
-use Rattle.area_disk.specs.declared.area.Area.{Ghosts}
-use Rattle.area_disk.specs.declared.plan.Outcome3.{Outcome3}
-use Rattle.gate_journal.specs.Journal.{batches, torn, torn_stands, stop_stands}
+use Rattle.gate_journal.proofs.Names.{batches, Ghosts, IsTrue, Journal, Kept, Outcome3, stop_stands, torn, torn_stands}
 use Rattle.gate_journal.specs.Kept.{IsAsBefore, IsKept}
-use Rattle.gate_journal.specs.Moments.{Kept}
-use Rattle.gate_journal.specs.declared.journal.Journal.{Journal}
 
 -- all of a journal but its area is the same
 pub record IsOver {A : Type 0} {g : Ghosts A} (old new : Journal A g) : Type 0 where

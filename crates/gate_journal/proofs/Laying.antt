@@ -1,11 +1,6 @@
 -- What the making of an area leaves.
 use Rattle.std.proofs.Common.{◌≡◌, inl, ℕ, ◌+◌, ◌<◌, List, [], ◌∷◌, ◌++◌, length, get_or, take, drop, sym, ◌∙◌, ap, arith, append_assoc, Result, OnOk, ◌≢◌, ◌≤◌, length-append, rules}
-use Rattle.std.proofs.lemmas.List.{take_at, drop-take, get_or_at, get_or-take, length-take-le, drop_at, length-drop}
-use Rattle.area_disk.specs.Disk.{overwritten, Torn}
-use Rattle.gate_journal.specs.Format.{open_gate, closed_gate, Starts, IsUnfinished, gate_at}
-use Rattle.gate_journal.specs.Opening.{IsLaid}
-use Rattle.gate_journal.specs.Fronts.{at_front, front_of_front}
-use Rattle.gate_journal.specs.Adding.{added, IsAdding}
+use Rattle.gate_journal.proofs.Names.{added, at_front, closed_gate, drop-take, drop_at, front_of_front, gate_at, get_or-take, get_or_at, IsAdding, IsLaid, IsUnfinished, length-drop, length-take-le, open_gate, overwritten, Starts, take_at, Torn}
 use Rattle.gate_journal.proofs.Turns.{length-rest}
 
 module _ (header : List ℕ) (long : length header ≡ 32) (begins : get_or header 0 0 ≡ 67) where

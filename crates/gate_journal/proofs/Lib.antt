@@ -8,3 +8,4 @@ mod Openings
 mod Plans
 mod States
 mod Turns
+pub mod Names

@@ -1,30 +1,9 @@
 -- Batches below a place, one after the other.
 use Rattle.std.proofs.Common.{◌≡◌, ◌≢◌, inl, inr, ⊎_elim, ◌⊎◌, ℕ, ◌+◌, ◌<◌, ◌≤◌, Bool, false, List, length, get_or, take, Result, Ok, Err, sym, ◌∙◌, ap, subst, arith, [], ◌++◌, drop, take-append-drop, suc, ◌∷◌, rules}
-use Rattle.std.specs.Prelude.{IsTrue, IfOk, IfErr, All}
-use Rattle.std.proofs.lemmas.List.{append-nil, take-take, drop_all, get_or-take, length-take, drop-append-le, drop_more, drop-drop, length-take-le, length-drop}
-use Rattle.std.proofs.lemmas.List.Elements.{All-nil, All-push}
-use Rattle.std.proofs.Math.Seq.{take-add}
-use Rattle.byteorder.specs.Endian.{big_bytes}
-use Rattle.area_disk.specs.Disk.{counted}
-use Rattle.area_disk.specs.declared.area.Area.{Ghosts}
-use Rattle.area_disk.specs.MomentLaws.{follow}
-use Rattle.gate_journal.specs.Agreeing.{same_not_starts, same_not_differs, one_difference}
+use Rattle.gate_journal.proofs.Names.{All, All-nil, All-push, append-nil, area_of, AreBelow, batches, batches_below, batches_in-spelled, Begins, big_bytes, counted, Differs, Draft, drop-append-le, drop-drop, drop_all, drop_more, first-header, follow, Founded, gate_at, get_or-take, Ghosts, header, header_for, IfErr, IfOk, is_device, IsBroken, IsDrafted, IsForeign, IsLaid, IsListed, IsOpened, IsSmall, IsTrue, IsVerdict, IsWhole, Journal, Kept, Leaves, length-drop, length-header, length-spelled, length-take, length-take-le, longest_batch, OnArea, one_difference, open_gate, OpenFault, OpenLeaves, ReadsRun, RoseByDevice, RoseUpTo, Same, same_not_differs, same_not_starts, spelled, spelled-append, spelled-nil, spelled-one, Starts, SyncPlanned, take-add, take-take, Told, Verdict}
 use Rattle.gate_journal.specs.Beginnings.{foreign_not_starts, stands_not_starts}
-use Rattle.gate_journal.specs.Format.{header, open_gate, gate_at, IsBroken, IsForeign, Differs, Starts, spelled, IsSmall, IsWhole, longest_batch}
-use Rattle.gate_journal.specs.Journal.{area_of, batches}
 use Rattle.gate_journal.specs.Making.{IsAnew, IsReadyWith}
-use Rattle.gate_journal.specs.Moments.{Told, Kept, Leaves, RoseUpTo}
-use Rattle.gate_journal.specs.Opening.{IsDrafted, IsOpened, OnArea, OpenLeaves, RoseByDevice, header_for, is_device, IsLaid}
-use Rattle.gate_journal.specs.Planned.{ReadsRun, SyncPlanned}
-use Rattle.gate_journal.specs.Spelling.{length-header, first-header, spelled-nil, batches_in-spelled, spelled-one, spelled-append, length-spelled}
-use Rattle.gate_journal.specs.State.{batches_below, IsListed}
-use Rattle.gate_journal.specs.Verdicts.{IsVerdict, AreBelow}
-use Rattle.gate_journal.specs.declared.faults.OpenFault.{OpenFault}
 use Rattle.gate_journal.specs.declared.faults.OpenFault.TheVariants.{Device, NoMemory}
-use Rattle.gate_journal.specs.declared.journal.Front.TheVariants.{Draft, Founded}
-use Rattle.gate_journal.specs.declared.journal.Journal.{Journal}
-use Rattle.gate_journal.specs.declared.reading.Verdict.{Verdict}
-use Rattle.gate_journal.specs.declared.reading.Verdict.TheVariants.{Starts as Begins, Same}
 use Rattle.gate_journal.proofs.Apart.{Stop, stop_of_broken, one_place, one_list, broken_front}
 use Rattle.gate_journal.proofs.Plans.{sync_on}
 

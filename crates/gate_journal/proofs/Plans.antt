@@ -1,24 +1,12 @@
 -- How the calls of an append come out as planned.
 use Rattle.std.proofs.Common.{◌≡◌, ◌≢◌, ℕ, ◌+◌, ◌≤◌, Bool, true, false, List, [], ◌∷◌, length, get_or, take, drop, Result, refl, sym, ◌∙◌, ap, arith, append_assoc, rules}
-use Rattle.std.specs.Prelude.{is_err, ◌==◌}
-use Rattle.std.proofs.lemmas.Bool.Decides.{eqb_tells}
-use Rattle.std.proofs.lemmas.List.{take_at, get_or_at, length-take-le}
-use Rattle.std.proofs.lemmas.Bool.{false_from_ne_true}
-use Rattle.area_disk.specs.Disk.{overwritten}
+use Rattle.gate_journal.proofs.Names.{after_append, after_put, after_sync, after_write, append_fails, AppendPlanned, at_front, batch_stands, Course, course_after, course_by, course_of, Ending, ending_by, ending_of, eqb_tells, false_from_ne_true, fate_of_sync, gate_at, get_or_at, Ghosts, is_ended, is_err, is_new, Journal, left_by, length-take-le, New, Old, open_gate, OpenFault, Outcome3, outcome_left, overwritten, PutPlanned, ReadOn, ReadsRun, Rot, SyncPlanned, take_at, with_reads, ◌==◌}
 use Rattle.area_disk.specs.Plan.{Prospect, next_fate, after_call, spare_after_write, written_as, is_failure, LeavesAfterWrite, LeavesAfterSync, WriteAsPlanned, SyncAsPlanned, Schedule, is_stop, sync_fate, fate_with}
 use Rattle.area_disk.specs.declared.plan.Fate.{Fate}
 use Rattle.area_disk.specs.declared.plan.Fate.TheVariants.{Runs, Fails, Stops}
-use Rattle.area_disk.specs.declared.plan.Outcome3.{Outcome3}
-use Rattle.area_disk.specs.declared.plan.Outcome3.TheVariants.{Old, New, Rot}
 use Rattle.area_disk.specs.ArmedLaws.{stopped_fails}
-use Rattle.area_disk.specs.declared.area.Area.{Ghosts}
-use Rattle.gate_journal.specs.Format.{open_gate, gate_at}
-use Rattle.gate_journal.specs.Planned.{Course, course_of, after_write, after_sync, Ending, is_ended, ending_by, course_by, ending_of, after_put, left_by, PutPlanned, is_new, batch_stands, append_fails, course_after, AppendPlanned, outcome_left, with_reads, ReadOn, ReadsRun, SyncPlanned, after_append, fate_of_sync}
 use Rattle.gate_journal.specs.Planned.Ending.{BothRan, AtWrite, AtSync}
-use Rattle.gate_journal.specs.Fronts.{at_front}
 use Rattle.gate_journal.specs.OpenPlanned.{MadeBy}
-use Rattle.gate_journal.specs.declared.faults.OpenFault.{OpenFault}
-use Rattle.gate_journal.specs.declared.journal.Journal.{Journal}
 use Rattle.gate_journal.proofs.Turns.{other_bool}
 
 -- the parts of a put that came out as planned, by the fates of its calls

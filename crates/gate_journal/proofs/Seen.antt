@@ -1,15 +1,8 @@
 -- What reads of an area say of its octets.
 use Rattle.std.proofs.Common.{◌≡◌, ◌≢◌, ℕ, ◌+◌, ◌<◌, ⊎_elim, true, false, List, length, get_or, take, drop, sym, ◌∙◌, ap, subst, arith, rules}
-use Rattle.std.proofs.lemmas.Bool.{cases_eq}
-use Rattle.std.proofs.lemmas.List.{drop-take, get_or-take, get_or-drop, get_or_default, take_all, take-take}
+use Rattle.gate_journal.proofs.Names.{at_front, Begins, big_bytes, big_number, cases_eq, Differs, drop-take, gate_at, get_or-drop, get_or-take, get_or_default, IsUnfinished, IsVerdict, length_at, open_gate, Other, Same, Starts, take-take, take_all, Verdict}
 use Rattle.std.proofs.lemmas.Nat.{be_bytes_4}
-use Rattle.byteorder.specs.Endian.{big_number, big_bytes}
 use Rattle.byteorder.specs.Numbers.{big_from-take}
-use Rattle.gate_journal.specs.Format.{open_gate, gate_at, length_at, Starts, IsUnfinished, Differs}
-use Rattle.gate_journal.specs.Verdicts.{IsVerdict}
-use Rattle.gate_journal.specs.declared.reading.Verdict.{Verdict}
-use Rattle.gate_journal.specs.declared.reading.Verdict.TheVariants.{Starts as Begins, Same, Other}
-use Rattle.gate_journal.specs.Fronts.{at_front}
 use Rattle.gate_journal.proofs.Turns.{length-tail}
 
 pub gate_read : (octets into : List ℕ) (at : ℕ) → at < length octets → into ≡ take 1 (drop at octets) → gate_at octets at ≡ get_or into 0 0

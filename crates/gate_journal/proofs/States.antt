@@ -1,23 +1,7 @@
 -- What is true of a journal, and how its calls keep it.
 use Rattle.std.proofs.Common.{◌≡◌, ◌≢◌, ◌⊎◌, ℕ, ◌+◌, ◌-◌, ◌<◌, ◌≤◌, Bool, true, false, List, [], ◌∷◌, ◌++◌, length, get_or, take, drop, refl, sym, ◌∙◌, ap, subst, arith, rules}
-use Rattle.std.specs.Prelude.{All, IsTrue, ◌&&◌, ◌==◌, if◌then◌else◌}
-use Rattle.std.proofs.lemmas.List.{length-take-le, length-drop}
-use Rattle.std.proofs.lemmas.List.Elements.{All-push}
-use Rattle.area_disk.specs.AreaLaws.{AreaLaws}
-use Rattle.area_disk.specs.Disk.{Only, Within, Torn, overwritten}
-use Rattle.area_disk.specs.declared.area.Area.{Ghosts}
-use Rattle.area_disk.specs.declared.plan.Outcome3.TheVariants.{New}
-use Rattle.gate_journal.specs.Adding.{added, IsAdding}
-use Rattle.gate_journal.specs.Format.{IsSmall, end_of, frame, gate_at, longest_batch, open_gate}
-use Rattle.gate_journal.specs.Moments.{Told, Leaves}
-use Rattle.gate_journal.specs.State.{batches_below, Content, IsReady, IsSound, Keeps, gate_after, front_after}
-use Rattle.gate_journal.specs.Journal.{closed_by, is_closed, batches, torn, front_of, header_of, KeepsOr, IsSettled, Rests, torn_stands, stop_stands}
-use Rattle.gate_journal.specs.declared.journal.Journal.{Journal}
-use Rattle.gate_journal.specs.declared.journal.Front.{Front}
-use Rattle.gate_journal.specs.declared.journal.Front.TheVariants.{Founded, Draft, Founding}
+use Rattle.gate_journal.proofs.Names.{added, All, All-push, AreaLaws, batches, batches_below, closed_by, Content, Draft, end_of, first-header, Founded, Founding, frame, Front, front_after, front_of, gate_after, gate_at, Ghosts, header_of, if◌then◌else◌, is_closed, IsAdding, IsReady, IsSettled, IsSmall, IsSound, IsTrue, Journal, Keeps, KeepsOr, Leaves, length-drop, length-frame, length-header, length-take-le, longest_batch, New, Only, open_gate, overwritten, Rests, stop_stands, Told, Torn, torn, torn_stands, widen, Within, ◌&&◌, ◌==◌}
 use Rattle.gate_journal.proofs.Turns.{listed_below, place_is, other_bool, is_adding, added_open, adding, taken_in, founding, content_keeps, content_keeps_or, content_keeps_any, after_gate, after_first}
-use Rattle.area_disk.specs.MomentLaws.{widen}
-use Rattle.gate_journal.specs.Spelling.{length-header, first-header, length-frame}
 
 -- a journal that isn't closed may be added to
 pub ready_of : (front : Front) (is_torn : Bool) → closed_by front is_torn ≡ false → IsReady front is_torn

@@ -1,21 +1,7 @@
 -- What the octets of a journal stand for.
 use Rattle.std.proofs.Common.{◌≡◌, ◌≢◌, ◌⊎◌, inl, inr, ⊎_elim, ℕ, ◌+◌, ◌<◌, ◌≤◌, Bool, true, false, List, [], ◌∷◌, ◌++◌, length, get_or, take, drop, refl, sym, ◌∙◌, ap, subst, arith, zero, suc, ◌-◌, length-append, append_assoc, rules}
-use Rattle.std.specs.Prelude.{All, ◌&&◌, ◌==◌, if◌then◌else◌}
-use Rattle.std.proofs.lemmas.Bool.Decides.{eqb_tells}
-use Rattle.std.proofs.lemmas.Bool.{cases_eq}
-use Rattle.std.proofs.lemmas.List.{take_at, length-take-le, length-drop, get_or_at, take-take, get_or-drop, get_or-take, drop-append-le, drop_more}
-use Rattle.std.proofs.lemmas.List.Elements.{All-push}
-use Rattle.std.proofs.Math.Seq.{take-add}
-use Rattle.byteorder.specs.Endian.{big_bytes}
+use Rattle.gate_journal.proofs.Names.{added, All, All-push, at_front, batches_below, batches_below-is, big_bytes, cases_eq, closed_gate, Content, Draft, drop-append-le, drop_around, drop_more, end_of, eqb_tells, Founded, Founding, frame, frame-is, Front, front_after, front_but_first, gate_after, gate_at, get_or-drop, get_or-take, get_or_at, if◌then◌else◌, IsAdding, IsSmall, Keeps, later_but_first, length-drop, length-frame, length-spelled, length-take-le, open_gate, spelled, spelled-append, spelled-one, Stands, Starts, take-add, take-take, take_around, take_at, Torn, ◌&&◌, ◌==◌}
 use Rattle.byteorder.specs.Numbers.{length-bytes_high_first}
-use Rattle.area_disk.specs.Disk.{Torn}
-use Rattle.gate_journal.specs.Adding.{added, IsAdding}
-use Rattle.gate_journal.specs.Format.{open_gate, frame, IsSmall, gate_at, closed_gate, spelled, end_of, Stands, Starts}
-use Rattle.gate_journal.specs.State.{Content, Keeps, gate_after, front_after, batches_below}
-use Rattle.gate_journal.specs.declared.journal.Front.{Front}
-use Rattle.gate_journal.specs.declared.journal.Front.TheVariants.{Founding, Founded, Draft}
-use Rattle.gate_journal.specs.Fronts.{at_front, take_around, drop_around, front_but_first, later_but_first}
-use Rattle.gate_journal.specs.Spelling.{length-frame, spelled-append, spelled-one, length-spelled, frame-is, batches_below-is}
 
 -- a front with its first octet apart
 pub front-cons : (place : ℕ) (octets : List ℕ) → 1 ≤ place → 1 ≤ length octets → take place octets ≡ get_or octets 0 0 ∷ drop 1 (take place octets)

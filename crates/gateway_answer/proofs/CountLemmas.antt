@@ -1,12 +1,7 @@
 -- How many records the items of a history are.
 use Rattle.std.proofs.Common.{◌≡◌, refl, ℕ, ◌+◌, List, [], ◌∷◌, ◌++◌, length, map, count_by, if◌then◌else◌, arith, length-append}
-use Rattle.std.proofs.lemmas.List.Sums.{sum_by-append, sum_by-cons}
-use Rattle.gateway_answer.specs.Filed.{along, filed, filed_by, filed_by_act}
-use Rattle.gateway_answer.specs.Items.{is_part, items_by, items_by_act, items_of, part_of}
-use Rattle.gateway_answer.specs.declared.filing.FiledRecord.{FiledRecord}
-use Rattle.gw_base.specs.declared.history.HistoryAct.{HistoryAct}
+use Rattle.gateway_answer.proofs.Names.{along, filed, filed_by, filed_by_act, FiledRecord, HistoryAct, HistoryEntry, is_part, items_by, items_by_act, items_of, part_of, sum_by-append, sum_by-cons}
 use Rattle.gw_base.specs.declared.history.HistoryAct.TheVariants as act
-use Rattle.gw_base.specs.declared.history.HistoryEntry.{HistoryEntry}
 use Rattle.gw_base.specs.declared.item.Item.{Item}
 
 count-append : (items more : List Item) → count_by is_part (items ++ more) ≡ count_by is_part items + count_by is_part more

@@ -1,26 +1,9 @@
 -- A history makes no more items than its entries cost of a journal: each record of a packet is an octet at least, and is
 -- filed as it comes or held; and each held copy is released once.
 use Rattle.std.proofs.Common.{◌≡◌, ◌∙◌, refl, ap, ℕ, ◌+◌, ◌≤◌, ◌==◌, ◌&&◌, not, Bool, true, false, if◌then◌else◌, List, [], ◌∷◌, ◌++◌, filter, length, Option, Some, option_and_then, arith, append_assoc, append-nil, eq-eqb, length-append, sym}
-use Rattle.std.proofs.lemmas.Bool.{false≢true}
-use Rattle.std.proofs.lemmas.List.{length-map}
-use Rattle.std.proofs.lemmas.List.Sums.{sum_by-append}
-use Rattle.std.specs.List.{list_any}
-use Rattle.std.specs.Option.{option_map_or}
+use Rattle.gateway_answer.proofs.Names.{along, begins_epoch, body, cost_of, costs_of, false≢true, filed_under, held_by, held_keys, held_keys-append, HeldKey, HistoryAct, HistoryEntry, items_by, items_by_act, items_of, last_naming, length-map, list_any, names, NodeId, once, option_map_or, packet_of_hold, part_of, present_entries, present_key, released_by, stays_held, sum_by-append}
 use Rattle.byteorder.specs.Endian.{big_bytes}
-use Rattle.entry_codec.specs.Room.{costs_of}
-use Rattle.entry_codec.specs.Spelling.{body, cost_of}
-use Rattle.gw_base.specs.HeldKeys.{held_by, held_keys}
-use Rattle.gw_base.specs.HeldLaws.{held_keys-append}
-use Rattle.gw_base.specs.History.{begins_epoch, last_naming, names, present_entries}
-use Rattle.gw_base.specs.Lists.{once}
-use Rattle.gw_base.specs.View.{stays_held}
-use Rattle.gw_base.specs.declared.address.NodeId.{NodeId}
-use Rattle.gw_base.specs.declared.held.HeldKey.{HeldKey}
-use Rattle.gw_base.specs.declared.history.HistoryAct.{HistoryAct}
 use Rattle.gw_base.specs.declared.history.HistoryAct.TheVariants as act
-use Rattle.gw_base.specs.declared.history.HistoryEntry.{HistoryEntry}
-use Rattle.gateway_answer.specs.Filed.{along, filed_under, packet_of_hold, present_key, released_by}
-use Rattle.gateway_answer.specs.Items.{items_by, items_by_act, items_of, part_of}
 use Rattle.gateway_answer.specs.ListFitLaws.{distinct_once}
 use Rattle.gateway_answer.specs.OnceLaws.{any_once}
 use Rattle.gateway_answer.proofs.ReleasedCounts.{filed_count, key_count, load, load_cons, load_less, load_part, packet_count, packet_few, released_all, HeldKeysAreHeld, all_stay, apart, held_there, less_all, named_after}

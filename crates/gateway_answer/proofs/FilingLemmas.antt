@@ -1,15 +1,8 @@
 -- Lemmas on filed records, for the loops that go over a history, the numbers of a release and the records of a packet.
 use Rattle.std.proofs.Common.{◌≡◌, ℕ, ◌+◌, ◌<◌, List, [], ◌∷◌, ◌++◌, length, get_or, take, drop, fold, Option, None, ap, sym, ◌∙◌, append_assoc, Bool, true, false, refl}
 use Rattle.gtpp_message.specs.Packet as packet
-use Rattle.gw_base.specs.ListLaws.{fold_is}
-use Rattle.gw_base.specs.declared.history.HistoryEntry.{HistoryEntry}
-use Rattle.gw_base.specs.declared.history.PacketKey.{PacketKey}
-use Rattle.gateway_answer.specs.Filed.{along, filed, filed_by, filed_record, filed_under, held_packet, records_from, records_if}
+use Rattle.gateway_answer.proofs.Names.{along, drop_more, filed, filed_by, filed_record, filed_under, FiledRecord, fold_is, held_packet, HistoryEntry, list_all, packet_after, PacketKey, records_from, records_if, take_more}
 use Rattle.gateway_answer.specs.FiledLaws.{held_packet-push}
-use Rattle.gateway_answer.specs.Steps.{packet_after}
-use Rattle.gateway_answer.specs.declared.filing.FiledRecord.{FiledRecord}
-use Rattle.std.proofs.lemmas.List.{drop_more, take_more}
-use Rattle.std.specs.List.{list_all}
 
 -- the records so far, and those that the rest of the history files, are all of them
 abbrev pub IsFiledSoFar : List HistoryEntry → ℕ → List FiledRecord → Type 0

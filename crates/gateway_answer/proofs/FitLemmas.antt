@@ -1,11 +1,6 @@
 -- Packets that are fit, and numbers that differ.
 use Rattle.std.proofs.Common.{◌≡◌, inl, inr, ℕ, suc, ◌-◌, ◌<◌, ◌≤◌, ◌==◌, ◌&&◌, ◌||◌, not, Bool, true, false, List, [], ◌∷◌, length, drop, refl, ap, ◌∙◌, arith}
-use Rattle.std.proofs.lemmas.List.{drop_more}
-use Rattle.std.specs.Prelude.{slice_index_or}
-use Rattle.std.specs.List.{list_all, list_any}
-use Rattle.std.proofs.lemmas.Bool.{eqb-true, and_right, false_from_ne_true, or_cases}
-use Rattle.gateway_answer.specs.Fit.{are_distinct}
-use Rattle.gateway_answer.specs.Numbers.{AreWithin}
+use Rattle.gateway_answer.proofs.Names.{and_right, are_distinct, AreWithin, drop_more, eqb-true, false_from_ne_true, list_all, list_any, or_cases, slice_index_or}
 use Rattle.std.proofs.lemmas.Bool.Decides.{nat_tests}
 
 -- all others differ from a number where none is equal to it

@@ -3,6 +3,7 @@ pub mod FewItems
 pub mod FilingLemmas
 pub mod FitLemmas
 pub mod ListsLemmas
+pub mod Names
 pub mod PlainLemmas
 pub mod ReleasedCounts
 pub mod WindowLemmas

@@ -1,17 +1,7 @@
 -- Lemmas on the request numbers that a list names, for the loops that go over it.
 use Rattle.std.proofs.Common.{◌≡◌, ℕ, ◌+◌, ◌<◌, ◌≤◌, ◌==◌, ◌&&◌, not, Bool, true, false, cond, if◌then◌else◌, List, [], ◌∷◌, ◌++◌, length, get_or, drop, filter, fold, map, Option, refl, ap, sym, ◌∙◌, arith, append_assoc, inl, inr}
-use Rattle.std.proofs.lemmas.Bool.{eqb-true, cases_Bool}
-use Rattle.std.proofs.lemmas.List.{append-nil, length-map, at_drop_more}
+use Rattle.gateway_answer.proofs.Names.{append-nil, AreClear, AreMarked, at_drop_more, cases_Bool, eqb-true, fold_is, held_ones, is_held, IsSameness, length-map, list_any, nearest, Observed, once, once-push, with_held, with_number}
 use Rattle.std.proofs.lemmas.List.Elements.{filter-append}
-use Rattle.std.specs.List.{list_any}
-use Rattle.gw_base.specs.ListLaws.{IsSameness, fold_is, once-push}
-use Rattle.gw_base.specs.Lists.{once}
-use Rattle.gw_base.specs.Nearest.{nearest}
-use Rattle.gw_base.specs.Observed.{Observed}
-use Rattle.transfer_cmd.specs.Lists.{is_held}
-use Rattle.gateway_answer.specs.Asked.{held_ones}
-use Rattle.gateway_answer.specs.Steps.{with_held, with_number}
-use Rattle.gateway_answer.specs.WireMarks.{AreClear, AreMarked}
 
 pub step_numbers : (top : Option ℕ) (numbers : List ℕ) (place number : ℕ) (front new : List ℕ) → place < length numbers →
     number ≡ nearest top (get_or numbers place 0) → new ≡ front ++ number ∷ [] →

@@ -1,18 +1,8 @@
 -- What is promised behind an act.
 use Rattle.std.proofs.Common.{◌≡◌, ℕ, ◌+◌, ◌*◌, ◌<◌, if◌then◌else◌, List, [], ◌∷◌, ◌++◌, length, length-append, drop, get_or, filter, refl, sym, ap, ◌∙◌}
-use Rattle.entry_codec.specs.Room.{costs_of}
-use Rattle.entry_codec.specs.Spelling.{cost_of}
+use Rattle.gateway_answer.proofs.Names.{at_drop_more, cost_of, costs_of, held_by, held_keys, held_keys-append, HeldKey, HistoryAct, HistoryEntry, holds_one, is_close_due, promised_by, promised_octets, stays_held}
 use Rattle.gw_base.specs.EntryLaws.{is_close_due-append}
-use Rattle.gw_base.specs.HeldKeys.{held_by, held_keys, promised_octets}
-use Rattle.gw_base.specs.HeldLaws.{held_keys-append}
-use Rattle.gw_base.specs.History.{is_close_due}
-use Rattle.gw_base.specs.View.{stays_held}
-use Rattle.gw_base.specs.declared.held.HeldKey.{HeldKey}
-use Rattle.gw_base.specs.declared.history.HistoryAct.{HistoryAct}
 use Rattle.gw_base.specs.declared.history.HistoryAct.TheVariants.{Start}
-use Rattle.gw_base.specs.declared.history.HistoryEntry.{HistoryEntry}
-use Rattle.gateway_answer.specs.Steps.{holds_one, promised_by}
-use Rattle.std.proofs.lemmas.List.{at_drop_more}
 
 held_alone : (a : HistoryAct) → length (held_by a []) ≡ holds_one a
 held_alone Start = refl

@@ -1,27 +1,11 @@
 -- What an entry leaves of the held copies: those that it doesn't name, and each that it releases is one less.
 use Rattle.std.proofs.Common.{◌≡◌, refl, ap, ℕ, zero, suc, ◌+◌, ◌≤◌, ◌==◌, nat_lt, Bool, true, false, if◌then◌else◌, List, [], ◌∷◌, filter, length, take, drop, Option, Some, None, option_map, option_and_then, arith, length-append, length-drop, not, ◌∙◌, sym, ◌⊎◌, inl, inr, ◌&&◌, ◌||◌, ◌++◌, eq-eqb}
-use Rattle.std.proofs.lemmas.Bool.{cond_both, and_parts, eqb-true, false≢true, or_cases}
-use Rattle.std.proofs.lemmas.List.Sums.{sum_by-cons, sum_by-le-sum_by}
-use Rattle.std.specs.Option.{option_map_or}
-use Rattle.std.specs.Prelude.{sum_by}
+use Rattle.gateway_answer.proofs.Names.{after_last-push, and_parts, are_distinct, begins_epoch, cond_both, epoch_of, eqb-true, false≢true, filed_under, given_state, held_keys, held_packet, HeldKey, HistoryAct, HistoryEntry, holds, last_naming, list_all, list_any, names, NodeId, option_map_or, or_cases, packet_of, packet_of_hold, PacketForm, PacketKey, present_entries, present_key, records_at, records_from, records_if, released_by, released_records, state_by, state_of, stays_held, sum_by, sum_by-cons, sum_by-le-sum_by}
 use Rattle.gtpp_header.specs.Header.{two_octets}
-use Rattle.gtpp_message.specs.Packet.{PacketForm, packet_of, records_at}
-use Rattle.gw_base.specs.declared.address.NodeId.{NodeId}
-use Rattle.gw_base.specs.declared.held.HeldKey.{HeldKey}
-use Rattle.gw_base.specs.declared.history.HistoryEntry.{HistoryEntry}
-use Rattle.gw_base.specs.declared.history.PacketKey.{PacketKey}
-use Rattle.gateway_answer.specs.Filed.{filed_under, held_packet, present_key, records_from, records_if, released_by, released_records, packet_of_hold}
 use Rattle.std.proofs.lemmas.List.Filters.{sum_by-filter_both}
-use Rattle.std.specs.List.{list_all, list_any}
 use Rattle.gw_base.specs.EntryLaws.{last_naming-append, present_state_is}
-use Rattle.gw_base.specs.HeldKeys.{held_keys, holds}
 use Rattle.gw_base.specs.HeldKeys as keys
-use Rattle.gw_base.specs.History.{begins_epoch, epoch_of, given_state, last_naming, names, present_entries, state_by, state_of}
-use Rattle.gw_base.specs.ListLaws.{after_last-push}
-use Rattle.gw_base.specs.View.{stays_held}
-use Rattle.gw_base.specs.declared.history.HistoryAct.{HistoryAct}
 use Rattle.gw_base.specs.declared.history.HistoryAct.TheVariants as act
-use Rattle.gateway_answer.specs.Fit.{are_distinct}
 use Rattle.gateway_answer.specs.OnceLaws.{not_among}
 
 -- ---- a packet has no more records than octets

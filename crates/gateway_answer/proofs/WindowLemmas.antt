@@ -1,23 +1,13 @@
 -- Answers ask of the numbers alone that a number on the wire may mean.
 use Rattle.std.proofs.Common.{◌≡◌, ℕ, ◌==◌, Bool, true, false, if◌then◌else◌, List, [], ◌∷◌, map, filter, refl, ap, ◌∙◌}
 use Rattle.gtpp_message.specs.Message.{TransferValue, Send, Possible, Cancel, Release}
-use Rattle.gtpp_message.specs.Packet.{packet_octets}
-use Rattle.gw_base.specs.Lists.{once}
-use Rattle.gw_base.specs.Nearest.{nearest}
-use Rattle.gw_base.specs.Observed.{Observed}
-use Rattle.gw_base.specs.declared.address.Addr.{Addr}
-use Rattle.gw_base.specs.declared.address.NodeId.{NodeId}
-use Rattle.gw_base.specs.declared.history.HistoryAct.{HistoryAct}
+use Rattle.gateway_answer.proofs.Names.{Addr, answer_within, asked_by, changes, HistoryAct, is_held, listed, may_record, nearest, node_of, NodeId, Observed, once, packet_octets, PreparedValue, recorded_as, Request, sending, sending_again, sent, tabled, verdict_cause, verdict_of}
 use Rattle.gw_base.specs.declared.history.HistoryAct.TheVariants as act
 use Rattle.gw_base.specs.declared.key_state.KeyState.{KeyState}
-use Rattle.transfer_cmd.specs.Lists.{is_held, verdict_cause, verdict_of}
 use Rattle.transfer_cmd.specs.Table.{answer_cause, state_given}
 use Rattle.transfer_cmd.specs.declared.decision.Ask.{Ask}
 use Rattle.gateway_index.specs.Windows.{AgreeWhereMeant, if_held, narrowed}
-use Rattle.gateway_answer.specs.Answer.{answer_within, asked_by, listed, may_record, node_of, sent, tabled}
-use Rattle.gateway_answer.specs.Asked.{changes, recorded_as, sending, sending_again}
 use Rattle.gateway_answer.specs.FitLaws.{nearest_in_window}
-use Rattle.gateway_answer.specs.Preparing.{PreparedValue, Request}
 
 -- ---- other states of numbers that none means
 

@@ -1,28 +1,9 @@
 -- What an answer may add.
 use Rattle.std.proofs.Common.{◌≡◌, ℕ, ◌+◌, ◌≤◌, Bool, true, false, List, Option, Some, None, sym, ap, ◌∙◌, true≢false, arith, rules}
-use Rattle.std.specs.Prelude.{IfSome}
-use Rattle.area_disk.specs.declared.area.Area.{Ghosts}
-use Rattle.gate_journal.specs.Format.{longest_batch}
-use Rattle.cgf_journal.specs.Trail.{waiting_octets}
-use Rattle.cgf_journal.specs.declared.trail.Trail.{Trail}
-use Rattle.gtpp_message.specs.declared.reading.Why.{Why}
-use Rattle.gw_base.specs.Observed.{Observed}
-use Rattle.gw_base.specs.declared.address.Addr.{Addr}
-use Rattle.gw_base.specs.declared.history.Caller.{Caller}
-use Rattle.gw_base.specs.declared.history.HistoryAct.{HistoryAct}
-use Rattle.gateway_book.specs.Adding.{AddsIf, IsSame, MayAdd, room_in}
-use Rattle.gateway_answer.specs.Answer.{Decided, Given, Replies, Says, Silent, answer_within, decided, may_record, node_of}
-use Rattle.gateway_answer.specs.Answered.{act_decided, act_given}
-use Rattle.gateway_answer.specs.Fit.{is_act_fit, is_packet_fit}
+use Rattle.gateway_book.proofs.Names.{act_decided, act_given, Addr, AddsIf, answer_within, Caller, Decided, decided, Fits, fits_with_any, Ghosts, Given, HistoryAct, IfRecords, IfSome, Index, is_act_fit, is_packet_fit, IsSame, IsShort, IsWhole, longest_batch, may_record, MayAdd, MayCome, most_for_one, node_of, Observed, observed_by, PreparedValue, Replies, room_in, Says, Silent, Trail, waiting_octets, Why}
 use Rattle.gateway_answer.specs.FitLaws.{records_fit}
-use Rattle.gateway_index.specs.Index.{MayCome, observed_by}
-use Rattle.gateway_index.specs.WindowLaws.{fits_with_any}
-use Rattle.gateway_answer.specs.Preparing.{IsShort, IsWhole, PreparedValue}
-use Rattle.gateway_answer.specs.Recording.{Fits, IfRecords}
 use Rattle.gateway_answer.specs.RoomAsked.{room_asked}
 use Rattle.gateway_answer.specs.SizeLaws.{IsBrief, records_brief}
-use Rattle.gateway_answer.specs.Value.{most_for_one}
-use Rattle.gateway_index.specs.declared.index.Index.{Index}
 
 -- what holds of what an answer records holds of the act that is decided
 recorded_holds : (P : HistoryAct → Type 0) (given : Given) (a : HistoryAct) → IfRecords (λ number message b. P b) given → act_given given ≡ Some a → P a

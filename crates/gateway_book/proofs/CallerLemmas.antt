@@ -1,28 +1,12 @@
 -- What a book's calls tell their caller.
 use Rattle.std.proofs.Common.{◌≡◌, ⊎_elim, inr, ℕ, Bool, true, false, List, [], ◌∷◌, Option, refl, ap, ◌∙◌, arith, rules}
 use Rattle.entry_codec.specs.Room.{IsWithin}
-use Rattle.gtpp_message.specs.Message.{Cancel, MessageValue, Release, TransferValue, TransferResponse}
-use Rattle.gtpp_message.specs.Writing.{written}
-use Rattle.gtpp_message.specs.declared.reading.Why.{Why}
+use Rattle.gateway_book.proofs.Names.{Addr, answer_to, answer_within, AnswersBy, BookValue, Cancel, Decided, decided, Done, Given, HasStorage, HistoryAct, HistoryEntry, is_without_resources, IsAnswered, IsServed, may_record, MessageValue, node_of, Observed, observed, Outcome, outcome_at, prepared_of, PreparedValue, Release, Replies, Request, room_for, running_tells_none, Says, Silent, tells_a_fault, TellsFault, TransferResponse, TransferValue, Why, written}
 use Rattle.gtpp_message.specs.declared.reading.Why.TheVariants.{Device}
-use Rattle.gw_base.specs.Observed.{Observed, observed}
-use Rattle.gw_base.specs.declared.address.Addr.{Addr}
 use Rattle.gw_base.specs.declared.cause.TheConstants.{NO_RESOURCES, SYSTEM_FAILURE}
-use Rattle.gw_base.specs.declared.history.HistoryAct.{HistoryAct}
-use Rattle.gw_base.specs.declared.history.HistoryEntry.{HistoryEntry}
-use Rattle.gateway_answer.specs.Answer.{Decided, Given, Replies, Says, Silent, answer_within, decided, may_record, node_of}
-use Rattle.gateway_answer.specs.Answered.{answer_to, room_for}
-use Rattle.gateway_book.specs.Caller.{AnswersBy, HasStorage, IsAnswered, IsServed, TellsFault}
-use Rattle.gateway_book.specs.Calls.{outcome_at}
-use Rattle.gateway_answer.specs.FaultLaws.{running_tells_none}
-use Rattle.gateway_answer.specs.Preparing.{PreparedValue, Request, prepared_of}
-use Rattle.gateway_answer.specs.Recording.{is_without_resources, tells_a_fault}
 use Rattle.gateway_answer.specs.ResourceLaws.{room_is_enough}
 use Rattle.gateway_book.specs.Taking.{IsDoneBy}
-use Rattle.gateway_answer.specs.Value.{BookValue}
-use Rattle.gateway_book.specs.declared.adding.Done.{Done}
 use Rattle.gateway_book.specs.declared.adding.Done.TheVariants as done
-use Rattle.gateway_book.specs.declared.outcome.Outcome.{Outcome}
 use Rattle.gateway_book.specs.declared.outcome.Outcome.TheVariants.{Answer, Drop}
 use Rattle.gateway_book.specs.declared.outcome.Receipt.{Receipt}
 

@@ -1,15 +1,8 @@
 -- What a call of a book counts.
 use Rattle.std.proofs.Common.{◌≡◌, ℕ, ◌≤◌, ◌==◌, Bool, true, false, if◌then◌else◌, refl, ap, ◌∙◌, arith, rules}
-use Rattle.std.proofs.lemmas.Bool.{ne_eqb}
-use Rattle.area_disk.specs.Disk.{Rose, counted}
-use Rattle.area_disk.specs.declared.area.Area.{Ghosts}
-use Rattle.cgf_journal.specs.Outcomes.{TornDropped, TornStand}
-use Rattle.cgf_journal.specs.Trail.{firm_length, is_closed, length_of}
-use Rattle.cgf_journal.specs.declared.trail.Trail.{Trail}
-use Rattle.gateway_book.specs.Book.{HasCause, area_of}
-use Rattle.gateway_book.specs.Calls.{length_at}
+use Rattle.gateway_book.proofs.Names.{Book, counted, firm_length, Ghosts, HasCause, is_closed, length_at, length_of, ne_eqb, Rose, TornDropped, TornStand, Trail}
+use Rattle.gateway_book.specs.Book.{area_of}
 use Rattle.gateway_book.specs.Marking.{OnlyAdds}
-use Rattle.gateway_book.specs.declared.book.Book.{Book}
 
 pub not_zero : (n : ℕ) → 1 ≤ n → (n == 0) ≡ false
 not_zero n le = ne_eqb n 0 (λ same. omega (arith, le, same))

@@ -1,10 +1,6 @@
 -- How a commit moves a book's value.
 use Rattle.std.proofs.Common.{◌≡◌, ℕ, Bool, true, false, if◌then◌else◌, List, Result, Ok, Err, length, refl, rules}
-use Rattle.gw_base.specs.declared.history.HistoryEntry.{HistoryEntry}
-use Rattle.gateway_book.specs.Calls.{commit_answer}
-use Rattle.gateway_index.specs.Index.{Follows}
-use Rattle.gateway_answer.specs.Value.{BookValue}
-use Rattle.gateway_index.specs.declared.index.Index.{Index}
+use Rattle.gateway_book.proofs.Names.{BookValue, commit_answer, Follows, HistoryEntry, Index}
 use Rattle.gateway_book.specs.declared.outcome.Broken.{Broken}
 
 pub answer_ok : (v after : BookValue) → v ≡ after → v.is_broken ≡ false → (n : ℕ) → n ≡ length v.firm → ◌≡◌ {A = Result ℕ Broken} (Ok n) (commit_answer after)

@@ -1,26 +1,8 @@
 -- A cursor on its way through a history.
 use Rattle.std.proofs.Common.{◌≡◌, ℕ, ◌+◌, ◌-◌, ◌<◌, ◌≤◌, ◌^◌, List, [], ◌∷◌, ◌++◌, length, drop, take, Some, sym, ap, subst, ◌∙◌, arith, length-append, rules}
-use Rattle.std.specs.Prelude.{min, slice_get}
-use Rattle.std.specs.Option.{option_map_or}
-use Rattle.std.proofs.lemmas.Option.{none-some, slice_get_within}
-use Rattle.area_disk.specs.declared.area.Area.{Ghosts}
-use Rattle.gate_journal.specs.Moments.{Told}
-use Rattle.cgf_journal.specs.Trail.{firm_entries}
-use Rattle.cgf_journal.specs.declared.trail.Trail.{Trail}
-use Rattle.gw_base.specs.declared.address.NodeId.{NodeId}
-use Rattle.gw_base.specs.declared.history.HistoryAct.{HistoryAct}
-use Rattle.gw_base.specs.declared.history.HistoryEntry.{HistoryEntry}
-use Rattle.gw_base.specs.declared.item.Item.{Item}
-use Rattle.gateway_book.specs.Cursor.{AreHeldIn, HasPassed, HasStayed, IsAt, IsBegun, IsWithin, NamesOnce, StandsIn, gathered_at_last, items_from}
-use Rattle.gateway_answer.specs.Filed.{along, filed_under, packet_of_hold, present_key, released_records}
-use Rattle.gateway_book.specs.Gathering.{Gathered, gathered}
-use Rattle.gateway_book.specs.HeldCopies.{AreBelow, CopyPlaces, HoldCopies, copies_after, copy_at, no_copies, places_of}
-use Rattle.gateway_answer.specs.Items.{items_by, items_of}
-use Rattle.gateway_book.specs.Read.{IsRead}
-use Rattle.gateway_book.specs.declared.cursor.Cursor.{Cursor}
+use Rattle.gateway_book.proofs.Names.{along, AreBelow, AreHeldIn, at_drop_all, copies_after, copy_at, CopyPlaces, Cursor, filed_under, firm_entries, Gathered, gathered, gathered_at_last, Ghosts, HasPassed, HasStayed, HistoryAct, HistoryEntry, HoldCopies, IsAt, IsBegun, IsRead, IsWithin, Item, items_by, items_from, items_of, length-take-le, min, NamesOnce, no_copies, NodeId, none-some, option_map_or, packet_of_hold, places_of, present_key, released_records, slice_get, slice_get_within, StandsIn, take-append-drop, Told, Trail}
 use Rattle.gateway_book.proofs.ItemsLemmas.{full_stays, gathered_on, none_more, came, fit_names_once, front_more, items_more, items_of_more, some_at}
 use Rattle.gateway_book.proofs.HeldCopiesLemmas.{after_is, below_more, hold_more, get_front}
-use Rattle.std.proofs.lemmas.List.{at_drop_all, length-take-le, take-append-drop}
 
 -- ---- before all entries
 

@@ -1,21 +1,12 @@
 -- Where held copies lie, entry by entry.
 use Rattle.std.proofs.Common.{◌≡◌, ℕ, zero, suc, ◌+◌, ◌<◌, ◌≤◌, ◌==◌, ◌&&◌, ◌||◌, Bool, false, cond, if◌then◌else◌, List, [], ◌∷◌, ◌++◌, length, drop, get_or, Option, Some, None, refl, sym, ap, ◌∙◌, arith, rules}
-use Rattle.std.specs.Prelude.{OnOk, Result, slice_get}
+use Rattle.gateway_book.proofs.Names.{and_right, AreBelow, at_drop_all, at_drop_more, begins_epoch, cond-false, cond_both, copies_after, copy_order, CopyPlaces, ForSome, held_packet, held_packet-push, HistoryAct, HistoryEntry, hold_by, hold_in, HoldCopies, if_after, le-ltb, lt-ltb, names, OnOk, packet_at, packet_of_hold, path_in, Result, slice_get, with_hold, with_path, without_holds}
 use Rattle.std.specs.BTreeMap.{BTreeMap, Updates}
 use Rattle.std.specs.List.{list_any}
-use Rattle.std.specs.Option.{ForSome}
 use Rattle.std.specs.Ordering.{is_eq, nat_cmp, ordering_then}
 use Rattle.std.specs.declared.cmp.Ordering.{Ordering}
-use Rattle.std.proofs.lemmas.Bool.{le-ltb, lt-ltb, and_right, cond-false, cond_both}
-use Rattle.gw_base.specs.History.{begins_epoch, names}
-use Rattle.gw_base.specs.declared.history.HistoryAct.{HistoryAct}
-use Rattle.gw_base.specs.declared.history.HistoryEntry.{HistoryEntry}
-use Rattle.gateway_answer.specs.Filed.{held_packet, packet_of_hold}
-use Rattle.gateway_book.specs.HeldCopies.{AreBelow, CopyPlaces, HoldCopies, copies_after, copy_order, hold_by, hold_in, if_after, packet_at, path_in, with_hold, with_path, without_holds}
 use Rattle.gateway_book.specs.declared.held_copies.CopyKey.{CopyKey}
-use Rattle.gateway_answer.specs.FiledLaws.{held_packet-push}
 use Rattle.std.proofs.lemmas.Bool.Decides.{nat_tests}
-use Rattle.std.proofs.lemmas.List.{at_drop_all, at_drop_more}
 
 -- ---- the maps
 

@@ -1,27 +1,12 @@
 -- The items of packets, of releases and of the entries of a history.
 use Rattle.std.proofs.Common.{◌≡◌, ℕ, zero, suc, ◌-◌, List, [], ◌∷◌, ◌++◌, length, take, drop, sym, ap, ◌∙◌, arith, append_assoc, length-append, ◌+◌, ◌<◌, ◌≤◌, ◌==◌, not, Bool, true, false, if◌then◌else◌, filter, get_or, map, Option, Some, None, option_map, refl, subst}
-use Rattle.std.proofs.lemmas.List.{append-nil, map-append, at_drop_all, at_drop_more, drop_more, length-drop, take_all, take_more}
-use Rattle.gw_base.specs.declared.item.Item.{Item}
-use Rattle.gateway_book.specs.Gathering.{Gathered, gathered, packet_items, record_item}
+use Rattle.gateway_book.proofs.Names.{along, along-append, and_parts, append-nil, are_distinct, at_drop_all, at_drop_more, drop_more, File, filed_under, FitBehind, Gathered, gathered, get_or_from_slice_get, HistoryAct, HistoryEntry, is_act_fit, IsFit, Item, items_by, items_by_act, items_from, items_of, length-drop, map-append, NamesOnce, NodeId, none-some, observed, packet_items, part_of, present_key, record_item, records_from, records_if, released_by, released_records, slice_get, slice_get_within, take_all, take_more}
 use Rattle.std.proofs.Math.Seq.{drop-nil, take-nil}
-use Rattle.std.specs.Prelude.{slice_get}
 use Rattle.std.specs.List.{list_all}
-use Rattle.std.proofs.lemmas.Bool.{and_parts}
-use Rattle.std.proofs.lemmas.Option.{get_or_from_slice_get, none-some, slice_get_within}
 use Rattle.gtpp_message.specs.Packet.{PacketForm, PacketValue, Empty, Full, full_packet, is_empty_packet, packet_in, packet_of, packet_reading}
 use Rattle.gw_base.specs.Lists.{once}
-use Rattle.gw_base.specs.Observed.{observed}
-use Rattle.gw_base.specs.declared.address.NodeId.{NodeId}
-use Rattle.gw_base.specs.declared.history.HistoryAct.{HistoryAct}
-use Rattle.gw_base.specs.declared.history.HistoryAct.TheVariants.{File, Release}
-use Rattle.gw_base.specs.declared.history.HistoryEntry.{HistoryEntry}
+use Rattle.gw_base.specs.declared.history.HistoryAct.TheVariants.{Release}
 use Rattle.gw_base.specs.declared.history.PacketKey.{PacketKey}
-use Rattle.gateway_book.specs.Cursor.{NamesOnce, items_from}
-use Rattle.gateway_answer.specs.Filed.{along, filed_under, present_key, records_from, records_if, released_by, released_records}
-use Rattle.gateway_answer.specs.FiledLaws.{along-append}
-use Rattle.gateway_answer.specs.Fit.{IsFit, are_distinct, is_act_fit}
-use Rattle.gateway_answer.specs.FitHistory.{FitBehind}
-use Rattle.gateway_answer.specs.Items.{items_by, items_by_act, items_of, part_of}
 
 pub drop_over : (n : ℕ) (xs ys : List Item) → drop n (xs ++ ys) ≡ drop n xs ++ drop (n - length xs) ys
 drop_over zero xs ys = ap (λ (m : ℕ). xs ++ drop m ys) {x = 0} {y = 0 - length xs} (omega arith)

@@ -1,21 +1,7 @@
 -- What a judge finds fit.
 use Rattle.std.proofs.Common.{◌≡◌, ℕ, ◌+◌, ◌*◌, ◌≤◌, ◌<◌, ◌^◌, ◌&&◌, true, false, if◌then◌else◌, nat_le, List, [], ◌∷◌, ◌++◌, length, sym, ap, ◌∙◌, arith, rules}
-use Rattle.std.proofs.lemmas.Bool.{leb-true, le-leb, and_from, true≢false}
-use Rattle.entry_codec.specs.Laws.{costs_of-append}
-use Rattle.entry_codec.specs.Room.{capacity_of, costs_of, has_room}
-use Rattle.entry_codec.specs.Spelling.{cost_of}
-use Rattle.gw_base.specs.HeldKeys.{held_keys, promised_octets}
-use Rattle.gw_base.specs.History.{last_moment}
-use Rattle.gw_base.specs.Observed.{observed}
-use Rattle.gw_base.specs.declared.history.HistoryAct.{HistoryAct}
-use Rattle.gw_base.specs.declared.history.HistoryEntry.{HistoryEntry}
-use Rattle.gateway_answer.specs.Fit.{IsFit, is_act_fit, latest_moment}
-use Rattle.gateway_index.specs.Index.{Follows, MayGrow, observed_by, side_of}
-use Rattle.gateway_book.specs.Judging.{IsJudging, is_within, promised_of}
+use Rattle.gateway_book.proofs.Names.{and_from, capacity_of, cost_of, costs_of, costs_of-append, FitJudge, Follows, has_room, held_keys, HistoryAct, HistoryEntry, Index, is_act_fit, is_within, IsFit, IsJudging, last_moment, latest_moment, le-leb, leb-true, MayGrow, observed, observed_by, promised_octets, promised_of, side_of, Totals, true≢false}
 use Rattle.gateway_index.specs.Tells.{totals_of}
-use Rattle.gateway_index.specs.declared.index.Index.{Index}
-use Rattle.gateway_book.specs.declared.judge.FitJudge.{FitJudge}
-use Rattle.gateway_index.specs.declared.totals.Totals.{Totals}
 
 -- ---- lengths
 

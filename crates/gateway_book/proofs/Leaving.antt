@@ -1,21 +1,11 @@
 -- What the area of a book stands for that is handed back.
 use Rattle.std.proofs.Common.{◌≡◌, ⊎_elim, inl, inr, ℕ, ◌≤◌, false, if◌then◌else◌, List, ◌++◌, length, refl, sym, ap, subst, ◌∙◌, arith, [], ◌⊎◌, Bool, true, ◌&&◌, rules}
-use Rattle.std.specs.Prelude.{IsTrue}
-use Rattle.area_disk.specs.declared.area.Area.{Ghosts}
-use Rattle.gate_journal.specs.Moments.{Leaves, Told}
-use Rattle.cgf_journal.specs.Format.{StandsFor}
-use Rattle.cgf_journal.specs.Trail.{StandsForOr, entries, firm_entries, is_closed}
-use Rattle.gw_base.specs.declared.history.HistoryEntry.{HistoryEntry}
-use Rattle.gateway_book.specs.Book.{area_of, header_of, size_of, value_of}
-use Rattle.gateway_answer.specs.FitHistory.{AllFit, StandsFitForOr}
-use Rattle.gateway_book.specs.Followed.{all_entries}
-use Rattle.gateway_book.specs.declared.book.Book.{Book}
-use Rattle.gateway_answer.specs.FitHistoryLaws.{fit_front}
+use Rattle.gateway_book.proofs.Names.{all_entries, AllFit, Book, entries, firm_entries, fit_front, Ghosts, header_of, HistoryEntry, is_closed, IsTrue, Leaves, size_of, StandsFitFor, StandsFitForOr, StandsFor, StandsForOr, Told, value_of}
+use Rattle.gateway_book.specs.Book.{area_of}
 use Rattle.area_disk.specs.declared.plan.Outcome3.{Outcome3}
 use Rattle.area_disk.specs.declared.plan.Outcome3.TheVariants.{New}
 use Rattle.cgf_journal.specs.Trail as trail
 use Rattle.gateway_book.specs.Comes.{LeavesFit, left_by_stop}
-use Rattle.gateway_book.specs.Opened.{StandsFitFor}
 
 module _ {A : Type 0} {tells : Ghosts A} (here : (a : A) (c : List ℕ) → IsTrue tells.tells_crash → tells.may_leave a c → length c ≡ tells.size a)
     (since : (a : A) (t : ℕ) (c : List ℕ) → IsTrue tells.tells_crash → (tells.moments a).told_from ≤ t → t ≤ (tells.moments a).now → (tells.moments a).left_since t c → length c ≡ tells.size a) where

@@ -7,6 +7,7 @@ pub mod HeldCopiesLemmas
 pub mod ItemsLemmas
 pub mod JudgeLemmas
 pub mod Leaving
+pub mod Names
 pub mod Openings
 pub mod Ours
 pub mod PieceLemmas

@@ -1,31 +1,13 @@
 -- A book that is opened: what its index follows, and the Start that it adds.
 use Rattle.std.proofs.Common.{◌≡◌, ◌⊎◌, ℕ, ◌≤◌, true, false, if◌then◌else◌, max, List, [], ◌∷◌, ◌++◌, length, refl, sym, ap, subst, ◌∙◌, arith, suc, Bool, Ok, Err, rules}
-use Rattle.area_disk.specs.declared.area.Area.{Ghosts}
-use Rattle.gate_journal.specs.Format.{most_octets}
-use Rattle.gate_journal.specs.Moments.{Told}
+use Rattle.gateway_book.proofs.Names.{AllFit, area_of, Book, book_area, book_fault, BookValue, entry_by, firm_entries, fit_is_within, Ghosts, has_room, history_of, HistoryEntry, IsFit, IsOpened, last_is_in_range, last_moment, MayGrow, moment_after, most_octets, no_caller, opened, recorded, room_for, StandsOrStarts, Start, started, Told, Trail, value_of}
 use Rattle.gate_journal.specs.declared.faults.OpenFault.{OpenFault}
 use Rattle.gate_journal.specs.declared.faults.OpenFault.TheVariants as opening
-use Rattle.entry_codec.specs.Room.{has_room}
-use Rattle.gw_base.specs.History.{last_moment, moment_after}
-use Rattle.gw_base.specs.declared.history.HistoryAct.TheVariants.{Start}
-use Rattle.gw_base.specs.declared.history.HistoryEntry.{HistoryEntry}
-use Rattle.cgf_journal.specs.Trail.{area_of, firm_entries}
-use Rattle.cgf_journal.specs.declared.trail.Trail.{Trail}
 use Rattle.cgf_journal.specs.Fit.{StandsFit}
 use Rattle.cgf_journal.specs.Results as trails
 use Rattle.gateway_book.specs.Begun.{IsBegun}
-use Rattle.gateway_book.specs.Book.{area_of as book_area, value_of}
-use Rattle.gateway_book.specs.Faults.{book_fault}
-use Rattle.gateway_book.specs.Opened.{IsOpened, StandsOrStarts}
-use Rattle.gateway_book.specs.declared.book.Book.{Book}
 use Rattle.gateway_book.specs.declared.outcome.BookFault.{BookFault}
 use Rattle.gateway_book.specs.declared.outcome.BookFault.TheVariants.{Device, NoMemory, NotOurs}
-use Rattle.gateway_answer.specs.Answered.{entry_by, no_caller, room_for}
-use Rattle.gateway_answer.specs.Fit.{IsFit}
-use Rattle.gateway_answer.specs.FitHistory.{AllFit}
-use Rattle.gateway_answer.specs.FitHistoryLaws.{fit_is_within, last_is_in_range}
-use Rattle.gateway_index.specs.Index.{MayGrow}
-use Rattle.gateway_answer.specs.Value.{BookValue, history_of, opened, recorded, started}
 use Rattle.gateway_book.proofs.JudgeLemmas.{costs_at_least}
 use Rattle.area_disk.specs.Armed.{Armed, Came, IsArmed, after_one, calls_under, one_later, planned_in}
 use Rattle.area_disk.specs.Armed.Armed.{Nothing}

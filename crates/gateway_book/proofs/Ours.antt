@@ -1,24 +1,15 @@
 -- Octets that stand for a fit history are ours at every place.
 use Rattle.std.proofs.Common.{◌≡◌, inl, inr, ℕ, List, [], ◌∷◌, ◌++◌, length, get_or, refl, sym, ◌∙◌, ap, subst, arith, append_assoc}
-use Rattle.std.specs.Prelude.{All}
+use Rattle.gateway_book.proofs.Names.{All, AllFit, costs_of, costs_of-append, end_of, entries_in, fit_front, gate_at, HistoryEntry, IsFit, IsNotOurs, IsSpoiledBy, Stands, StandsFitFor, Starts, take_at}
 use Rattle.std.proofs.lemmas.Grind.{flat_map-append}
-use Rattle.std.proofs.lemmas.List.{take_at}
 use Rattle.std.proofs.lemmas.List.Elements.{All-take}
-use Rattle.gw_base.specs.declared.history.HistoryEntry.{HistoryEntry}
 use Rattle.gate_journal.specs.Before.{AreBefore, batch_at}
-use Rattle.gate_journal.specs.Format.{IsWhole, Stands, Starts, end_of, gate_at}
+use Rattle.gate_journal.specs.Format.{IsWhole}
 use Rattle.gate_journal.specs.Agreeing.{Compared, equal, longer, shorter, batch_before, compare, front_before, place_of, same_not_differs, same_not_starts, stands_before}
 use Rattle.entry_codec.specs.Content.{IsContent, entries_of}
-use Rattle.entry_codec.specs.Room.{costs_of}
 use Rattle.entry_codec.specs.LawTypes.{EntriesAreReadBack}
-use Rattle.entry_codec.specs.Laws.{costs_of-append}
 use Rattle.cgf_journal.specs.BatchLaws.{in_batches}
 use Rattle.cgf_journal.specs.Fit.{AreFit}
-use Rattle.cgf_journal.specs.Format.{IsSpoiledBy, entries_in}
-use Rattle.gateway_answer.specs.Fit.{IsFit}
-use Rattle.gateway_answer.specs.FitHistory.{AllFit}
-use Rattle.gateway_book.specs.Opened.{IsNotOurs, StandsFitFor}
-use Rattle.gateway_answer.specs.FitHistoryLaws.{fit_front}
 
 -- the first of fit batches are fit
 fit_first : (size : ℕ) (some more : List (List ℕ)) → AreFit IsFit size (some ++ more) → AreFit IsFit size some

@@ -1,13 +1,8 @@
 -- How many records of a history's items are counted, piece by piece.
 use Rattle.std.proofs.Common.{◌≡◌, ℕ, ◌+◌, ◌-◌, ◌<◌, ◌≤◌, ◌^◌, min, List, ◌++◌, length, take, drop, cond, ap, ◌∙◌, arith, length-drop, rules}
 use Rattle.std.proofs.Math.Seq.{take-add}
-use Rattle.std.proofs.lemmas.List.{length-take, take_all}
+use Rattle.gateway_book.proofs.Names.{Book, Ghosts, is_part, IsUnchanged, Item, length-take, part_count, take_all}
 use Rattle.std.proofs.lemmas.List.Sums.{count_by-le-length, sum_by-append}
-use Rattle.area_disk.specs.declared.area.Area.{Ghosts}
-use Rattle.gateway_answer.specs.Items.{is_part, part_count}
-use Rattle.gateway_book.specs.Read.{IsUnchanged}
-use Rattle.gateway_book.specs.declared.book.Book.{Book}
-use Rattle.gw_base.specs.declared.item.Item.{Item}
 
 counts_both : (xs ys : List Item) → part_count (xs ++ ys) ≡ part_count xs + part_count ys
 counts_both xs ys = sum_by-append (λ (item : Item). cond (is_part item) 1 0) xs ys

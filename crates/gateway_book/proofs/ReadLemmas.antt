@@ -6,13 +6,7 @@ use Rattle.area_disk.specs.CourseLaws.{read_on_trans}
 use Rattle.area_disk.specs.MomentLaws.{kept_trans}
 use Rattle.entry_codec.specs.Content.{AreEntries}
 use Rattle.entry_codec.specs.Fault.{BeginsWith}
-use Rattle.entry_codec.specs.Spelling.{HasSpelling, spelling}
-use Rattle.gw_base.specs.declared.history.HistoryEntry.{HistoryEntry}
-use Rattle.area_disk.specs.declared.area.Area.{Ghosts}
-use Rattle.cgf_journal.specs.Outcomes.{IsKept}
-use Rattle.cgf_journal.specs.Trail.{area_of}
-use Rattle.cgf_journal.specs.declared.trail.Trail.{Trail}
-use Rattle.gateway_book.specs.Read.{IsRead}
+use Rattle.gateway_book.proofs.Names.{area_of, Ghosts, HasSpelling, HistoryEntry, IsKept, IsRead, spelling, Trail}
 
 module _ {A : Type 0} {tells : Ghosts A} where
   kept_on : {a b c : Trail A tells} → IsKept a b → IsKept b c → IsKept a c

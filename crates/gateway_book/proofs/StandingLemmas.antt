@@ -1,33 +1,11 @@
 -- A book's cursor, as firm entries come after the others.
 use Rattle.std.proofs.Common.{◌≡◌, ◌≤◌, not, Bool, true, false, List, [], ◌++◌, sym, subst, ◌∙◌, ℕ, if◌then◌else◌, length, arith, ◌-◌, ◌<◌, ◌==◌, drop, take, ap, length-append, rules}
-use Rattle.std.proofs.lemmas.List.{append-nil, take-append-drop, take-append-le, drop_all}
-use Rattle.area_disk.specs.declared.area.Area.{Ghosts}
-use Rattle.gate_journal.specs.Format.{most_octets}
-use Rattle.gate_journal.specs.Moments.{Told}
-use Rattle.cgf_journal.specs.Outcomes.{IsReopened, TornDropped, TornStand, AllFirm, FirmStays, IsKept}
-use Rattle.cgf_journal.specs.Trail.{area_of, firm_entries, waiting, firm_length, is_closed, length_of}
-use Rattle.cgf_journal.specs.declared.trail.Trail.{Trail}
-use Rattle.gw_base.specs.declared.history.HistoryEntry.{HistoryEntry}
-use Rattle.gateway_answer.specs.FitHistory.{AllFit}
-use Rattle.gateway_book.specs.Followed.{IsFollowed, all_entries}
-use Rattle.gateway_index.specs.Index.{Follows}
-use Rattle.gateway_index.specs.declared.index.Index.{Index}
-use Rattle.gateway_answer.specs.FitHistoryLaws.{fit_front, fit_is_within, fit_knows_few}
-use Rattle.entry_codec.specs.Room.{capacity_of, costs_of}
+use Rattle.gateway_book.proofs.Names.{all_entries, AllFirm, AllFit, along-append, append-nil, area_of, capacity_of, cond_both, costs_of, counted, Cursor, drop_all, firm_entries, firm_length, FirmStays, fit_front, fit_is_within, fit_knows_few, Follows, Gathered, gathered_at_last, Ghosts, HistoryEntry, Index, is_closed, IsAt, IsBegun, IsFollowed, IsKept, IsReopened, IsWithin, Item, items_between, items_by, items_from, items_of, length_at, length_of, most_octets, Rose, StandsIn, take-append-drop, take-append-le, Told, TornDropped, TornStand, Trail, waiting}
 use Rattle.gw_base.specs.Known.{known_nodes}
-use Rattle.gateway_answer.specs.Items.{items_of, items_between, items_by}
 use Rattle.gateway_index.specs.Limits.{most_nodes}
-use Rattle.area_disk.specs.Disk.{Rose, counted}
-use Rattle.gw_base.specs.declared.item.Item.{Item}
-use Rattle.gateway_book.specs.Calls.{length_at}
-use Rattle.gateway_book.specs.Cursor.{IsAt, IsBegun, IsWithin, StandsIn, gathered_at_last, items_from}
-use Rattle.gateway_answer.specs.FiledLaws.{along-append}
-use Rattle.gateway_book.specs.Gathering.{Gathered}
 use Rattle.gateway_book.specs.Standing.{HasCursor, IsCounting}
-use Rattle.gateway_book.specs.declared.cursor.Cursor.{Cursor}
 use Rattle.gateway_book.proofs.CursorLemmas.{begun_at, begun_within}
 use Rattle.gateway_book.proofs.ItemsLemmas.{drop_over}
-use Rattle.std.proofs.lemmas.Bool.{cond_both}
 
 module _ {A : Type 0} {tells : Ghosts A} (old new : Trail A tells) (before after : Index) where
   -- the entries that an index follows on both sides, none behind them

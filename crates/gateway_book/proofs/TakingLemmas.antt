@@ -1,40 +1,11 @@
 -- What an answer leaves of a book.
 use Rattle.std.proofs.Common.{◌≡◌, ℕ, ◌≤◌, Bool, false, if◌then◌else◌, List, [], ◌∷◌, ◌++◌, Option, Some, None, refl, sym, ap, subst, ◌∙◌, append_assoc, arith, true, rules}
-use Rattle.area_disk.specs.declared.area.Area.{Ghosts}
-use Rattle.gate_journal.specs.Moments.{Told}
-use Rattle.cgf_journal.specs.Outcomes.{FirmStays}
-use Rattle.cgf_journal.specs.Trail.{area_of, entries, firm_entries, is_closed, length_of, waiting}
-use Rattle.cgf_journal.specs.declared.trail.Trail.{Trail}
-use Rattle.entry_codec.specs.Room.{has_room}
-use Rattle.gtpp_message.specs.declared.reading.Why.{Why}
-use Rattle.gw_base.specs.History.{moment_after, is_close_due}
-use Rattle.gw_base.specs.Observed.{observed}
-use Rattle.gw_base.specs.declared.address.Addr.{Addr}
-use Rattle.gw_base.specs.declared.history.Caller.{Caller}
-use Rattle.gw_base.specs.declared.history.HistoryAct.{HistoryAct}
-use Rattle.gw_base.specs.declared.history.HistoryEntry.{HistoryEntry}
-use Rattle.gateway_book.specs.Adding.{AddsIf, IsAdded, IsSame, entry_of, room_told}
-use Rattle.gateway_answer.specs.Answer.{Decided, Given, Says, Silent, answer_within, decided, node_of}
-use Rattle.gateway_answer.specs.Answered.{act_decided, answer_to, entry_by, room_for}
-use Rattle.gateway_book.specs.Calls.{left_by, outcome_at, marked_at, ticked}
-use Rattle.gateway_answer.specs.Fit.{IsFit, latest_moment}
-use Rattle.gateway_answer.specs.FitHistory.{AllFit}
-use Rattle.gateway_answer.specs.FitHistoryLaws.{last_is_in_range, fit_more}
+use Rattle.gateway_book.proofs.Names.{act_decided, Addr, AddsIf, all_entries, AllFit, answer_to, answer_within, area_of, BookValue, Caller, Close, close_mark, Decided, decided, Done, entries, entry_by, entry_of, firm_entries, FirmStays, fit_more, Follows, Fortune, Ghosts, Given, has_room, history_of, HistoryAct, HistoryEntry, IfRecords, Index, is_close_due, is_closed, IsAdded, IsFit, IsFollowed, IsSame, IsWhole, last_is_in_range, latest_moment, left_by, length_of, made_if, marked_at, MayCome, moment_after, node_of, observed, observed_by, Outcome, outcome_at, PreparedValue, readied, recorded, recorded_if, room_for, room_told, Says, Silent, tick_mark, ticked, Told, Trail, waiting, Why}
 use Rattle.gateway_answer.specs.FitLaws.{answer_fits, room_is_for_each}
-use Rattle.gateway_book.specs.Followed.{IsFollowed, all_entries}
-use Rattle.gateway_index.specs.Index.{Follows, observed_by, MayCome}
-use Rattle.gateway_answer.specs.Preparing.{IsWhole, PreparedValue}
-use Rattle.gateway_answer.specs.Recording.{IfRecords}
 use Rattle.gateway_book.specs.Taking.{IsDone}
-use Rattle.gateway_answer.specs.Value.{BookValue, history_of, recorded_if, Fortune, readied, recorded}
-use Rattle.gateway_book.specs.declared.adding.Done.{Done}
 use Rattle.gateway_book.specs.declared.adding.Done.TheVariants as done
-use Rattle.gateway_index.specs.declared.index.Index.{Index}
-use Rattle.gateway_book.specs.declared.outcome.Outcome.{Outcome}
 use Rattle.gateway_book.proofs.Openings.{fit_may_grow}
-use Rattle.gw_base.specs.declared.history.HistoryAct.TheVariants.{Close}
 use Rattle.gateway_book.specs.Marking.{IsMark, with_entry}
-use Rattle.gateway_answer.specs.Marks.{close_mark, made_if, tick_mark}
 
 -- what a step did with an answer, by its trails and indices
 abbrev pub IfSilent : {A : Type 0} {tells : Ghosts A} → Trail A tells → Trail A tells → Index → Index → Decided → Done → Type 0

@@ -1,28 +1,10 @@
 -- What each call of a book owes and adds as a turn.
 use Rattle.std.proofs.Common.{◌≡◌, inl, inr, ℕ, zero, suc, ◌<◌, ◌≤◌, ◌==◌, ◌&&◌, Bool, true, false, if◌then◌else◌, List, [], ◌∷◌, ◌++◌, take, Option, Some, None, refl, sym, ap, subst, ◌∙◌, append_assoc, arith, drop, rules}
-use Rattle.std.proofs.lemmas.Bool.{and_parts, cases_Bool, cond_both, false_from_ne_true}
-use Rattle.std.specs.Prelude.{All}
-use Rattle.std.proofs.lemmas.List.{append-nil, take-append-drop}
-use Rattle.area_disk.specs.declared.area.Area.{Ghosts}
-use Rattle.gate_journal.specs.Moments.{Told}
-use Rattle.cgf_journal.specs.Trail.{firm_length, is_closed}
+use Rattle.gateway_book.proofs.Names.{act_decided, Addr, after_commit, All, and_parts, append-nil, AreAligned, AreBy, base, Begins, Book, BookValue, Caller, cases_Bool, cond_both, decided, entry_by, failure_answer, false_from_ne_true, firm_length, Fortune, fortune_of, Ghosts, given_at, HasCause, history_of, HistoryAct, HistoryEntry, is_batch_full, is_closed, IsUnchanged, length_at, Mark, marked_if_ready, PreparedValue, readied, recorded_if, reopened, Reopening, Stays, take-append-drop, taken, Told, torn_of, tried, tried_with, value_of}
 use Rattle.gw_base.specs.Facts.{joined}
 use Rattle.gw_base.specs.Faults.{Stood}
-use Rattle.gw_base.specs.Owes.{AreAligned, AreBy, Begins, base}
-use Rattle.gw_base.specs.declared.history.Caller.{Caller}
-use Rattle.gw_base.specs.declared.history.HistoryAct.{HistoryAct}
-use Rattle.gw_base.specs.declared.history.HistoryEntry.{HistoryEntry}
-use Rattle.gw_base.specs.declared.address.Addr.{Addr}
-use Rattle.gateway_answer.specs.Answer.{decided, failure_answer}
-use Rattle.gateway_answer.specs.Answered.{act_decided, entry_by}
-use Rattle.gateway_book.specs.Book.{HasCause, Stays, area_of, fortune_of, value_of}
-use Rattle.gateway_book.specs.Calls.{given_at, length_at, marked_if_ready, taken}
-use Rattle.gateway_answer.specs.Marks.{Mark}
-use Rattle.gateway_answer.specs.Preparing.{PreparedValue}
-use Rattle.gateway_book.specs.Read.{IsUnchanged}
+use Rattle.gateway_book.specs.Book.{area_of}
 use Rattle.gateway_book.specs.Turning.{IsTurn, act_in, added_to, drops_of, facts_of, is_gone, tells_lists}
-use Rattle.gateway_answer.specs.Value.{BookValue, Fortune, Reopening, after_commit, history_of, is_batch_full, readied, recorded_if, reopened, torn_of, tried, tried_with}
-use Rattle.gateway_book.specs.declared.book.Book.{Book}
 use Rattle.gateway_book.proofs.Causing.{not_zero}
 
 -- ---- lists

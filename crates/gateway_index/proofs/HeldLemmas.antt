@@ -1,30 +1,17 @@
 -- What each step on held copies makes of those of a list of keys.
 use Rattle.std.proofs.Common.{◌≡◌, ℕ, ◌+◌, ◌≤◌, ◌==◌, ◌&&◌, ◌||◌, not, Bool, true, false, if◌then◌else◌, List, [], ◌∷◌, ◌++◌, length, filter, count_by, refl, sym, ap, ◌∙◌, arith, inl, inr, ◌-◌, cond, Option, Some, None, is_some, length-append, subst}
-use Rattle.std.specs.List.{list_any}
-use Rattle.std.proofs.lemmas.Bool.{cases_Bool, cond_both, false_from_ne_true, and_parts, eqb-true, or_parts}
+use Rattle.gateway_index.proofs.Names.{acted, and_parts, append-nil, Cancel, cases_Bool, cond_both, Copies, copies_of, eqb-true, false_from_ne_true, File, held_by, held_keys, held_of, HeldKey, HistoryAct, HistoryEntry, Hold, holds, is_key, list_any, list_any-append, nat_tests, no_place, NodeId, or_parts, Path, Release, Seal, Side, with_copy, with_entry, with_fate, without_copies, without_copy, without_node}
 use Rattle.std.proofs.lemmas.List.Sums.{sum_by-append, sum_by-cons, length-filter}
 use Rattle.gw_base.specs.ListLaws.{by_last}
-use Rattle.gw_base.specs.declared.held.HeldKey.{HeldKey}
-use Rattle.gw_base.specs.declared.history.HistoryAct.{HistoryAct}
-use Rattle.gw_base.specs.declared.history.HistoryAct.TheVariants.{Hold, Path, File, Seal, Release, Cancel}
-use Rattle.gw_base.specs.declared.history.HistoryEntry.{HistoryEntry}
 use Rattle.gw_base.specs.declared.scan.Copies.{Copies as CopyCounts}
 use Rattle.gw_base.specs.declared.scan.HoldFate.{HoldFate}
 use Rattle.gw_base.specs.declared.scan.HoldFate.TheVariants as fate
-use Rattle.gw_base.specs.HeldKeys.{held_by, held_keys, is_key, holds}
 use Rattle.gw_base.specs.HeldLaws.{held_keys-append}
-use Rattle.gw_base.specs.History.{copies_of, with_entry, with_fate}
 use Rattle.gw_base.specs.View.{stays_held}
-use Rattle.std.proofs.lemmas.Bool.Decides.{nat_tests}
 use Rattle.std.proofs.lemmas.List.Filters.{length-filter_both, sum_by-filter_both}
 use Rattle.std.proofs.Math.Bool.{and-false, and-true, or-false, or-true}
-use Rattle.std.proofs.lemmas.List.{append-nil}
-use Rattle.std.proofs.lemmas.List.Folds.{list_any-append}
-use Rattle.dup_buffer.specs.Copies.{Copies, held_of, with_copy, without_copy, without_node}
-use Rattle.gw_base.specs.declared.address.NodeId.{NodeId}
 use Rattle.gw_base.specs.declared.history.Caller.{Caller}
 use Rattle.gw_base.specs.declared.place.Place.{Place}
-use Rattle.gateway_index.specs.Sides.{Side, acted, no_place, without_copies}
 use Rattle.gateway_index.specs.Tells.{AreCopiesOf}
 use Rattle.std.proofs.lemmas.List.Elements.{filter_agree}
 use Rattle.std.proofs.lemmas.Map.Views.{any-filter_same}

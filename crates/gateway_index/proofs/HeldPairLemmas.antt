@@ -1,11 +1,7 @@
 -- The copies that are held on two sides.
 use Rattle.std.proofs.Common.{◌≡◌, ℕ, List, [], ◌∷◌, ◌++◌, refl, rules}
-use Rattle.dup_buffer.specs.Copies.{Copies, without_copy}
-use Rattle.gateway_index.specs.CopySteps.{MayStep, MayStepEach, with_step, with_steps}
-use Rattle.gateway_index.specs.HeldPairs.{IsHeldStep}
-use Rattle.gateway_index.specs.Sides.{without_copies}
+use Rattle.gateway_index.proofs.Names.{Copies, HeldPair, IsHeldStep, MayStep, MayStepEach, with_step, with_steps, without_copies, without_copy}
 use Rattle.gateway_index.specs.declared.held_pair.CopyStep.{CopyStep}
-use Rattle.gateway_index.specs.declared.held_pair.HeldPair.{HeldPair}
 
 -- ---- numbers taken out one after the other
 

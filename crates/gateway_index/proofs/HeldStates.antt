@@ -1,21 +1,8 @@
 -- What a window has as held is held, after each step.
 use Rattle.std.proofs.Common.{◌≡◌, ℕ, ◌==◌, ◌&&◌, Bool, true, false, if◌then◌else◌, List, [], ◌∷◌, Some, None, is_some, refl, sym, ap, ◌∙◌, true≢false, arith, rules}
-use Rattle.std.specs.List.{list_any}
-use Rattle.dup_buffer.specs.Copies.{Copies, with_copy, without_copy, without_node}
-use Rattle.gw_base.specs.declared.address.NodeId.{NodeId}
-use Rattle.gw_base.specs.declared.history.Opening.{Opening}
-use Rattle.gw_base.specs.declared.key_state.KeyState.{KeyState}
-use Rattle.gw_base.specs.declared.key_state.KeyState.TheVariants.{Fresh, Held}
-use Rattle.seq_window.specs.Seen.{is_within, with_state, with_states}
+use Rattle.gateway_index.proofs.Names.{and_left, and_right, AreHeldIn, AreNew, cond-false, cond_both, Copies, Fresh, half, Held, held_in, HeldPair, is_within, IsHeldStep, IsNodesStep, KeyState, list_any, listed_nodes, no_place, NodeId, nodes_in, NodeSide, NodeTable, numbered_nodes, opened_nodes, Opening, or_parts, with_copy, with_state, with_states, without_copies, without_copy, without_node}
 use Rattle.transfer_cmd.specs.Lists.{is_held}
-use Rattle.gateway_index.specs.HeldPairs.{IsHeldStep, held_in}
-use Rattle.gateway_index.specs.Limits.{half}
-use Rattle.gateway_index.specs.NodeSides.{AreNew, IsNodesStep, nodes_in}
-use Rattle.gateway_index.specs.Sides.{AreHeldIn, NodeSide, listed_nodes, no_place, numbered_nodes, opened_nodes, without_copies}
-use Rattle.gateway_index.specs.declared.held_pair.HeldPair.{HeldPair}
-use Rattle.gateway_index.specs.declared.nodes.NodeTable.{NodeTable}
 use Rattle.gateway_index.proofs.HeldLemmas.{same_numbers}
-use Rattle.std.proofs.lemmas.Bool.{and_left, and_right, cond-false, cond_both, or_parts}
 
 -- ---- states
 

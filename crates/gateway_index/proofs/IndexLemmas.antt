@@ -1,25 +1,9 @@
 -- What the parts of an index make of its sides.
 use Rattle.std.proofs.Common.{◌≡◌, ℕ, ◌+◌, ◌^◌, ◌<◌, ◌≤◌, Bool, true, false, if◌then◌else◌, List, [], ◌∷◌, ◌++◌, length, Option, Some, None, is_some, refl, ap, ◌∙◌, zero, suc, ◌-◌, drop, arith, slice_get, rules}
-use Rattle.std.specs.Prelude.{IfSome}
-use Rattle.std.proofs.lemmas.Bool.{leb-true, ltb-true}
-use Rattle.dup_buffer.specs.Copies.{Copies, most_copies, no_copies}
-use Rattle.gw_base.specs.Observed.{observed}
-use Rattle.gw_base.specs.declared.address.NodeId.{NodeId}
-use Rattle.gw_base.specs.declared.history.HistoryEntry.{HistoryEntry}
-use Rattle.seq_window.specs.Histories.{IsFreshAbove}
-use Rattle.gateway_index.specs.FitActs.{any_packet, fits_with, is_in_window, is_new}
-use Rattle.gateway_index.specs.HeldPairs.{IsHeldStep, held_in}
-use Rattle.gateway_index.specs.Index.{Follows, Stepped, observed_by, side_of}
-use Rattle.gateway_index.specs.Limits.{has_place, half, may_hold}
-use Rattle.gateway_index.specs.NodeSides.{AreNew, IsNodesStep, MayBeKnown, nodes_in}
-use Rattle.gateway_index.specs.Sides.{NodeSide, Side, acted, no_totals, side_after, totals_after}
-use Rattle.gateway_index.specs.Windows.{narrowed}
+use Rattle.gateway_index.proofs.Names.{acted, any_packet, AreNew, cons_option, Copies, filter_map, fits_with, Follows, half, has_place, held_in, HeldPair, HistoryEntry, IfSome, is_in_window, is_new, IsFreshAbove, IsHeldStep, IsNodesStep, leb-true, ltb-true, may_hold, MayBeKnown, most_copies, narrowed, no_copies, no_totals, NodeId, nodes_in, NodeSide, observed, observed_by, Side, side_after, side_of, Stepped, Totals, totals_after}
 use Rattle.gateway_index.specs.declared.index.Index.{Index}
 use Rattle.gateway_index.proofs.Tellings.{CountLaw, HeldLaw, PresentLaw, WindowLaw, new_is_free, observed_is, tells_after}
 use Rattle.gateway_index.proofs.PairLemmas.{both_are}
-use Rattle.gateway_index.specs.declared.held_pair.HeldPair.{HeldPair}
-use Rattle.gateway_index.specs.declared.totals.Totals.{Totals}
-use Rattle.std.specs.List.{cons_option, filter_map}
 
 -- ---- what is fit
 

@@ -2,6 +2,7 @@ pub mod HeldLemmas
 pub mod HeldPairLemmas
 pub mod HeldStates
 pub mod IndexLemmas
+pub mod Names
 pub mod NodeLemmas
 pub mod PairLemmas
 pub mod SlotLemmas

@@ -1,24 +1,8 @@
 -- What each call makes of the nodes that an index keeps.
 use Rattle.std.proofs.Common.{◌≡◌, ℕ, zero, ◌+◌, ◌<◌, ◌≤◌, ◌==◌, ◌&&◌, nat_lt, inl, inr, Bool, true, false, if◌then◌else◌, List, [], ◌∷◌, ◌++◌, Some, length, length-append, map, take, refl, sym, ap, ◌∙◌, arith, rules}
-use Rattle.std.specs.Prelude.{IfSome}
-use Rattle.std.proofs.lemmas.Bool.{eq-eqb, eqb-true, le-ltb, lt-ltb, ltb-true, ne_eqb, cond_both}
-use Rattle.std.proofs.lemmas.List.{length-map, length-take, take_all, take_at, take-take}
-use Rattle.gw_base.specs.declared.address.NodeId.{NodeId}
-use Rattle.gw_base.specs.declared.history.Opening.{Opening}
-use Rattle.gw_base.specs.declared.key_state.KeyState.{KeyState}
-use Rattle.gw_base.specs.Known.{is_known}
-use Rattle.seq_window.specs.Seen.{Seen, nothing_seen, with_state, with_states}
-use Rattle.gateway_index.specs.Limits.{half}
-use Rattle.gateway_index.specs.NodeSides.{AreNew, IsNodesStep, MayBeKnown, nodes_in}
-use Rattle.gateway_index.specs.Nodes.{AreSame, AreSlots, IsLearnt, fresh_slot, kept_slots, known_at, nodes_of, opening_at, place_in, reopened}
-use Rattle.gateway_index.specs.Sides.{NodeSide, listed_nodes, numbered_nodes, opened_nodes}
-use Rattle.gateway_index.specs.WindowPairs.{AreBeside, AreBlank, AreKeptTo, IsStepAt, seen_at}
-use Rattle.gateway_index.specs.declared.nodes.NodeTable.{NodeTable}
-use Rattle.gateway_index.specs.declared.nodes.Slot.{Slot}
-use Rattle.gateway_index.specs.declared.window_pair.WindowPair.{WindowPair}
+use Rattle.gateway_index.proofs.Names.{AreBeside, AreBlank, AreKeptTo, AreNew, AreSame, AreSlots, cond_both, eq-eqb, eqb-true, eqb_tells, fresh_slot, half, IfSome, is_known, IsLearnt, IsNodesStep, IsStepAt, kept_slots, KeyState, known_at, le-ltb, length-map, length-take, listed_nodes, lt-ltb, ltb-true, MayBeKnown, ne_eqb, NodeId, nodes_in, nodes_of, NodeSide, NodeTable, nothing_seen, numbered_nodes, opened_nodes, Opening, opening_at, place_in, reopened, Seen, seen_at, Slot, take-take, take_all, take_at, WindowPair, with_state, with_states}
 use Rattle.gateway_index.proofs.PairLemmas.{kept_all}
 use Rattle.gateway_index.proofs.SlotLemmas.{apart, known_by_place, known_inside, place_cut, place_map, place_new, place_settled, unknown_behind, known_more, known_reopened, known_reopened_firm, known_same, firm_reopened, live_reopened, openings_more, reopened_node, settled, settled_known, settled_length, settled_openings, slots_more}
-use Rattle.std.proofs.lemmas.Bool.Decides.{eqb_tells}
 
 -- sides of nodes are the same that tell the same
 pub same_nodes : (a b : NodeSide) → a.known ≡ b.known → ((n : ℕ) → a.opening n ≡ b.opening n) → ((n : ℕ) → a.window n ≡ b.window n) → a ≡ b

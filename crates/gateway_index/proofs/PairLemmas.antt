@@ -1,21 +1,9 @@
 -- What one step at a place changes of windows.
 use Rattle.std.proofs.Common.{◌≡◌, ℕ, zero, suc, ◌+◌, ◌<◌, ◌≤◌, ◌==◌, ◌&&◌, min, Bool, true, false, if◌then◌else◌, List, [], ◌∷◌, ◌++◌, length, length-append, refl, sym, ap, ◌∙◌, arith, inl, inr, ◌^◌, ◌||◌, nat_le, Option, Some, rules}
-use Rattle.std.specs.Prelude.{nat_lt, slice_index_or, slice_set, IfSome}
-use Rattle.std.proofs.lemmas.Bool.{eqb-true, ne_eqb, leb-false, leb-true, ltb-false, ltb-true, and_cases, cond_both, false≢true}
-use Rattle.seq_window.specs.Seen.{Seen, nothing_seen, with_state, is_within, with_states}
-use Rattle.gateway_index.specs.GivenStates.{MaySet, MaySetEach, with_each}
-use Rattle.gateway_index.specs.Limits.{half}
-use Rattle.gateway_index.specs.WindowPairs.{AreBlank, AreKeptIn, AreKeptTo, IsPairStep, IsStepAt, seen_at, seen_in}
+use Rattle.gateway_index.proofs.Names.{and_cases, AreBlank, AreKeptIn, AreKeptTo, cell_state, cond_both, eqb-true, eqb_tells, false≢true, Fresh, half, IfSome, is_within, IsPairStep, IsStepAt, KeyState, leb-false, leb-true, length-set, list_any-append, ltb-false, ltb-true, MaySet, MaySetEach, nat_lt, nat_tests, ne_eqb, nothing_seen, Seen, seen_at, seen_in, seen_of, slice_index_or, slice_set, Stored, WindowPair, with_each, with_state, with_states}
 use Rattle.gateway_index.specs.declared.window_pair.StateGiven.{StateGiven}
-use Rattle.gateway_index.specs.declared.window_pair.WindowPair.{WindowPair}
-use Rattle.std.proofs.lemmas.Bool.Decides.{eqb_tells, nat_tests}
-use Rattle.std.proofs.lemmas.List.{length-set}
 use Rattle.std.proofs.Math.Dec.{eqb-suc-suc, eqb-suc-zero, eqb-zero-suc}
-use Rattle.std.proofs.lemmas.List.Folds.{list_any-append}
 use Rattle.gw_base.specs.Lists.{raised}
-use Rattle.gw_base.specs.declared.key_state.KeyState.{KeyState}
-use Rattle.gw_base.specs.declared.key_state.KeyState.TheVariants.{Fresh}
-use Rattle.seq_window.specs.Stored.{Stored, cell_state, seen_of}
 
 -- one of two that are the same
 pub either : {A : Type 0} (a b : Bool) {x y : A} → (a ≡ false → x ≡ y) → (b ≡ false → x ≡ y) → (if a then x else y) ≡ (if b then x else y)

@@ -1,17 +1,8 @@
 -- How the slots of nodes change.
 use Rattle.std.proofs.Common.{◌≡◌, ◌≢◌, ℕ, zero, suc, ◌+◌, ◌<◌, ◌≤◌, ◌==◌, ◌&&◌, ◌||◌, Bool, true, false, if◌then◌else◌, List, [], ◌∷◌, ◌++◌, Option, Some, None, length, length-append, map, take, drop, get_or, All, refl, sym, ap, ◌∙◌, add-one, arith, inl, inr, ◌⊎◌, true≢false, rules}
-use Rattle.std.specs.List.{list_any, take-map}
-use Rattle.std.proofs.lemmas.Bool.{eq-eqb, ne_eqb, cases_Bool, cond_both, or_parts, false_from_ne_true, true_from_ne_false}
-use Rattle.std.proofs.lemmas.List.{drop-append-le, drop_all, length-map, length-take, map-append, take_all, drop-map}
+use Rattle.gateway_index.proofs.Names.{AreSame, AreSlots, cases_Bool, cond_both, drop-append-le, drop-map, drop_all, eq-eqb, false_from_ne_true, fresh_slot, is_known, IsNew, IsSame, kept_slots, known_at, length-map, length-take, list_any, map-append, map_fixed, nat_tests, ne_eqb, NodeId, nodes_of, Opening, opening_at, opening_in, or_parts, place_in, reopened, settled_slot, Slot, take-map, take_all, true_from_ne_false, with_node}
 use Rattle.std.proofs.lemmas.List.Elements.{All-head, All-push, All-tail, All-map, All-weaker}
 use Rattle.std.proofs.Math.Seq.{drop-cons}
-use Rattle.gw_base.specs.declared.address.NodeId.{NodeId}
-use Rattle.gw_base.specs.declared.history.Opening.{Opening}
-use Rattle.gw_base.specs.Known.{is_known, with_node}
-use Rattle.gateway_index.specs.Nodes.{AreSame, AreSlots, IsNew, IsSame, fresh_slot, kept_slots, known_at, nodes_of, opening_at, opening_in, reopened, settled_slot, place_in}
-use Rattle.gateway_index.specs.declared.nodes.Slot.{Slot}
-use Rattle.std.proofs.lemmas.Bool.Decides.{nat_tests}
-use Rattle.std.proofs.lemmas.List.Folds.{map_fixed}
 
 -- ---- what is kept of a node
 

@@ -1,38 +1,17 @@
 -- What a side says of a history it says, after one more entry, of the history with that entry.
 use Rattle.std.proofs.Common.{◌≡◌, ℕ, ◌+◌, ◌^◌, ◌<◌, ◌==◌, ◌&&◌, Bool, true, false, if◌then◌else◌, List, [], ◌∷◌, ◌++◌, Option, Some, None, is_some, length, count_by, refl, sym, ap, ◌∙◌, true≢false, arith, inl, inr, rules}
-use Rattle.std.specs.Prelude.{nat_le}
-use Rattle.std.specs.List.{list_all, list_any}
-use Rattle.std.proofs.lemmas.Bool.{and_parts, eqb-true, leb-false, or_cases}
+use Rattle.gateway_index.proofs.Names.{acted, and_parts, any_packet, begins_epoch, copies_of, due_after, epoch_of, eqb-true, fits_with, Fresh, half, has_place, Held, held_keys, HeldKey, HistoryAct, HistoryEntry, holds, if_held, is_close_due, is_fresh, is_in_range, is_in_window, is_list_fit, is_new, is_within, IsFreshAbove, KeyState, leb-false, list_all, list_any, listed_nodes, named_node, NamesHeld, narrowed, nat_le, NodeId, numbered_nodes, Observed, observed, observed_in, opened_nodes, Opening, or_cases, Path, present_state, Seen, seen_after, Side, side_after, state_in, state_of, top_of, Totals, window_of, with_node}
 use Rattle.std.proofs.lemmas.List.Sums.{count_by-le-length}
 use Rattle.gw_base.specs.EntryLaws.{is_close_due-append, known_nodes-append, last_moment-append, last_tick-append, opening_of-append, start_count-append}
 use Rattle.gw_base.specs.Faults.{next_count}
-use Rattle.gw_base.specs.HeldKeys.{held_keys, holds, is_held}
+use Rattle.gw_base.specs.HeldKeys.{is_held}
 use Rattle.gw_base.specs.HeldLaws.{stranded-append}
-use Rattle.gw_base.specs.History.{begins_epoch, copies_of, due_after, epoch_of, is_close_due, present_state, state_of, top_of}
-use Rattle.gw_base.specs.Known.{named_node, with_node}
-use Rattle.gw_base.specs.Observed.{Observed, observed}
 use Rattle.gw_base.specs.Starts.{is_start, opening_after, start_count}
 use Rattle.gw_base.specs.TickDue.{last_tick, tick_after}
 use Rattle.gw_base.specs.View.{strands}
-use Rattle.gw_base.specs.declared.address.NodeId.{NodeId}
-use Rattle.gw_base.specs.declared.held.HeldKey.{HeldKey}
-use Rattle.gw_base.specs.declared.history.HistoryAct.{HistoryAct}
-use Rattle.gw_base.specs.declared.history.HistoryAct.TheVariants.{Path}
-use Rattle.gw_base.specs.declared.history.HistoryEntry.{HistoryEntry}
-use Rattle.gw_base.specs.declared.history.Opening.{Opening}
-use Rattle.gw_base.specs.declared.key_state.KeyState.{KeyState}
-use Rattle.gw_base.specs.declared.key_state.KeyState.TheVariants.{Fresh, Held}
-use Rattle.seq_window.specs.Histories.{IsFreshAbove, NamesHeld, seen_after, window_of}
-use Rattle.seq_window.specs.Seen.{Seen, is_within}
 use Rattle.transfer_cmd.specs.Lists.{is_held as is_held_state}
-use Rattle.gateway_index.specs.FitActs.{any_packet, fits_with, is_fresh, is_in_window, is_list_fit, is_new}
-use Rattle.gateway_index.specs.Index.{observed_in}
-use Rattle.gateway_index.specs.Limits.{has_place, half, is_in_range}
-use Rattle.gateway_index.specs.Sides.{Side, acted, listed_nodes, numbered_nodes, opened_nodes, side_after, state_in}
 use Rattle.gateway_index.specs.Tells.{Tells}
 use Rattle.gateway_index.specs.WindowLaws.{narrowed_fit}
-use Rattle.gateway_index.specs.Windows.{if_held, narrowed}
-use Rattle.gateway_index.specs.declared.totals.Totals.{Totals}
 use Rattle.gateway_index.proofs.HeldLemmas.{copies-le, count-cons, one_if, NamesFree, held_after, same_numbers}
 use Rattle.gateway_index.proofs.PairLemmas.{either}
 

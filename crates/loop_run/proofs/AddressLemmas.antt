@@ -1,10 +1,6 @@
 -- No two who take part in a loop have one address.
 use Rattle.std.proofs.Common.{◌≡◌, ◌≢◌, ℕ, ◌+◌, length, ap, arith}
-use Rattle.std.proofs.lemmas.List.FromFn.{length-map-range_with_len}
-use Rattle.gw_base.specs.declared.address.Addr.{Addr}
-use Rattle.node_core.specs.declared.port.Port.{Port}
-use Rattle.node_core.specs.declared.port.Port.TheVariants.{First, Second}
-use Rattle.loop_run.specs.Addresses.{first_gateway_ip, first_node_ip, gateway_at, gateways_of, node_at, port_number}
+use Rattle.loop_run.proofs.Names.{Addr, First, first_gateway_ip, first_node_ip, gateway_at, gateways_of, length-map-range_with_len, node_at, Port, port_number, Second}
 
 pub gateways_apart : (p q : ℕ) → p ≢ q → gateway_at p ≢ gateway_at q
 gateways_apart p q apart e =

@@ -1,13 +1,6 @@
 -- Books of which the same is told, as they are counted one after the other.
 use Rattle.std.proofs.Common.{◌≡◌, ◌∙◌, ℕ, zero, suc, ◌+◌, ◌<◌, List, [], ◌∷◌, ◌++◌, get_or, length, map, take, refl, sym, ap, arith}
-use Rattle.std.specs.Prelude.{slice_set}
-use Rattle.std.proofs.lemmas.List.{take_more}
-use Rattle.gateway_book.specs.Book.{value_of}
-use Rattle.gateway_answer.specs.Value.{BookValue}
-use Rattle.loop_run.specs.Ending.{gateway_sum}
-use Rattle.loop_run.specs.Finishing.{AreAlike, shown}
-use Rattle.loop_run.specs.Seats.{LoopBook}
-use Rattle.loop_run.specs.declared.end.GatewaySum.{GatewaySum}
+use Rattle.loop_run.proofs.Names.{AreAlike, BookValue, gateway_sum, GatewaySum, LoopBook, shown, slice_set, take_more, value_of}
 
 abbrev Shown : Type 0
 Shown = BookValue × (ℕ × List ℕ)

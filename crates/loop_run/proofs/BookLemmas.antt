@@ -1,18 +1,9 @@
 -- What a commit leaves of a book whose area never fails, and what an opening of one comes to.
 use Rattle.std.proofs.Common.{◌≡◌, ◌∙◌, inl, inr, ℕ, zero, suc, ◌≤◌, Bool, true, false, List, [], ◌∷◌, ◌++◌, take, refl, sym, ap, arith}
-use Rattle.std.proofs.lemmas.List.{append-nil}
-use Rattle.std.specs.Prelude.{slice_index}
+use Rattle.loop_run.proofs.Names.{after_commit, append-nil, area_length, Begins, begun, BookValue, Fortune, fortune_of, gateway_at, HasCommitted, header, header_of, HistoryEntry, IsBegun, IsCommitted, LoopBook, opened, reopening_of, size_of, slice_index, spelled, Starts, Stays, value_of}
 use Rattle.area_disk.specs.Disk.{zeros}
 use Rattle.cgf_journal.specs.Trail as trail
-use Rattle.gate_journal.specs.Format.{Starts, header, spelled}
-use Rattle.gateway_book.specs.Book.{Stays, fortune_of, header_of, reopening_of, size_of, value_of}
 use Rattle.gateway_book.specs.Opened.{IsNotOurs}
-use Rattle.gateway_answer.specs.Value.{BookValue, Fortune, after_commit, opened}
-use Rattle.gw_base.specs.Owes.{Begins}
-use Rattle.gw_base.specs.declared.history.HistoryEntry.{HistoryEntry}
-use Rattle.loop_run.specs.Addresses.{gateway_at}
-use Rattle.loop_run.specs.Looped.{area_length}
-use Rattle.loop_run.specs.Seats.{HasCommitted, IsBegun, IsCommitted, LoopBook, begun}
 
 -- what nothing failed to commit
 abbrev pub value_with : List HistoryEntry → List HistoryEntry → Bool → BookValue

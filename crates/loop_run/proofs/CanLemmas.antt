@@ -1,21 +1,8 @@
 -- Who sits or ran in a place whose addresses are made can be taken apart.
 use Rattle.std.proofs.Common.{◌≡◌, ◌∙◌, ℕ, ◌-◌, ◌<◌, ◌≤◌, List, [], ◌∷◌, length, sym, arith}
-use Rattle.std.specs.Prelude.{All}
-use Rattle.std.proofs.lemmas.List.Elements.{All-cons, All-weaker}
-use Rattle.std.proofs.lemmas.Option.{slice_get_within}
-use Rattle.net_link.specs.Datagrams.{IsNewAt}
-use Rattle.net_link.specs.Making.{LinksState}
+use Rattle.loop_run.proofs.Names.{All, All-cons, All-weaker, AllRan, AllSit, AreFiveOf, AreKnown, CanLeave, First, gateway_at, HearsNothing, IsNewAt, LinksState, LoopSetup, node_at, RanAt, Seat, Second, SitsAt, slice_get_within}
 use Rattle.net_link.specs.declared.link.Link as paths
-use Rattle.node_core.specs.declared.port.Port.TheVariants.{First, Second}
-use Rattle.session_run.specs.Desks.{HearsNothing}
-use Rattle.session_run.specs.Running.{AreFiveOf}
-use Rattle.loop_run.specs.Addresses.{gateway_at, node_at}
-use Rattle.loop_run.specs.Collecting.{CanLeave}
-use Rattle.loop_run.specs.Making.{AreKnown}
-use Rattle.loop_run.specs.Seats.{AllRan, AllSit, RanAt, SitsAt}
-use Rattle.loop_run.specs.declared.seat.Seat.{Seat}
 use Rattle.loop_run.specs.declared.seat.Seat.TheVariants as seat
-use Rattle.loop_run.specs.declared.setup.LoopSetup.{LoopSetup}
 use Rattle.loop_run.proofs.ListLemmas.{all_by_place}
 
 module _ {L : Type 0} (tells : paths.Ghosts L) (setup : LoopSetup) (count : ℕ) (now : LinksState)

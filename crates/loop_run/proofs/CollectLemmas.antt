@@ -1,23 +1,9 @@
 -- How the seats are taken apart, one after the other.
 use Rattle.std.proofs.Common.{◌≡◌, ◌≢◌, inl, inr, ◌∙◌, ℕ, suc, ◌<◌, ◌≤◌, ◌^◌, List, [], ◌∷◌, ◌++◌, length, Option, None, Some, refl, sym, subst, arith}
-use Rattle.std.specs.Prelude.{All}
-use Rattle.std.specs.Option.{option_or}
-use Rattle.std.proofs.lemmas.List.Elements.{All-head, All-tail, All-weaker}
-use Rattle.std.proofs.lemmas.Option.{none-some}
-use Rattle.gw_base.specs.Faults.{Rose}
-use Rattle.gw_base.specs.declared.address.Addr.{Addr}
-use Rattle.net_link.specs.Making.{LinksState}
+use Rattle.loop_run.proofs.Names.{Addr, All, All-head, All-tail, All-weaker, AllRan, CanLeave, GrowsOn, IsLoop, Leaves, LinksState, Looped, LoopSetup, none-some, option_or, RanAt, Rose, Seat, Stop}
 use Rattle.net_link.specs.declared.link.Link as paths
-use Rattle.session_run.specs.declared.stop.Stop.{Stop}
 use Rattle.session_run.specs.declared.stop.Stop.TheVariants as stop
-use Rattle.loop_run.specs.Addresses.{IsLoop}
-use Rattle.loop_run.specs.Collecting.{CanLeave, Leaves}
-use Rattle.loop_run.specs.Making.{GrowsOn}
-use Rattle.loop_run.specs.Seats.{AllRan, RanAt}
-use Rattle.loop_run.specs.declared.looped.Looped.{Looped}
-use Rattle.loop_run.specs.declared.seat.Seat.{Seat}
 use Rattle.loop_run.specs.declared.seat.Seat.TheVariants as seat
-use Rattle.loop_run.specs.declared.setup.LoopSetup.{LoopSetup}
 use Rattle.loop_run.proofs.GatewayLemmas.{ReplyLater, StaysInTurn}
 use Rattle.loop_run.proofs.LeftLemmas.{HaveLeft, KeepAll, NoneOpen, gateway_left, node_left, none_left}
 use Rattle.loop_run.proofs.ListLemmas.{get_before, get_last, length_pushed, some_none}

@@ -1,29 +1,9 @@
 -- How a loop ends, by what was collected.
 use Rattle.std.proofs.Common.{◌≡◌, ◌∙◌, ℕ, zero, suc, ◌+◌, ◌^◌, ◌<◌, List, [], ◌∷◌, length, map, Option, None, Some, refl, sym, ap, subst, arith}
-use Rattle.std.specs.Prelude.{slice_get}
-use Rattle.std.proofs.lemmas.List.{length-map}
-use Rattle.std.proofs.lemmas.Option.{same_Some}
-use Rattle.gateway_book.specs.Book.{value_of}
-use Rattle.gateway_answer.specs.Value.{BookValue, history_of}
-use Rattle.gw_base.specs.declared.address.Addr.{Addr}
-use Rattle.net_link.specs.Making.{Keeps, LinksState}
+use Rattle.loop_run.proofs.Names.{Addr, AllRan, AreAlike, BookValue, CarriedAt, Collected, CountsAs, EndsAs, Finishes, First, gateway_at, gateway_sum, HasCollected, HasTakenAll, history_of, IsLoopBook, IsLooped, IsLoopNode, Keeps, length-map, LinksState, LoopBook, Looped, LoopSetup, MakesSeats, node_at, NodeValue, same_Some, Seat, Second, shown, slice_get, Stop, value_of, verdict}
 use Rattle.net_link.specs.declared.link.Link as paths
-use Rattle.node_core.specs.Value.{NodeValue}
-use Rattle.node_core.specs.declared.port.Port.TheVariants.{First, Second}
-use Rattle.session_run.specs.declared.stop.Stop.{Stop}
-use Rattle.loop_run.specs.Addresses.{gateway_at, node_at}
-use Rattle.loop_run.specs.Collecting.{HasCollected}
-use Rattle.loop_run.specs.Ending.{CountsAs, EndsAs, HasTakenAll, gateway_sum, verdict}
-use Rattle.loop_run.specs.Finishing.{AreAlike, Finishes, shown}
-use Rattle.loop_run.specs.Looped.{CarriedAt, IsLoopBook, IsLoopNode, IsLooped}
-use Rattle.loop_run.specs.Making.{MakesSeats}
-use Rattle.loop_run.specs.Seats.{AllRan, LoopBook}
-use Rattle.loop_run.specs.declared.collecting.Collected.{Collected}
 use Rattle.loop_run.specs.declared.end.LoopEnd.{LoopEnd}
 use Rattle.loop_run.specs.declared.end.LoopEnd.TheVariants as end
-use Rattle.loop_run.specs.declared.looped.Looped.{Looped}
-use Rattle.loop_run.specs.declared.seat.Seat.{Seat}
-use Rattle.loop_run.specs.declared.setup.LoopSetup.{LoopSetup}
 
 -- What was told before it was made was told before it ran.
 module _ (setup : LoopSetup) (old mid new : LinksState) (keeps : Keeps old mid) where

@@ -1,28 +1,14 @@
 -- The book of a gateway that served, once it is committed and the links are given back.
 use Rattle.std.proofs.Common.{◌≡◌, ◌∙◌, ℕ, ◌+◌, List, [], ◌∷◌, ◌++◌, length, append_assoc, length-append, Option, None, Some, subst, arith}
-use Rattle.std.specs.Prelude.{All, IfSome}
-use Rattle.std.proofs.lemmas.List.{append-nil, nil_from_length}
-use Rattle.std.proofs.lemmas.List.Elements.{All-head, All-tail, All-weaker}
+use Rattle.loop_run.proofs.Names.{Addr, All, All-head, All-tail, All-weaker, append-nil, area_length, AreFiveOf, Begins, begun, gateway_at, GrowsBy, HasCommitted, HasServedAt, heard_by, HearsNothing, HistoryEntry, IfSome, IsEmpty, IsLoopBook, joined, LinksState, LoopBook, LoopGateway, nil_from_length, sent_by, StillAt, Stop}
 use Rattle.area_disk.specs.Disk.{Rose}
 use Rattle.gateway_book.specs.Turning.{facts_of}
 use Rattle.gw_base.specs.Facts.{joined as whole_of}
-use Rattle.gw_base.specs.Owes.{Begins}
-use Rattle.gw_base.specs.declared.address.Addr.{Addr}
-use Rattle.gw_base.specs.declared.history.HistoryEntry.{HistoryEntry}
-use Rattle.net_link.specs.Datagrams.{IsEmpty, joined}
-use Rattle.net_link.specs.Making.{GrowsBy, LinksState}
 use Rattle.net_link.specs.declared.link.Link as paths
-use Rattle.session_run.specs.Desks.{HearsNothing}
 use Rattle.session_run.specs.History.{AnswerInTurn, ReplyInTurn}
 use Rattle.session_run.specs.Latest.{Jobs}
 use Rattle.session_run.specs.Links.{received_with}
-use Rattle.session_run.specs.Running.{AreFiveOf, heard_by, sent_by}
-use Rattle.session_run.specs.declared.stop.Stop.{Stop}
 use Rattle.turn_cell.specs.Placed.{placed}
-use Rattle.loop_run.specs.Addresses.{gateway_at}
-use Rattle.loop_run.specs.Collecting.{StillAt}
-use Rattle.loop_run.specs.Looped.{IsLoopBook, area_length}
-use Rattle.loop_run.specs.Seats.{HasCommitted, HasServedAt, LoopBook, LoopGateway, begun}
 use Rattle.loop_run.proofs.StillLemmas.{Told, grows_before, same_told, still_holds}
 
 -- What was heard.

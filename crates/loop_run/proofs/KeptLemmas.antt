@@ -1,28 +1,16 @@
 -- A node of a loop that ran keeps all its packets; where it counts all as done, none is open.
 use Rattle.std.proofs.Common.{◌≡◌, ◌∙◌, ℕ, zero, suc, ◌+◌, ◌<◌, ◌≤◌, ◌^◌, ◌==◌, Bool, true, false, not, if◌then◌else◌, IsTrue, List, [], ◌∷◌, length, map, refl, sym, ap, arith}
-use Rattle.std.specs.Prelude.{All, filter, slice_index_or}
+use Rattle.loop_run.proofs.Names.{Addr, All, All-cons, All-head, All-nil, All-tail, All-weaker, all_done, counts_of, filter, gateway_at, gateways_of, is_done, IsLoop, KeepsAll, length-map, length-map-range_with_len, length-range_with_len, LoopSetup, node_after, node_made, node_of, node_setup, NodeValue, open_numbers, phase_among, phase_of, phase_of_copies, slice_index_or, Turn}
 use Rattle.std.proofs.lemmas.Bool.{eqb-true, eqb-false}
-use Rattle.std.proofs.lemmas.List.{length-map}
-use Rattle.std.proofs.lemmas.List.Elements.{All-cons, All-head, All-nil, All-tail, All-weaker}
-use Rattle.std.proofs.lemmas.List.FromFn.{length-map-range_with_len, length-range_with_len}
 use Rattle.std.proofs.lemmas.List.Sums.{count_by-le-length, sum_by-cons}
-use Rattle.gw_base.specs.declared.address.Addr.{Addr}
-use Rattle.node_core.specs.Counting.{counts_of, phase_among, phase_of, phase_of_copies}
 use Rattle.node_core.specs.Log.{Began, LogEntry, NodeSetup, done_among, peers_of}
 use Rattle.node_core.specs.Packets.{PacketState, is_done as are_done}
 use Rattle.node_core.specs.Reached.{NodeCall, log_of, reached}
 use Rattle.node_core.specs.Roles.{IsSingle}
-use Rattle.node_core.specs.Value.{NodeValue, node_of}
 use Rattle.node_core.specs.declared.copy.PacketCopy.{PacketCopy}
 use Rattle.node_core.specs.declared.counts.Phase.TheVariants as phase
 use Rattle.node_core.specs.declared.counts.Tally.{Tally}
 use Rattle.node_run.specs.Keeping.{KeepsPackets}
-use Rattle.node_run.specs.Running.{Turn, all_done, node_after}
-use Rattle.loop_audit.specs.Standing.{KeepsAll}
-use Rattle.loop_run.specs.Addresses.{IsLoop, gateway_at, gateways_of, node_setup}
-use Rattle.loop_run.specs.Ending.{is_done, open_numbers}
-use Rattle.loop_run.specs.Looped.{node_made}
-use Rattle.loop_run.specs.declared.setup.LoopSetup.{LoopSetup}
 use Rattle.loop_run.proofs.PigeonLemmas.{pigeonhole}
 
 -- Copies.

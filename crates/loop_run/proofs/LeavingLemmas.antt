@@ -1,18 +1,10 @@
 -- One who took part, taken apart.
 use Rattle.std.proofs.Common.{◌≡◌, ◌≢◌, List, [], ◌∷◌, ◌++◌, Option, None, Some, refl}
-use Rattle.net_link.specs.Datagrams.{joined}
-use Rattle.net_link.specs.Making.{LinksState, TakesBack}
+use Rattle.loop_run.proofs.Names.{HasCommitted, joined, LeavesGateway, LeavesNode, LinkedNode, LinksState, LoopBook, Looped, LoopGateway, NodeEnd, sent_by, Stop, stop_of_node, TakesBack}
 use Rattle.net_link.specs.declared.link.Link as paths
-use Rattle.node_run.specs.declared.linked.LinkedNode.{LinkedNode}
-use Rattle.node_run.specs.declared.linked.NodeEnd.{NodeEnd}
 use Rattle.node_run.specs.declared.linked.NodeEnd.TheVariants as end
 use Rattle.session_run.specs.Links.{GivesBack, sent_with}
-use Rattle.session_run.specs.Running.{sent_by}
-use Rattle.session_run.specs.declared.stop.Stop.{Stop}
 use Rattle.session_run.specs.declared.stop.Stop.TheVariants as stop
-use Rattle.loop_run.specs.Collecting.{LeavesGateway, LeavesNode, stop_of_node}
-use Rattle.loop_run.specs.Seats.{HasCommitted, LoopBook, LoopGateway}
-use Rattle.loop_run.specs.declared.looped.Looped.{Looped}
 use Rattle.loop_run.proofs.StillLemmas.{Told, both_failed, both_first, both_only, both_second}
 
 module _ {L : Type 0} (tells : paths.Ghosts L) where

@@ -1,30 +1,8 @@
 -- Those who took part, once they were taken apart one after the other.
 use Rattle.std.proofs.Common.{◌≡◌, ◌≢◌, ◌⊎◌, ⊎_elim, ◌∙◌, ℕ, suc, ◌+◌, ◌-◌, ◌<◌, ◌≤◌, ◌^◌, min, IsTrue, List, [], ◌∷◌, ◌++◌, length, Option, None, Some, refl, sym, ap, subst, arith}
-use Rattle.std.proofs.lemmas.Option.{slice_get_within}
-use Rattle.std.specs.Prelude.{slice_get}
-use Rattle.gateway_book.specs.Book.{value_of}
-use Rattle.gateway_answer.specs.Value.{BookValue, standing_for}
-use Rattle.gw_base.specs.declared.address.Addr.{Addr}
-use Rattle.loop_audit.specs.Standing.{KeepsAll}
-use Rattle.net_link.specs.Making.{LinksState}
+use Rattle.loop_run.proofs.Names.{Addr, all_done, BookValue, Collected, EndsSo, First, first_at, gateway_at, GrewAt, HasCollected, HasRun, HasRunAt, HasServedAt, IsLoop, IsLoopBook, IsLoopNode, KeepsAll, LeavesGateway, LeavesNode, LinkedNode, LinksState, LoopBook, Looped, LoopGateway, LoopSetup, node_after, node_at, node_made, NodeEnd, NodeValue, open_numbers, Port, Second, second_at, slice_get, slice_get_within, standing_for, StillAt, Stop, stop_of_node, Turn, turns_of, value_of, work_of}
 use Rattle.net_link.specs.declared.link.Link as paths
-use Rattle.node_core.specs.Value.{NodeValue}
-use Rattle.node_core.specs.declared.port.Port.{Port}
-use Rattle.node_core.specs.declared.port.Port.TheVariants.{First, Second}
-use Rattle.node_run.specs.Outcomes.{EndsSo, HasRun}
-use Rattle.node_run.specs.Running.{Turn, all_done, node_after}
-use Rattle.node_run.specs.declared.linked.LinkedNode.{LinkedNode}
-use Rattle.node_run.specs.declared.linked.NodeEnd.{NodeEnd}
 use Rattle.node_run.specs.declared.linked.NodeEnd.TheVariants as end
-use Rattle.session_run.specs.declared.stop.Stop.{Stop}
-use Rattle.loop_run.specs.Addresses.{IsLoop, gateway_at, node_at}
-use Rattle.loop_run.specs.Collecting.{GrewAt, HasCollected, LeavesGateway, LeavesNode, StillAt, first_at, second_at, stop_of_node}
-use Rattle.loop_run.specs.Ending.{open_numbers, turns_of}
-use Rattle.loop_run.specs.Looped.{IsLoopBook, IsLoopNode, node_made}
-use Rattle.loop_run.specs.Seats.{HasRunAt, HasServedAt, LoopBook, LoopGateway, work_of}
-use Rattle.loop_run.specs.declared.collecting.Collected.{Collected}
-use Rattle.loop_run.specs.declared.looped.Looped.{Looped}
-use Rattle.loop_run.specs.declared.setup.LoopSetup.{LoopSetup}
 use Rattle.loop_run.proofs.AddressLemmas.{gateway_no_node, gateways_apart, nodes_apart, ports_apart}
 use Rattle.loop_run.proofs.GatewayLemmas.{ReplyLater, StaysInTurn, book_still, served_book}
 use Rattle.loop_run.proofs.ListLemmas.{all_by_place, get_pushed, length_pushed, none_get}

@@ -10,6 +10,7 @@ pub mod LeavingLemmas
 pub mod LeftLemmas
 pub mod ListLemmas
 pub mod MakeLemmas
+pub mod Names
 pub mod NodeLemmas
 pub mod OpenLemmas
 pub mod PigeonLemmas

@@ -1,8 +1,6 @@
 -- Lists that grow by one at their end, by place.
 use Rattle.std.proofs.Common.{◌≡◌, ◌⊎◌, ⊎_elim, inl, inr, ℕ, zero, suc, List, [], ◌∷◌, ◌++◌, length, take, Option, None, Some, refl, sym}
-use Rattle.std.specs.Prelude.{All, slice_get}
-use Rattle.std.proofs.lemmas.List.Elements.{All-cons, All-nil}
-use Rattle.std.proofs.lemmas.Option.{none-some, same_Some}
+use Rattle.loop_run.proofs.Names.{All, All-cons, All-nil, none-some, same_Some, slice_get}
 use Rattle.std.proofs.Math.Seq.{take-append_seam}
 
 module _ {X : Type 0} where

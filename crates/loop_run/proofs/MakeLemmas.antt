@@ -1,7 +1,6 @@
 -- What is made, one after the other.
 use Rattle.std.proofs.Common.{◌∙◌, refl, arith}
-use Rattle.net_link.specs.Making.{Keeps, LinksState}
-use Rattle.loop_run.specs.Making.{GrowsOn, MakesOn}
+use Rattle.loop_run.proofs.Names.{GrowsOn, Keeps, LinksState, MakesOn}
 
 pub keeps_self : (s : LinksState) → Keeps s s
 keeps_self s = record { made = λ a m. m; turns = λ a. refl; received = λ a. refl; sent = λ a. refl }

@@ -1,20 +1,7 @@
 -- A node that ran, once its links are given back.
 use Rattle.std.proofs.Common.{◌≡◌, ◌∙◌, ℕ, suc, ◌+◌, ◌<◌, ◌≤◌, ◌^◌, List, [], ◌∷◌, length, Some, refl, ap, arith}
-use Rattle.std.specs.Prelude.{IfSome}
-use Rattle.gw_base.specs.declared.address.Addr.{Addr}
-use Rattle.net_link.specs.Datagrams.{Datagram, LinkState, added, joined}
-use Rattle.net_link.specs.Making.{GrowsBy, LinksState}
+use Rattle.loop_run.proofs.Names.{added, Addr, Carried, CarriedAt, counted_at, Datagram, First, GrewAt, GrowsBy, HasRun, IfSome, IsLoop, IsLoopNode, joined, LinkedNode, LinksState, LinkState, LoopSetup, node_at, node_made, Port, Second, StillAt, Turn, turns_at, turns_of, turns_of_links}
 use Rattle.net_link.specs.declared.link.Link as paths
-use Rattle.node_core.specs.declared.port.Port.{Port}
-use Rattle.node_core.specs.declared.port.Port.TheVariants.{First, Second}
-use Rattle.node_run.specs.Outcomes.{Carried, HasRun, turns_of as turns_of_links}
-use Rattle.node_run.specs.Running.{Turn, counted_at, turns_at}
-use Rattle.node_run.specs.declared.linked.LinkedNode.{LinkedNode}
-use Rattle.loop_run.specs.Addresses.{IsLoop, node_at}
-use Rattle.loop_run.specs.Collecting.{GrewAt, StillAt}
-use Rattle.loop_run.specs.Ending.{turns_of}
-use Rattle.loop_run.specs.Looped.{CarriedAt, IsLoopNode, node_made}
-use Rattle.loop_run.specs.declared.setup.LoopSetup.{LoopSetup}
 use Rattle.loop_run.proofs.StillLemmas.{Told, still_holds}
 
 -- Turns.

@@ -1,15 +1,8 @@
 -- Packets that aren't done, found one after the other.
 use Rattle.std.proofs.Common.{◌≡◌, ◌∙◌, ℕ, zero, suc, ◌+◌, ◌<◌, ◌≤◌, Bool, true, false, not, if◌then◌else◌, List, [], ◌∷◌, ◌++◌, length, map, get_or, take, Option, None, Some, sym, ap, arith}
-use Rattle.std.specs.Prelude.{filter, slice_get}
-use Rattle.std.specs.List.{range_with_len}
+use Rattle.loop_run.proofs.Names.{append-nil, filter, is_done, map-append, NodeValue, open_at, open_numbers, open_of, open_packets, PacketId, packets_open, phase_of, range_with_len, slice_get, take_more, UpTo}
 use Rattle.std.proofs.lemmas.Grind.{flat_map-append}
-use Rattle.std.proofs.lemmas.List.{append-nil, map-append, take_more}
-use Rattle.gw_base.specs.declared.packet.PacketId.{PacketId}
 use Rattle.loop_audit.specs.Audit.{id_of}
-use Rattle.node_core.specs.Counting.{phase_of}
-use Rattle.node_core.specs.Value.{NodeValue}
-use Rattle.loop_run.specs.Ending.{is_done, open_numbers, open_packets, packets_open}
-use Rattle.loop_run.specs.Finishing.{UpTo, open_at, open_of}
 use Rattle.loop_run.specs.declared.ending.Open.{Open}
 
 -- of one node, by number

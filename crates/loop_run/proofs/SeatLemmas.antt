@@ -1,20 +1,9 @@
 -- Seats that are made, one after the other.
 use Rattle.std.proofs.Common.{◌≡◌, ⊎_elim, ◌∙◌, ℕ, suc, ◌+◌, ◌-◌, ◌<◌, ◌≤◌, List, [], ◌∷◌, ◌++◌, length, None, Some, sym, ap, subst, arith}
-use Rattle.std.proofs.lemmas.Option.{none-some, same_Some}
-use Rattle.std.specs.Prelude.{slice_get}
-use Rattle.gw_base.specs.declared.address.Addr.{Addr}
-use Rattle.net_link.specs.Making.{Keeps, LinksState}
+use Rattle.loop_run.proofs.Names.{Addr, AreKnown, FailsToMake, First, gateway_at, gateways_of, GrowsOn, HasMadeGateway, HasMadeNode, HasMadeSeats, IsGatewayAt, Keeps, LinkedNode, LinksState, LoopGateway, LoopSetup, MakesOn, MakesSeats, node_at, none-some, same_Some, Seat, Second, SitsAt, slice_get, Stop}
 use Rattle.net_link.specs.declared.link.Link as paths
-use Rattle.node_core.specs.declared.port.Port.TheVariants.{First, Second}
-use Rattle.node_run.specs.declared.linked.LinkedNode.{LinkedNode}
-use Rattle.session_run.specs.declared.stop.Stop.{Stop}
 use Rattle.session_run.specs.declared.stop.Stop.TheVariants as stop
-use Rattle.loop_run.specs.Addresses.{gateway_at, gateways_of, node_at}
-use Rattle.loop_run.specs.Making.{AreKnown, FailsToMake, GrowsOn, HasMadeGateway, HasMadeNode, HasMadeSeats, MakesOn, MakesSeats}
-use Rattle.loop_run.specs.Seats.{IsGatewayAt, LoopGateway, SitsAt}
-use Rattle.loop_run.specs.declared.seat.Seat.{Seat}
 use Rattle.loop_run.specs.declared.seat.Seat.TheVariants as seat
-use Rattle.loop_run.specs.declared.setup.LoopSetup.{LoopSetup}
 use Rattle.loop_run.proofs.ListLemmas.{get_pushed, length_pushed, none_get, some_none}
 use Rattle.loop_run.proofs.MakeLemmas.{grows_then, makes_grows}
 use Rattle.loop_run.proofs.StillLemmas.{le_or, rose_before}

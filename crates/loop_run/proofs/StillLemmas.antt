@@ -1,11 +1,6 @@
 -- What is told of an address when links of it, and of others, are given back one after the other.
 use Rattle.std.proofs.Common.{◌≡◌, ◌≢◌, ◌⊎◌, ⊎_elim, inl, inr, ℕ, zero, suc, ◌<◌, ◌≤◌, List, Option, None, Some, refl, sym, ◌∙◌, arith}
-use Rattle.std.specs.Prelude.{IfSome}
-use Rattle.gw_base.specs.Faults.{Rose}
-use Rattle.gw_base.specs.declared.address.Addr.{Addr}
-use Rattle.net_link.specs.Datagrams.{Datagram, LinkState, joined}
-use Rattle.net_link.specs.Making.{LinksState, RoseBy, TakesBack}
-use Rattle.loop_run.specs.Collecting.{GivesOnly, GrewAt, StillAt}
+use Rattle.loop_run.proofs.Names.{Addr, Datagram, GivesOnly, GrewAt, IfSome, joined, LinksState, LinkState, Rose, RoseBy, StillAt, TakesBack}
 
 abbrev pub Told : Type 0
 Told = Option (List Datagram)

@@ -1,20 +1,7 @@
 -- Lists: what holds of each element, which elements there are, and the first that passes a test. What holds of both
 -- ends of a choice holds of what is chosen.
 use Rattle.std.proofs.Common.{◌≡◌, ◌⊎◌, inl, inr, ℕ, suc, Bool, true, false, List, [], ◌∷◌, ◌++◌, map, Some, None, option_map, refl, ap, ◌∙◌, arith, Option, ◌≢◌}
-use Rattle.std.proofs.lemmas.Bool.Decides.{nat_tests}
-use Rattle.std.specs.List.{AllByRecursion, Contains, find, list_any}
-use Rattle.std.proofs.lemmas.Bool.{cases_Bool, false≢true, cond_both}
-use Rattle.std.proofs.lemmas.List.{get_or-map, length-map}
-use Rattle.std.proofs.lemmas.List.Elements.{All-contains, All-contains_itself, All-from_recursion, recursion_from_All}
-use Rattle.std.proofs.lemmas.List.Folds.{list_any_at, list_any_none}
-use Rattle.std.specs.Option.{IfSome, option_map_or, option_or}
-use Rattle.std.proofs.lemmas.Bool.Decides.{eqb_tells}
-use Rattle.node_core.specs.declared.copy.Command.{Command}
-use Rattle.node_core.specs.declared.copy.PacketCopy.{PacketCopy}
-use Rattle.node_core.specs.declared.port.Port.{Port}
-use Rattle.node_core.specs.declared.sending.Sending.{Sending}
-use Rattle.node_core.specs.Copies.{copy_hearing, copy_hearing_own}
-use Rattle.node_core.specs.Packets.{PacketState, commanded, copies_after, is_done, packet_after, packet_after_all, while_open, with_command}
+use Rattle.node_core.proofs.Names.{All-contains, All-contains_itself, All-from_recursion, AllByRecursion, cases_Bool, Command, commanded, cond_both, Contains, copies_after, copy_hearing, copy_hearing_own, eqb_tells, false≢true, find, get_or-map, IfSome, is_done, length-map, list_any, list_any_at, list_any_none, nat_tests, option_map_or, option_or, packet_after, packet_after_all, PacketCopy, PacketState, Port, recursion_from_All, Sending, while_open, with_command}
 
 -- ---- each of a list
 

@@ -1,20 +1,9 @@
 -- Loops over copies and numbers: one more.
 use Rattle.std.proofs.Common.{◌≡◌, ℕ, ◌+◌, ◌<◌, ◌==◌, ◌||◌, min, if◌then◌else◌, Bool, false, List, ◌∷◌, ◌++◌, length, map, take, drop, set, get_or, Option, refl, ◌∙◌, arith, inl, inr}
-use Rattle.std.proofs.Math.Bool.{or-false}
-use Rattle.std.proofs.lemmas.Bool.{cases_Bool}
-use Rattle.std.proofs.lemmas.List.{at_drop_all, at_drop_more}
-use Rattle.std.proofs.lemmas.List.Edits.{map_over_more}
-use Rattle.std.specs.Prelude.{option_map}
+use Rattle.node_core.proofs.Names.{at_drop_all, at_drop_more, cases_Bool, Command, command_hearing, commanded, copy_hearing, copy_hearing_own, first_told, least, map_over_more, names, numbers_at, option_map, or-false, PacketCopy, Port, told, told_if, Verdict}
 use Rattle.gw_base.specs.declared.cause.TheConstants.{SYSTEM_FAILURE}
-use Rattle.node_core.specs.declared.copy.Command.{Command}
-use Rattle.node_core.specs.declared.copy.PacketCopy.{PacketCopy}
-use Rattle.node_core.specs.declared.copy.Verdict.{Verdict}
 use Rattle.node_core.specs.declared.copy.Verdict.TheVariants as verdict
-use Rattle.node_core.specs.declared.port.Port.{Port}
 use Rattle.node_core.specs.declared.port.Port.TheVariants as port
-use Rattle.node_core.specs.Copies.{command_hearing, copy_hearing, copy_hearing_own, first_told, names, told, told_if}
-use Rattle.node_core.specs.Packets.{commanded}
-use Rattle.node_core.specs.Submitting.{least, numbers_at}
 use Rattle.node_core.proofs.CaseLemmas.{either_hears}
 
 pub hearing_more : (port : Port) (gateway cause : ℕ) (numbers : List ℕ) (xs ys : List PacketCopy) (i : ℕ) (x : PacketCopy) → i < length xs →

@@ -1,11 +1,6 @@
 -- A draft's octets with one more record are the value of the packet with that record.
 use Rattle.std.proofs.Common.{◌≡◌, ℕ, ◌+◌, ◌≤◌, ◌<◌, nat_lt, List, [], ◌∷◌, ◌++◌, length, Some, None, refl, ap, sym, ◌∙◌, arith, length-append}
-use Rattle.std.proofs.lemmas.Bool.Decides.{nat_tests}
-use Rattle.std.specs.List.{All}
-use Rattle.std.proofs.lemmas.Bool.{eqb-false, ltb-false, ltb-true, ltb_from_iff}
-use Rattle.std.proofs.lemmas.List.{append-nil}
-use Rattle.std.proofs.lemmas.List.Elements.{All-append, All-nil, All-cons}
-use Rattle.gtpp_message.specs.Packet.{PacketForm, packet_of}
+use Rattle.node_core.proofs.Names.{All, All-append, All-cons, All-nil, append-nil, eqb-false, ltb-false, ltb-true, ltb_from_iff, nat_tests, packet_of, PacketForm}
 use Rattle.gtpp_message.specs.PacketWriting.{IsForm, record_octets, value_of, with_record, with_record_octets}
 use Rattle.node_core.specs.Drafts.{IsDraft, addition_fault, form_in, grown, grown_length, kept_fault, records_among, request_length, stated_records, value_octets, value_octets_of}
 

@@ -1,25 +1,7 @@
 -- What holds of each message that may be due for a packet holds of all that are due for it.
 use Rattle.std.proofs.Common.{◌≡◌, ℕ, suc, Bool, true, List, [], ◌∷◌, Option, Some, None, refl, subst, arith}
-use Rattle.std.proofs.lemmas.Bool.Decides.{nat_tests}
-use Rattle.std.specs.List.{AllByRecursion, Contains, flat_map}
-use Rattle.std.proofs.lemmas.Bool.{cond_both}
-use Rattle.path_mgmt.specs.NodePath.{PathsOfNode}
-use Rattle.node_core.specs.declared.copy.Command.{Command}
-use Rattle.node_core.specs.declared.copy.Order.{Order}
-use Rattle.node_core.specs.declared.copy.Order.TheVariants.{Release, Cancel}
-use Rattle.node_core.specs.declared.copy.PacketCopy.{PacketCopy}
-use Rattle.node_core.specs.declared.copy.Verdict.{Verdict}
-use Rattle.node_core.specs.declared.copy.Verdict.TheVariants.{Sealed}
-use Rattle.node_core.specs.declared.peer.Peer.{Peer}
-use Rattle.node_core.specs.declared.sending.Sending.{Sending}
+use Rattle.node_core.proofs.Names.{again, all_drawn, AllByRecursion, appointing, befallen, Cancel, chosen, Command, command_of, cond_both, Contains, copy_to, due, due_by_copies, due_by_verdict, due_for, due_for_all, due_now, flat_map, is_done, IsChoice, IsChoiceOf, moved, moved_at_tick, nat_tests, next_number, NodeValue, Order, PacketCopy, PacketState, PathsOfNode, Peer, probes_from, Release, releasing, Sealed, Sending, settling, settling_beside, settling_by, test_of, Verdict}
 use Rattle.node_core.specs.declared.sending.Sending.TheVariants as send
-use Rattle.node_core.specs.Choosing.{IsChoice, IsChoiceOf}
-use Rattle.node_core.specs.Moving.{appointing, moved_at_tick}
-use Rattle.node_core.specs.Packets.{PacketState, chosen, is_done}
-use Rattle.node_core.specs.Peers.{all_drawn, next_number}
-use Rattle.node_core.specs.Sendings.{again, command_of, copy_to, due_by_copies, due_by_verdict, due_for, due_for_all, probes_from, releasing, settling, settling_beside, settling_by, test_of}
-use Rattle.node_core.specs.Ticks.{due, due_now, moved}
-use Rattle.node_core.specs.Value.{NodeValue, befallen}
 use Rattle.node_core.proofs.CaseLemmas.{contains_more, each_append, each_contains, in_head}
 
 -- a copy that is new or sent again, the test of one, a release or a cancel

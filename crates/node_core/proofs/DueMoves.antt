@@ -1,27 +1,8 @@
 -- What is due for a packet makes moves, one for each number that it draws, and is of the packet's copies: each release
 -- or cancel is the one that was sent for its copy.
 use Rattle.std.proofs.Common.{◌≡◌, ⊎_elim, ℕ, List, [], ◌∷◌, Option, Some, None, refl, subst, ◌∙◌, ◌≢◌, ◌⊎◌, inl, inr, ◌<◌, ◌≤◌, ◌==◌, Bool, true, false, ◌++◌, length, map, sym, ap, arith, if◌then◌else◌}
-use Rattle.std.proofs.lemmas.Bool.Decides.{nat_tests}
-use Rattle.std.specs.List.{Contains, AllByRecursion, flat_map, list_any}
-use Rattle.std.proofs.lemmas.Bool.{cond_both, false≢true}
-use Rattle.std.proofs.lemmas.Bool.Decides.{eqb_tells}
-use Rattle.std.proofs.lemmas.List.Elements.{Contains-push}
-use Rattle.std.specs.Option.{option_map_or, option_or, IfSome}
-use Rattle.node_core.specs.declared.copy.Command.{Command}
-use Rattle.node_core.specs.declared.copy.Order.{Order}
-use Rattle.node_core.specs.declared.copy.PacketCopy.{PacketCopy}
-use Rattle.node_core.specs.declared.sending.Sending.{Sending}
+use Rattle.node_core.proofs.Names.{AllByRecursion, asking, Cancel, chosen, Command, command_by, command_of, command_unless, commanded, cond_both, Contains, Contains-push, copies_after, copy_to, CopyGrows, drawn, due_by_copies, due_by_verdict, eqb_tells, Extends, false≢true, flat_map, HasCopyAt, Held, IfSome, is_answered, is_held, is_of, IsCommandOf, IsSent, list_any, nat_tests, new_copy, next_number, option_map_or, option_or, Order, PacketCopy, PacketState, Peer, Release, releasing, repeating, Sealed, Sending, settling, settling_beside, settling_by, test_of, Unknown, Verdict, with_command}
 use Rattle.node_core.specs.declared.sending.Sending.TheVariants as send
-use Rattle.node_core.specs.Growing.{CopyGrows, Extends}
-use Rattle.node_core.specs.Packets.{PacketState, chosen, commanded, copies_after, is_of, with_command}
-use Rattle.node_core.specs.Sent.{HasCopyAt, IsCommandOf, IsSent}
-use Rattle.node_core.specs.declared.copy.Order.TheVariants.{Release, Cancel}
-use Rattle.node_core.specs.declared.copy.Verdict.{Verdict}
-use Rattle.node_core.specs.declared.copy.Verdict.TheVariants.{Unknown, Sealed, Held}
-use Rattle.node_core.specs.declared.peer.Peer.{Peer}
-use Rattle.node_core.specs.Copies.{is_answered, is_held, new_copy}
-use Rattle.node_core.specs.Peers.{drawn, next_number}
-use Rattle.node_core.specs.Sendings.{asking, command_by, command_of, command_unless, copy_to, due_by_copies, due_by_verdict, releasing, repeating, settling, settling_beside, settling_by, test_of}
 use Rattle.node_core.proofs.CaseLemmas.{contains_more, in_cons, in_head, in_none, each_contains, find_is, in_map}
 use Rattle.node_core.proofs.ChosenLemmas.{AreApart, HasOrder, cancelled, choice_released, chosen_is, found_at, may_commanded, may_still, none_held, own_number}
 use Rattle.node_core.proofs.KeptLemmas.{IsKept, IsPlaced}

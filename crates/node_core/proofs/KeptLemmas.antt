@@ -1,20 +1,7 @@
 -- What each move and each response leaves of a packet's copies: they are at as many gateways, the first alone is plain,
 -- their numbers are below the next ones, and what was sent for them rests on the choice.
 use Rattle.std.proofs.Common.{◌≡◌, ◌≢◌, ℕ, suc, ◌<◌, ◌≤◌, ◌==◌, false, List, [], ◌∷◌, ◌++◌, length, map, None, refl, sym, ◌∙◌, arith}
-use Rattle.std.proofs.lemmas.Bool.Decides.{nat_tests}
-use Rattle.std.specs.List.{AllByRecursion}
-use Rattle.std.specs.Option.{IfSome}
-use Rattle.std.proofs.lemmas.Bool.{eqb-false}
-use Rattle.std.proofs.lemmas.Bool.Decides.{eqb_tells}
-use Rattle.std.proofs.lemmas.List.Elements.{All-map, All-nil, All-push, All-weaker}
-use Rattle.std.proofs.lemmas.Option.{IfSome_then}
-use Rattle.node_core.specs.declared.copy.Command.{Command}
-use Rattle.node_core.specs.declared.copy.PacketCopy.{PacketCopy}
-use Rattle.node_core.specs.declared.peer.Peer.{Peer}
-use Rattle.node_core.specs.declared.port.Port.{Port}
-use Rattle.node_core.specs.Copies.{command_hearing, copy_hearing, new_copy}
-use Rattle.node_core.specs.Packets.{PacketState, commanded}
-use Rattle.node_core.specs.Peers.{next_number}
+use Rattle.node_core.proofs.Names.{All-map, All-nil, All-push, All-weaker, AllByRecursion, Command, command_hearing, commanded, copy_hearing, eqb-false, eqb_tells, IfSome, IfSome_then, nat_tests, new_copy, next_number, PacketCopy, PacketState, Peer, Port}
 use Rattle.node_core.specs.Roles.{IsPlainFirst}
 use Rattle.node_core.proofs.CaseLemmas.{StaysPut, commanded_puts, either_hears, hearing_puts, if_mapped, if_or, each_map, each_push, each_weaker, find_none}
 use Rattle.node_core.proofs.ChosenLemmas.{AreApart, Chosen, Waits, chosen_map, hearing_keeps, chosen_moved, waits_hearing, waits_moved}

@@ -1,28 +1,8 @@
 -- What a node knows of a copy of an open packet is what the first response tells that says something of its number.
 use Rattle.std.proofs.Common.{◌≡◌, ℕ, ◌<◌, ◌≤◌, ◌==◌, ◌&&◌, ◌||◌, Bool, true, false, if◌then◌else◌, List, [], ◌∷◌, ◌++◌, length, map, Option, Some, None, refl, sym, ap, ◌∙◌, arith, inl, inr}
-use Rattle.std.proofs.lemmas.Bool.Decides.{nat_tests}
-use Rattle.std.proofs.Math.Bool.{and-false, and-true, or-false}
-use Rattle.std.specs.List.{All, AllByRecursion, Contains, list_any}
-use Rattle.std.specs.Option.{IfSome}
-use Rattle.std.proofs.lemmas.Bool.Decides.{eqb_tells}
-use Rattle.std.proofs.lemmas.List.{append-nil}
-use Rattle.std.proofs.lemmas.List.Elements.{All-from_recursion}
-use Rattle.std.proofs.lemmas.List.Folds.{list_any-append, list_any_none}
-use Rattle.std.proofs.lemmas.Bool.{and_from, and_parts, cases_Bool, cond_both, eqb-true, false_from_ne_true, false≢true}
-use Rattle.std.proofs.lemmas.Option.{IfSome_then}
-use Rattle.node_core.specs.declared.copy.Command.{Command}
-use Rattle.node_core.specs.declared.copy.Order.{Order}
-use Rattle.node_core.specs.declared.copy.PacketCopy.{PacketCopy}
-use Rattle.node_core.specs.declared.peer.Peer.{Peer}
-use Rattle.node_core.specs.declared.port.Port.{Port}
-use Rattle.node_core.specs.declared.sending.Sending.{Sending}
+use Rattle.node_core.proofs.Names.{All, All-from_recursion, AllByRecursion, and-false, and-true, and_from, and_parts, append-nil, Appointed, cases_Bool, Command, commanded, cond_both, Contains, copies_after, copy_hearing, copy_hearing_own, eqb-true, eqb_tells, false_from_ne_true, false≢true, first_told, Heard, IfSome, IfSome_then, is_done, is_fulfilled, list_any, list_any-append, list_any_none, log_of, LogEntry, nat_tests, next_number, NodeCall, NodeSetup, or-false, Order, packet_after_all, packet_hearing, PacketCopy, packets_of, PacketState, Peer, Port, reached, Responds, Saying, Sending, Ticked, told_if, while_open}
 use Rattle.node_core.specs.declared.sending.Sending.TheVariants as send
-use Rattle.node_core.specs.Copies.{copy_hearing, copy_hearing_own, first_told, is_fulfilled, told_if}
 use Rattle.node_core.specs.Knowing.{AreKnown, IsKnown, Response, draws, first_of, is_fulfilled_at, responses_to, tellings}
-use Rattle.node_core.specs.Log.{LogEntry, Appointed, Ticked, Heard, NodeSetup, Saying, Responds, packets_of}
-use Rattle.node_core.specs.Packets.{PacketState, commanded, copies_after, is_done, packet_after_all, while_open, packet_hearing}
-use Rattle.node_core.specs.Peers.{next_number}
-use Rattle.node_core.specs.Reached.{NodeCall, log_of, reached}
 use Rattle.node_core.proofs.CaseLemmas.{after_all_keeps, if_mapped, if_or, each_both, each_map, each_push, each_weaker, passes_in}
 use Rattle.node_core.proofs.ChosenLemmas.{own_number}
 use Rattle.node_core.proofs.KeptLemmas.{AllKept, IsBelow}

@@ -1,23 +1,7 @@
 -- What a node knows within a start only grows, and rests on what it heard since its start.
 use Rattle.std.proofs.Common.{◌≡◌, ℕ, ◌&&◌, true, false, List, [], ◌∷◌, ◌++◌, map, Option, option_map, refl, ap, inl, inr, ◌||◌, Bool, sym, arith}
-use Rattle.std.proofs.lemmas.Bool.Decides.{nat_tests}
-use Rattle.std.proofs.lemmas.Bool.{and_from, and_parts, or_cases, or_left, or_right}
-use Rattle.std.specs.List.{list_any, All, AllByRecursion, Contains}
-use Rattle.std.proofs.lemmas.List.Elements.{All-from_recursion}
-use Rattle.std.proofs.lemmas.Bool.Decides.{eqb_tells}
-use Rattle.std.proofs.lemmas.Option.{IfSome_then}
-use Rattle.node_core.specs.declared.copy.Command.{Command}
-use Rattle.node_core.specs.declared.copy.PacketCopy.{PacketCopy}
-use Rattle.node_core.specs.declared.copy.Verdict.{Verdict}
-use Rattle.node_core.specs.declared.copy.Verdict.TheVariants.{Unknown}
-use Rattle.node_core.specs.declared.port.Port.{Port}
-use Rattle.node_core.specs.declared.sending.Sending.{Sending}
+use Rattle.node_core.proofs.Names.{All, All-from_recursion, AllByRecursion, and_from, and_parts, Appointed, Command, command_hearing, commanded, CommandGrows, Contains, copies_after, copy_hearing, copy_hearing_own, CopyGrows, eqb_tells, Extends, first_told, Heard, IfSome_then, is_filed, is_fulfilled, is_released, is_resolved, is_unknown, is_within_start, list_any, LogEntry, names, nat_tests, or_cases, or_left, or_right, Order, packet_after_all, packet_hearing, PacketCopy, PacketGrows, packets_of, PacketState, Port, Responds, Sending, Submitted, Ticked, told_if, Unknown, Verdict, while_open}
 use Rattle.node_core.specs.declared.sending.Sending.TheVariants as send
-use Rattle.node_core.specs.Copies.{command_hearing, copy_hearing, first_told, is_filed, is_released, is_unknown, copy_hearing_own, is_fulfilled, names, told_if}
-use Rattle.node_core.specs.Growing.{CommandGrows, CopyGrows, Extends, PacketGrows, is_within_start}
-use Rattle.node_core.specs.Log.{LogEntry, Submitted, Appointed, Ticked, Heard, Responds, packets_of}
-use Rattle.node_core.specs.Packets.{PacketState, commanded, copies_after, is_resolved, packet_after_all, packet_hearing, while_open}
-use Rattle.node_core.specs.declared.copy.Order.{Order}
 use Rattle.node_core.specs.Resting.{AllRestOn, IsFulfilled, IsTold, RestsOn, since_start}
 use Rattle.node_core.proofs.NodeLemmas.{after_all-number}
 use Rattle.node_core.proofs.CaseLemmas.{after_all_keeps, either_commanded, either_hears, either_open, if_mapped, if_or, contains_more, each_map, each_push, each_weaker}

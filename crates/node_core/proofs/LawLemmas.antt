@@ -1,30 +1,9 @@
 -- What stands of each packet, number and request of every node.
 use Rattle.std.proofs.Common.{◌≡◌, ◌≢◌, ◌≤◌, true, List, [], ◌∷◌, length, refl, arith, ℕ, min, ◌==◌, Bool, if◌then◌else◌, ◌++◌, map, Option, Some, sym, ap, ◌∙◌, append_assoc, inl, inr, subst}
-use Rattle.std.proofs.lemmas.Bool.Decides.{nat_tests}
-use Rattle.std.specs.List.{All, AllByRecursion, AllPairs, filter, flat_map}
-use Rattle.std.proofs.lemmas.List.Elements.{All-from_recursion}
+use Rattle.node_core.proofs.Names.{All, All-from_recursion, all_numbers_of, all_unsettled_at, AllByRecursion, AllPairs, Command, cond_both, due, eqb_tells, filter, flat_map, HasCopyOf, IfSome, IfSome_then, is_chosen, IsChoice, IsSent, least, log_of, LogEntry, logged, nat_tests, next_number, NodeCall, NodeSetup, numbers_at, option_to_list, PacketCopy, packets_of, PacketState, Peer, peers_of, reached, ReleasesChoice, Sending, Tick, tick_entries, unsettled_at}
 use Rattle.std.proofs.lemmas.List.Kept.{AllPairs-cons}
-use Rattle.std.proofs.lemmas.Option.{IfSome_then}
-use Rattle.std.specs.Option.{IfSome, option_to_list}
-use Rattle.std.proofs.lemmas.Bool.Decides.{eqb_tells}
-use Rattle.std.proofs.lemmas.Bool.{cond_both}
-use Rattle.node_core.specs.declared.copy.PacketCopy.{PacketCopy}
-use Rattle.node_core.specs.declared.peer.Peer.{Peer}
-use Rattle.node_core.specs.Choosing.{IsChoice, ReleasesChoice}
-use Rattle.node_core.specs.Copies.{is_chosen}
-use Rattle.node_core.specs.Log.{NodeSetup, LogEntry, packets_of, peers_of}
-use Rattle.node_core.specs.Packets.{PacketState}
-use Rattle.node_core.specs.Reached.{NodeCall, reached, Tick, log_of}
 use Rattle.node_core.specs.Roles.{IsSingle, DrawsBetween}
-use Rattle.node_core.specs.declared.copy.Command.{Command}
-use Rattle.node_core.specs.Nearness.{all_numbers_of, all_unsettled_at}
-use Rattle.node_core.specs.Peers.{next_number}
-use Rattle.node_core.specs.Submitting.{least, numbers_at, unsettled_at}
-use Rattle.node_core.specs.declared.sending.Sending.{Sending}
 use Rattle.node_core.specs.declared.sending.Sending.TheVariants as send
-use Rattle.node_core.specs.Sent.{HasCopyOf, IsSent}
-use Rattle.node_core.specs.Ticks.{due, tick_entries}
-use Rattle.node_core.specs.Value.{logged}
 use Rattle.node_core.proofs.ChosenLemmas.{AreApart, Chosen, found_chosen}
 use Rattle.node_core.proofs.KeptLemmas.{IsBelow, IsKept, AllKept, IsBetween}
 use Rattle.node_core.proofs.CaseLemmas.{each_both, each_weaker, each_contains}

@@ -1,4 +1,5 @@
 pub mod CopiesLemmas
+pub mod Names
 pub mod NodeLemmas
 pub mod DraftLemmas
 pub mod PlanLemmas

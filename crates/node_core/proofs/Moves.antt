@@ -1,20 +1,6 @@
 -- The moves of a tick, one number each: a packet gets one more copy, or a release or a cancel for one of its copies.
 use Rattle.std.proofs.Common.{◌≡◌, ℕ, zero, suc, min, ◌<◌, ◌==◌, Bool, true, false, List, [], ◌∷◌, ◌++◌, length, map, Option, Some, None, refl, sym, ap, ◌∙◌, arith, ◌≢◌}
-use Rattle.std.proofs.lemmas.Bool.Decides.{nat_tests}
-use Rattle.std.specs.List.{find, list_any}
-use Rattle.std.proofs.lemmas.Bool.Decides.{eqb_tells}
-use Rattle.std.proofs.lemmas.Bool.{ne_eqb}
-use Rattle.std.proofs.lemmas.List.{length-map}
-use Rattle.node_core.specs.declared.copy.Command.{Command}
-use Rattle.node_core.specs.declared.copy.Order.{Order}
-use Rattle.node_core.specs.declared.copy.Order.TheVariants.{Release, Cancel}
-use Rattle.node_core.specs.declared.copy.PacketCopy.{PacketCopy}
-use Rattle.node_core.specs.declared.copy.Verdict.{Verdict}
-use Rattle.node_core.specs.declared.copy.Verdict.TheVariants.{Filed, Sealed, Held}
-use Rattle.node_core.specs.declared.peer.Peer.{Peer}
-use Rattle.node_core.specs.Copies.{is_chosen, new_copy}
-use Rattle.node_core.specs.Packets.{PacketState, chosen, commanded, is_done}
-use Rattle.node_core.specs.Peers.{at_place, next_number, number_drawn}
+use Rattle.node_core.proofs.Names.{at_place, Cancel, chosen, Command, commanded, eqb_tells, Filed, find, Held, is_chosen, is_done, length-map, list_any, nat_tests, ne_eqb, new_copy, next_number, number_drawn, Order, PacketCopy, PacketState, Peer, Release, Sealed, Verdict}
 
 pub data Move : Type 0 where
   Copying : (gateway : ℕ) → Move

@@ -1,29 +1,6 @@
 -- What holds of every node after what befalls it, and one more entry of the log makes of a node what befalls it.
 use Rattle.std.proofs.Common.{◌≡◌, ℕ, suc, ◌+◌, ◌-◌, ◌≤◌, ◌<◌, ◌==◌, lit≤, List, [], ◌∷◌, ◌++◌, length, map, take, drop, set, get_or, length-append, inl, inr, None, refl, sym, subst, ◌∙◌, arith, min, ◌%◌, Bool, true, IsTrue, if◌then◌else◌, Option, ap}
-use Rattle.std.proofs.lemmas.Bool.Decides.{nat_tests}
-use Rattle.std.proofs.lemmas.Bool.Decides.{eqb_tells}
-use Rattle.std.proofs.lemmas.List.{length-map}
-use Rattle.std.proofs.lemmas.List.Edits.{map_over_more}
-use Rattle.std.proofs.lemmas.List.Elements.{All-map}
-use Rattle.std.specs.List.{find}
-use Rattle.std.specs.Prelude.{slice_get}
-use Rattle.std.proofs.lemmas.Bool.{cond_both}
-use Rattle.gw_base.specs.declared.address.Addr.{Addr}
-use Rattle.node_core.specs.declared.peer.Peer.{Peer}
-use Rattle.node_core.specs.declared.sending.Sending.{Sending}
-use Rattle.node_core.specs.NodeFields.{IsSound}
-use Rattle.node_core.specs.Packets.{PacketState, packet_after, packet_after_all, while_open}
-use Rattle.node_core.specs.Peers.{AreNumbers, end_of_numbers, peer_anew, all_drawn, drawn, number_drawn}
-use Rattle.node_core.specs.Sound.{AreNumbered}
-use Rattle.node_core.specs.Value.{NodeValue, peers_anew, IsNode, CanFollow, CanFollowAll, befallen, befell, logged, most_quiet, node_of}
-use Rattle.path_mgmt.specs.NodePath.{PathsOfNode, node_after}
-use Rattle.path_mgmt.specs.declared.event.PathEvent.{PathEvent}
-use Rattle.node_core.specs.declared.port.Port.{Port}
-use Rattle.node_core.specs.Log.{LogEntry, Began, Submitted, Appointed, Ticked, Heard, NodeSetup, Saying, counter_of, favourite, has_entries, paths_hearing, paths_of, peers_of, restarted}
-use Rattle.node_core.specs.Hearing.{Taken, heard_entries, taken_entries}
-use Rattle.node_core.specs.Moving.{appointing}
-use Rattle.node_core.specs.Reached.{NodeCall, call_entries, log_of, reached}
-use Rattle.node_core.specs.Ticks.{tick_entries}
+use Rattle.node_core.proofs.Names.{Addr, All-map, all_drawn, Appointed, appointing, AreNumbered, AreNumbers, befallen, befell, Began, call_entries, CanFollow, CanFollowAll, cond_both, counter_of, drawn, end_of_numbers, eqb_tells, favourite, find, has_entries, Heard, heard_entries, IsNode, IsSound, length-map, log_of, LogEntry, logged, map_over_more, most_quiet, nat_tests, node_after, node_of, NodeCall, NodeSetup, NodeValue, number_drawn, packet_after, packet_after_all, PacketState, PathEvent, paths_hearing, paths_of, PathsOfNode, Peer, peer_anew, peers_anew, peers_of, Port, reached, restarted, Saying, Sending, slice_get, Submitted, Taken, taken_entries, tick_entries, Ticked, while_open}
 use Rattle.node_core.proofs.CaseLemmas.{either_open, either_sent}
 use Rattle.node_core.proofs.Moves.{place_keeps}
 
@@ -155,8 +132,11 @@ gateways_stay gateways _ = anew_again gateways
 -- a log has as many gateways as its node was made with
 pub gateways_count : (gateways : List Addr) (log : List LogEntry) → length (peers_of gateways log) ≡ length gateways
 gateways_count gateways log =
-    cc (length-map (peers_of gateways log) (λ (peer : Peer). peer_anew peer.address), gateways_stay gateways log,
-    length-map gateways peer_anew)
+    cc (
+      length-map (peers_of gateways log) (λ (peer : Peer). peer_anew peer.address),
+      gateways_stay gateways log,
+      length-map gateways peer_anew,
+    )
 
 -- ---- the restart counter is that of the paths
 

@@ -1,22 +1,8 @@
 -- A tick, step by step: what is due for the packets, and the Node Alive Requests, from a place on: what is there, and
 -- then from the next place on.
 use Rattle.std.proofs.Common.{◌≡◌, ℕ, suc, ◌+◌, ◌<◌, min, Bool, List, [], ◌∷◌, ◌++◌, length, map, drop, get_or, Option, Some, None, refl, sym, ap, ◌∙◌, append_assoc, add-one, arith}
-use Rattle.std.proofs.lemmas.Bool.Decides.{nat_tests}
-use Rattle.std.proofs.lemmas.List.{at_drop_all, at_drop_more}
-use Rattle.std.specs.Option.{option_or}
+use Rattle.node_core.proofs.Names.{all_drawn, appointing, at_drop_all, at_drop_more, befallen, drawn, due_by, due_for, due_for_all, due_now, favourite_by, is_alive, most_quiet, moved_at_tick, nat_tests, NodeValue, numbers_out, option_or, out_at, packet_after, packet_after_all, PacketState, PathsOfNode, Peer, planned, probe_of, probes, probes_from, quiet_by, Sending, tick_entries, Ticked, while_open}
 use Rattle.std.specs.Prelude.{IfSome}
-use Rattle.path_mgmt.specs.NodePath.{PathsOfNode, is_alive}
-use Rattle.node_core.specs.declared.peer.Peer.{Peer}
-use Rattle.node_core.specs.declared.sending.Sending.{Sending}
-use Rattle.node_core.specs.Log.{Ticked}
-use Rattle.node_core.specs.Moving.{appointing, favourite_by, moved_at_tick, quiet_by}
-use Rattle.node_core.specs.Packets.{PacketState, packet_after, packet_after_all, while_open}
-use Rattle.node_core.specs.Peers.{all_drawn, drawn}
-use Rattle.node_core.specs.Sendings.{due_for, due_for_all, probe_of, probes, probes_from}
-use Rattle.node_core.specs.Sound.{planned}
-use Rattle.node_core.specs.Submitting.{numbers_out, out_at}
-use Rattle.node_core.specs.Ticks.{due_by, due_now, tick_entries}
-use Rattle.node_core.specs.Value.{NodeValue, befallen, most_quiet}
 use Rattle.node_core.proofs.NodeLemmas.{all_drawn_keeps, length-anew}
 
 pub after_more : (sendings : List Sending) (packet : PacketState) (i : ℕ) (d : Sending) → i < length sendings →
@@ -106,7 +92,7 @@ pub probe_step : (paths : PathsOfNode) (gateways : List Peer) (sendings₀ : Lis
 probe_step paths gateways sendings₀ peers₀ sendings sendings₁ peers peers₁ i d below sent numbered so_far =
     let here : List Sending = probe_of (is_alive paths i) i (get_or gateways i d) in
     let later : List Sending = probes_from (i + 1) paths (drop (i + 1) gateways) in (
-        search (arith, append_assoc, probes_more),
+      search (arith, append_assoc, probes_more),
       ap (all_drawn later) numbered ∙ sym (all_drawn_append here later peers)
           ∙ ap (λ (xs : List Sending). all_drawn xs peers) (sym (probes_more paths gateways i d below)) ∙ so_far.1,
     )

@@ -1,32 +1,11 @@
 -- What holds of a node without packets, and stays through each move, submission and response, holds of every node that any
 -- calls make.
 use Rattle.std.proofs.Common.{◌≡◌, ℕ, suc, ◌+◌, ◌*◌, ◌%◌, ◌<◌, ◌≤◌, ◌==◌, ◌&&◌, Bool, false, if◌then◌else◌, nat_le, nat_lt, List, [], ◌∷◌, ◌++◌, length, map, Option, Some, None, inl, refl, ap, ◌∙◌, arith, length-append}
-use Rattle.std.proofs.lemmas.Bool.Decides.{nat_tests}
-use Rattle.std.specs.List.{AllByRecursion}
-use Rattle.std.specs.Option.{IfSome, option_and_then}
-use Rattle.std.proofs.lemmas.Bool.{cond_both, leb-false, ltb-true}
-use Rattle.std.proofs.lemmas.List.{length-map}
+use Rattle.node_core.proofs.Names.{Addr, all_drawn, AllByRecursion, another, Appointed, appointing, AreNumbered, befallen, Began, call_entries, cond_both, Dropped, due, due_now, entries_from, entries_halted, entries_running, favourite, Halt, Halted, has_ip, Hear, Heard, IfSome, is_alive, is_refusal, is_silent, IsSent, leb-false, length-map, log_of, LogEntry, logged, ltb-true, most_submissions, moved_at_tick, moved_by, nat_tests, next_number, next_place, node_of, NodeCall, NodeSetup, NodeValue, numbers_out, open_among, option_and_then, packet_after_all, packet_hearing, PacketForm, packets_of, PacketState, Peer, peer_anew, peers_of, place_at, place_of, Port, reached, redirected, Redirects, refusal, Responds, Saying, Says, Sending, Start, Submit, submit_entries, Submitted, submitted, Taken, taken, taken_entries, Tick, tick_entries, Ticked, while_open}
 use Rattle.std.proofs.lemmas.List.Quantifiers.{position-Some}
 use Rattle.byteorder.specs.Endian.{big_number}
-use Rattle.gtpp_message.specs.Packet.{PacketForm}
-use Rattle.gw_base.specs.declared.address.Addr.{Addr}
-use Rattle.path_mgmt.specs.NodePath.{is_alive}
 use Rattle.node_core.specs.declared.fault.SubmitFault.{SubmitFault}
-use Rattle.node_core.specs.declared.peer.Peer.{Peer}
-use Rattle.node_core.specs.declared.port.Port.{Port}
-use Rattle.node_core.specs.declared.sending.Sending.{Sending}
 use Rattle.node_core.specs.Drafts.{is_without_records}
-use Rattle.node_core.specs.Hearing.{Taken, Dropped, Says, entries_from, taken, taken_entries}
-use Rattle.node_core.specs.Log.{LogEntry, Began, Halted, Submitted, Appointed, Ticked, Heard, NodeSetup, Saying, Redirects, Responds, favourite, packets_of, peers_of, submitted}
-use Rattle.node_core.specs.Moving.{another, appointing, is_refusal, is_silent, moved_at_tick, moved_by, next_place, place_at, redirected}
-use Rattle.node_core.specs.Packets.{PacketState, packet_after_all, packet_hearing, while_open}
-use Rattle.node_core.specs.Peers.{all_drawn, has_ip, next_number, peer_anew, place_of}
-use Rattle.node_core.specs.Reached.{Halt, Hear, NodeCall, Start, Submit, Tick, call_entries, entries_halted, entries_running, log_of, most_submissions, reached, submit_entries}
-use Rattle.node_core.specs.Sent.{IsSent}
-use Rattle.node_core.specs.Sound.{AreNumbered}
-use Rattle.node_core.specs.Submitting.{numbers_out, open_among, refusal}
-use Rattle.node_core.specs.Ticks.{due, due_now, tick_entries}
-use Rattle.node_core.specs.Value.{NodeValue, befallen, logged, node_of}
 use Rattle.node_core.proofs.CaseLemmas.{either_open, if_or, each_map, each_push}
 use Rattle.node_core.proofs.KeptLemmas.{AllKept, GoOn, IsKept, all_kept_after, all_kept_moved, kept_hearing}
 use Rattle.node_core.proofs.Moves.{Move, Moves, One, onward, peers_moved, still}

@@ -1,19 +1,6 @@
 -- Each number that is drawn is that of one copy, or of one release or cancel.
 use Rattle.std.proofs.Common.{◌≡◌, ◌≢◌, ℕ, suc, ◌+◌, ◌<◌, ◌≤◌, List, [], ◌∷◌, ◌++◌, length, map, Some, None, refl, arith, inl, inr}
-use Rattle.std.proofs.lemmas.Bool.Decides.{nat_tests}
-use Rattle.std.proofs.lemmas.Bool.Decides.{eqb_tells}
-use Rattle.std.proofs.lemmas.Bool.{eq-eqb, ne_eqb}
-use Rattle.std.proofs.lemmas.List.Elements.{All-from_recursion}
-use Rattle.std.proofs.lemmas.List.Folds.{map_fixed}
-use Rattle.node_core.specs.declared.copy.Command.{Command}
-use Rattle.node_core.specs.declared.copy.PacketCopy.{PacketCopy}
-use Rattle.node_core.specs.declared.peer.Peer.{Peer}
-use Rattle.node_core.specs.declared.port.Port.{Port}
-use Rattle.node_core.specs.Copies.{copy_hearing}
-use Rattle.node_core.specs.Log.{NodeSetup}
-use Rattle.node_core.specs.Packets.{PacketState, commanded, packet_hearing, while_open}
-use Rattle.node_core.specs.Peers.{next_number}
-use Rattle.node_core.specs.Reached.{NodeCall, reached}
+use Rattle.node_core.proofs.Names.{All-from_recursion, Command, commanded, copy_hearing, eq-eqb, eqb_tells, map_fixed, nat_tests, ne_eqb, next_number, NodeCall, NodeSetup, packet_hearing, PacketCopy, PacketState, Peer, Port, reached, while_open}
 use Rattle.node_core.specs.Roles.{HasOneRole, use_of, uses, uses_by_command, uses_by_copies, uses_by_copy}
 use Rattle.node_core.proofs.CaseLemmas.{at_or_apart, either_hears, either_open, each_weaker}
 use Rattle.node_core.proofs.ChosenLemmas.{AreApart}

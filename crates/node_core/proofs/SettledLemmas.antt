@@ -1,27 +1,7 @@
 -- Packets of which those in front are done: what is asked of all can be asked of the rest. What is due for a packet is
 -- of that packet alone, so each packet changes by what is due for it.
 use Rattle.std.proofs.Common.{◌≡◌, ℕ, zero, suc, ◌+◌, ◌≤◌, ◌<◌, ◌&&◌, not, Bool, true, false, if◌then◌else◌, List, [], ◌∷◌, ◌++◌, length, map, take, drop, set, get_or, Option, None, refl, sym, ap, subst, ◌∙◌, add-one, min, arith, ◌==◌, append_assoc, length-drop}
-use Rattle.std.proofs.lemmas.Bool.Decides.{nat_tests}
-use Rattle.std.specs.List.{count_by, flat_map, list_any, AllByRecursion}
-use Rattle.std.specs.Option.{option_or}
-use Rattle.std.proofs.lemmas.List.{at_drop_all, at_drop_more, map-append, take-append-drop, take-map, take_more}
-use Rattle.std.proofs.lemmas.List.Edits.{map_over_more}
-use Rattle.std.proofs.lemmas.List.Sums.{sum_by-cons}
-use Rattle.std.proofs.lemmas.Bool.{and_parts, cases_Bool, ne_eqb}
-use Rattle.node_core.specs.declared.copy.PacketCopy.{PacketCopy}
-use Rattle.node_core.specs.declared.peer.Peer.{Peer}
-use Rattle.node_core.specs.declared.port.Port.{Port}
-use Rattle.node_core.specs.Hearing.{first_made}
-use Rattle.node_core.specs.Log.{done_among, resolved_among}
-use Rattle.node_core.specs.Moving.{waits_at}
-use Rattle.node_core.specs.Packets.{PacketState, is_done, is_resolved, packet_hearing, while_open, is_of, packet_after, packet_after_all}
-use Rattle.node_core.specs.Sendings.{due_for_all, due_for, probes}
-use Rattle.node_core.specs.Sound.{AllDone, IsSettled, KeptPackets, AreNumbered, planned}
-use Rattle.node_core.specs.Submitting.{least, oldest_number, open_among, unsettled_at}
-use Rattle.path_mgmt.specs.NodePath.{PathsOfNode}
-use Rattle.node_core.specs.declared.sending.Sending.{Sending}
-use Rattle.node_core.specs.Peers.{all_drawn}
-use Rattle.node_core.specs.Ticks.{due_by}
+use Rattle.node_core.proofs.Names.{all_drawn, AllByRecursion, AllDone, and_parts, AreNumbered, at_drop_all, at_drop_more, cases_Bool, count_by, done_among, due_by, due_for, due_for_all, first_made, flat_map, is_done, is_of, is_resolved, IsSettled, KeptPackets, least, list_any, map-append, map_over_more, nat_tests, ne_eqb, oldest_number, open_among, option_or, packet_after, packet_after_all, packet_hearing, PacketCopy, PacketState, PathsOfNode, Peer, planned, Port, probes, resolved_among, Sending, sum_by-cons, take-append-drop, take-map, take_more, unsettled_at, waits_at, while_open}
 use Rattle.node_core.proofs.NodeLemmas.{after_all-number}
 use Rattle.node_core.proofs.DueLemmas.{due_each, probes_each}
 use Rattle.node_core.proofs.CaseLemmas.{each_append}

@@ -1,18 +1,6 @@
 -- Behind each copy's number another copy's number, or the next number, comes within 65.
 use Rattle.std.proofs.Common.{◌≡◌, ℕ, ◌+◌, ◌<◌, ◌≤◌, ◌==◌, ◌&&◌, ◌⊎◌, Bool, true, List, [], ◌∷◌, ◌++◌, length, map, refl, sym, ap, subst, ◌∙◌, arith, inl, inr}
-use Rattle.std.proofs.lemmas.Bool.Decides.{nat_tests}
-use Rattle.std.proofs.Math.Bool.{or-false}
-use Rattle.std.proofs.lemmas.Bool.{and_from, and_parts, eq-eqb, eqb-true, or_cases, or_left, or_right}
-use Rattle.std.proofs.lemmas.List.Folds.{Any-from_list_any, list_any-append}
-use Rattle.std.specs.List.{list_any}
-use Rattle.node_core.specs.declared.copy.PacketCopy.{PacketCopy}
-use Rattle.node_core.specs.declared.peer.Peer.{Peer}
-use Rattle.node_core.specs.declared.port.Port.{Port}
-use Rattle.node_core.specs.Log.{NodeSetup}
-use Rattle.node_core.specs.Nearness.{ComesSoon, HasCopy, HasOpenCopy, IsCopyOrBase}
-use Rattle.node_core.specs.Packets.{PacketState, packet_hearing, while_open}
-use Rattle.node_core.specs.Peers.{next_number}
-use Rattle.node_core.specs.Reached.{NodeCall, reached}
+use Rattle.node_core.proofs.Names.{and_from, and_parts, Any-from_list_any, ComesSoon, eq-eqb, eqb-true, HasCopy, HasOpenCopy, IsCopyOrBase, list_any, list_any-append, nat_tests, next_number, NodeCall, NodeSetup, or-false, or_cases, or_left, or_right, packet_hearing, PacketCopy, PacketState, Peer, Port, reached, while_open}
 use Rattle.node_core.proofs.CaseLemmas.{StaysPut, at_or_apart, commanded_puts, hearing_puts, any_map, each_contains, passes_in}
 use Rattle.node_core.proofs.ChosenLemmas.{own_number}
 use Rattle.node_core.proofs.KeptLemmas.{AllKept, IsBelow, IsKept, goes_on}
@@ -57,8 +45,19 @@ module _ (gateway number : ℕ) where
   in_before : (move : Move) (peers : List Peer) (copies : List PacketCopy) → list_any is_at (copies_moved peers move copies) ≡ true →
       (list_any is_at copies ≡ true) ⊎ ((place move ≡ gateway) × (next_number peers (place move) ≡ number))
   in_before move peers copies has =
-      grind (arith, nat_tests, has, are_none, or_cases, list_any-append, and_parts, or-false, eqb-true, puts_same,
-      commanded_puts)
+      grind (
+        arith,
+        nat_tests,
+        has,
+        are_none,
+        or_cases,
+        list_any-append,
+        and_parts,
+        or-false,
+        eqb-true,
+        puts_same,
+        commanded_puts,
+      )
 
   has_moved : {peers : List Peer} {move : Move} {packets after : List PacketState} → One peers move packets after → has_in packets ≡ true → has_in after ≡ true
   has_moved {peers} {move} (here {packet} {packets} open_yet is) has =

@@ -1,24 +1,8 @@
 -- What a tick makes of the packets and of the numbers is a row of moves; each number that it draws is at least the next
 -- one of its gateway, and each request is of a copy that the packets have then.
 use Rattle.std.proofs.Common.{◌≡◌, ℕ, suc, ◌+◌, ◌%◌, ◌<◌, ◌≤◌, ◌&&◌, Bool, true, false, if◌then◌else◌, List, [], ◌∷◌, ◌++◌, length, map, Option, Some, None, refl, sym, ap, subst, arith}
-use Rattle.std.proofs.lemmas.Bool.{and_right, cond_both}
-use Rattle.std.specs.List.{AllByRecursion}
-use Rattle.std.specs.Option.{option_map_or, option_or}
-use Rattle.std.proofs.lemmas.List.Folds.{list_all-append, list_all-map}
-use Rattle.path_mgmt.specs.NodePath.{PathsOfNode, is_alive}
-use Rattle.node_core.specs.declared.copy.Command.{Command}
-use Rattle.node_core.specs.declared.copy.Order.{Order}
-use Rattle.node_core.specs.declared.copy.PacketCopy.{PacketCopy}
-use Rattle.node_core.specs.declared.peer.Peer.{Peer}
-use Rattle.node_core.specs.declared.sending.Sending.{Sending}
+use Rattle.node_core.proofs.Names.{all_drawn, AllByRecursion, and_right, AreNumbered, Command, commanded, cond_both, copies_after, due_by, due_by_copies, due_for, due_for_all, is_alive, is_done, is_release, is_released, IsSent, list_all-append, list_all-map, new_copy, next_number, option_map_or, option_or, Order, packet_after_all, PacketCopy, PacketState, PathsOfNode, Peer, planned, probe_of, probes, probes_from, Sending, while_open}
 use Rattle.node_core.specs.declared.sending.Sending.TheVariants as send
-use Rattle.node_core.specs.Copies.{is_release, is_released, new_copy}
-use Rattle.node_core.specs.Packets.{PacketState, commanded, copies_after, is_done, packet_after_all, while_open}
-use Rattle.node_core.specs.Peers.{all_drawn, next_number}
-use Rattle.node_core.specs.Sendings.{due_by_copies, due_for, due_for_all, probe_of, probes, probes_from}
-use Rattle.node_core.specs.Sent.{IsSent}
-use Rattle.node_core.specs.Sound.{AreNumbered, planned}
-use Rattle.node_core.specs.Ticks.{due_by}
 use Rattle.node_core.proofs.CaseLemmas.{either_commanded, any_map, each_append, each_weaker}
 use Rattle.node_core.proofs.DueLemmas.{due_each, probes_each}
 use Rattle.node_core.proofs.DueMoves.{Does, HasRoom, Step, due_does, ends, idles, moves, sends, Own, own_goes_on, sent_here, sent_later}
@@ -165,9 +149,19 @@ module _ (favourite : ℕ) (up : Bool) where
       let on : GoOn peers between = moves_go_on first.0 in
       let rest = tick_plan most between packets few (omega (arith, on.size, within)) kept_between.1
       (λ gateway below. omega (arith, bounded_between gateway below)) in
-
-          search (arith, all_drawn_append, moves_on, moves_beyond, each_append, due_draws, each_weaker, draws_before,
-          sent_here, after_all-number, sent_later)
+      search (
+        arith,
+        all_drawn_append,
+        moves_on,
+        moves_beyond,
+        each_append,
+        due_draws,
+        each_weaker,
+        draws_before,
+        sent_here,
+        after_all-number,
+        sent_later,
+      )
 
 -- ---- the Node Alive Requests: as many gateways, with the same request numbers
 

@@ -1,18 +1,8 @@
 -- How many numbers of a gateway an open packet may still draw: 2 before it has a copy there, 1 with a copy, none with a command.
 -- Each move draws one of them.
 use Rattle.std.proofs.Common.{◌≡◌, ◌≢◌, ℕ, suc, ◌+◌, ◌*◌, ◌<◌, ◌≤◌, Bool, true, false, List, [], ◌∷◌, ◌++◌, length, map, Option, Some, None, refl, ap, ◌∙◌, arith}
-use Rattle.std.proofs.lemmas.Bool.Decides.{nat_tests}
+use Rattle.node_core.proofs.Names.{Command, command_hearing, commanded, copy_hearing, eq-eqb, find-append, is_done, nat_tests, ne_eqb, next_number, Order, packet_hearing, PacketCopy, PacketState, Peer, Port, while_open, with_command}
 use Rattle.std.specs.Option.{option_map}
-use Rattle.std.proofs.lemmas.List.Folds.{find-append}
-use Rattle.std.proofs.lemmas.Bool.{eq-eqb, ne_eqb}
-use Rattle.node_core.specs.declared.copy.Command.{Command}
-use Rattle.node_core.specs.declared.copy.PacketCopy.{PacketCopy}
-use Rattle.node_core.specs.declared.peer.Peer.{Peer}
-use Rattle.node_core.specs.declared.port.Port.{Port}
-use Rattle.node_core.specs.Copies.{command_hearing, copy_hearing}
-use Rattle.node_core.specs.Packets.{PacketState, commanded, is_done, packet_hearing, while_open, with_command}
-use Rattle.node_core.specs.Peers.{next_number}
-use Rattle.node_core.specs.declared.copy.Order.{Order}
 use Rattle.node_core.proofs.CaseLemmas.{at_or_apart, commanded_puts, either_hears, either_open, hearing_puts, find_is, find_map}
 use Rattle.node_core.proofs.Moves.{Commanding, CommandsOne, Copying, IsMove, Move, Moves, One, are_none, beyond, command_with, copies_moved, find_at, find_commanded, here, length_moved, next_elsewhere, next_moved, onward, peers_moved, place, still}
 

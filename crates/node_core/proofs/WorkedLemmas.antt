@@ -1,18 +1,10 @@
 -- The definitions computed on two worked stories of a node.
 use Rattle.std.proofs.Common.{◌≡◌, ℕ, true, false, List, [], ◌∷◌, Some, None, refl}
-use Rattle.gtpp_message.specs.Packet.{PacketForm}
-use Rattle.gw_base.specs.declared.address.Addr.{Addr}
+use Rattle.node_core.proofs.Names.{Addr, befallen, Began, Cancel, due, is_done, is_resolved, made_by, node_of, NodeSetup, NodeValue, PacketForm, Path, Port, Redirects, Release, Responds, Saying, saying_entries, Submitted, tick_entries}
 use Rattle.path_mgmt.specs.declared.event.PathEvent.TheVariants.{EchoAsked, AliveTold}
-use Rattle.node_core.specs.declared.copy.Order.TheVariants.{Release, Cancel}
-use Rattle.node_core.specs.declared.port.Port.{Port}
 use Rattle.node_core.specs.declared.port.Port.TheVariants.{First, Second}
 use Rattle.node_core.specs.declared.sending.Sending.TheVariants as send
 use Rattle.node_core.specs.Counting.{counts_of}
-use Rattle.node_core.specs.Hearing.{made_by, saying_entries}
-use Rattle.node_core.specs.Log.{Began, Submitted, NodeSetup, Saying, Path, Redirects, Responds}
-use Rattle.node_core.specs.Packets.{is_done, is_resolved}
-use Rattle.node_core.specs.Ticks.{due, tick_entries}
-use Rattle.node_core.specs.Value.{NodeValue, befallen, node_of}
 
 abbrev gateway : ℕ → Addr
 gateway ip = record { ip = ip; port = 3386 }

@@ -1,13 +1,10 @@
 -- How long a message is, and a message that is spelled with 0 for each number, with its own numbers in their places.
 use Rattle.std.proofs.Common.{◌≡◌, ℕ, ◌+◌, ◌≤◌, ◌%◌, ◌/◌, None, length, refl, arith}
 use Rattle.gtpp_message.specs.Message.{MessageValue, TransferRequest, Possible}
-use Rattle.gtpp_message.specs.Packet.{Empty}
+use Rattle.node_core.proofs.Names.{Empty, Order, path_octets, PathEvent}
 use Rattle.gtpp_message.specs.PathMessages.{path_message, path_number}
 use Rattle.gtpp_message.specs.Writing.{body_octets, written}
-use Rattle.path_mgmt.specs.declared.event.PathEvent.{PathEvent}
-use Rattle.node_core.specs.declared.copy.Order.{Order}
 use Rattle.node_core.specs.declared.copy.Order.TheVariants as order
-use Rattle.node_core.specs.Hearing.{path_octets}
 use Rattle.node_core.specs.Octets.{order_of, wire}
 use Rattle.node_core.specs.Patterns.{numbered_at, order_pattern, test_pattern}
 

@@ -1,26 +1,8 @@
 -- Why an answer isn't pending behind a turn that commits where it has to, and is lost only where the device failed.
 use Rattle.std.proofs.Common.{◌≡◌, ◌≢◌, ℕ, ◌<◌, ◌≤◌, ◌^◌, ◌-◌, ◌==◌, Bool, true, false, if◌then◌else◌, List, [], ◌∷◌, ◌++◌, length, refl, sym, ap, subst, ◌∙◌, append_assoc, arith, inl, inr}
-use Rattle.std.specs.Prelude.{nat_lt}
-use Rattle.std.specs.List.{Contains}
-use Rattle.std.proofs.lemmas.Bool.{cases_lt, eqb-false, eqb-true, false_from_ne_true, ltb-false, ltb-true, or_cases, or_parts}
-use Rattle.std.proofs.lemmas.List.Elements.{All-contains}
-use Rattle.area_disk.specs.Disk.{Rose, last_count}
-use Rattle.area_disk.specs.declared.area.Area.{Ghosts}
-use Rattle.cgf_journal.specs.Trail.{firm_length}
-use Rattle.gateway_book.specs.Turning.{facts_of as book_facts, tells_lists}
-use Rattle.gw_base.specs.Facts.{AreSound, Facts}
+use Rattle.node_session.proofs.Names.{after_turn, All-contains, AreSound, Begins, book_facts, cases_lt, Contains, eqb-false, eqb-true, Facts, false_from_ne_true, Firm, firm_length, Follows, Ghosts, HasCommitted, HistoryEntry, is_above, IsCountedBy, IsToldAt, kept, KeptTurn, Knowledge, last_count, Learns, Lost, ltb-false, ltb-true, nat_lt, NotYet, or_cases, or_parts, Owes, Rose, Saw, Settled, settled_by, Settles, SettlesIn, tells_lists}
 use Rattle.gw_base.specs.Faults.{Stood}
-use Rattle.gw_base.specs.Owes.{Begins, Owes}
-use Rattle.gw_base.specs.declared.history.HistoryEntry.{HistoryEntry}
-use Rattle.gateway_book.specs.Calls.{is_above, settled_by}
-use Rattle.gateway_book.specs.declared.outcome.Settled.{Settled}
-use Rattle.gateway_book.specs.declared.outcome.Settled.TheVariants.{Firm, NotYet, Lost}
-use Rattle.turn_cell.specs.Knowing.{Follows, Saw, after_turn, facts_of, kept}
-use Rattle.turn_cell.specs.declared.knowing.KeptTurn.{KeptTurn}
-use Rattle.turn_cell.specs.declared.knowing.Knowledge.{Knowledge}
-use Rattle.node_session.specs.Asking.{SettlesIn}
-use Rattle.node_session.specs.Learning.{IsCountedBy, Learns}
-use Rattle.node_session.specs.Turns.{HasCommitted, IsToldAt, Settles}
+use Rattle.turn_cell.specs.Knowing.{facts_of}
 
 pub begins_then : (xs ys zs : List HistoryEntry) → Begins xs ys → Begins ys zs → Begins xs zs
 begins_then xs ys zs a b = (a.0 ++ b.0, b.1 ∙ ap (λ (h : List HistoryEntry). h ++ b.0) a.1 ∙ append_assoc xs a.0 b.0)

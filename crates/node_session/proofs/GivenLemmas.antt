@@ -1,40 +1,19 @@
 -- What a writer holds that recovered, or was given items behind those that it had taken, and what a step that takes
 -- items to it does.
 use Rattle.std.proofs.Common.{◌≡◌, ℕ, ◌+◌, ◌<◌, ◌^◌, Bool, true, false, List, [], ◌++◌, length, take, drop, Ok, Err, refl, sym, ap, subst, ◌∙◌, append_assoc, arith, length-append, ◌-◌, ◌≤◌, ◌∷◌, Option, Some, Result}
-use Rattle.std.specs.Prelude.{IsTrue, nat_eq, min, IfOk}
-use Rattle.std.proofs.lemmas.Bool.{true≢false, eq-eqb, eqb-true, and_parts}
-use Rattle.std.proofs.lemmas.List.{append-nil, drop_at, length-drop, length-take, nil_from_length, take-append-drop, take_at}
-use Rattle.std.proofs.lemmas.List.Elements.{All-cons, All-nil}
+use Rattle.node_session.proofs.Names.{All-cons, All-nil, and_parts, append-nil, AreNext, Book, book_facts, drop_at, eq-eqb, eqb-true, Ghosts, HasFailedIn, HasGivenSome, HasListedIn, HasTakenAll, HasTakenOf, HistoryEntry, Holds, HoldsFilesOf, IfOk, is_broken, IsAt, IsTrue, IsWriterOf, items_between, items_by, items_of, KeepsListing, kept, KeptTurn, Knowledge, knowledge, known_by, length-drop, length-take, ListsIn, min, most_items, nat_eq, nil_from_length, none_closed, none_stood, Pass, settings_in, shelf_of, take-append-drop, take_at, taken_of, tells_lists, Told, true≢false, value_of, WhereTold, Writer}
 use Rattle.cdr_shelf.specs.Files.{SealedFile}
-use Rattle.gateway_answer.specs.Items.{items_between, items_of, items_by}
-use Rattle.gw_base.specs.Facts.{WhereTold}
-use Rattle.gw_base.specs.declared.history.HistoryEntry.{HistoryEntry}
 use Rattle.gw_base.specs.declared.item.Item.{Item}
 use Rattle.file_writer.specs.Advancing.{Advances, HasRecovered}
 use Rattle.file_writer.specs.Holding.{IsBegun}
 use Rattle.file_writer.specs.Streams.{Settings}
-use Rattle.file_writer.specs.Writer.{Holds, IsAt, is_broken, settings_in, shelf_of, taken_of}
 use Rattle.file_writer.specs.declared.fault.ShelfFault.{ShelfFault}
-use Rattle.file_writer.specs.declared.writer.Writer.{Writer}
-use Rattle.node_session.specs.Settling.{HasGivenSome, HasTakenAll}
-use Rattle.node_session.specs.Writing.{AreNext, Begins, HasTakenOf, HoldsFilesOf, IsWriterOf, none_closed, none_stood, HasFailedIn, HasListedIn, KeepsListing, most_items}
-use Rattle.area_disk.specs.declared.area.Area.{Ghosts}
+use Rattle.node_session.specs.Writing.{Begins}
 use Rattle.cdr_shelf.specs.declared.shelf.Shelf as shelf
-use Rattle.gate_journal.specs.Moments.{Told}
-use Rattle.gateway_book.specs.Book.{value_of}
 use Rattle.gateway_answer.specs.Filed.{along}
-use Rattle.gateway_book.specs.Turning.{facts_of as book_facts, tells_lists}
-use Rattle.gateway_book.specs.declared.book.Book.{Book}
 use Rattle.gateway_book.specs.declared.outcome.ItemsFault.{ItemsFault}
 use Rattle.gateway_book.specs.declared.outcome.ItemsFault.TheVariants as fault
 use Rattle.gw_base.specs.Owes as owes
-use Rattle.turn_cell.specs.Cell.{knowledge}
-use Rattle.turn_cell.specs.Knowing.{kept}
-use Rattle.turn_cell.specs.declared.cell.Pass.{Pass}
-use Rattle.turn_cell.specs.declared.knowing.KeptTurn.{KeptTurn}
-use Rattle.turn_cell.specs.declared.knowing.Knowledge.{Knowledge}
-use Rattle.node_session.specs.Asking.{ListsIn}
-use Rattle.node_session.specs.Passes.{known_by}
 
 module _ {F : Type 0} {tells : shelf.Ghosts F} (old new : Writer F tells) where
   -- one that recovered has taken none

@@ -1,5 +1,6 @@
 pub mod AskingLemmas
 pub mod GivenLemmas
+pub mod Names
 pub mod OwnedLemmas
 pub mod PushedLemmas
 pub mod ServedLemmas

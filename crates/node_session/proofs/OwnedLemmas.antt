@@ -1,22 +1,9 @@
 -- Why each entry past the beginning is an answer, where each pass added answers alone.
 use Rattle.std.proofs.Common.{◌≡◌, ◌⊎◌, inl, inr, ℕ, zero, suc, ◌<◌, ◌==◌, List, [], ◌∷◌, ◌++◌, length, Option, None, Some, refl, sym, ap, subst, ◌∙◌, arith}
-use Rattle.std.specs.Prelude.{All, slice_index_or}
-use Rattle.std.specs.List.{Contains}
-use Rattle.std.proofs.lemmas.Bool.{cond_both, eq-eqb}
-use Rattle.gw_base.specs.Facts.{Facts}
-use Rattle.gw_base.specs.Owes.{base}
-use Rattle.gw_base.specs.declared.history.HistoryAct.{HistoryAct}
-use Rattle.gw_base.specs.declared.history.HistoryEntry.{HistoryEntry}
-use Rattle.gateway_answer.specs.Answered.{act_decided}
-use Rattle.job_inbox.specs.declared.job.Job.{Job}
+use Rattle.node_session.proofs.Names.{act_decided, AddsAnswers, All, AreAnswers, base, called_for, caller_of, cond_both, Contains, decided_at, entries_of, eq-eqb, Facts, history_at, HistoryAct, HistoryEntry, IsAnswer, IsAnswerTo, Job, KeptTurn, Knowledge, slice_index_or}
 use Rattle.turn_cell.specs.Knowing.{facts_of}
 use Rattle.turn_cell.specs.Passes.{AreOwned}
 use Rattle.turn_cell.specs.Placed.{HasNumber, IsSublist, added_by, by_session, placed}
-use Rattle.turn_cell.specs.declared.knowing.KeptTurn.{KeptTurn}
-use Rattle.turn_cell.specs.declared.knowing.Knowledge.{Knowledge}
-use Rattle.node_session.specs.Answering.{AddsAnswers, AreAnswers, IsAnswer, IsAnswerTo, history_at}
-use Rattle.node_session.specs.Serving.{caller_of}
-use Rattle.node_session.specs.Turns.{called_for, decided_at, entries_of}
 
 abbrev pub Pair : Type 0
 Pair = HistoryEntry × List HistoryEntry

@@ -1,20 +1,13 @@
 -- What becomes of the passes to inboxes when one of them pushes.
 use Rattle.std.proofs.Common.{◌≡◌, ℕ, zero, suc, ◌<◌, List, [], ◌∷◌, length, refl, sym, ap, subst, ◌∙◌, arith}
-use Rattle.std.specs.Prelude.{slice_index_or, slice_set}
-use Rattle.std.proofs.lemmas.List.{get_or-map, set-get_or}
-use Rattle.std.specs.List.{insert, remove}
+use Rattle.node_session.proofs.Names.{Addr, AreOfEach, ComesOf, get_or-map, hands_of, HasReceived, InboxPass, insert, IsIdle, IsNextJob, Job, LinkState, remove, serial_of, session_for, set-get_or, slice_index_or, slice_set, TellsOf, WasFull, with_job, with_one}
 use Rattle.crossbeam_queue.specs.Fifo.{Held}
 use Rattle.gw_base.specs.Faults.{next_count}
-use Rattle.gw_base.specs.declared.address.Addr.{Addr}
 use Rattle.job_inbox.specs.Hands.{Shows}
 use Rattle.job_inbox.specs.Rule.{idle, with_put}
 use Rattle.job_inbox.specs.Inbox.{IsPassOf, capacity_of, knowledge, known_by, made_by}
 use Rattle.job_inbox.specs.declared.hand.Hand.{Hand}
 use Rattle.job_inbox.specs.declared.inbox.Inbox.{Inbox}
-use Rattle.job_inbox.specs.declared.inbox.InboxPass.{InboxPass}
-use Rattle.job_inbox.specs.declared.job.Job.{Job}
-use Rattle.net_link.specs.Datagrams.{LinkState, with_one}
-use Rattle.node_session.specs.Receiving.{AreOfEach, ComesOf, HasReceived, IsIdle, IsNextJob, TellsOf, WasFull, hands_of, serial_of, session_for, with_job}
 use Rattle.node_session.specs.declared.dispatched.Dispatched.{Dispatched}
 use Rattle.node_session.specs.declared.dispatched.Dispatched.TheVariants as dispatched
 use Rattle.node_session.specs.declared.dispatcher.Dispatcher.{Dispatcher}

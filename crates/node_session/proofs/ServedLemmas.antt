@@ -1,48 +1,16 @@
 -- What a session tells of a job, by what it did step by step.
 use Rattle.std.proofs.Common.{◌≡◌, ◌⊎◌, inl, inr, ℕ, ◌≤◌, Bool, List, [], ◌∷◌, ◌++◌, length, Option, Some, None, Result, Ok, Err, refl, sym, ap, subst, ◌∙◌, append_assoc, arith}
-use Rattle.std.specs.Prelude.{All, IfSome, MatchOption}
-use Rattle.std.specs.List.{Contains}
-use Rattle.std.proofs.lemmas.List.{append-nil}
-use Rattle.std.proofs.lemmas.List.Elements.{All-cons, All-nil, Contains-append_left, Contains-push}
-use Rattle.area_disk.specs.declared.area.Area.{Ghosts}
-use Rattle.gw_base.specs.Facts.{Facts, WhereTold}
-use Rattle.gw_base.specs.Owes.{Begins}
-use Rattle.gateway_answer.specs.Answer.{Decided, Says, Silent, failure_reply}
-use Rattle.gateway_answer.specs.Answered.{act_decided}
+use Rattle.node_session.proofs.Names.{act_decided, Addr, All, All-cons, All-nil, append-nil, Begins, book_facts, called_at, Caller, caller_of, cause_in, Concludes, Contains, Contains-append_left, Contains-push, Decided, Facts, failure_reply, Ghosts, Go, GoesFrom, GoesOn, HasSent, HasTurnFor, history_at, HistoryAct, HistoryEntry, IfSome, IsAnswerTo, IsAsked, IsCountedBy, IsFaultAt, IsReplyAt, IsServed, Job, KeepsTurns, kept, KeptTurn, Knowledge, knowledge, known_by, Learns, LinkState, MatchOption, MayHave, once_sent, Outcome, Pass, prepared_of, Saw, Says, SendsFor, SendsTo, Served, Settled, Silent, TakesIn, Tells, tells_lists, TellsBehind, WhereTold}
 use Rattle.gateway_book.specs.Caller as caller
-use Rattle.gateway_book.specs.Calls.{cause_in}
-use Rattle.gateway_answer.specs.Preparing.{prepared_of}
-use Rattle.gateway_book.specs.Turning.{facts_of as book_facts, tells_lists}
-use Rattle.gateway_book.specs.declared.outcome.Outcome.{Outcome}
 use Rattle.gateway_book.specs.declared.outcome.Outcome.TheVariants as outcome
 use Rattle.gateway_book.specs.declared.outcome.Receipt.{Receipt}
-use Rattle.gateway_book.specs.declared.outcome.Settled.{Settled}
 use Rattle.gateway_book.specs.declared.outcome.Settled.TheVariants as settled
-use Rattle.gw_base.specs.declared.address.Addr.{Addr}
-use Rattle.gw_base.specs.declared.history.Caller.{Caller}
-use Rattle.gw_base.specs.declared.history.HistoryAct.{HistoryAct}
-use Rattle.gw_base.specs.declared.history.HistoryEntry.{HistoryEntry}
-use Rattle.job_inbox.specs.declared.job.Job.{Job}
-use Rattle.net_link.specs.Datagrams.{LinkState}
 use Rattle.net_link.specs.Steps.{Sends}
 use Rattle.net_link.specs.declared.link.LinkStop.{LinkStop}
 use Rattle.net_link.specs.declared.link.LinkStop.TheVariants as stop
-use Rattle.turn_cell.specs.Cell.{knowledge}
-use Rattle.turn_cell.specs.Knowing.{Saw, kept}
 use Rattle.turn_cell.specs.Passes.{Took}
-use Rattle.turn_cell.specs.declared.cell.Pass.{Pass}
-use Rattle.turn_cell.specs.declared.knowing.KeptTurn.{KeptTurn}
-use Rattle.turn_cell.specs.declared.knowing.Knowledge.{Knowledge}
-use Rattle.node_session.specs.Answering.{HasSent, IsAnswerTo, IsFaultAt, IsReplyAt, KeepsTurns, MayHave, Tells, TellsBehind, called_at, history_at}
-use Rattle.node_session.specs.Asking.{IsAsked, TakesIn}
-use Rattle.node_session.specs.Learning.{HasTurnFor, IsCountedBy, Learns}
-use Rattle.node_session.specs.Passes.{known_by}
-use Rattle.node_session.specs.Serving.{Concludes, GoesOn, IsServed, SendsFor, SendsTo, caller_of, once_sent}
-use Rattle.node_session.specs.Together.{GoesFrom}
 use Rattle.node_session.specs.Turns as turns
-use Rattle.node_session.specs.declared.gate.Go.{Go}
 use Rattle.node_session.specs.declared.gate.Go.TheVariants as go
-use Rattle.node_session.specs.declared.served.Served.{Served}
 use Rattle.node_session.specs.declared.served.Served.TheVariants as served
 use Rattle.node_session.proofs.AskingLemmas.{begins_then}
 

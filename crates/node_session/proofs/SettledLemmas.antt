@@ -1,34 +1,12 @@
 -- What a turn that makes the history firm did, and what ends a gateway does: its book, then its writer.
 use Rattle.std.proofs.Common.{◌≡◌, ◌≢◌, ℕ, Bool, true, false, if◌then◌else◌, List, [], ◌∷◌, ◌++◌, Result, Ok, Err, is_err, refl, sym, ap, ◌∙◌, ◌↔◌, ◌&&◌, Option, None, Some, append_assoc, subst}
-use Rattle.std.proofs.lemmas.Bool.{and_from, and_parts, cond_both, true≢false}
-use Rattle.std.proofs.lemmas.List.{append-nil}
-use Rattle.area_disk.specs.declared.area.Area.{Ghosts}
-use Rattle.gate_journal.specs.Moments.{Told}
-use Rattle.cgf_journal.specs.Trail.{firm_length, is_closed, length_of}
-use Rattle.gw_base.specs.declared.history.HistoryEntry.{HistoryEntry}
-use Rattle.gateway_book.specs.Book.{HasCause, IsLeft, fortune_of, value_of, Stays as StaysSo}
-use Rattle.gateway_book.specs.Read.{IsUnchanged}
+use Rattle.node_session.proofs.Names.{act_in, act_marked, added_to, after_commit, and_from, and_parts, append-nil, base, Book, BookValue, Caller, closed, closed_behind, commit_left, committed, cond_both, drops_of, entry_by, facts_of, faulted, firm_length, Fortune, fortune_of, Ghosts, Grows, HasAsked, HasCause, HasClosed, HasCommitted, HasFirmed, HasTakenAll, history_of, HistoryAct, HistoryEntry, is_closed, is_gone, IsLeft, IsSettled, IsToldAt, IsTurn, IsUnchanged, IsWriterOf, KeepsFiles, Left, length_at, length_of, marked_at, marked_if_ready, NotYet, readied, Refused, reopened, Reopening, Settled, settled_by, settled_of, StaysSo, tells_lists, Told, torn_of, tried, tried_with, true≢false, value_of, WhereTold, with_act, Writer}
 use Rattle.gateway_book.specs.Caller.{IsCommitTold}
-use Rattle.gateway_book.specs.Calls.{commit_left, length_at, settled_by, settled_of, Left, closed, marked_at, marked_if_ready}
-use Rattle.gateway_book.specs.Turning.{facts_of, tells_lists, IsTurn, act_in, act_marked, added_to, drops_of, is_gone}
-use Rattle.gateway_answer.specs.Value.{BookValue, Fortune, Refused, Reopening, after_commit, committed, faulted, history_of, reopened, tried, tried_with, readied, torn_of}
-use Rattle.gateway_book.specs.declared.book.Book.{Book}
 use Rattle.gateway_book.specs.declared.outcome.Broken.{Broken}
-use Rattle.gateway_book.specs.declared.outcome.Settled.{Settled}
-use Rattle.gateway_book.specs.declared.outcome.Settled.TheVariants.{NotYet}
-use Rattle.node_session.specs.Turns.{HasAsked, HasCommitted, IsToldAt}
-use Rattle.gw_base.specs.Owes.{base}
-use Rattle.gw_base.specs.declared.history.Caller.{Caller}
-use Rattle.gw_base.specs.declared.history.HistoryAct.{HistoryAct}
-use Rattle.gateway_answer.specs.Answered.{entry_by, with_act}
 use Rattle.gateway_answer.specs.Marks.{Mark, NotDue, close_mark}
 use Rattle.gateway_book.specs.declared.outcome.Marked.{Marked}
 use Rattle.gateway_book.specs.declared.outcome.Marked.TheVariants as marked
-use Rattle.node_session.specs.Settling.{Grows, HasClosed, HasFirmed, IsSettled, closed_behind, HasTakenAll}
 use Rattle.cdr_shelf.specs.declared.shelf.Shelf as shelf
-use Rattle.gw_base.specs.Facts.{WhereTold}
-use Rattle.file_writer.specs.declared.writer.Writer.{Writer}
-use Rattle.node_session.specs.Writing.{IsWriterOf, KeepsFiles}
 use Rattle.node_session.proofs.GivenLemmas.{Stays, writer_grows}
 
 -- a value that isn't broken has nothing that waits

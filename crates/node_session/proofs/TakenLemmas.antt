@@ -1,29 +1,9 @@
 -- What a turn that takes a datagram did, by the book's clauses.
 use Rattle.std.proofs.Common.{◌≡◌, ◌⊎◌, inl, inr, ℕ, ◌&&◌, Bool, true, false, if◌then◌else◌, List, [], ◌++◌, Option, None, Some, refl, sym, ap, subst, ◌∙◌, append_assoc}
-use Rattle.std.proofs.lemmas.Bool.{and_parts, true≢false}
-use Rattle.std.proofs.lemmas.List.{append-nil}
-use Rattle.area_disk.specs.declared.area.Area.{Ghosts}
-use Rattle.gate_journal.specs.Moments.{Told}
-use Rattle.cgf_journal.specs.Trail.{is_closed}
-use Rattle.gw_base.specs.Facts.{Facts, WhereTold}
-use Rattle.area_disk.specs.Disk.{Rose}
-use Rattle.gw_base.specs.Owes.{base}
-use Rattle.gw_base.specs.declared.address.Addr.{Addr}
-use Rattle.gw_base.specs.declared.history.Caller.{Caller}
-use Rattle.gw_base.specs.declared.history.HistoryAct.{HistoryAct}
-use Rattle.gw_base.specs.declared.history.HistoryEntry.{HistoryEntry}
-use Rattle.gateway_answer.specs.Answer.{Decided, Says, Silent, decided, failure_answer}
-use Rattle.gateway_answer.specs.Answered.{act_decided, answer_to}
-use Rattle.gateway_book.specs.Book.{HasCause, IsLeft, fortune_of, size_of, value_of}
+use Rattle.node_session.proofs.Names.{act_decided, added_to, Addr, and_parts, answer_to, append-nil, base, Book, BookValue, Caller, Decided, decided, decided_at, drops_of, entries_of, Facts, facts_of, failure_answer, fortune_of, Ghosts, given_at, HasCause, HasTaken, history_of, HistoryAct, HistoryEntry, is_closed, is_gone, IsCountedAt, IsFailed, IsLeft, IsOneOf, IsTakenAt, Outcome, outcome_at, prepared_of, readied, recorded_if, Rose, Says, Silent, size_of, taken, tells_lists, Told, true≢false, value_of, WhereTold}
 use Rattle.gateway_book.specs.Caller.{IsAnswered, IsCounted, IsFailure, IsTold}
-use Rattle.gateway_book.specs.Calls.{given_at, outcome_at, taken}
-use Rattle.gateway_answer.specs.Preparing.{prepared_of}
-use Rattle.gateway_book.specs.Turning.{added_to, drops_of, facts_of, is_gone, tells_lists}
-use Rattle.gateway_answer.specs.Value.{BookValue, history_of, readied, recorded_if}
-use Rattle.gateway_book.specs.declared.book.Book.{Book}
-use Rattle.gateway_book.specs.declared.outcome.Outcome.{Outcome}
 use Rattle.gateway_book.specs.declared.outcome.Outcome.TheVariants.{Answer, Drop}
-use Rattle.node_session.specs.Turns.{HasTaken, IsCountedAt, IsFailed, IsOneOf, IsTakenAt, Tells, decided_at, entries_of}
+use Rattle.node_session.specs.Turns.{Tells}
 
 -- what a caller is told of what was decided
 told_so : (after : BookValue) (decision : Decided) → Tells decision (outcome_at after decision)

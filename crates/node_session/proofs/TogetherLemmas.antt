@@ -1,33 +1,9 @@
 -- What a session tells of jobs that it served together, by what it did step by step.
 use Rattle.std.proofs.Common.{◌≡◌, ◌⊎◌, inl, inr, ℕ, suc, Bool, true, List, [], ◌∷◌, ◌++◌, ◌+◌, ◌<◌, length, take, Option, Some, refl, sym, ap, subst, ◌∙◌, append_assoc, arith}
-use Rattle.std.specs.Prelude.{All, slice_index_or}
-use Rattle.std.specs.List.{Contains}
-use Rattle.std.proofs.lemmas.List.{append-nil, length-append, take_more}
-use Rattle.std.proofs.lemmas.List.Elements.{All-append, All-cons, All-nil, Contains-append_left, Contains-push}
-use Rattle.area_disk.specs.declared.area.Area.{Ghosts}
-use Rattle.gw_base.specs.Facts.{Facts}
-use Rattle.gw_base.specs.declared.history.HistoryEntry.{HistoryEntry}
-use Rattle.gateway_book.specs.Turning.{facts_of as book_facts, tells_lists}
-use Rattle.gateway_book.specs.declared.book.Book.{Book}
-use Rattle.gateway_book.specs.declared.outcome.Outcome.{Outcome}
+use Rattle.node_session.proofs.Names.{AddsAnswers, All, All-append, All-cons, All-nil, append-nil, AreFirstsOf, AreServed, AreTaken, Book, book_facts, called_at, caller_of, Contains, Contains-append_left, Contains-push, EachMayHave, EachTells, Facts, FirstAreTaken, Ghosts, Go, GoesFrom, GoesOn, GoOn, HasTurnFor, HaveTurnsFor, history_at, HistoryEntry, IsAnswerTo, Job, KeepsTurns, KeepsTurnsOf, kept, KeptTurn, Knowledge, knowledge, known_by, length-append, LinkState, Outcome, Pass, Served, slice_index_or, take_more, TakesIn, tells_lists, TellTogether}
 use Rattle.gateway_book.specs.declared.outcome.Outcome.TheVariants as outcome
-use Rattle.job_inbox.specs.declared.job.Job.{Job}
-use Rattle.net_link.specs.Datagrams.{LinkState}
-use Rattle.turn_cell.specs.Cell.{knowledge}
-use Rattle.turn_cell.specs.Knowing.{kept}
 use Rattle.turn_cell.specs.Passes.{TookEach, TookMore}
-use Rattle.turn_cell.specs.declared.cell.Pass.{Pass}
-use Rattle.turn_cell.specs.declared.knowing.KeptTurn.{KeptTurn}
-use Rattle.turn_cell.specs.declared.knowing.Knowledge.{Knowledge}
-use Rattle.node_session.specs.Answering.{AddsAnswers, IsAnswerTo, KeepsTurns, called_at, history_at}
-use Rattle.node_session.specs.Asking.{TakesIn}
-use Rattle.node_session.specs.Learning.{HasTurnFor}
-use Rattle.node_session.specs.Passes.{known_by}
-use Rattle.node_session.specs.Serving.{GoesOn, caller_of}
-use Rattle.node_session.specs.Together.{AreFirstsOf, AreServed, AreTaken, EachMayHave, EachTells, FirstAreTaken, GoOn, GoesFrom, HaveTurnsFor, KeepsTurnsOf, TellTogether}
 use Rattle.node_session.specs.Turns as turns
-use Rattle.node_session.specs.declared.gate.Go.{Go}
-use Rattle.node_session.specs.declared.served.Served.{Served}
 use Rattle.node_session.proofs.ServedLemmas.{Laters, adds_first, goes_none, goes_then, goes_turn, later_none, later_on, may_on, more_jobs, none_added, own_turn, tells_behind}
 
 -- the pass keeps the turn of an outcome behind more turns

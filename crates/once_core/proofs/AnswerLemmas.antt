@@ -1,34 +1,12 @@
 -- What a gateway records for a timely request rests on it, and its answer tells the state.
 use Rattle.std.proofs.Common.{◌≡◌, ℕ, ◌%◌, ◌==◌, ◌&&◌, ◌||◌, Bool, true, false, cond, List, [], ◌∷◌, ◌++◌, Some, None, Contains, refl, subst, arith}
-use Rattle.std.proofs.lemmas.Bool.{and_parts, eqb-true, false≢true}
-use Rattle.std.proofs.lemmas.Option.{none-some, same_Some}
-use Rattle.gw_base.specs.History.{names, present_state, top_of, given_state}
-use Rattle.gw_base.specs.Lists.{once}
-use Rattle.gw_base.specs.Nearest.{nearest}
-use Rattle.gw_base.specs.Starts.{start_of}
-use Rattle.gw_base.specs.declared.address.NodeId.{NodeId}
-use Rattle.gw_base.specs.declared.cause.TheConstants.{ACCEPTED, ALREADY_FULFILLED, DUPLICATE_ALREADY_FULFILLED, NO_RESOURCES, NUMBERS_INCORRECT}
-use Rattle.gw_base.specs.declared.history.Caller.{Caller}
-use Rattle.gw_base.specs.declared.history.HistoryAct.{HistoryAct}
+use Rattle.once_core.proofs.Names.{ACCEPTED, act_given, ALREADY_FULFILLED, and_parts, answer_cause, Asks, Caller, Cancelled, cause_of, changes, DUPLICATE_ALREADY_FULFILLED, entry_by, eqb-true, false≢true, Filed, Fresh, Given, given, given_state, Held, HistoryAct, HistoryEntry, is_fresh, is_held, is_telling, is_timely, IsAsked, IsKnown, IsState, KeyState, Letter, names, nat_tests, nearest, NO_RESOURCES, NodeId, none-some, NUMBERS_INCORRECT, once, Orders, present_state, recorded_as, recording, Released, Request, responding, RestsBy, same_Some, Sealed, Sends, start_of, StartsRise, state_given, tabled, Tells, Tests, top_of, verdict_cause, verdict_of, with_act}
 use Rattle.gw_base.specs.declared.history.HistoryAct.TheVariants as act
-use Rattle.gw_base.specs.declared.history.HistoryEntry.{HistoryEntry}
-use Rattle.gw_base.specs.declared.key_state.KeyState.{KeyState}
-use Rattle.gw_base.specs.declared.key_state.KeyState.TheVariants.{Fresh, Filed, Sealed, Held, Released, Cancelled}
-use Rattle.gateway_answer.specs.Answer.{Given, recording, responding, tabled}
-use Rattle.gateway_answer.specs.Answered.{act_given, entry_by, with_act}
-use Rattle.gateway_answer.specs.Asked.{changes, recorded_as}
-use Rattle.gateway_answer.specs.Fit.{is_fresh}
 use Rattle.node_core.specs.declared.copy.Order.TheVariants as order
-use Rattle.transfer_cmd.specs.Lists.{is_held, verdict_cause, verdict_of}
-use Rattle.transfer_cmd.specs.Table.{answer_cause, state_given}
 use Rattle.transfer_cmd.specs.declared.decision.Ask.TheVariants as ask
-use Rattle.once_core.specs.Epochs.{StartsRise}
-use Rattle.once_core.specs.Happenings.{Asks, Letter, Orders, Request, Sends, Tests, about, cause_of, given, is_timely, node_at}
-use Rattle.once_core.specs.Resting.{IsAsked, IsKnown, IsState, RestsBy, Tells}
-use Rattle.once_core.specs.Scenes.{is_telling}
+use Rattle.once_core.specs.Happenings.{about, node_at}
 use Rattle.once_core.proofs.ForwardLemmas.{known_given_now, known_now, state_given_now, state_now}
 use Rattle.once_core.proofs.CaseLemmas.{if_both}
-use Rattle.std.proofs.lemmas.Bool.Decides.{nat_tests}
 
 -- what an answer records rests on the request, and what it says tells the state behind it
 pub record IsSound (letters : List Letter) (h : List HistoryEntry) (letter : Letter) (request : Request) (answer : Given) : Type 0 where

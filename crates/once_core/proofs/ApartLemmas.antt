@@ -1,18 +1,6 @@
 -- No two records that nodes were given have one key: what is filed, and so what stands at a place, counts for one of them.
 use Rattle.std.proofs.Common.{◌≡◌, ℕ, ◌≤◌, ◌==◌, true, cond, List, filter, map, Some, slice_get, refl, arith, sum_by, take, ◌<◌, ⊎_elim}
-use Rattle.std.proofs.lemmas.Bool.{cases_order}
-use Rattle.gateway_answer.specs.Once.{is_record_of}
-use Rattle.gateway_answer.specs.declared.filing.FiledRecord.{FiledRecord}
-use Rattle.gw_base.specs.declared.history.PacketKey.{PacketKey}
-use Rattle.node_core.specs.Packets.{PacketState}
-use Rattle.node_core.specs.Roles.{uses, uses_by_copies}
-use Rattle.once_core.specs.Followed.{Followed}
-use Rattle.std.proofs.lemmas.Bool.Decides.{nat_tests}
-use Rattle.std.proofs.lemmas.Grind.{common_steps}
-use Rattle.std.proofs.lemmas.List.{get_or-take}
-use Rattle.std.proofs.lemmas.List.Recursion.{is_sum_by}
-use Rattle.std.proofs.lemmas.List.Sums.{get_or-le-sum_by, sum_by_more_le}
-use Rattle.std.proofs.lemmas.Option.{get_or_from_slice_get, slice_get_within}
+use Rattle.once_core.proofs.Names.{cases_order, common_steps, FiledRecord, Followed, get_or-le-sum_by, get_or-take, get_or_from_slice_get, is_record_of, is_sum_by, nat_tests, PacketKey, PacketState, slice_get_within, sum_by_more_le, uses, uses_by_copies}
 
 -- the key and the index of a filed record
 pub key_of : (key : PacketKey) (index : ℕ) (filing : FiledRecord) → is_record_of key index filing ≡ true

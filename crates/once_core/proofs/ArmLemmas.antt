@@ -1,13 +1,7 @@
 -- What the parts of a step give: what an event that isn't refused tells; that messages stay; how a world begins.
 use Rattle.std.proofs.Common.{◌≡◌, ℕ, zero, suc, ◌+◌, ◌-◌, ◌≤◌, true, false, List, [], ◌∷◌, ◌++◌, Some, None, length, map, refl, ap, sym, ◌∙◌, arith, length-append, slice_get, add-one}
-use Rattle.node_core.specs.Log.{LogEntry}
+use Rattle.once_core.proofs.Names.{default_rules, Event, first_gateway, Gateway, gateway_kept, LogEntry, Message, no_running_node, node_kept, NodeKept, nodes_kept, Stands, times_of, turn_kept, world_of, WorldKept}
 use Rattle.node_core.specs.Log
-use Rattle.once_core.specs.Beginning.{default_rules, first_gateway, times_of, world_of}
-use Rattle.once_core.specs.Gateway.{Gateway}
-use Rattle.once_core.specs.KeptTurn.{no_running_node, turn_kept}
-use Rattle.once_core.specs.Standing.{NodeKept, Stands, WorldKept, gateway_kept, node_kept, nodes_kept}
-use Rattle.once_core.specs.declared.event.Event.{Event}
-use Rattle.once_core.specs.declared.message.Message.{Message}
 
 pub runs_there : (k : WorldKept) (number : ℕ) (n : NodeKept) → slice_get k.nodes (number - 1) ≡ Some n
     → no_running_node k number ≡ None → n.node.is_running ≡ true

@@ -1,16 +1,6 @@
 -- What a call adds to a node's log.
 use Rattle.std.proofs.Common.{◌≡◌, ℕ, nat_lt, Bool, true, if◌then◌else◌, List, [], ◌∷◌, ◌++◌, Option}
-use Rattle.gtpp_message.specs.Packet.{PacketForm}
-use Rattle.node_core.specs.Hearing.{Taken, Dropped, Says, entries_from, taken, taken_entries}
-use Rattle.node_core.specs.Log.{LogEntry, NodeSetup, Began, Halted, Submitted, Ticked, Heard, Saying, runs}
-use Rattle.node_core.specs.Moving.{appointing, moved_at_tick, moved_by}
-use Rattle.node_core.specs.Peers.{place_of}
-use Rattle.node_core.specs.Reached.{NodeCall, Submit, Tick, Hear, Halt, Start, call_entries, entries_halted, entries_running, most_submissions, submit_entries}
-use Rattle.node_core.specs.Submitting.{refusal}
-use Rattle.node_core.specs.Ticks.{due}
-use Rattle.node_core.specs.Value.{NodeValue, node_of}
-use Rattle.node_core.specs.declared.fault.SubmitFault.{SubmitFault}
-use Rattle.node_core.specs.declared.port.Port.{Port}
+use Rattle.once_core.proofs.Names.{appointing, Began, call_entries, Dropped, due, entries_from, entries_halted, entries_running, Halt, Halted, Hear, Heard, LogEntry, most_submissions, moved_at_tick, moved_by, node_of, NodeCall, NodeSetup, NodeValue, PacketForm, place_of, Port, refusal, runs, Saying, Says, Start, Submit, submit_entries, SubmitFault, Submitted, Taken, taken, taken_entries, Tick, Ticked}
 use Rattle.once_core.proofs.CaseLemmas.{by_bool, by_option, if_both}
 
 pub data Adds (setup : NodeSetup) (before : List LogEntry) : List LogEntry → Type 0 where

@@ -1,25 +1,12 @@
 -- The parts of a gateway's moves, which are commits, openings again, stops, openings and marks, are happenings.
 pub use Rattle.once_core.proofs.PartLemmas.{noted, whole_book}
 use Rattle.std.proofs.Common.{◌≡◌, ℕ, ◌-◌, nat_le, not, Bool, true, false, List, [], ◌∷◌, ◌++◌, length, map, filter, Contains, refl, sym, ap, subst, ◌∙◌, arith, if◌then◌else◌, take_all}
-use Rattle.std.proofs.lemmas.Bool.{both_ways, not-true}
-use Rattle.gw_base.specs.declared.history.HistoryEntry.{HistoryEntry}
-use Rattle.gateway_answer.specs.Value.{BookValue, history_of}
-use Rattle.gw_base.specs.declared.history.HistoryAct.{HistoryAct}
-use Rattle.gateway_answer.specs.Answered.{entry_by, no_caller}
-use Rattle.once_core.specs.Gateway.{Gateway, cut, giving_up, is_reached, settling, still, Moved}
-use Rattle.once_core.specs.Happenings.{Firms, Keeps, Post, Scene, Happening, Notes, act_noted}
+use Rattle.once_core.proofs.Names.{act_noted, BookValue, both_ways, cut, entry_by, failing, firming, Firms, Gateway, giving_up, happened, Happening, history_of, HistoryAct, HistoryEntry, is_idle, is_reached, is_response, keeping, Keeps, letter_of, meaning_of, Message, Moved, no_caller, not-true, Notes, noting, Post, Scene, settling, speaks, still, Waiting, waiting_if, waiting_letters, with_post, World}
 use Rattle.once_core.specs.Happenings as did
-use Rattle.once_core.specs.Meaning.{letter_of, meaning_of, speaks}
-use Rattle.once_core.specs.Messages.{failing, is_response}
-use Rattle.once_core.specs.Scenes.{firming, is_idle, keeping, with_post, happened, noting}
-use Rattle.once_core.specs.Shown.{waiting_if, waiting_letters}
-use Rattle.once_core.specs.declared.message.Message.{Message}
-use Rattle.once_core.specs.declared.message.Waiting.{Waiting}
 use Rattle.once_core.proofs.ListLemmas.{filtered, in_flat, in_head, in_map, of_map, passed, each_mapped}
 use Rattle.once_core.proofs.MeaningLemmas.{GatewaySaid, ReadsBack, Said, failing_means, failing_said, said_by_gateway}
 use Rattle.once_core.proofs.PlayLemmas.{Plays, Rightly, Stands, still_plays, followed_plays, idle_plays, none_waits, post_plays, settled_plays, stands_after}
 use Rattle.once_core.proofs.PartLemmas.{PartsKeep, cut_book, torn_book, standing, history_is, crash_to_all, crash_to_firm}
-use Rattle.once_core.specs.World.{World}
 use Rattle.once_core.proofs.CaseLemmas.{by_bool}
 
 -- ---- answers that wait, by what they mean

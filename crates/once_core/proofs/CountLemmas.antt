@@ -1,39 +1,13 @@
 -- What was filed under a key, by its state, and which request brought it.
 use Rattle.std.proofs.Common.{◌≡◌, ℕ, zero, suc, ◌+◌, ◌==◌, ◌&&◌, Bool, true, false, if◌then◌else◌, List, [], ◌∷◌, ◌++◌, Option, Some, option_and_then, refl, sym, ap, subst, ◌∙◌, arith, ⊎_elim, Contains, slice_get, append-nil, option_map}
-use Rattle.std.proofs.lemmas.Bool.{and_right}
-use Rattle.std.specs.List.{list_any, enumerate_from}
-use Rattle.std.specs.Option.{option_map_or}
-use Rattle.std.proofs.lemmas.List.Elements.{Contains-append_cases}
-use Rattle.std.proofs.lemmas.Option.{same_Some}
-use Rattle.gw_base.specs.EntryLaws.{key_naming-append, present_entries_are, present_state_is, state_of-append}
-use Rattle.gw_base.specs.History.{epoch_entries, epoch_of, given_state, last_naming, names, present_state, state_by, state_of}
-use Rattle.gw_base.specs.Lists.{once}
-use Rattle.gw_base.specs.Starts.{start_of}
-use Rattle.gw_base.specs.declared.address.NodeId.{NodeId}
-use Rattle.gw_base.specs.declared.history.Caller.{Caller}
-use Rattle.gw_base.specs.declared.history.HistoryAct.{HistoryAct}
+use Rattle.once_core.proofs.Names.{along-append, and_right, Caller, Contains-append_cases, enumerate_from, epoch_entries, epoch_of, epoch_with, Filed, filed, filed_by, filed_by_act, filed_record, filed_under, FiledRecord, Fresh, given_state, Held, held_packet, HistoryAct, HistoryEntry, IsAsked, key_naming-append, KeyState, kind_of, kind_within, last_naming, Letter, list_any, names, nat_tests, NodeId, once, option_map_or, Orders, packet_of, packet_of_hold, PacketForm, PacketKey, present_entries_are, present_key, present_state, present_state_is, records_if, records_within, Released, released_by, released_records, Request, Rests, RestsBy, RisesBy, same_key, same_Some, Sends, start_of, StartsRise, state_by, state_of, state_of-append, times_filed}
 use Rattle.gw_base.specs.declared.history.HistoryAct.TheVariants as act
-use Rattle.gw_base.specs.declared.history.HistoryEntry.{HistoryEntry}
-use Rattle.gw_base.specs.declared.history.PacketKey.{PacketKey}
-use Rattle.gw_base.specs.declared.key_state.KeyState.{KeyState}
-use Rattle.gw_base.specs.declared.key_state.KeyState.TheVariants.{Fresh, Filed, Held, Released}
 use Rattle.node_core.specs.declared.copy.Order.TheVariants as order
-use Rattle.gateway_answer.specs.Filed.{filed, filed_by, filed_under, held_packet, packet_of_hold, present_key, released_by, released_records, filed_by_act, filed_record, records_if}
-use Rattle.gateway_answer.specs.FiledLaws.{along-append}
-use Rattle.gateway_answer.specs.Once.{same_key, times_filed}
-use Rattle.gateway_answer.specs.declared.filing.FiledRecord.{FiledRecord}
-use Rattle.gtpp_message.specs.Packet.{PacketForm, packet_of}
-use Rattle.gw_base.specs.CdrKind.{kind_of}
-use Rattle.once_core.specs.Epochs.{RisesBy, StartsRise, epoch_with}
-use Rattle.once_core.specs.Happenings.{Letter, Orders, Request, Sends}
-use Rattle.once_core.specs.Resting.{IsAsked, Rests, RestsBy}
 use Rattle.once_core.proofs.EachLemmas.{by_each, each_also}
 use Rattle.once_core.proofs.EpochLemmas.{epoch_stays, present_epoch}
 use Rattle.once_core.proofs.FiledLemmas.{none_of_packet, times-append, times_of_packet, within, record_within}
 use Rattle.once_core.proofs.CaseLemmas.{by_bool, map_known, by_option}
-use Rattle.once_core.specs.FiledOnce.{kind_within, records_within}
 use Rattle.once_core.proofs.ListLemmas.{in_none, of_map}
-use Rattle.std.proofs.lemmas.Bool.Decides.{nat_tests}
 
 -- the starts rise in a history whose entries rest on messages
 pub starts_rise : (letters : List Letter) (gateway : ℕ) (h : List HistoryEntry) → Rests letters gateway h → StartsRise h
@@ -195,8 +169,13 @@ module _ (letters : List Letter) (gateway : ℕ) (key : PacketKey) where
         named_step h e n x refl
         (λ named is. (
           packet,
-          omega (arith, grown h e, counted_here h n x Fresh is rests.0 so_far, times_of_packet key index
-          (present_key h n x) moment packet (same_here key h n x ∙ named)),
+          omega (
+            arith,
+            grown h e,
+            counted_here h n x Fresh is rests.0 so_far,
+            times_of_packet key index
+                (present_key h n x) moment packet (same_here key h n x ∙ named),
+          ),
           backed_at h n x e rise is rests.1,
         ))
         (λ isnt. none_of_packet key index (present_key h n x) moment packet (same_here key h n x ∙ isnt)) so_far

@@ -1,19 +1,10 @@
 -- What a node knows at the end of a start follows what it did in it.
 use Rattle.std.proofs.Common.{◌≡◌, ⊎_elim, ℕ, ◌==◌, ◌||◌, Bool, true, false, List, [], ◌∷◌, ◌++◌, map, Option, Some, None, IfSome, All, Contains, get_or, refl, sym, ap, subst, ◌∙◌, append_assoc, eq-eqb, eqb-true, flat_map, inl, inr, append-nil, ◌⊎◌, arith}
-use Rattle.std.proofs.lemmas.Bool.{false≢true, cond-true, or_cases}
-use Rattle.std.proofs.lemmas.List.Elements.{Contains-append_left, Contains-append_right}
+use Rattle.once_core.proofs.Names.{AllRestOn, Answers, asked_by, Command, cond-true, Contains-append_left, Contains-append_right, Deed, deeds_of, entries_of, false≢true, heard_in, IsFulfilled, LogEntry, or_cases, PacketCopy, packets_of, Port, Responds, RestsOn, since_start, starts_in, told_by}
 use Rattle.node_core.specs.Copies.{names}
 use Rattle.node_core.specs.Log as log
-use Rattle.node_core.specs.Log.{LogEntry, Responds, packets_of}
-use Rattle.node_core.specs.Resting.{AllRestOn, IsFulfilled, RestsOn, since_start}
-use Rattle.node_core.specs.declared.copy.Command.{Command}
-use Rattle.node_core.specs.declared.copy.PacketCopy.{PacketCopy}
-use Rattle.node_core.specs.declared.port.Port.{Port}
-use Rattle.once_core.specs.Deeds.{asked_by, deeds_of, letter_of, told_by}
-use Rattle.once_core.specs.Expired.{starts_in}
-use Rattle.once_core.specs.Following.{entries_of, heard_in}
+use Rattle.once_core.specs.Deeds.{letter_of}
 use Rattle.once_core.specs.Happenings as did
-use Rattle.once_core.specs.Happenings.{Answers, Deed}
 use Rattle.once_core.proofs.ListLemmas.{in_cons, in_head, in_none}
 use Rattle.once_core.proofs.LogLemmas.{starts_same}
 

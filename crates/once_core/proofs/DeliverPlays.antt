@@ -2,44 +2,16 @@
 -- on the way, and the requests of a redirection, which tell nodes nothing of a copy.
 pub use Rattle.once_core.proofs.PartLemmas.{ready_history}
 use Rattle.std.proofs.Common.{◌≡◌, ℕ, ◌%◌, ◌==◌, not, nat_lt, Bool, true, false, List, [], ◌∷◌, ◌++◌, Option, Some, None, Contains, refl, sym, ap, subst, ◌∙◌, ◌≤◌, arith, map, ◌+◌, option_map, IfSome}
-use Rattle.std.specs.Option.{option_map_or}
-use Rattle.std.proofs.lemmas.Bool.{cond-true}
-use Rattle.gw_base.specs.Observed.{Observed, observed}
-use Rattle.gw_base.specs.Starts.{start_of, opening_of, start_by}
-use Rattle.gw_base.specs.declared.address.NodeId.{NodeId}
-use Rattle.gw_base.specs.declared.cause.TheConstants.{CDR_DECODING_ERROR, NO_RESOURCES, SYSTEM_FAILURE}
-use Rattle.gw_base.specs.declared.history.HistoryAct.{HistoryAct}
-use Rattle.gw_base.specs.declared.history.HistoryEntry.{HistoryEntry}
-use Rattle.gtpp_message.specs.Message.{TransferRequest, TransferResponse, TransferValue, Send, MessageValue, EchoRequest, EchoResponse, NodeAliveRequest, RedirectionRequest}
-use Rattle.gtpp_message.specs.Writing.{written}
-use Rattle.gtpp_message.specs.declared.message_types.TheConstants.{TRANSFER_REQUEST}
+use Rattle.once_core.proofs.Names.{about, acting, after_coming, AliveAsked, AliveTold, answer_by, answer_of, answered, answering, Answers, big_bytes, CDR_DECODING_ERROR, Comes, coming, cond-true, Decided, decided, EchoAsked, EchoRequest, EchoResponse, EchoTold, entry_by, failed, failed_by, failure_answer, for_role, framed, Gateway, gateway_address, Given, given, happened_all, Happening, has_type, history, history_of, HistoryAct, HistoryEntry, is_expired, is_idle, is_spoken, is_timely, Letter, letter_of, Meaning, meaning_in, meaning_of, MessageValue, nat_tests, no_caller, NO_RESOURCES, node_address, node_id, node_ip, NodeAliveRequest, NodeId, noting_if, Observed, observed, opened_by, Opening, opening, opening_epoch, opening_of, Opens, option_map_or, PathEvent, paths_of, port_number, Post, post_of, prepared_of, PreparedValue, recorded, recorded_if, RedirectionRequest, request_in, responding, RolesRead, Rules, Scene, Send, sends_values, Settled, speaks, start_by, start_of, still, SYSTEM_FAILURE, tabled, TRANSFER_REQUEST, TransferRequest, TransferResponse, TransferValue, waiting_for, waiting_letters, with_one, with_post, with_settled, written}
 use Rattle.gtpp_message.specs.declared.role.Role.TheVariants as role
-use Rattle.gateway_answer.specs.Answer.{Given, answer_by, asked_by, decided, responding, tabled, Decided, failure_answer, opening_epoch, replying}
-use Rattle.gateway_answer.specs.Answered.{entry_by, no_caller}
-use Rattle.gateway_answer.specs.Preparing.{PreparedValue, Refused, Request, framed, prepared_of, sends_values, Path}
-use Rattle.gateway_answer.specs.PreparingLaws.{RolesRead}
-use Rattle.gateway_answer.specs.Value.{history_of, recorded_if, recorded}
+use Rattle.gateway_answer.specs.Answer.{asked_by, replying}
+use Rattle.gateway_answer.specs.Preparing.{Refused, Request, Path}
 use Rattle.gtpp_message.specs.Reading.{Message}
-use Rattle.gtpp_message.specs.Role.{for_role}
 use Rattle.gw_base.specs.declared.history.HistoryAct.TheVariants as act
-use Rattle.gw_base.specs.declared.history.Opening.{Opening}
 use Rattle.gtpp_message.specs.PathMessages.{path_message, path_number}
-use Rattle.path_mgmt.specs.GatewayPath.{opened_by}
-use Rattle.path_mgmt.specs.declared.event.PathEvent.{PathEvent}
-use Rattle.path_mgmt.specs.declared.event.PathEvent.TheVariants.{EchoAsked, EchoTold, AliveAsked, AliveTold}
-use Rattle.byteorder.specs.Endian.{big_bytes}
-use Rattle.gateway_answer.specs.Told.{paths_of}
-use Rattle.once_core.specs.Addresses.{node_address, node_id, node_ip, port_number, gateway_address}
-use Rattle.once_core.specs.Answers.{acting, answered, failed, failed_by}
-use Rattle.once_core.specs.Expired.{is_expired}
-use Rattle.once_core.specs.Gateway.{Gateway, Rules, still}
-use Rattle.once_core.specs.Happenings.{Answers, Comes, Happening, Letter, Meaning, Post, Scene, answer_of, given, history, is_timely, Opens, node_at}
+use Rattle.once_core.specs.Happenings.{node_at}
 use Rattle.once_core.specs.Happenings as did
-use Rattle.once_core.specs.Meaning.{is_spoken, letter_of, meaning_of, request_in, speaks, meaning_in}
-use Rattle.once_core.specs.Messages.{about, answering, has_type}
-use Rattle.once_core.specs.Scenes.{Settled, after_coming, coming, happened_all, noting_if, waiting_for, with_one, with_settled, is_idle, opening, with_post}
 use Rattle.once_core.specs.Scenes as scenes
-use Rattle.once_core.specs.Shown.{post_of, waiting_letters}
 use Rattle.once_core.specs.declared.message.Message as world
 use Rattle.once_core.proofs.MeaningLemmas.{IsAbout, IsWritten, ReadsBack, meaning_is, responds_means, responds_said, role_read_of, type_of, FromNode, NodeSaid, Responds, Said, said_by_gateway, FromGateway}
 use Rattle.once_core.proofs.PlayLemmas.{Plays, Stands, still_plays, idle_plays, followed_plays, stands_after}
@@ -49,7 +21,6 @@ use Rattle.once_core.proofs.CaseLemmas.{if_both}
 use Rattle.once_core.proofs.ListLemmas.{in_one, number_of, each_mapped}
 use Rattle.once_core.proofs.CommitPlays.{noted_rightly, noted_plays}
 use Rattle.once_core.specs.Answers as out
-use Rattle.std.proofs.lemmas.Bool.Decides.{nat_tests}
 use Rattle.once_core.proofs.StartLemmas.{IsNoPath}
 
 -- ---- a message of path management means nothing here

@@ -1,39 +1,17 @@
 -- What is due is of packets that are open, and they stay open. A node sends copies of packets only to gateways that are
 -- alive to it, and these stay alive as long as it has them.
 use Rattle.std.proofs.Common.{◌≡◌, ⊎_elim, ℕ, suc, ◌==◌, Bool, true, false, List, [], ◌∷◌, ◌++◌, map, Option, Some, None, Contains, refl, sym, ap, ◌∙◌, arith, subst, find, flat_map, eq-eqb, ◌⊎◌, slice_index_or, slice_set, replicate}
-use Rattle.std.specs.List.{list_all, list_any}
-use Rattle.std.proofs.lemmas.List.Elements.{Contains-append_cases, Contains-push_cases}
-use Rattle.gtpp_message.specs.Packet.{PacketForm}
-use Rattle.node_core.specs.Copies.{is_answered, is_held, is_released, is_settled, new_copy, copy_hearing}
-use Rattle.node_core.specs.Packets.{PacketState, chosen, commanded, copies_after, is_done, is_of, packet_after, packet_after_all, packet_hearing, while_open}
-use Rattle.node_core.specs.Peers.{all_drawn, next_number}
-use Rattle.node_core.specs.Sendings.{again, command_by, command_of, command_unless, copy_to, due_by_copies, due_by_verdict, due_for, due_for_all, probe_of, probes_from, releasing, repeating, settling, settling_beside, settling_by, test_of, probes}
-use Rattle.node_core.specs.declared.copy.Command.{Command}
-use Rattle.node_core.specs.declared.copy.Order.{Order}
+use Rattle.once_core.proofs.Names.{again, AliveTold, all_drawn, Appointed, appointing, befallen, Began, call_entries, cases_eq, chosen, Command, command_by, command_of, command_unless, commanded, common_steps, Contains-append_cases, Contains-push_cases, copies_after, copy_hearing, copy_to, due, due_by_copies, due_by_verdict, due_for, due_for_all, false≢true, get_or-replicate, get_or-set_other, get_or-set_same, Halted, Heard, is_alive, is_answered, is_done, is_of, is_released, is_settled, list_all, list_any, log_of, LogEntry, logged, moved_at_tick, nat_tests, new_copy, next_number, node_after, node_anew, node_of, NodeCall, NodeSetup, NodeValue, Order, packet_after, packet_after_all, packet_hearing, PacketCopy, PacketForm, packets_of, PacketState, Path, PathEvent, PathsOfNode, Peer, Port, probe_of, probes, probes_from, releasing, repeating, Responds, Saying, Sending, settling_beside, settling_by, Submitted, submitted, test_of, Ticked, Verdict, while_open}
+use Rattle.node_core.specs.Copies.{is_held}
+use Rattle.node_core.specs.Sendings.{settling}
 use Rattle.node_core.specs.declared.copy.Order.TheVariants.{Release, Cancel}
-use Rattle.node_core.specs.declared.copy.PacketCopy.{PacketCopy}
-use Rattle.node_core.specs.declared.copy.Verdict.{Verdict}
 use Rattle.node_core.specs.declared.copy.Verdict.TheVariants.{Unknown, Sealed, Held}
-use Rattle.node_core.specs.declared.peer.Peer.{Peer}
-use Rattle.node_core.specs.declared.sending.Sending.{Sending}
 use Rattle.node_core.specs.declared.sending.Sending.TheVariants as send
-use Rattle.path_mgmt.specs.NodePath.{PathsOfNode, is_alive, node_after, node_anew}
 use Rattle.once_core.proofs.ListLemmas.{in_cons, in_head, in_none, in_tail, in_one, of_flat_map, each_mapped}
 use Rattle.once_core.proofs.NumberLemmas.{Numbered, numbered_in}
 use Rattle.once_core.proofs.CaseLemmas.{by_bool, if_both, if_known, by_option}
-use Rattle.std.proofs.lemmas.Bool.Decides.{nat_tests}
-use Rattle.std.proofs.lemmas.Bool.{false≢true, cases_eq}
-use Rattle.path_mgmt.specs.declared.event.PathEvent.{PathEvent}
-use Rattle.path_mgmt.specs.declared.event.PathEvent.TheVariants.{AliveTold}
-use Rattle.node_core.specs.Log.{LogEntry, NodeSetup, Began, Halted, Submitted, Appointed, Ticked, Heard, Saying, Path, Responds, packets_of, paths_of, submitted}
-use Rattle.node_core.specs.Moving.{appointing, moved_at_tick}
-use Rattle.node_core.specs.Reached.{NodeCall, call_entries, log_of}
-use Rattle.node_core.specs.Ticks.{due}
-use Rattle.node_core.specs.Value.{NodeValue, befallen, logged, node_of}
-use Rattle.node_core.specs.declared.port.Port.{Port}
+use Rattle.node_core.specs.Log.{paths_of}
 use Rattle.once_core.proofs.CallLemmas.{Adds, adds, begins_anew, halts, hears, nothing, submits, ticks}
-use Rattle.std.proofs.lemmas.List.{get_or-replicate, get_or-set_same, get_or-set_other}
-use Rattle.std.proofs.lemmas.Grind.{common_steps}
 
 -- ---- each sending that is due
 
@@ -170,7 +148,7 @@ module _ (gateway : ℕ) (given : Command) (new : given.is_answered ≡ false) w
 
 still_open : (s : Sending) (copies : List PacketCopy) → is_done copies ≡ false → is_done (copies_after s copies) ≡ false
 still_open (send.Data packet gateway number is_plain true) copies open_yet = more_open copies gateway number is_plain
-still_open (send.Command packet gateway named number o true) copies open_yet = 
+still_open (send.Command packet gateway named number o true) copies open_yet =
     done_same gateway (record { order = o; number = number; is_answered = false }) refl copies ∙ open_yet
 still_open _ copies open_yet = open_yet
 

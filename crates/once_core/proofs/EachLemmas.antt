@@ -1,9 +1,6 @@
 -- What holds of each entry of a history behind those before it.
 use Rattle.std.proofs.Common.{List, [], ◌∷◌, ◌++◌, sym, subst, append_assoc}
-use Rattle.std.proofs.lemmas.List.{append-nil}
-use Rattle.gw_base.specs.ListLaws.{by_last}
-use Rattle.gw_base.specs.declared.history.HistoryEntry.{HistoryEntry}
-use Rattle.once_core.specs.Epochs.{EachBehind}
+use Rattle.once_core.proofs.Names.{append-nil, by_last, EachBehind, HistoryEntry}
 
 module _ (P : List HistoryEntry → HistoryEntry → Type 0) where
   pub each_parts : (before h : List HistoryEntry) (e : HistoryEntry) → EachBehind P before (h ++ e ∷ []) → EachBehind P before h × P (before ++ h) e

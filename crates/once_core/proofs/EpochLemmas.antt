@@ -1,20 +1,9 @@
 -- Where a node's starts rise, the start of an epoch tells the epoch.
 use Rattle.std.proofs.Common.{◌≡◌, ◌⊎◌, inl, inr, ⊎_elim, ℕ, ◌+◌, ◌<◌, ◌≤◌, ◌==◌, if◌then◌else◌, List, [], ◌∷◌, ◌++◌, length, length-append, map, find, option_map, Option, Some, None, refl, sym, ap, subst, ◌∙◌, arith, eqb-true, eq-eqb, append-nil, Contains, slice_get, suc}
-use Rattle.std.proofs.lemmas.Bool.{cond-true}
-use Rattle.std.proofs.lemmas.List.{map-append}
-use Rattle.std.proofs.lemmas.List.Elements.{filter_map-append, Contains-push_cases}
-use Rattle.std.proofs.lemmas.Option.{none-some, same_Some}
-use Rattle.std.specs.List.{enumerate_from}
-use Rattle.gw_base.specs.EntryLaws.{epoch_of-append, opening_of-append}
-use Rattle.gw_base.specs.History.{epoch_of}
-use Rattle.gw_base.specs.Starts.{opening_by, openings_of, start_of}
-use Rattle.gw_base.specs.declared.history.HistoryEntry.{HistoryEntry}
-use Rattle.gw_base.specs.declared.history.Opening.{Opening}
-use Rattle.once_core.specs.Epochs.{RisesBy, StartsRise, epoch_with}
+use Rattle.once_core.proofs.Names.{cond-true, Contains-push_cases, enumerate_from, epoch_of, epoch_of-append, epoch_with, filter_map-append, HistoryEntry, map-append, nat_tests, none-some, Opening, opening_by, opening_of-append, openings_of, RisesBy, same_Some, start_of, StartsRise}
 use Rattle.once_core.proofs.EachLemmas.{by_each}
 use Rattle.once_core.proofs.CaseLemmas.{if_known, by_option}
 use Rattle.once_core.proofs.ListLemmas.{get_contains, in_one}
-use Rattle.std.proofs.lemmas.Bool.Decides.{nat_tests}
 
 -- ---- the first place of a number
 
@@ -119,8 +108,12 @@ last_goes_on node h e rising last = ⊎_elim
           ∙ ap (λ (n : ℕ). Some n) (omega (arith, last.size, is.epoch_is)))
           (λ j there.
           let at = found_at 0 is.counter j (counters node h) there in
-          absurd (omega (arith, is.rises rising, last.bound is.counter
-          (get_contains (counters node h) at.0 is.counter at.2))));
+          absurd (omega (
+            arith,
+            is.rises rising,
+            last.bound is.counter
+                (get_contains (counters node h) at.0 is.counter at.2),
+          )));
     })
     (λ is. record {
       size = ap length is.counters_are ∙ last.size ∙ ap (λ (n : ℕ). n + 1) (sym is.epoch_is);

@@ -1,28 +1,11 @@
 -- The files of a history have each record that it files at one place: there are as many places as filings, what stands
 -- at a place was filed, and is what the files have there.
 use Rattle.std.proofs.Common.{◌≡◌, ⊎_elim, ℕ, zero, suc, ◌+◌, ◌==◌, not, Bool, cond, List, [], ◌∷◌, ◌++◌, map, filter, Option, Some, Contains, slice_get, refl, sym, ap, subst, ◌∙◌, arith, append_assoc, append-nil, ◌||◌, count_by, find, sum_by, get_or, length, ◌<◌, option_map, eqb-true}
-use Rattle.std.proofs.lemmas.Bool.{eq-eqb, cases_eq, ne_eqb}
-use Rattle.std.proofs.lemmas.Bool.Decides.{nat_tests}
+use Rattle.once_core.proofs.Names.{as_filed, at_place, cases_eq, ClosedRun, division_of, enumerate_from, eq-eqb, filed, filed_items, filed_runs, FiledRecord, FilePlace, flat_map, get_or_from_slice_get, goes_to, HistoryEntry, in_run, is_sum_by, Item, items_of, Limits, list_any, matches, nat_tests, ne_eqb, none-some, once, placed, position_or_len, record_at, records_of, Rule, run_with, same_Some, Settings, slice_get-get_or, slice_get-map, slice_get_within, stream_of, stream_record, streams_of, sum_by-append, sum_by-cons}
 use Rattle.std.proofs.lemmas.List.Folds.{find_at, list_any_at}
 use Rattle.std.proofs.lemmas.List.FromFn.{get_or-enumerate_from, length-enumerate_from}
-use Rattle.std.proofs.lemmas.List.Recursion.{is_sum_by}
-use Rattle.std.proofs.lemmas.List.Sums.{sum_by-append, sum_by-cons}
-use Rattle.std.proofs.lemmas.Option.{none-some, same_Some, slice_get-map, get_or_from_slice_get, slice_get-get_or, slice_get_within}
-use Rattle.std.specs.List.{enumerate_from, flat_map, list_any, position_or_len}
-use Rattle.file_rotate.specs.Division.{ClosedRun, division_of}
-use Rattle.file_rotate.specs.Items.{Filed, Item, records_of}
-use Rattle.file_rotate.specs.declared.limits.Limits.{Limits}
-use Rattle.file_writer.specs.Places.{FilePlace, in_run, record_at, run_with}
-use Rattle.file_writer.specs.Streams.{Settings, stream_record}
-use Rattle.gateway_answer.specs.Filed.{filed}
-use Rattle.gateway_answer.specs.Items.{items_of}
-use Rattle.gateway_answer.specs.declared.filing.FiledRecord.{FiledRecord}
-use Rattle.gw_base.specs.Lists.{once}
-use Rattle.gw_base.specs.declared.history.HistoryEntry.{HistoryEntry}
+use Rattle.file_rotate.specs.Items.{Filed}
 use Rattle.gw_base.specs.declared.tag.Tag.{Tag}
-use Rattle.route_filter.specs.Rules.{matches, stream_of}
-use Rattle.route_filter.specs.declared.rule.Rule.{Rule}
-use Rattle.once_core.specs.FilePlaces.{as_filed, at_place, filed_items, filed_runs, goes_to, placed, streams_of}
 use Rattle.once_core.proofs.FileRunLemmas.{goes, plain, same_runs, stream_records}
 use Rattle.once_core.proofs.ListLemmas.{filtered, get_contains, in_flat, in_head, in_map, in_tail, of_flat_map, of_map, passed}
 use Rattle.once_core.proofs.CaseLemmas.{by_bool, by_option, map_known}
@@ -331,7 +314,9 @@ module _ (divides : Divides) (settings : Settings) (h : List HistoryEntry) (plac
       → (filing : FiledRecord) × Contains (placed settings h) (place, filing))
       (found settings h place) (λ none there. absurd (none-some one there))
       (λ r e there.
-      let stream = stream_of settings.rules r.payload.tag r.kind.format in
-      (r.payload, at_is settings h place r (subst (Contains (streams_of settings)) (came r e).stream
-      (counted_there stream (streams_of settings) (one_stream settings r.payload.tag r.kind.format))) e))
+      let stream = stream_of settings.rules r.payload.tag r.kind.format in (
+        r.payload,
+        at_is settings h place r (subst (Contains (streams_of settings)) (came r e).stream
+            (counted_there stream (streams_of settings) (one_stream settings r.payload.tag r.kind.format))) e,
+      ))
       (sym (record_is settings h place) ∙ is)

@@ -1,26 +1,10 @@
 -- The files with the records as they were filed are the files of the history's items: a division asks nothing of what it
 -- carries. And the records of a stream's files are those of the history that go there.
 use Rattle.std.proofs.Common.{◌≡◌, ℕ, ◌+◌, ◌==◌, Bool, List, [], ◌∷◌, ◌++◌, map, filter, Option, Some, None, refl, ap, ◌∙◌, sum_by, arith}
-use Rattle.std.proofs.lemmas.List.{map-append, length-map}
-use Rattle.std.proofs.lemmas.List.Concat.{flat_map-append}
-use Rattle.std.proofs.lemmas.List.Elements.{filter-append}
-use Rattle.std.proofs.lemmas.List.Sums.{sum_by-cons}
-use Rattle.std.specs.List.{flat_map}
-use Rattle.std.proofs.lemmas.List.Recursion.{is_sum_by}
+use Rattle.once_core.proofs.Names.{along, as_filed, cdr_length, Close, closed_first, ClosureReason, divided_from, Division, division_of, ends_after, ends_before, filed, filed_by, filed_by_act, filed_item, filed_items, filed_items_by, filed_runs, FiledRecord, filter-append, flat_map, flat_map-append, goes_to, HistoryAct, HistoryEntry, is_sum_by, Item, items_by, items_by_act, items_of, joined, length-map, Limits, map-append, part_of, Record, records_of, run_length, run_limit_reached, runs_of, Settings, stream_division, stream_item, stream_of, sum_by-cons}
 use Rattle.cdr_file.specs.CdrFile.{header_length}
-use Rattle.cdr_file.specs.declared.closure.ClosureReason.{ClosureReason}
-use Rattle.file_rotate.specs.Division.{Division, cdr_length, closed_first, divided_from, division_of, ends_after, ends_before, joined, run_length, run_limit_reached, still}
-use Rattle.file_rotate.specs.Items.{Filed, Item, Record, Tick, Close, records_of}
-use Rattle.file_rotate.specs.declared.limits.Limits.{Limits}
-use Rattle.file_writer.specs.Places.{runs_of}
-use Rattle.file_writer.specs.Streams.{Settings, stream_division, stream_item}
-use Rattle.gateway_answer.specs.Filed.{along, filed, filed_by, filed_by_act}
-use Rattle.gateway_answer.specs.Items.{items_by, items_by_act, items_of, part_of}
-use Rattle.gateway_answer.specs.declared.filing.FiledRecord.{FiledRecord}
-use Rattle.gw_base.specs.declared.history.HistoryAct.{HistoryAct}
-use Rattle.gw_base.specs.declared.history.HistoryEntry.{HistoryEntry}
-use Rattle.route_filter.specs.Rules.{stream_of}
-use Rattle.once_core.specs.FilePlaces.{as_filed, filed_item, filed_items, filed_items_by, filed_runs, goes_to}
+use Rattle.file_rotate.specs.Division.{still}
+use Rattle.file_rotate.specs.Items.{Filed, Tick}
 
 -- ---- what a division carries
 
@@ -95,8 +79,13 @@ along_same : {A B C : Type 0} (F : List HistoryEntry → HistoryEntry → List A
 along_same F G f g none fs gs each before [] = none
 along_same F G f g none fs gs each before (e ∷ h) =
     let later = before ++ e ∷ [] in
-    cc (fs (F before e) (along F later h), gs (G before e)
-    (along G later h), each before e, along_same F G f g none fs gs each later h)
+    cc (
+      fs (F before e) (along F later h),
+      gs (G before e)
+          (along G later h),
+      each before e,
+      along_same F G f g none fs gs each later h,
+    )
 
 -- ---- the items of a stream
 

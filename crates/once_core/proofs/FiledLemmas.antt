@@ -1,14 +1,6 @@
 -- How often a record is filed under a key, by the key's state.
 use Rattle.std.proofs.Common.{◌≡◌, ⊎_elim, ℕ, suc, ◌+◌, ◌-◌, ◌≤◌, ◌==◌, ◌&&◌, nat_lt, slice_get, Contains, Bool, true, false, cond, length, List, [], ◌∷◌, ◌++◌, Option, Some, sym, ap, ◌∙◌, arith, nat_le}
-use Rattle.std.proofs.lemmas.List.Sums.{sum_by-append, sum_by-cons}
-use Rattle.std.specs.Option.{option_map_or}
-use Rattle.std.proofs.lemmas.Bool.Decides.{nat_tests}
-use Rattle.gtpp_message.specs.Packet.{PacketForm, packet_of}
-use Rattle.gw_base.specs.declared.history.PacketKey.{PacketKey}
-use Rattle.gateway_answer.specs.Filed.{filed_record, filed_under, records_from, records_if}
-use Rattle.gateway_answer.specs.Once.{is_record_of, same_key, times_filed}
-use Rattle.gateway_answer.specs.declared.filing.FiledRecord.{FiledRecord}
-use Rattle.once_core.specs.FiledOnce.{record_count, records_within}
+use Rattle.once_core.proofs.Names.{filed_record, filed_under, FiledRecord, is_record_of, nat_tests, option_map_or, packet_of, PacketForm, PacketKey, record_count, records_from, records_if, records_within, same_key, sum_by-append, sum_by-cons, times_filed}
 use Rattle.once_core.proofs.ListLemmas.{in_cons, in_none}
 use Rattle.once_core.proofs.CaseLemmas.{by_option}
 

@@ -1,20 +1,8 @@
 -- How a world begins is what happens in a scene: each gateway notes its start.
 pub use Rattle.once_core.proofs.PartLemmas.{new_gateway}
 use Rattle.std.proofs.Common.{◌≡◌, ⊎_elim, ℕ, zero, suc, ◌<◌, ◌≤◌, false, List, [], ◌∷◌, ◌++◌, length, Option, Some, slice_get, refl, sym, ap, subst, ◌∙◌, arith}
-use Rattle.std.specs.Option.{option_map_or}
-use Rattle.std.proofs.lemmas.Bool.{cases_lt, ne_eqb}
-use Rattle.std.proofs.lemmas.Option.{same_Some, slice_get_past, slice_get_within}
+use Rattle.once_core.proofs.Names.{Began, beginning, BookValue, cases_lt, committed, deeds_of, first_gateway, first_world, Gateway, gateways_by, happened_all, Happening, history_of, LogEntry, ne_eqb, no_caller, node_ip, Notes, nothing_yet, option_map_or, Post, post_of, Rules, same_Some, Scene, scene_after, settling, slice_get_past, slice_get_within, standing_for, Starts, still, times_of, world_of}
 use Rattle.gw_base.specs.declared.history.HistoryAct.TheVariants as act
-use Rattle.gateway_answer.specs.Answered.{no_caller}
-use Rattle.gateway_answer.specs.Value.{committed, history_of, standing_for, BookValue}
-use Rattle.node_core.specs.Log.{LogEntry, Began}
-use Rattle.once_core.specs.Addresses.{node_ip}
-use Rattle.once_core.specs.Beginning.{beginning, first_gateway, first_world, gateways_by, times_of, world_of}
-use Rattle.once_core.specs.Deeds.{deeds_of}
-use Rattle.once_core.specs.Gateway.{Gateway, Rules, settling, still}
-use Rattle.once_core.specs.Happenings.{Happening, Notes, Scene, Starts, Post}
-use Rattle.once_core.specs.Scenes.{happened_all, nothing_yet, scene_after}
-use Rattle.once_core.specs.Shown.{post_of}
 use Rattle.once_core.proofs.CommitPlays.{firm_plays, whole_book, noted_plays}
 use Rattle.once_core.proofs.ListLemmas.{in_none}
 use Rattle.once_core.proofs.NodePlays.{NodeRightly}

@@ -1,21 +1,7 @@
 -- The packets of each start of a node only grow, and what it may send goes on being of them.
 use Rattle.std.proofs.Common.{◌≡◌, ⊎_elim, ℕ, suc, ◌==◌, Bool, true, false, if◌then◌else◌, List, [], ◌∷◌, ◌++◌, length, map, zip, filter, Option, Some, None, Contains, refl, sym, ap, subst, ◌∙◌, arith, length-append}
-use Rattle.std.proofs.lemmas.Bool.{cond-false, cond-true, eq-eqb, eqb-true}
-use Rattle.std.proofs.lemmas.List.{append-nil, length-map, map-append}
-use Rattle.std.proofs.lemmas.List.Elements.{Contains-append_right, filter-append}
+use Rattle.once_core.proofs.Names.{AnyHasCopyAt, append-nil, Appointed, Asks, Began, Command, CommandGrows, cond-false, cond-true, Contains-append_right, CopyGrows, eq-eqb, eqb-true, Extends, filter-append, Followed, followed_before, following, forms_of, Halted, Heard, is_within_start, length-map, Letter, LogEntry, map-append, MaySend, Meaning, Order, Orders, packet_after_all, packet_hearing, PacketCopy, PacketForm, PacketGrows, packets_in, packets_of, PacketState, Port, Responds, Saying, Sends, starts_in, Submitted, submitted, Tests, Ticked, while_open}
 use Rattle.std.proofs.lemmas.Slice.Zip.{firsts-zip}
-use Rattle.gtpp_message.specs.Packet.{PacketForm}
-use Rattle.node_core.specs.Growing.{CommandGrows, CopyGrows, Extends, PacketGrows, is_within_start}
-use Rattle.node_core.specs.Log.{LogEntry, Began, Halted, Submitted, Appointed, Ticked, Heard, Saying, Responds, forms_of, packets_of, submitted}
-use Rattle.node_core.specs.Packets.{PacketState, packet_after_all, packet_hearing, while_open}
-use Rattle.node_core.specs.declared.copy.Command.{Command}
-use Rattle.node_core.specs.declared.copy.Order.{Order}
-use Rattle.node_core.specs.declared.copy.PacketCopy.{PacketCopy}
-use Rattle.node_core.specs.declared.port.Port.{Port}
-use Rattle.once_core.specs.Expired.{starts_in}
-use Rattle.once_core.specs.Followed.{Followed, followed_before, following, packets_in}
-use Rattle.once_core.specs.Following.{AnyHasCopyAt, MaySend}
-use Rattle.once_core.specs.Happenings.{Asks, Letter, Meaning, Orders, Sends, Tests}
 use Rattle.once_core.proofs.ListLemmas.{in_cons, in_head, in_none, in_tail}
 use Rattle.once_core.proofs.LogLemmas.{starts_same}
 use Rattle.once_core.proofs.CaseLemmas.{by_bool}

@@ -1,32 +1,16 @@
 -- Each request in a node's log is of one of the packets of its start. What a node knows of the packets of a start, also
 -- once it is over, rests on what it heard in it.
 use Rattle.std.proofs.Common.{◌≡◌, ⊎_elim, ℕ, Bool, true, if◌then◌else◌, List, [], ◌∷◌, ◌++◌, map, Option, Some, All, Contains, refl, sym, ap, subst, ◌∙◌, None, ◌==◌, false, get_or, arith, eqb-true, ne_eqb}
-use Rattle.std.proofs.lemmas.List.Elements.{All-contains, Contains-append_cases, Contains-append_left, All-nil}
-use Rattle.std.specs.List.{flat_map, AllByRecursion}
-use Rattle.node_core.specs.declared.copy.Command.{Command}
-use Rattle.node_core.specs.declared.port.Port.TheVariants.{First, Second}
-use Rattle.node_core.specs.declared.sending.Sending.{Sending}
+use Rattle.once_core.proofs.Names.{All-contains, All-nil, AllByRecursion, AnyHasCopyAt, appointing, asked_by, Asks, call_entries, Command, Contains-append_cases, Contains-append_left, Deed, deeds_of, due, First, flat_map, Followed, followed_before, HasCopyOf, heard_in, is_within_start, IsSent, Knows, Letter, log_of, LogEntry, logged, MaySend, moved_at_tick, node_of, NodeCall, NodeSetup, Orders, packets_in, packets_of, PacketState, reached, runs, Second, Sending, Sends, starts_in, Tests, Tick, tick_entries, told_by}
 use Rattle.node_core.specs.declared.sending.Sending.TheVariants as send
 use Rattle.node_core.specs.Log as log
-use Rattle.node_core.specs.Log.{LogEntry, NodeSetup, packets_of, runs}
-use Rattle.node_core.specs.Moving.{appointing, moved_at_tick}
-use Rattle.node_core.specs.Packets.{PacketState}
-use Rattle.node_core.specs.Reached.{NodeCall, Tick, call_entries, log_of, reached}
-use Rattle.node_core.specs.Sent.{HasCopyOf, IsSent}
-use Rattle.node_core.specs.Ticks.{due, tick_entries}
-use Rattle.node_core.specs.Value.{logged, node_of}
-use Rattle.once_core.specs.Deeds.{asked_by, deeds_of, letter_of, told_by}
-use Rattle.once_core.specs.Expired.{starts_in}
-use Rattle.once_core.specs.Followed.{followed_before, packets_in, Followed}
-use Rattle.once_core.specs.Following.{AnyHasCopyAt, MaySend, Knows, heard_in}
+use Rattle.once_core.specs.Deeds.{letter_of}
 use Rattle.once_core.specs.Happenings as did
-use Rattle.once_core.specs.Happenings.{Asks, Letter, Orders, Sends, Tests, Deed}
 use Rattle.once_core.proofs.FollowLemmas.{Grows, began_same, halted_same, in_present, may_send_behind, may_send_on, packets_grow, starts_within, states_at, command_now, before_within, other_same}
 use Rattle.once_core.proofs.ListLemmas.{in_none, in_one, of_flat_map, of_map, none_pass}
 use Rattle.once_core.proofs.CaseLemmas.{by_option, by_bool}
 use Rattle.once_core.proofs.CallLemmas.{Adds, adds, begins_anew, halts, hears, nothing, submits, ticks}
 use Rattle.once_core.proofs.DeedLemmas.{deeds_by, deeds_more, rests_along, heard_append}
-use Rattle.node_core.specs.Growing.{is_within_start}
 use Rattle.once_core.proofs.NumberLemmas.{earlier}
 
 -- ---- what a tick sends

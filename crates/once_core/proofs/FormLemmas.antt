@@ -1,15 +1,8 @@
 -- What a draft is can be sent, and is read back as it was submitted.
 use Rattle.std.proofs.Common.{◌≡◌, ◌↔◌, ℕ, ◌+◌, ◌*◌, ◌/◌, ◌%◌, ◌≤◌, ◌==◌, not, Bool, true, List, [], ◌∷◌, ◌++◌, length, Some, refl, sym, subst, arith, append_assoc, append-nil, flat_map}
-use Rattle.std.specs.List.{list_all}
-use Rattle.std.proofs.lemmas.Bool.{and_parts, false≢true}
+use Rattle.once_core.proofs.Names.{addition_fault, and_parts, draft_of, false≢true, Full, has_values, is_draft, is_fault_free, is_without_records, list_all, nat_tests, packet_anew, packet_of, packet_of_form, PacketForm, record_octets, records_at, SpellRecords, takes_all, value_octets, value_of, with_record}
 use Rattle.ber_frame.specs.Checked.{is_one_value}
-use Rattle.gtpp_message.specs.Packet.{PacketForm, Full, SpellRecords, packet_of, records_at}
-use Rattle.gtpp_message.specs.PacketWriting.{record_octets, value_of, with_record}
-use Rattle.gateway_answer.specs.Preparing.{has_values}
-use Rattle.node_core.specs.Drafts.{addition_fault, is_without_records, packet_anew, packet_of_form, value_octets}
-use Rattle.once_core.specs.World.{draft_of, is_draft, is_fault_free, takes_all}
 use Rattle.once_core.proofs.CaseLemmas.{if_both, if_known}
-use Rattle.std.proofs.lemmas.Bool.Decides.{nat_tests}
 
 -- what the law of packets says: records are read where octets spell them
 abbrev pub RecordsSpelled : Type 0

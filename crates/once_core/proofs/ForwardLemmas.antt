@@ -1,30 +1,11 @@
 -- States move as the table of answers says: those that end stay, and what an answer tells stays true.
 use Rattle.std.proofs.Common.{◌≡◌, ℕ, Bool, true, false, List, [], ◌∷◌, ◌++◌, Contains, refl, sym, ap, subst, ◌∙◌, append_assoc, append-nil, arith, ◌==◌, ◌&&◌}
-use Rattle.gw_base.specs.EntryLaws.{present_state_is, state_of-append}
-use Rattle.gw_base.specs.History.{epoch_of, given_state, names, present_state, state_of}
-use Rattle.gw_base.specs.Starts.{start_of}
-use Rattle.gw_base.specs.declared.history.HistoryAct.{HistoryAct}
+use Rattle.once_core.proofs.Names.{AllAdmitted, and_parts, are_distinct, by_last, epoch_of, false≢true, Filed, Fresh, given_state, Held, HistoryAct, HistoryEntry, is_act_lawful, is_fresh, is_held, is_list_fit, IsAdmitted, IsAsked, IsKnown, IsState, key_in, KeyState, Letter, list_all, list_any, moves_on, names, nat_tests, NodeId, observed, Orders, PacketKey, present_state, present_state_is, Released, Request, Rests, RestsBy, Sealed, Sends, start_of, StartsRise, state_of, state_of-append, Tells, Tests}
 use Rattle.gw_base.specs.declared.history.HistoryAct.TheVariants as act
-use Rattle.gw_base.specs.declared.history.HistoryEntry.{HistoryEntry}
-use Rattle.gw_base.specs.declared.history.PacketKey.{PacketKey}
-use Rattle.gw_base.specs.declared.key_state.KeyState.{KeyState}
-use Rattle.gw_base.specs.declared.key_state.KeyState.TheVariants.{Fresh, Filed, Sealed, Held, Released}
-use Rattle.gateway_answer.specs.Fit.{is_fresh, are_distinct, is_act_lawful, is_list_fit}
-use Rattle.gw_base.specs.ListLaws.{by_last}
 use Rattle.node_core.specs.declared.copy.Order.TheVariants as order
-use Rattle.once_core.specs.Epochs.{StartsRise, key_in}
-use Rattle.once_core.specs.Happenings.{Letter, Orders, Request, Sends, Tests}
-use Rattle.once_core.specs.Resting.{IsAsked, IsKnown, IsState, Rests, RestsBy, Tells}
 use Rattle.once_core.proofs.EachLemmas.{by_each_from, each_also}
 use Rattle.once_core.proofs.EpochLemmas.{epoch_stays, present_epoch}
-use Rattle.std.proofs.lemmas.Bool.Decides.{nat_tests}
-use Rattle.std.proofs.lemmas.Bool.{and_parts, false≢true}
-use Rattle.std.specs.List.{list_all, list_any}
-use Rattle.gw_base.specs.Observed.{observed}
 use Rattle.gw_base.specs.View.{state_after}
-use Rattle.gw_base.specs.declared.address.NodeId.{NodeId}
-use Rattle.transfer_cmd.specs.Lists.{is_held}
-use Rattle.once_core.specs.Admitted.{AllAdmitted, IsAdmitted, moves_on}
 use Rattle.once_core.proofs.StateLemmas.{moves_further, stays, held_is_released, held_is_cancelled}
 use Rattle.once_core.proofs.CaseLemmas.{if_known}
 

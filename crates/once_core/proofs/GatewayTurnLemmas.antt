@@ -1,24 +1,9 @@
 -- Moves of a gateway whose journal never fails, one after the other.
 use Rattle.std.proofs.Common.{◌≡◌, ℕ, ◌+◌, ◌-◌, ◌≤◌, max, min, Bool, true, false, List, [], ◌++◌, length, take, drop, ap, sym, ◌∙◌, subst, arith, append_assoc, OnOk, Result, Ok, Err}
-use Rattle.std.proofs.lemmas.Bool.{cond-false}
-use Rattle.std.proofs.lemmas.List.{drop-take, drop_all, length-drop, length-take-le, take-append-drop, take-take, take_all}
-use Rattle.gw_base.specs.declared.address.Addr.{Addr}
-use Rattle.gw_base.specs.declared.history.HistoryEntry.{HistoryEntry}
-use Rattle.gateway_answer.specs.Answer.{decided}
-use Rattle.gateway_answer.specs.Answered.{answer}
-use Rattle.gateway_answer.specs.Value.{BookValue, history_of, standing_for}
-use Rattle.once_core.specs.Addresses.{node_address}
-use Rattle.once_core.specs.Answers.{answer_at, answered, delivered, failed, if_broken}
-use Rattle.once_core.specs.Beginning.{default_rules}
-use Rattle.once_core.specs.Expired.{is_expired}
-use Rattle.once_core.specs.Gateway.{Gateway, Moved, cut, followed, opened, readying}
+use Rattle.once_core.proofs.Names.{Addr, answer, answer_at, answered, BookValue, common_steps, cond-false, cut, decided, default_rules, delivered, drop-take, drop_all, failed, followed, Gateway, history_of, HistoryEntry, if_broken, is_expired, length-drop, length-take-le, Message, Moved, node_address, opened, quiet, readying, standing_for, take-append-drop, take-take, take_all, Waiting}
 use Rattle.once_core.specs.GatewayFields.{gateway_value}
 use Rattle.once_core.specs.declared.gateway.KeptGateway.TheInside.{Inside}
 use Rattle.once_core.specs.Moves.{HasMoved, once_started}
-use Rattle.once_core.specs.Standing.{quiet}
-use Rattle.once_core.specs.declared.message.Message.{Message}
-use Rattle.once_core.specs.declared.message.Waiting.{Waiting}
-use Rattle.std.proofs.lemmas.Grind.{common_steps}
 
 pub ok_maps : {A E P Q : Type 0} (r : Result A E) → (P → Q) → OnOk r P → OnOk r Q
 ok_maps (Ok a) f is = f is

@@ -1,18 +1,7 @@
 -- Firm parts grow in every move of a gateway, and so in every turn.
 use Rattle.std.proofs.Common.{ℕ, List, [], ◌++◌, refl, sym, ap, subst, ◌∙◌, append_assoc, append-nil, length, slice_get, arith, ◌≡◌}
-use Rattle.gateway_answer.specs.Filed.{along, filed, filed_by}
-use Rattle.gateway_answer.specs.FiledLaws.{along-append}
-use Rattle.gateway_answer.specs.Items.{items_by, items_of}
-use Rattle.gw_base.specs.declared.history.HistoryEntry.{HistoryEntry}
-use Rattle.node_core.specs.Log.{LogEntry}
-use Rattle.node_core.specs.Reached.{Halt}
+use Rattle.once_core.proofs.Names.{along, along-append, answered, at_node, Called, called, delivered_to_node, failed, filed, filed_by, firm_in, Gateway, GrowsTo, Halt, HistoryEntry, items_by, items_of, LogEntry, Moved, ruled_turns, RuledTurn, Rules, submitting, ticking, Turn, turn, World}
 use Rattle.node_core.specs.Reached as call
-use Rattle.once_core.specs.Answers.{answered, failed}
-use Rattle.once_core.specs.Gateway.{Gateway, Moved, Rules}
-use Rattle.once_core.specs.Growing.{GrowsTo}
-use Rattle.once_core.specs.Once.{firm_in}
-use Rattle.once_core.specs.Turn.{RuledTurn, Turn, at_node, ruled_turns, turn}
-use Rattle.once_core.specs.World.{Called, World, called, delivered_to_node, submitting, ticking}
 use Rattle.once_core.proofs.CaseLemmas.{if_both, map_known, set_known}
 use Rattle.once_core.proofs.PartLemmas.{PartsKeep, turn_keeps, firm_or, firm_there, turns_hold}
 pub use Rattle.once_core.proofs.PartLemmas.{book_is}

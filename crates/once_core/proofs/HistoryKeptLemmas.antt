@@ -1,36 +1,15 @@
 -- What holds of the entries of a gateway in a world: it goes on with each act that is kept, and no number is too big.
 use Rattle.std.proofs.Common.{◌≡◌, ℕ, ◌-◌, ◌<◌, Bool, true, false, List, [], ◌∷◌, ◌++◌, Option, Some, map, refl, ap, sym, ◌∙◌, arith, append_assoc, take, drop, nat_lt, IfOk, Result, Ok, Err, append-nil, take-append-drop}
-use Rattle.std.proofs.lemmas.Bool.{and_parts, lt-ltb, ltb-true}
+use Rattle.once_core.proofs.Names.{Addr, AllKept, and_parts, answer_cause, answer_view, answer_within, Cancel, changes, Decided, decided, first_node_ip, Given, held_ones, HistoryAct, HistoryEntry, is_kept_act, is_kept_answer, is_of_world, IsBounded, KeyState, list_all, listed, lt-ltb, ltb-true, may_record, nat_tests, nearest, NodeId, Observed, Opening, opening_after, opening_of, opening_of-append, option_map_or, PreparedValue, recorded_as, Release, state_given, tabled, top_after, top_of, top_of-append, TransferValue, verdict_cause, verdict_of}
 use Rattle.std.proofs.lemmas.List.Folds.{list_all-append}
-use Rattle.std.specs.List.{list_all}
-use Rattle.std.specs.Option.{option_map_or}
-use Rattle.gtpp_message.specs.Message.{TransferValue, Cancel, Release}
-use Rattle.gw_base.specs.EntryLaws.{opening_of-append, top_of-append}
-use Rattle.gw_base.specs.History.{top_after, top_of}
-use Rattle.gw_base.specs.Starts.{opening_after, opening_of}
 use Rattle.gw_base.specs.declared.fault.NoMemory.{NoMemory}
-use Rattle.gw_base.specs.declared.history.Opening.{Opening}
 use Rattle.gateway_answer.specs.declared.plain.OwnedAnswer.{OwnedAnswer}
-use Rattle.gw_base.specs.Nearest.{nearest}
-use Rattle.gw_base.specs.Observed.{Observed}
-use Rattle.gw_base.specs.declared.address.Addr.{Addr}
-use Rattle.gw_base.specs.declared.address.NodeId.{NodeId}
-use Rattle.gw_base.specs.declared.history.HistoryAct.{HistoryAct}
-use Rattle.gw_base.specs.declared.history.HistoryEntry.{HistoryEntry}
-use Rattle.gw_base.specs.declared.key_state.KeyState.{KeyState}
-use Rattle.transfer_cmd.specs.Lists.{verdict_cause, verdict_of}
-use Rattle.transfer_cmd.specs.Table.{answer_cause, state_given}
 use Rattle.transfer_cmd.specs.declared.decision.Ask.{Ask}
 use Rattle.transfer_cmd.specs.declared.decision.Ask.TheVariants as ask
 use Rattle.transfer_cmd.specs.declared.verdict.Verdict.{Verdict}
-use Rattle.gateway_answer.specs.Answer.{Decided, Given, answer_within, asked_by, decided, listed, may_record, node_of, tabled}
-use Rattle.gateway_answer.specs.Asked.{changes, held_ones, recorded_as}
+use Rattle.gateway_answer.specs.Answer.{asked_by, node_of}
 use Rattle.gateway_index.specs.Limits.{numbers_end}
-use Rattle.gateway_answer.specs.Plain.{IsBounded, answer_view}
-use Rattle.gateway_answer.specs.Preparing.{PreparedValue, Request}
-use Rattle.once_core.specs.Addresses.{first_node_ip}
-use Rattle.once_core.specs.HistoryKept.{AllKept, is_kept_act, is_kept_answer, is_of_world}
-use Rattle.std.proofs.lemmas.Bool.Decides.{nat_tests}
+use Rattle.gateway_answer.specs.Preparing.{Request}
 
 abbrev kept : HistoryEntry → Bool
 kept e = is_kept_act e.act

@@ -1,19 +1,6 @@
 -- How often a gateway redirected decides nothing but the number of its next Redirection Request.
 use Rattle.std.proofs.Common.{◌≡◌, ℕ, ◌%◌, false, List, ◌++◌, Option, None, map, refl, ap, sym, ◌∙◌, arith, option_map}
-use Rattle.byteorder.specs.Endian.{big_bytes}
-use Rattle.gtpp_message.specs.Message.{RedirectionRequest}
-use Rattle.gtpp_message.specs.Writing.{written}
-use Rattle.gw_base.specs.Starts.{start_of}
-use Rattle.gw_base.specs.declared.address.Addr.{Addr}
-use Rattle.gw_base.specs.declared.history.HistoryEntry.{HistoryEntry}
-use Rattle.gateway_answer.specs.Told.{paths_of}
-use Rattle.gateway_answer.specs.Value.{Fortune, history_of}
-use Rattle.once_core.specs.Addresses.{gateway_address, node_at, port_at}
-use Rattle.once_core.specs.Answers.{answered, delivered, delivered_broken, delivered_running, failed, if_broken, making_close, making_tick, marked, redirected, unless_expired}
-use Rattle.once_core.specs.Gateway.{Gateway, Moved, Rules, committing, cut, followed, opened, readying, still}
-use Rattle.once_core.specs.Redirecting.{redirected_kept}
-use Rattle.once_core.specs.Standing.{gateway_kept}
-use Rattle.once_core.specs.declared.message.Message.{Message}
+use Rattle.once_core.proofs.Names.{Addr, answered, big_bytes, committing, cut, delivered, delivered_broken, delivered_running, failed, followed, Fortune, Gateway, gateway_address, gateway_kept, history_of, HistoryEntry, if_broken, making_close, making_tick, marked, Message, Moved, node_at, opened, paths_of, port_at, readying, redirected, redirected_kept, RedirectionRequest, Rules, start_of, still, unless_expired, written}
 
 abbrev with_redirects : ℕ → Gateway → Gateway
 with_redirects r g = record g { redirects = r }

@@ -1,22 +1,12 @@
 -- A world that is kept turns as the world that it stands for.
 use Rattle.std.proofs.Common.{◌≡◌, ℕ, zero, suc, ◌+◌, ◌-◌, true, false, not, List, [], ◌∷◌, ◌++◌, length, map, Option, Some, None, refl, ap, sym, ◌∙◌, arith, length-set, nat_le, slice_get, slice_set}
-use Rattle.std.proofs.lemmas.List.{append-nil, length-map, map-set}
-use Rattle.std.proofs.lemmas.Option.{slice_get-map}
-use Rattle.std.specs.Option.{option_map, option_map_or, option_or}
-use Rattle.node_core.specs.Log.{LogEntry, runs}
+use Rattle.once_core.proofs.Names.{append-nil, at_gateway, at_node, Called, Event, Gateway, gateway_kept, gateway_moved, gateway_moves, is_down_at, is_none_of, length-map, log_at, LogEntry, map-set, Message, most_starts, Moved, no_running_gateway, node_called, node_kept, node_moves, NodeKept, nodes_kept, option_map, option_map_or, option_or, refusal_of, refusal_to_redirect, refusing, runs, runs_at, slice_get-map, starts_at, starts_in, still, with_changed_gateway, with_changed_node, with_gateway, with_node, World, world_kept, WorldKept}
 use Rattle.once_core.proofs.KeptMoveLemmas.{MovesKept}
 use Rattle.once_core.proofs.NodeCallLemmas.{CallsKept, nothing}
-use Rattle.once_core.specs.Expired.{starts_in}
-use Rattle.once_core.specs.Gateway.{Gateway, Moved, still}
-use Rattle.once_core.specs.KeptTurn.{gateway_moves, is_down_at, node_moves, runs_at, starts_at, with_changed_gateway, with_changed_node, with_gateway, with_node}
 use Rattle.once_core.specs.KeptTurn as kept
-use Rattle.once_core.specs.Standing.{NodeKept, WorldKept, gateway_kept, node_kept, nodes_kept, world_kept}
-use Rattle.once_core.specs.Turn.{no_running_gateway, no_running_node, at_gateway, at_node, gateway_moved, is_none_of, most_starts, node_called, refusal_of, refusal_to_redirect, refusing}
-use Rattle.once_core.specs.World.{Called, World, log_at}
-use Rattle.once_core.specs.declared.event.Event.{Event}
+use Rattle.once_core.specs.Turn.{no_running_node}
 use Rattle.once_core.specs.declared.event.Event.TheVariants as event
 use Rattle.once_core.specs.declared.event.WorldKind.TheVariants.{NoGateway, NoNode, Halted, Stopped, Running, Restarts}
-use Rattle.once_core.specs.declared.message.Message.{Message}
 use Rattle.once_core.proofs.CaseLemmas.{by_option}
 
 -- ---- nodes

@@ -1,36 +1,15 @@
 -- What a node knows is so in the firm parts of the gateways' histories.
 use Rattle.std.proofs.Common.{◌≡◌, ◌⊎◌, ⊎_elim, ℕ, ◌==◌, ◌&&◌, ◌||◌, Bool, true, false, List, [], ◌∷◌, Option, Some, None, IfSome, Contains, refl, sym, ap, subst, ◌∙◌, eqb-true, arith, flat_map, ◌++◌}
-use Rattle.std.proofs.lemmas.Bool.{false≢true, and_parts, or_cases}
-use Rattle.std.proofs.lemmas.List.Elements.{All-contains}
-use Rattle.std.specs.Option.{option_map_or}
-use Rattle.std.specs.List.{list_all, list_any}
-use Rattle.std.proofs.lemmas.List.Sums.{AllPass-from_list_all}
-use Rattle.gw_base.specs.declared.cause.TheConstants.{ACCEPTED, ALREADY_FULFILLED}
-use Rattle.gw_base.specs.declared.history.HistoryEntry.{HistoryEntry}
+use Rattle.once_core.proofs.Names.{ACCEPTED, All-contains, AllPass-from_list_all, AllRestOn, ALREADY_FULFILLED, and_parts, Answers, AnyHasCopyAt, Asks, Command, Deed, entries_by, entries_of, false≢true, First, Follows, heard_in, HistoryEntry, is_answered, is_chosen, is_done, is_filed, is_filing, is_fulfilled, is_release, is_released, is_settled, is_telling, is_unknown, IsChoice, IsCommandSent, IsFulfilled, IsKnown, IsPlainFirst, IsState, Letter, list_all, list_any, LogEntry, MaySend, Meaning, nat_tests, option_map_or, or_cases, Order, Orders, PacketCopy, PacketState, Port, ReleasesChoice, Request, Responds, RestsOn, says_sealed, Scene, SceneHolds, Second, Sends, Sent, Tells, Tests, told, Verdict}
 use Rattle.gw_base.specs.declared.key_state.KeyState.TheVariants as state
-use Rattle.node_core.specs.Choosing.{IsChoice, ReleasesChoice}
-use Rattle.node_core.specs.Copies.{is_chosen, is_filing, is_fulfilled, is_release, is_released, is_unknown, names, told, is_answered, is_filed, is_sealed as says_sealed, is_settled}
+use Rattle.node_core.specs.Copies.{names}
 use Rattle.node_core.specs.Log as log
-use Rattle.node_core.specs.Log.{Responds, LogEntry}
-use Rattle.node_core.specs.Packets.{PacketState, is_done}
-use Rattle.node_core.specs.Resting.{AllRestOn, IsFulfilled, RestsOn}
-use Rattle.node_core.specs.Roles.{IsPlainFirst}
-use Rattle.node_core.specs.declared.copy.Command.{Command}
-use Rattle.node_core.specs.declared.copy.Order.{Order}
 use Rattle.node_core.specs.declared.copy.Order.TheVariants as order
-use Rattle.node_core.specs.declared.copy.PacketCopy.{PacketCopy}
 use Rattle.node_core.specs.declared.copy.Verdict.TheVariants as verdict
-use Rattle.node_core.specs.declared.port.Port.{Port}
-use Rattle.node_core.specs.declared.port.Port.TheVariants.{First, Second}
-use Rattle.node_core.specs.declared.copy.Verdict.{Verdict}
-use Rattle.once_core.specs.Following.{AnyHasCopyAt, Follows, IsCommandSent, MaySend, entries_by, entries_of, heard_in}
-use Rattle.once_core.specs.Happenings.{Answers, Asks, Deed, Heard, Letter, Meaning, Orders, Request, Scene, Sends, Sent, Tests, about}
-use Rattle.once_core.specs.Resting.{IsKnown, IsState, SceneHolds, Tells}
-use Rattle.once_core.specs.Scenes.{is_telling}
+use Rattle.once_core.specs.Happenings.{Heard, about}
 use Rattle.once_core.proofs.RoleLemmas.{IsCopyOf, command_use, not_both, own_use, same_user}
 use Rattle.once_core.proofs.ListLemmas.{any_at, in_head, in_none, in_tail, in_one, in_cons, of_flat_map}
 use Rattle.once_core.proofs.CaseLemmas.{if_known}
-use Rattle.std.proofs.lemmas.Bool.Decides.{nat_tests}
 
 -- ---- what was heard is a message
 

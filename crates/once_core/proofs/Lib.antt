@@ -6,6 +6,7 @@ pub mod EpochLemmas
 pub mod FiledLemmas
 pub mod CountLemmas
 pub mod GrowingLemmas
+pub mod Names
 pub mod StateLemmas
 pub mod TableLemmas
 pub mod ApartLemmas

@@ -1,57 +1,23 @@
 -- A gateway tells a node that it is alive only once the node's start is firm, and knows of no start that wasn't made: its
 -- moves, what it answers, its marks, its openings and its redirections.
 use Rattle.std.proofs.Common.{◌≡◌, ⊎_elim, ℕ, ◌-◌, ◌≤◌, nat_lt, not, Bool, true, false, List, [], ◌∷◌, ◌++◌, length, length-append, map, filter, take, drop, take-append-drop, Contains, refl, sym, ap, subst, ◌∙◌, arith, append_assoc, append-nil, ◌⊎◌, leb-true, ltb-true, Option, Some, None, IfSome, option_map}
-use Rattle.std.proofs.lemmas.Bool.{false≢true}
-use Rattle.std.proofs.lemmas.List.Elements.{Contains-append_cases, Contains-push_cases}
-use Rattle.gw_base.specs.EntryLaws.{opening_of-append}
-use Rattle.gw_base.specs.Starts.{start_of, opening_of}
-use Rattle.gw_base.specs.declared.address.NodeId.{NodeId}
-use Rattle.gw_base.specs.declared.history.HistoryAct.{HistoryAct}
+use Rattle.once_core.proofs.Names.{act_noted, acting, AliveAsked, AliveTold, answer_by, answered, answering, BookValue, Contains-append_cases, Contains-push_cases, cut, decided, EchoAsked, EchoRequest, EchoResponse, EchoTold, entry_by, failed, failed_by, failing, failure_answer, false≢true, followed, for_role, framed, Gateway, Given, giving_up, GrowsTo, has_type, history_of, HistoryAct, HistoryEntry, is_expired, is_reached, is_response, Message, MessageValue, moment_after, Moved, nat_tests, nil_from_length, no_caller, node_address, NODE_ALIVE_RESPONSE, node_id, node_ip, NodeAliveResponse, NodeId, Note, Observed, observed, opened_by, Opening, opening_epoch, opening_of, opening_of-append, path_given, PathEvent, paths_of, port_number, prepared_of, PreparedValue, redirected, redirecting, Replies, replying, responding, RisesBy, RolesRead, Rules, settling, standing_for, start_of, StartsRise, still, SYSTEM_FAILURE, TransferResponse, TransferValue, VersionNotSupported, Waiting, written}
 use Rattle.gw_base.specs.declared.history.HistoryAct.TheVariants as act
-use Rattle.gw_base.specs.declared.history.HistoryEntry.{HistoryEntry}
-use Rattle.gtpp_message.specs.declared.message_types.TheConstants.{NODE_ALIVE_RESPONSE}
-use Rattle.gateway_answer.specs.Answered.{entry_by, no_caller}
-use Rattle.gateway_answer.specs.Value.{BookValue, history_of, standing_for}
-use Rattle.once_core.specs.Addresses.{node_ip, node_address, node_id, port_number}
 use Rattle.once_core.specs.Answers as out
-use Rattle.once_core.specs.Answers.{replying, acting, answered, failed, failed_by, redirected, redirecting}
-use Rattle.once_core.specs.Epochs.{RisesBy, StartsRise}
-use Rattle.once_core.specs.Gateway.{Gateway, Moved, cut, followed, giving_up, is_reached, settling, still, Rules}
-use Rattle.once_core.specs.Growing.{GrowsTo}
-use Rattle.once_core.specs.Messages.{failing, has_type, is_response, answering}
-use Rattle.once_core.specs.declared.message.Message.{Message}
-use Rattle.once_core.specs.declared.message.Waiting.{Waiting}
 use Rattle.once_core.proofs.CommitPlays.{not_reached}
 use Rattle.once_core.proofs.EachLemmas.{each_front, each_more}
 use Rattle.once_core.proofs.GrowingLemmas.{on, on_on, on_with}
 use Rattle.once_core.proofs.ListLemmas.{filtered, in_none, of_map, passed, in_one, each_mapped}
 use Rattle.once_core.proofs.StartLemmas.{IsNoPath, front_low, no_path_rises, no_path_same, one_rises, start_rises, known_start, opened_start, path_starts}
 use Rattle.once_core.proofs.PartLemmas.{history_is, PartsKeep, cut_book, noted, standing, torn_book, whole_book}
-use Rattle.std.proofs.lemmas.List.{nil_from_length}
-use Rattle.once_core.specs.Happenings.{Note, act_noted}
 use Rattle.once_core.proofs.CaseLemmas.{if_both}
-use Rattle.gw_base.specs.History.{moment_after}
-use Rattle.gw_base.specs.Observed.{Observed, observed}
-use Rattle.gw_base.specs.declared.cause.TheConstants.{SYSTEM_FAILURE}
-use Rattle.gtpp_message.specs.Message.{MessageValue, TransferValue, EchoRequest, EchoResponse, VersionNotSupported, NodeAliveResponse, TransferResponse}
 use Rattle.gtpp_message.specs.Reading as reading
-use Rattle.gtpp_message.specs.Role.{for_role}
-use Rattle.gtpp_message.specs.Writing.{written}
 use Rattle.gtpp_message.specs.declared.role.Role.TheVariants as role
-use Rattle.path_mgmt.specs.GatewayPath.{opened_by}
-use Rattle.path_mgmt.specs.declared.event.PathEvent.{PathEvent}
-use Rattle.path_mgmt.specs.declared.event.PathEvent.TheVariants.{EchoAsked, EchoTold, AliveAsked, AliveTold}
-use Rattle.gateway_answer.specs.Answer.{Given, Replies, answer_by, asked_by, decided, failure_answer, opening_epoch, path_given, responding}
+use Rattle.gateway_answer.specs.Answer.{asked_by}
 use Rattle.gateway_answer.specs.Preparing as of
-use Rattle.gateway_answer.specs.Preparing.{PreparedValue, framed, prepared_of}
-use Rattle.gateway_answer.specs.PreparingLaws.{RolesRead}
-use Rattle.gateway_answer.specs.Told.{paths_of}
-use Rattle.once_core.specs.Expired.{is_expired}
 use Rattle.once_core.specs.declared.message.Message as world
 use Rattle.once_core.proofs.MeaningLemmas.{FromNode, NodeSaid, ReadsBack, role_read_of}
 use Rattle.once_core.proofs.DeliverPlays.{fresh_start, rises, asked_responds}
-use Rattle.gw_base.specs.declared.history.Opening.{Opening}
-use Rattle.std.proofs.lemmas.Bool.Decides.{nat_tests}
 
 -- ---- a gateway
 

@@ -1,32 +1,10 @@
 -- A gateway is alive to a node only where the node's start is firm: what a node's calls leave of that.
 use Rattle.std.proofs.Common.{◌≡◌, ⊎_elim, ℕ, ◌≤◌, ◌==◌, ◌&&◌, ◌||◌, not, Bool, true, false, List, [], ◌∷◌, ◌++◌, map, Option, Some, None, Contains, refl, sym, ap, subst, ◌∙◌, arith}
-use Rattle.std.specs.Option.{option_map_or}
-use Rattle.std.proofs.lemmas.Bool.{false≢true, not-false, or_parts}
-use Rattle.gtpp_message.specs.Message.{MessageValue, EchoRequest, EchoResponse, NodeAliveResponse, RedirectionRequest, RedirectionResponse, TransferRequest, TransferResponse}
-use Rattle.gtpp_message.specs.Packet.{PacketForm}
+use Rattle.once_core.proofs.Names.{ACCEPTED, AliveTold, answering, answers_of, Appointed, appointing, Began, Called, called, delivered_to_node, draft_of, due, EchoAsked, EchoRequest, EchoResponse, EchoTold, entries_from, false≢true, for_role, gateway_address, Halted, Heard, heeding, heeds_from, is_alive, is_expired_at_node, is_response, is_taken_for_another, last_number, LogEntry, logged, message_of, MessageValue, moved_at_tick, moved_by, nat_tests, nearest, NODE_ALIVE_RESPONSE, node_anew, node_value, NodeAliveResponse, NodeValue, not-false, option_map_or, or_parts, Other, outgoing, PacketForm, Path, place_of, RedirectionRequest, RedirectionResponse, Redirects, Responds, RolesRead, runs, Saying, Says, Sending, starts_in, Submitted, submitting, submitting_form, Taken, taken_entries, taken_of, Ticked, ticking, TransferRequest, TransferResponse, written}
 use Rattle.gtpp_message.specs.Reading.{Message}
-use Rattle.gtpp_message.specs.Role.{for_role}
-use Rattle.gtpp_message.specs.Writing.{written}
-use Rattle.gtpp_message.specs.declared.message_types.TheConstants.{NODE_ALIVE_RESPONSE}
 use Rattle.gtpp_message.specs.declared.role.Role.TheVariants as role
-use Rattle.gateway_answer.specs.PreparingLaws.{RolesRead}
-use Rattle.gw_base.specs.Nearest.{nearest}
-use Rattle.gw_base.specs.declared.cause.TheConstants.{ACCEPTED}
-use Rattle.path_mgmt.specs.NodePath.{is_alive, node_anew}
-use Rattle.path_mgmt.specs.declared.event.PathEvent.TheVariants.{EchoAsked, EchoTold, AliveTold}
-use Rattle.node_core.specs.Hearing.{Says, Taken, entries_from, heeding, heeds_from, taken_entries, taken_of}
-use Rattle.node_core.specs.Log.{LogEntry, Began, Halted, Submitted, Appointed, Ticked, Heard, Saying, Path, Redirects, Responds, Other, paths_of, runs}
-use Rattle.node_core.specs.Moving.{appointing, moved_at_tick, moved_by}
-use Rattle.node_core.specs.Octets.{outgoing}
-use Rattle.node_core.specs.Peers.{last_number, place_of}
+use Rattle.node_core.specs.Log.{paths_of}
 use Rattle.node_core.specs.Reached as call
-use Rattle.node_core.specs.Ticks.{due}
-use Rattle.node_core.specs.Value.{NodeValue, logged}
-use Rattle.node_core.specs.declared.sending.Sending.{Sending}
-use Rattle.once_core.specs.Addresses.{gateway_address}
-use Rattle.once_core.specs.Expired.{is_expired_at_node, is_taken_for_another, starts_in}
-use Rattle.once_core.specs.Messages.{answering, is_response}
-use Rattle.once_core.specs.World.{Called, answers_of, called, delivered_to_node, draft_of, message_of, node_value, submitting, submitting_form, ticking}
 use Rattle.once_core.specs.declared.message.Message as world
 use Rattle.once_core.proofs.DueLemmas.{none_alive, told_cases}
 use Rattle.once_core.proofs.LifeMoves.{tells_alive}
@@ -35,7 +13,6 @@ use Rattle.once_core.proofs.LogLemmas.{place_is, starts_again, starts_same}
 use Rattle.once_core.proofs.MeaningLemmas.{FromGateway, GatewaySaid, IsWritten, ReadsBack, role_read_of, type_of}
 use Rattle.once_core.proofs.NodePlays.{NodeRightly, appointed_starts, either, appointed}
 use Rattle.once_core.proofs.CaseLemmas.{if_both, by_option, if_known}
-use Rattle.std.proofs.lemmas.Bool.Decides.{nat_tests}
 
 -- Where a gateway is alive to the node of this log, the node's starts are at most those that the gateway knows firmly.
 abbrev pub LifeIn : (ℕ → ℕ) → List LogEntry → Type 0
@@ -192,6 +169,9 @@ module _ (known : ℕ → ℕ) (gateways : ℕ) (m : world.Message) (log : List 
           → LifeCalled known m.node log (record { log = logged (entries_from value m.port o m.octets) log; sends = answers_of m (heeds_from value m.port o m.octets) })
       heard start None e = nothing_life
       heard start (Some p) e =
-          rw (place_is gateways log m.gateway p e, role_read_of back roles role.Node m.octets said.path said.message
-          said.written)
+          rw (
+            place_is gateways log m.gateway p e,
+            role_read_of back roles role.Node m.octets said.path said.message
+                said.written,
+          )
           (message_life start said.message said.written said.fits)

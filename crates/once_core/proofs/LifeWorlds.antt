@@ -1,22 +1,8 @@
 -- A gateway tells a node that it is alive only once the node's start is firm, and knows of no start that wasn't made: in
 -- each world. So the paths that a gateway knows lead to nodes of the world.
 use Rattle.std.proofs.Common.{◌≡◌, ⊎_elim, ℕ, ◌-◌, ◌≤◌, true, false, List, [], ◌∷◌, length, take, Some, Contains, slice_get, refl, sym, ap, subst, ◌∙◌, arith, ◌<◌, Bool, if◌then◌else◌, ◌++◌, All, Option}
-use Rattle.std.proofs.lemmas.Bool.{false≢true}
-use Rattle.std.proofs.lemmas.List.Elements.{Contains-append_cases, All-cons, All-nil}
-use Rattle.gw_base.specs.Starts.{start_of, opening_after, opening_of, start_by}
-use Rattle.gw_base.specs.declared.history.HistoryEntry.{HistoryEntry}
-use Rattle.node_core.specs.Log.{LogEntry, Began, counter_of}
+use Rattle.once_core.proofs.Names.{Addr, All-cons, All-nil, at_gateway, at_node, Began, Called, called, cons_option, Contains-append_cases, counter_of, delivered_to_node, false≢true, filter_map, firm_in, first_node_ip, first_world, Gateway, gateway_moved, GrowsTo, history_of, HistoryAct, HistoryEntry, is_alive, IsReached, known_nodes, log_at, LogEntry, Message, Moved, nat_tests, node_anew, node_at, node_called, node_ip, NodeId, none-some, Opening, opening_after, opening_of, opening_of-append, option_map, path_of, paths_of, RisesBy, ruled_turns, RuledTurn, Rules, same_Some, slice_get_within, start_by, start_of, starts_in, StartsRise, submitting, ticking, times_of, Turn, turn, values_of, World}
 use Rattle.node_core.specs.Reached as call
-use Rattle.path_mgmt.specs.NodePath.{is_alive, node_anew}
-use Rattle.once_core.specs.Addresses.{first_node_ip, node_ip, node_at}
-use Rattle.once_core.specs.Beginning.{first_world, times_of, IsReached}
-use Rattle.once_core.specs.Expired.{starts_in}
-use Rattle.once_core.specs.Gateway.{Gateway, Moved, Rules}
-use Rattle.once_core.specs.Once.{firm_in}
-use Rattle.once_core.specs.Shown.{values_of}
-use Rattle.once_core.specs.Turn.{RuledTurn, Turn, at_gateway, at_node, gateway_moved, node_called, ruled_turns, turn}
-use Rattle.once_core.specs.World.{Called, World, called, delivered_to_node, log_at, submitting, ticking}
-use Rattle.once_core.specs.declared.message.Message.{Message}
 use Rattle.once_core.proofs.DueLemmas.{none_alive}
 use Rattle.once_core.proofs.FirstPlays.{first_made, gateways_each, times_each}
 use Rattle.once_core.proofs.LifeMoves.{redirected_truly, answers_truly, failed_truly, Truly, TrulyMoved, none_truly, tells_alive, truly_parts}
@@ -25,24 +11,10 @@ use Rattle.once_core.proofs.ListLemmas.{in_front, in_none}
 use Rattle.once_core.proofs.NumberLemmas.{values_are, values_before, turns_forms, forms_at}
 use Rattle.once_core.proofs.StartLemmas.{front_low, start_rises}
 use Rattle.once_core.proofs.WorldPlays.{Laws, turn_made, Made, get_set}
-use Rattle.std.proofs.lemmas.Option.{same_Some, slice_get_within, none-some}
 use Rattle.once_core.proofs.CaseLemmas.{map_known, set_known, by_option}
 use Rattle.once_core.proofs.PartLemmas.{first_keeps, turn_keeps, firm_or, firm_there, log_or, log_there, turns_hold}
-use Rattle.once_core.specs.Growing.{GrowsTo}
 use Rattle.once_core.proofs.MeaningLemmas.{NodeSaid}
-use Rattle.std.specs.List.{cons_option, filter_map}
-use Rattle.std.specs.Option.{option_map}
-use Rattle.gateway_answer.specs.Told.{path_of, paths_of}
-use Rattle.gateway_answer.specs.Value.{history_of}
-use Rattle.gw_base.specs.EntryLaws.{opening_of-append}
-use Rattle.gw_base.specs.Known.{known_nodes}
-use Rattle.gw_base.specs.declared.address.Addr.{Addr}
-use Rattle.gw_base.specs.declared.address.NodeId.{NodeId}
-use Rattle.gw_base.specs.declared.history.HistoryAct.{HistoryAct}
-use Rattle.gw_base.specs.declared.history.Opening.{Opening}
-use Rattle.once_core.specs.Epochs.{RisesBy, StartsRise}
 use Rattle.once_core.proofs.EachLemmas.{by_each, each_front}
-use Rattle.std.proofs.lemmas.Bool.Decides.{nat_tests}
 
 -- the starts that the node at an address made
 abbrev pub starts_at : World → ℕ → ℕ
@@ -244,8 +216,12 @@ module _ (w : World) (lives : Lives w) (place : ℕ) (g : Gateway) (there : slic
       let ip : n.0 ≡ path.ip = ap (λ (a : Addr). a.ip) (same_Some _ path at) in
       let begun = path_begun n.0 (history_of g.book) (rises g.book.is_broken) o e in
       let made = (lives.gateways place g there).low n.0 in
-      omega (arith, ip, is_there w (n.0 - first_node_ip)
-      (omega (arith, begun, ap start_by e, low n.0 g.book.is_broken, made)))) is
+      omega (
+        arith,
+        ip,
+        is_there w (n.0 - first_node_ip)
+            (omega (arith, begun, ap start_by e, low n.0 g.book.is_broken, made)),
+      )) is
 
 filtered_all : {A B : Type 0} (P : B → Type 0) (f : A → Option B) → ((x : A) (y : B) → f x ≡ Some y → P y) → (xs : List A) → All P (filter_map f xs)
 filtered_all P f holds [] = All-nil P

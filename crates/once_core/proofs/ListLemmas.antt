@@ -1,11 +1,7 @@
 -- Elements of lists.
 use Rattle.std.proofs.Common.{Bool, Contains, List, Some, [], ap, arith, false, filter, inl, inr, length, map, refl, slice_get, subst, suc, zero, sym, take, true, ℕ, ⊎_elim, ◌∙◌, ◌∷◌, ◌≡◌, ◌⊎◌}
-use Rattle.std.proofs.lemmas.List.Elements.{All-contains, All-contains_itself, All-filter, All-take, Contains-append_cases, Contains-append_left, Contains-append_right, filter_passes}
-use Rattle.std.proofs.lemmas.Bool.{both_ways, cond-false, cond-true}
-use Rattle.std.specs.List.{flat_map, list_any}
+use Rattle.once_core.proofs.Names.{All-contains, All-contains_itself, All-filter, All-take, both_ways, cond-false, cond-true, Contains-append_cases, Contains-append_left, Contains-append_right, filter_passes, flat_map, get_or-map, get_or_from_slice_get, length-map, list_any, slice_get_read, slice_get_within}
 use Rattle.std.proofs.lemmas.List.Folds.{Any-from_list_any}
-use Rattle.std.proofs.lemmas.List.{get_or-map, length-map}
-use Rattle.std.proofs.lemmas.Option.{get_or_from_slice_get, slice_get_read, slice_get_within}
 use Rattle.once_core.proofs.CaseLemmas.{if_known}
 
 pub in_head : {A : Type 0} (x : A) (xs : List A) → Contains (x ∷ xs) x

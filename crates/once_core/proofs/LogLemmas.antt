@@ -1,22 +1,12 @@
 -- The log of a node of a world: its starts, and where its gateways are.
 use Rattle.std.proofs.Common.{◌≡◌, ℕ, zero, suc, min, ◌+◌, ◌-◌, ◌%◌, ◌<◌, ◌≤◌, true, false, List, [], ◌∷◌, length, map, Option, Some, slice_get, slice_set, get_or, refl, sym, ap, ◌∙◌, arith, option_map, eqb-true}
-use Rattle.std.specs.Option.{option_map_or}
-use Rattle.std.proofs.lemmas.List.{length-map}
+use Rattle.once_core.proofs.Names.{Addr, address_at, addresses_from, all_drawn, Appointed, Began, begins, common_steps, counter_of, drawn, end_of_numbers, first_gateway_ip, gateway_address, gateway_at, has_entries, has_ip, Heard, length-map, LogEntry, logged, number_drawn, option_map_or, paths_hearing, PathsOfNode, Peer, peer_anew, peers_of, place_of, same_Some, Saying, Sending, slice_get-get_or, slice_get-map, starts_in, Submitted, Ticked}
 use Rattle.std.proofs.lemmas.List.Quantifiers.{position-Some}
-use Rattle.std.proofs.lemmas.Option.{slice_get-get_or, slice_get-map, same_Some}
-use Rattle.gw_base.specs.declared.address.Addr.{Addr}
-use Rattle.path_mgmt.specs.NodePath.{PathsOfNode}
-use Rattle.node_core.specs.Log.{LogEntry, Began, Submitted, Appointed, Ticked, Heard, Saying, counter_of, has_entries, paths_hearing, paths_of, peers_of}
-use Rattle.node_core.specs.Peers.{address_at, all_drawn, at_place, drawn, end_of_numbers, has_ip, number_drawn, peer_anew, place_of}
-use Rattle.node_core.specs.Value.{logged}
-use Rattle.node_core.specs.declared.peer.Peer.{Peer}
-use Rattle.node_core.specs.declared.sending.Sending.{Sending}
+use Rattle.node_core.specs.Log.{paths_of}
+use Rattle.node_core.specs.Peers.{at_place}
 use Rattle.node_core.specs.declared.sending.Sending.TheVariants as send
-use Rattle.once_core.specs.Addresses.{addresses_from, first_gateway_ip, gateway_address, gateway_at}
-use Rattle.once_core.specs.Expired.{begins, starts_in}
 use Rattle.once_core.proofs.NodeTurnLemmas.{addresses_length}
 use Rattle.once_core.proofs.CaseLemmas.{map_known}
-use Rattle.std.proofs.lemmas.Grind.{common_steps}
 
 -- ---- starts
 

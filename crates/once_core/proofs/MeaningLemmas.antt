@@ -1,16 +1,8 @@
 -- What the messages of a world say, and what they mean.
 use Rattle.std.proofs.Common.{◌≡◌, ℕ, ◌%◌, ◌≤◌, true, false, List, [], ◌∷◌, ◌++◌, length, Some, slice_get, refl, sym, ap, ◌∙◌, arith, append-nil}
-use Rattle.gw_base.specs.declared.cause.TheConstants.{SYSTEM_FAILURE}
-use Rattle.gtpp_message.specs.Message.{MessageValue, TransferValue, EchoResponse, TransferRequest, TransferResponse, Cancel, Release}
+use Rattle.once_core.proofs.Names.{about, Answers, body_octets, Cancel, EchoResponse, failing, for_role, IsSendableMessage, meaning_by, meaning_in, meaning_of, message_type, MessageValue, Release, role_reading, RolesRead, sends_values, SYSTEM_FAILURE, TransferRequest, TransferResponse, TransferValue, written}
 use Rattle.gtpp_message.specs.Reading.{Message, reading}
-use Rattle.gtpp_message.specs.Role.{for_role, role_reading}
-use Rattle.gtpp_message.specs.Writing.{IsSendableMessage, body_octets, message_type, written}
 use Rattle.gtpp_message.specs.declared.role.Role.{Role}
-use Rattle.gateway_answer.specs.Preparing.{sends_values}
-use Rattle.gateway_answer.specs.PreparingLaws.{RolesRead}
-use Rattle.once_core.specs.Happenings.{Answers}
-use Rattle.once_core.specs.Meaning.{meaning_by, meaning_in, meaning_of}
-use Rattle.once_core.specs.Messages.{about, failing}
 use Rattle.once_core.specs.declared.message.Message as sent
 
 -- what the law of messages says: what is written is read back

@@ -1,56 +1,22 @@
 -- The number of an open copy is read as it is meant, where the gateway's present epoch is that of the node's start: by the
 -- greatest number of that epoch, and by what the laws of nodes say of numbers and of what a node knows.
 use Rattle.std.proofs.Common.{◌≡◌, ◌⊎◌, inl, inr, ℕ, max, ◌≤◌, ◌==◌, ◌&&◌, Bool, true, false, if◌then◌else◌, List, [], ◌∷◌, Option, Some, None, refl, sym, ap, subst, ◌∙◌, arith, ⊎_elim, eqb-true, ◌↔◌, ◌+◌, ◌<◌, ◌%◌, Contains, length, ◌≢◌, All, ne_eqb}
-use Rattle.std.specs.List.{list_any}
-use Rattle.std.proofs.lemmas.Bool.{cases_lt, false≢true, cond-false}
-use Rattle.gateway_answer.specs.Fit.{is_fresh}
-use Rattle.gw_base.specs.EntryLaws.{opening_of-append, present_state-append, top_of-append, present_state_is}
-use Rattle.gw_base.specs.History.{given_state, present_state, top_after, top_of, epoch_of}
-use Rattle.gw_base.specs.Lists.{raised}
-use Rattle.gw_base.specs.Starts.{opening_after, opening_of, start_by, start_of}
+use Rattle.once_core.proofs.Names.{All-contains, AllRestOn, AnyHasCopyAt, Asks, cases_lt, cond-false, Deed, deeds_of, drawn, epoch_of, false≢true, Follows, Fresh, given_state, GrowsTo, Happening, HasCopy, HasOneRole, HasOpenCopy, Held, history, HistoryAct, HistoryEntry, is_done, is_fresh, IsAsked, IsBetween, IsCopyOrBase, IsKnown, IsNearest, IsRising, IsSingle, KeyState, Knows, length-map, Letter, list_any, log_of, LogEntry, MaySend, Meaning, nat_tests, nearest, next_number, NodeCall, NodeId, NodeSetup, none-some, opening_after, opening_of, opening_of-append, Orders, PacketCopy, packets_in, packets_of, PacketState, Peer, peers_of, Port, present_state, present_state-append, present_state_is, raised, reached, ReleasesChoice, Request, Rests, RestsBy, runs, same_Some, Scene, scene_after, SceneHolds, Sends, since_start, start_by, start_of, starts_in, Tests, top_after, top_of, top_of-append, uses, uses_by_copies, uses_by_copy}
 use Rattle.gw_base.specs.View.{present_after}
-use Rattle.gw_base.specs.declared.address.NodeId.{NodeId}
-use Rattle.gw_base.specs.declared.history.HistoryAct.{HistoryAct}
 use Rattle.gw_base.specs.declared.history.HistoryAct.TheVariants as act
-use Rattle.gw_base.specs.declared.history.HistoryEntry.{HistoryEntry}
-use Rattle.gw_base.specs.declared.key_state.KeyState.TheVariants.{Fresh, Held}
-use Rattle.once_core.specs.Happenings.{Letter, Request, Sends, Tests, about, Asks, Orders, Scene, history, Deed, Happening, Meaning}
-use Rattle.once_core.specs.Resting.{IsAsked, Rests, RestsBy, IsKnown, SceneHolds}
+use Rattle.once_core.specs.Happenings.{about}
 use Rattle.once_core.proofs.EachLemmas.{by_each, each_front}
-use Rattle.std.proofs.lemmas.Option.{same_Some, none-some}
-use Rattle.gw_base.specs.declared.key_state.KeyState.{KeyState}
 use Rattle.once_core.proofs.CaseLemmas.{if_known, by_bool, if_both}
-use Rattle.gw_base.specs.Nearest.{IsNearest, nearest}
-use Rattle.node_core.specs.Nearness.{HasCopy, HasOpenCopy, IsCopyOrBase}
-use Rattle.node_core.specs.Packets.{PacketState, is_done}
-use Rattle.node_core.specs.declared.port.Port.{Port}
-use Rattle.once_core.specs.Following.{AnyHasCopyAt, Follows, MaySend, Knows}
-use Rattle.once_core.specs.Growing.{GrowsTo, IsBetween}
 use Rattle.once_core.proofs.CountLemmas.{starts_rise}
 use Rattle.once_core.proofs.EpochLemmas.{present_epoch}
 use Rattle.once_core.proofs.ForwardLemmas.{known_on}
 use Rattle.once_core.proofs.KnownLemmas.{done_known, may_send}
-use Rattle.node_core.specs.Log.{LogEntry, NodeSetup, packets_of, runs, peers_of}
-use Rattle.node_core.specs.Peers.{next_number, drawn}
-use Rattle.node_core.specs.Reached.{NodeCall, log_of, reached}
-use Rattle.node_core.specs.Roles.{HasOneRole, uses, IsRising, IsSingle, uses_by_copies, uses_by_copy}
-use Rattle.once_core.specs.Deeds.{deeds_of}
-use Rattle.once_core.specs.Expired.{starts_in}
-use Rattle.once_core.specs.Followed.{packets_in}
-use Rattle.once_core.specs.Scenes.{scene_after}
 use Rattle.once_core.proofs.MoveLemmas.{holds_always}
 use Rattle.once_core.proofs.NumberLemmas.{present_packet}
 use Rattle.once_core.proofs.RoleLemmas.{among_copies, among_packets, own_use, packets_sum, copies_sum, sum_none}
 use Rattle.once_core.proofs.SendingPlays.{NodesFollow}
-use Rattle.std.proofs.lemmas.List.Elements.{All-contains}
-use Rattle.node_core.specs.Choosing.{ReleasesChoice}
-use Rattle.node_core.specs.Resting.{AllRestOn, since_start}
-use Rattle.node_core.specs.declared.copy.PacketCopy.{PacketCopy}
-use Rattle.node_core.specs.declared.peer.Peer.{Peer}
 use Rattle.once_core.proofs.DeedLemmas.{all_rest}
-use Rattle.std.proofs.lemmas.List.{length-map}
 use Rattle.once_core.proofs.LogLemmas.{addresses_stay}
-use Rattle.std.proofs.lemmas.Bool.Decides.{nat_tests}
 
 -- the greatest number, where there is one, is no less than this
 pub record IsCovered (top : Option ℕ) (number : ℕ) : Type 0 where

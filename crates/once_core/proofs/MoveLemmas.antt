@@ -1,22 +1,12 @@
 -- What holds goes on with whatever happens: with messages and deeds alone, and with each move of a gateway.
 use Rattle.std.proofs.Common.{◌≡◌, ◌⊎◌, inl, inr, ⊎_elim, ℕ, ◌==◌, not, Bool, true, false, List, [], ◌∷◌, ◌++◌, Contains, refl, sym, ap, subst, ◌∙◌, eqb-true, eq-eqb, nat_le, nat_lt, length, length-append, filter, take, drop, take-append-drop, slice_get, Option, Some, None, arith, append_assoc}
-use Rattle.std.proofs.lemmas.Bool.{cond-true, eqb-true, leb-true, ltb-true}
-use Rattle.std.proofs.lemmas.List.Elements.{Contains-append_left, Contains-push, Contains-push_cases, Contains-append_cases}
-use Rattle.gw_base.specs.declared.history.HistoryEntry.{HistoryEntry}
-use Rattle.once_core.specs.Happenings.{Answers, Asks, Deed, Heard, Letter, Meaning, Post, Scene, Sent, about, history, Adds, Comes, Firms, Happening, Hears, Keeps, Note, Notes, Opens, Request, Sends, WaitingLetter, act_noted, cause_of, given, is_timely, reply}
-use Rattle.once_core.specs.Resting.{IsAnswerTo, IsBorneOut, IsSent, PostHolds, Rests, RestsBy, SceneHolds, Waits, IsKnown, Tells}
-use Rattle.once_core.specs.Scenes.{after_adding, after_hearing, after_sending, at, is_idle, is_request, Settled, after_coming, coming, firming, happened, happened_all, is_answer, keeping, nothing_yet, noting, noting_if, opening, scene_after, waiting_for, with_one, with_post, with_settled}
+use Rattle.once_core.proofs.Names.{act_given, act_noted, Adds, after_adding, after_coming, after_hearing, after_sending, Answers, append-nil, Asks, at, Caller, cause_of, Comes, coming, cond-true, Contains-append_cases, Contains-append_left, Contains-push, Contains-push_cases, Deed, entry_by, eqb-true, firming, Firms, Given, given, happened, happened_all, Happening, Hears, history, HistoryAct, HistoryEntry, is_answer, is_idle, is_request, is_timely, IsAnswerTo, IsBorneOut, IsKnown, keeping, Keeps, leb-true, Letter, ltb-true, Meaning, nil_from_length, NodeId, Note, Notes, nothing_yet, noting, noting_if, opening, Opens, Post, PostHolds, reply, Request, Rests, RestsBy, Scene, scene_after, SceneHolds, Sends, Sent, Settled, start_of, Tells, waiting_for, WaitingLetter, Waits, with_act, with_one, with_post, with_settled}
+use Rattle.once_core.specs.Happenings.{Heard, about}
+use Rattle.once_core.specs.Resting.{IsSent}
 use Rattle.once_core.proofs.ForwardLemmas.{Grows, known_on, rests_on, tells_on}
 use Rattle.once_core.proofs.EachLemmas.{each_front, each_more}
 use Rattle.once_core.proofs.CaseLemmas.{if_known, by_option}
-use Rattle.std.proofs.lemmas.List.{append-nil, nil_from_length}
-use Rattle.gw_base.specs.Starts.{start_of}
-use Rattle.gw_base.specs.declared.address.NodeId.{NodeId}
-use Rattle.gw_base.specs.declared.history.Caller.{Caller}
-use Rattle.gw_base.specs.declared.history.HistoryAct.{HistoryAct}
 use Rattle.gw_base.specs.declared.history.HistoryAct.TheVariants as act
-use Rattle.gateway_answer.specs.Answer.{Given}
-use Rattle.gateway_answer.specs.Answered.{act_given, entry_by, with_act}
 use Rattle.once_core.specs.Happenings as happens
 use Rattle.once_core.proofs.AnswerLemmas.{answer_is_sound}
 use Rattle.once_core.proofs.CountLemmas.{starts_rise}

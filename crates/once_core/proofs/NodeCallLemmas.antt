@@ -1,32 +1,8 @@
 -- What is kept of a node moves as its log grows, and the messages of a tick go to the gateways of the world.
 use Rattle.std.proofs.Common.{◌≡◌, ℕ, ◌+◌, ◌≤◌, Bool, true, false, not, if◌then◌else◌, List, [], ◌∷◌, Option, refl, ap, sym, ◌∙◌, arith, true≢false, ◌<◌, map, subst, ⊎_elim}
-use Rattle.std.specs.List.{list_all}
-use Rattle.gtpp_message.specs.Packet.{PacketForm}
-use Rattle.gw_base.specs.declared.address.Addr.{Addr}
-use Rattle.node_core.specs.Hearing.{heard_entries}
-use Rattle.node_core.specs.Log.{LogEntry, Began, Halted, NodeSetup, runs, peers_of}
-use Rattle.node_core.specs.Peers.{address_at}
-use Rattle.node_core.specs.Reached.{NodeCall, Submit, Hear, Halt, Start, call_entries, entries_halted, entries_running, submit_entries, Tick}
-use Rattle.node_core.specs.Submitting.{refusal}
-use Rattle.node_core.specs.Ticks.{due, tick_entries}
-use Rattle.node_core.specs.Value.{CanFollowAll, IsNode, NodeValue, befallen, logged}
-use Rattle.node_core.specs.declared.fault.SubmitFault.{SubmitFault}
-use Rattle.node_core.specs.declared.port.Port.{Port}
-use Rattle.once_core.specs.Addresses.{gateway_address, node_setup, addresses_from, gateway_at}
-use Rattle.once_core.specs.Expired.{begins, starts_in}
-use Rattle.once_core.specs.KeptTurn.{started_again}
-use Rattle.once_core.specs.NodeMoves.{answered_by, heard_by, submitted_entries, with_entries, due_messages, message_kept}
-use Rattle.once_core.specs.Standing.{NodeKept, node_kept}
-use Rattle.once_core.specs.World.{Called, called, delivered_to_node, draft_of, node_value, submitting, submitting_form, message_of, ticking}
-use Rattle.once_core.specs.declared.message.Message.{Message}
+use Rattle.once_core.proofs.Names.{Addr, address_at, addresses_from, answered_by, befallen, Began, begins, call_entries, Called, called, CanFollowAll, cases_lt, delivered_to_node, draft_of, due, due_messages, entries_halted, entries_running, gateway_address, gateway_at, gateway_of, Halt, Halted, Hear, heard_by, heard_entries, IsNode, list_all, LogEntry, logged, Message, message_kept, message_of, node_kept, node_setup, node_value, NodeCall, NodeKept, NodeSetup, NodeValue, option_map_or, outgoing, PacketForm, Peer, peers_of, Port, refusal, runs, Sending, slice_get_past, Start, started_again, starts_in, Submit, submit_entries, SubmitFault, submitted_entries, submitting, submitting_form, Tick, tick_entries, ticking, with_entries}
 use Rattle.once_core.proofs.LogLemmas.{starts_again, gateway_is, size}
-use Rattle.std.proofs.lemmas.Bool.{cases_lt}
 use Rattle.once_core.proofs.CaseLemmas.{by_option}
-use Rattle.std.proofs.lemmas.Option.{slice_get_past}
-use Rattle.std.specs.Option.{option_map_or}
-use Rattle.node_core.specs.Octets.{gateway_of, outgoing}
-use Rattle.node_core.specs.declared.peer.Peer.{Peer}
-use Rattle.node_core.specs.declared.sending.Sending.{Sending}
 use Rattle.once_core.proofs.RedirectLemmas.{same_byte}
 
 -- what node_core says of logs

@@ -1,37 +1,9 @@
 -- What a node of a world does is what happens in a scene: what it hears; what is submitted, a halt and a start are nothing there.
 use Rattle.std.proofs.Common.{◌≡◌, ⊎_elim, ℕ, suc, ◌≤◌, ◌==◌, nat_lt, true, false, List, [], ◌∷◌, Option, Some, None, Contains, refl, sym, ap, subst, ◌∙◌, arith, ◌%◌, ◌||◌, not, Bool, if◌then◌else◌, ◌++◌, map, append-nil}
-use Rattle.std.proofs.lemmas.List.Elements.{Contains-push_cases}
-use Rattle.std.proofs.lemmas.Bool.{both_ways, cond-false}
-use Rattle.std.specs.Option.{option_map_or}
-use Rattle.std.proofs.lemmas.Option.{same_Some}
-use Rattle.gtpp_message.specs.Packet.{PacketForm}
-use Rattle.node_core.specs.Log.{LogEntry, Halted, Submitted, Appointed, runs, Heard, Saying, Path, Redirects, Responds, Other, Ticked, NodeSetup}
-use Rattle.node_core.specs.Moving.{appointing, moved_by, moved_at_tick}
-use Rattle.node_core.specs.Reached.{NodeCall, call_entries, log_of, most_submissions, submit_entries}
+use Rattle.once_core.proofs.Names.{about, ACCEPTED, AliveTold, answering, Answers, answers_of, Appointed, appointing, both_ways, call_entries, Called, called, cond-false, Contains-push_cases, deeds_of, delivered_to_node, draft_of, Dropped, due, EchoAsked, EchoRequest, EchoResponse, EchoTold, entries_from, for_role, forms_ever, gateway_address, Halted, happened_all, Happening, Heard, heard_entries, Hears, heeding, heeds, heeds_from, is_expired_at_node, is_response, is_spoken, last_number, Letter, letter_of, log_after, log_of, LogEntry, logged, meaning_in, meaning_of, MessageValue, most_submissions, moved_at_tick, moved_by, nat_tests, nearest, node_ip, node_of, node_setup, node_value, NodeAliveResponse, NodeCall, NodeSetup, NodeValue, option_map_or, Other, PacketForm, Path, place_of, RedirectionRequest, RedirectionResponse, Redirects, refusal, Responds, RolesRead, runs, same_Some, Saying, saying_entries, Says, Scene, speaks, starts_in, submit_entries, SubmitFault, Submitted, submitting, submitting_form, Taken, taken, taken_entries, taken_of, Ticked, told_by, TRANSFER_RESPONSE, TransferRequest, TransferResponse, with_deed, written}
 use Rattle.node_core.specs.Reached as call
-use Rattle.node_core.specs.Submitting.{refusal}
-use Rattle.node_core.specs.Value.{logged, NodeValue, node_of}
-use Rattle.node_core.specs.declared.fault.SubmitFault.{SubmitFault}
-use Rattle.gtpp_message.specs.Message.{MessageValue, EchoRequest, EchoResponse, NodeAliveResponse, RedirectionRequest, RedirectionResponse, TransferRequest, TransferResponse}
 use Rattle.gtpp_message.specs.Reading.{Message, ReadingValue}
-use Rattle.gtpp_message.specs.Role.{for_role}
-use Rattle.gtpp_message.specs.Writing.{written}
-use Rattle.gtpp_message.specs.declared.message_types.TheConstants.{TRANSFER_RESPONSE}
 use Rattle.gtpp_message.specs.declared.role.Role.TheVariants as role
-use Rattle.gateway_answer.specs.PreparingLaws.{RolesRead}
-use Rattle.gw_base.specs.Nearest.{nearest}
-use Rattle.gw_base.specs.declared.cause.TheConstants.{ACCEPTED}
-use Rattle.path_mgmt.specs.declared.event.PathEvent.TheVariants.{EchoAsked, EchoTold, AliveTold}
-use Rattle.node_core.specs.Hearing.{Dropped, Says, Taken, entries_from, heard_entries, heeding, heeds, heeds_from, saying_entries, taken, taken_entries, taken_of}
-use Rattle.node_core.specs.Peers.{last_number, place_of}
-use Rattle.once_core.specs.Addresses.{node_ip, node_setup, gateway_address}
-use Rattle.once_core.specs.Deeds.{deeds_of, told_by}
-use Rattle.once_core.specs.Expired.{starts_in, is_expired_at_node}
-use Rattle.once_core.specs.Happenings.{Happening, Letter, Scene, Answers, Hears}
-use Rattle.once_core.specs.Meaning.{letter_of, speaks, is_spoken, meaning_in, meaning_of}
-use Rattle.once_core.specs.Scenes.{happened_all, with_deed}
-use Rattle.once_core.specs.Shown.{forms_ever}
-use Rattle.once_core.specs.World.{Called, called, draft_of, log_after, node_value, submitting, submitting_form, answers_of, delivered_to_node}
 use Rattle.once_core.proofs.FormLemmas.{GoodForm, RecordsSpelled, draft_is_good, submitted_is_draft}
 use Rattle.once_core.proofs.ListLemmas.{in_none, in_one, number_of}
 use Rattle.once_core.proofs.LogLemmas.{Counts, counts_logged, starts_again, starts_same, counter_is, place_is}
@@ -39,11 +11,8 @@ use Rattle.once_core.proofs.MeaningLemmas.{Said, FromGateway, FromNode, GatewayS
 use Rattle.once_core.proofs.CaseLemmas.{by_option, if_both, if_known, map_known}
 use Rattle.once_core.specs.Deeds as did
 use Rattle.once_core.specs.Happenings as happens
-use Rattle.once_core.specs.Messages.{about, answering, is_response}
 use Rattle.once_core.specs.declared.message.Message as world
 use Rattle.once_core.proofs.MoveLemmas.{at_same}
-use Rattle.node_core.specs.Ticks.{due}
-use Rattle.std.proofs.lemmas.Bool.Decides.{nat_tests}
 
 -- what holds of the log of each node: it is one of a node's calls, its starts are counted, and each packet can be sent
 pub record NodeRightly (gateways place : ℕ) (log : List LogEntry) : Type 0 where

@@ -1,11 +1,6 @@
 -- A node of a world, in loops: addresses, messages and records, one after the other.
 use Rattle.std.proofs.Common.{◌≡◌, ℕ, zero, suc, ◌+◌, true, if◌then◌else◌, List, [], ◌∷◌, ◌++◌, Option, Some, None, option_and_then, refl, ap, sym, arith, append_assoc, length, append-nil}
-use Rattle.gtpp_message.specs.Packet.{PacketForm, is_empty_packet, packet_of, packet_reading}
-use Rattle.gtpp_message.specs.PacketWriting.{with_record}
-use Rattle.node_core.specs.Drafts.{is_without_records, packet_anew}
-use Rattle.once_core.specs.Addresses.{addresses_from, gateway_address}
-use Rattle.once_core.specs.NodeMoves.{draft_of_packet, with_all}
-use Rattle.once_core.specs.World.{draft_of, is_draft, takes_all}
+use Rattle.once_core.proofs.Names.{addresses_from, draft_of, draft_of_packet, gateway_address, is_draft, is_empty_packet, is_without_records, packet_anew, packet_of, packet_reading, PacketForm, takes_all, with_all, with_record}
 
 pub addresses_none : addresses_from 0 0 ≡ []
 addresses_none = refl

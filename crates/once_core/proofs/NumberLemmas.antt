@@ -1,28 +1,11 @@
 -- The packets of a node bear the numbers by which they were submitted, and what was submitted stays in each turn.
 use Rattle.std.proofs.Common.{◌≡◌, ⊎_elim, ℕ, zero, suc, ◌+◌, ◌-◌, ◌<◌, ◌≤◌, ◌==◌, true, List, [], ◌∷◌, ◌++◌, length, length-append, map, filter, zip, Option, Some, Contains, slice_get, refl, sym, ap, subst, ◌∙◌, arith, append_assoc, append-nil, eqb-true, ◌||◌, not, None}
-use Rattle.std.specs.Option.{option_map_or}
-use Rattle.std.proofs.lemmas.List.Elements.{Contains-append_cases}
-use Rattle.gtpp_message.specs.Packet.{PacketForm}
-use Rattle.node_core.specs.Drafts.{value_octets}
-use Rattle.node_core.specs.Log.{LogEntry, Began, Halted, Submitted, Appointed, Ticked, Heard, Responds, forms_of, packets_of, runs, submitted}
-use Rattle.node_core.specs.Packets.{PacketState, packet_after, packet_after_all, packet_hearing, while_open}
-use Rattle.node_core.specs.Value.{logged}
-use Rattle.node_core.specs.declared.sending.Sending.{Sending}
-use Rattle.once_core.specs.Expired.{starts_in, is_expired_at_node}
-use Rattle.once_core.specs.Followed.{Followed, all_followed, followed_before, following, packets_in}
-use Rattle.once_core.specs.Growing.{GrowsTo}
-use Rattle.once_core.specs.Shown.{forms_ever, values_of}
+use Rattle.once_core.proofs.Names.{all_followed, Appointed, at_node, Began, call_entries, Called, called, Contains-append_cases, delivered_to_node, draft_of, Followed, followed_before, following, forms_ever, forms_of, gateway_address, GrowsTo, Halted, Heard, is_expired_at_node, log_at, LogEntry, logged, Message, node_value, NodeCall, option_map_or, packet_after, packet_after_all, packet_hearing, PacketForm, packets_in, packets_of, PacketState, Responds, ruled_turns, RuledTurn, Rules, runs, Sending, starts_in, Submitted, submitted, submitting, submitting_form, Ticked, ticking, Turn, turn, value_octets, values_of, while_open, World}
 use Rattle.once_core.proofs.GrowingLemmas.{on, on_on, on_with}
 use Rattle.once_core.proofs.ListLemmas.{filtered, in_cons, in_head, in_none, in_tail, of_map, passed}
 use Rattle.once_core.proofs.LogLemmas.{starts_again, starts_same}
 use Rattle.once_core.proofs.CaseLemmas.{if_both, map_known, set_known}
-use Rattle.node_core.specs.Reached.{NodeCall, call_entries}
 use Rattle.node_core.specs.Reached as call
-use Rattle.once_core.specs.Addresses.{gateway_address}
-use Rattle.once_core.specs.Gateway.{Rules}
-use Rattle.once_core.specs.Turn.{RuledTurn, Turn, at_node, ruled_turns, turn}
-use Rattle.once_core.specs.World.{Called, World, called, delivered_to_node, draft_of, log_at, node_value, submitting, submitting_form, ticking}
-use Rattle.once_core.specs.declared.message.Message.{Message}
 use Rattle.once_core.proofs.PartLemmas.{PartsKeep, turn_keeps, log_or, log_there, turns_hold}
 
 -- ---- lists

@@ -1,30 +1,9 @@
 -- Each record stands once among what all gateways filed.
 use Rattle.std.proofs.Common.{◌≡◌, ◌⊎◌, inl, inr, ⊎_elim, ℕ, ◌<◌, ◌≤◌, nat_lt, Bool, true, false, List, [], ◌∷◌, Option, Some, All, Contains, get_or, slice_get, refl, sym, ap, subst, ◌∙◌, arith, length}
-use Rattle.std.proofs.lemmas.Bool.{false≢true, lt-ltb, or_cases}
-use Rattle.std.proofs.lemmas.List.Elements.{Contains-get_or}
-use Rattle.std.specs.List.{list_any}
-use Rattle.std.specs.Option.{option_map_or}
-use Rattle.gateway_answer.specs.Filed.{filed}
-use Rattle.gateway_answer.specs.Once.{times_filed}
-use Rattle.gw_base.specs.History.{state_of}
-use Rattle.gw_base.specs.declared.history.HistoryEntry.{HistoryEntry}
-use Rattle.gw_base.specs.declared.key_state.KeyState.{KeyState}
+use Rattle.once_core.proofs.Names.{Command, Contains-get_or, epoch_with, false≢true, filed, FiledRecord, filing_count, Follows, Happening, HistoryEntry, is_chosen, is_filed, is_release, is_released, is_resolved, is_withheld, IsAsked, IsChoice, IsFiledUnder, IsOnce, IsState, key_in, KeyState, kind_within, list_any, lt-ltb, option_map_or, or_cases, Orders, PacketCopy, PacketState, record_count, records_within, Request, Rests, Scene, scene_after, SceneHolds, Sends, state_of, state_with, times_filed, times_with, Verdict}
 use Rattle.gw_base.specs.declared.key_state.KeyState.TheVariants as state
-use Rattle.node_core.specs.Choosing.{IsChoice}
-use Rattle.node_core.specs.Copies.{is_chosen, is_filed, is_release, is_released}
-use Rattle.node_core.specs.Packets.{PacketState, is_resolved}
-use Rattle.node_core.specs.declared.copy.Command.{Command}
 use Rattle.node_core.specs.declared.copy.Order.TheVariants as order
-use Rattle.node_core.specs.declared.copy.PacketCopy.{PacketCopy}
-use Rattle.node_core.specs.declared.copy.Verdict.{Verdict}
 use Rattle.node_core.specs.declared.copy.Verdict.TheVariants as verdict
-use Rattle.gateway_answer.specs.declared.filing.FiledRecord.{FiledRecord}
-use Rattle.once_core.specs.Epochs.{epoch_with, key_in, state_with, times_with}
-use Rattle.once_core.specs.FiledOnce.{IsFiledUnder, IsOnce, filing_count, is_withheld, kind_within, record_count, records_within}
-use Rattle.once_core.specs.Following.{Follows}
-use Rattle.once_core.specs.Happenings.{Happening, Orders, Request, Scene, Sends}
-use Rattle.once_core.specs.Resting.{IsAsked, IsState, Rests, SceneHolds}
-use Rattle.once_core.specs.Scenes.{scene_after}
 use Rattle.once_core.proofs.CountLemmas.{Counted, IsBacked, brought, counted}
 use Rattle.once_core.proofs.MoveLemmas.{firm_rests, holds_always}
 use Rattle.once_core.proofs.EpochLemmas.{start_is_one}

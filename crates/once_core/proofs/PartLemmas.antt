@@ -1,35 +1,14 @@
 -- Gateways and nodes in their places, and what a failed commit or a stop leaves. What the parts of a gateway's moves keep,
 -- each move keeps; and what the moves and the calls of nodes keep, each turn keeps, and so all turns.
 use Rattle.std.proofs.Common.{◌≡◌, ℕ, List, [], ◌∷◌, Option, Some, slice_get, refl, ap, ◌-◌, ◌≤◌, Bool, false, if◌then◌else◌, ◌++◌, length, take, sym, ◌∙◌, append-nil, length-append, take_all, arith, Contains, None, not, subst, suc, true, ◌&&◌, ◌||◌, option_map}
-use Rattle.std.specs.Option.{option_map_or, option_or}
-use Rattle.gw_base.specs.declared.history.HistoryEntry.{HistoryEntry}
-use Rattle.node_core.specs.Log.{LogEntry, runs}
-use Rattle.once_core.specs.Gateway.{Gateway, cut, Moved, Rules, committing, followed, giving_up, opened, opened_holding, readying, settling, still, with_book}
-use Rattle.once_core.specs.Once.{firm_in}
-use Rattle.once_core.specs.Turn.{RuledTurn, ruled_turns, turn, Turn, at_gateway, at_node, delivering, log_in, lost_if, no_node, refusal_of, refusal_to_start, refusing, turn_by, unless_refused}
-use Rattle.once_core.specs.World.{World, log_at, called, delivered_to_node, submitting, ticking}
-use Rattle.gateway_answer.specs.Value.{BookValue, Gone, Whole, faulted, history_of, reopened, standing_for, Fortune, Refused, Reopening, committed, recorded}
-use Rattle.once_core.specs.Growing.{HoldSame}
-use Rattle.std.proofs.lemmas.Bool.{false≢true}
-use Rattle.gw_base.specs.declared.history.HistoryAct.{HistoryAct}
+use Rattle.once_core.proofs.Names.{act_noted, answered, at_gateway, at_node, BookValue, called, Closes, closing, committed, committing, cut, delivered, delivered_to_node, delivering, Event, failed, false≢true, faulted, firm_in, first_gateway, followed, Fortune, Gateway, giving_up, Gone, history_of, HistoryAct, HistoryEntry, HoldSame, if_broken, is_close_due, is_expired, is_mark, log_at, log_in, LogEntry, lost_if, making_tick, marked, Message, Moved, nat_tests, no_caller, no_node, Note, opened, opened_holding, option_map_or, option_or, readying, recorded, redirected, refusal_of, refusal_to_start, Refused, refusing, reopened, Reopening, ruled_turns, RuledTurn, Rules, runs, settling, standing_for, Starts, starts_in, still, submitting, ticking, Ticks, Turn, turn, turn_by, unless_expired, unless_refused, Whole, with_book, World, WorldKind}
 use Rattle.gw_base.specs.declared.history.HistoryAct.TheVariants as act
 use Rattle.node_core.specs.Reached as call
-use Rattle.gw_base.specs.History.{is_close_due}
 use Rattle.gw_base.specs.TickDue.{is_tick_due}
-use Rattle.gateway_answer.specs.Marks.{is_mark}
-use Rattle.gateway_answer.specs.Answered.{no_caller}
 use Rattle.once_core.specs.declared.event.WorldKind.TheVariants.{Halted}
-use Rattle.once_core.specs.Happenings.{Closes, Note, Starts, Ticks, act_noted}
-use Rattle.once_core.specs.declared.event.Event.{Event}
-use Rattle.once_core.specs.declared.message.Message.{Message}
-use Rattle.once_core.specs.declared.event.WorldKind.{WorldKind}
-use Rattle.once_core.specs.Answers.{answered, closing, delivered, failed, if_broken, making_tick, marked, redirected, unless_expired}
 use Rattle.once_core.proofs.CaseLemmas.{by_bool, by_option, if_both, if_known, map_known}
 use Rattle.once_core.specs.declared.event.Event.TheVariants as event
-use Rattle.once_core.specs.Beginning.{first_gateway}
 use Rattle.once_core.proofs.ListLemmas.{get_contains}
-use Rattle.once_core.specs.Expired.{is_expired, starts_in}
-use Rattle.std.proofs.lemmas.Bool.Decides.{nat_tests}
 
 -- the log that is there, or none, and so the firm part of a gateway's history
 abbrev pub log_or : Option (List LogEntry) → List LogEntry

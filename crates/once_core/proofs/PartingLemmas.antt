@@ -1,8 +1,6 @@
 -- One answer more, parted.
 use Rattle.std.proofs.Common.{◌≡◌, ℕ, Bool, List, [], ◌∷◌, ◌++◌, filter, if◌then◌else◌, map, nat_le, not, arith}
-use Rattle.std.proofs.lemmas.List.{map-append}
-use Rattle.std.proofs.lemmas.List.Elements.{filter-append}
-use Rattle.once_core.specs.declared.message.Waiting.{Waiting}
+use Rattle.once_core.proofs.Names.{filter-append, map-append, Waiting}
 
 abbrev is_due : ℕ → Waiting → Bool
 is_due firm w = nat_le w.front firm

@@ -1,14 +1,6 @@
 -- What a gateway of a world does is what happens in a scene: what the happenings at one gateway leave as it is.
 use Rattle.std.proofs.Common.{◌≡◌, ⊎_elim, ℕ, ◌==◌, true, false, List, [], ◌∷◌, ◌++◌, map, Contains, refl, sym, ap, ◌∙◌, append_assoc, append-nil, subst, arith}
-use Rattle.std.proofs.lemmas.List.Elements.{Contains-append_cases, Contains-append_left, Contains-append_right}
-use Rattle.std.proofs.lemmas.Bool.{cond-false}
-use Rattle.once_core.specs.Gateway.{Gateway, Moved, followed, is_reached, still}
-use Rattle.once_core.specs.Happenings.{Adds, Happening, Letter, Post, Scene}
-use Rattle.once_core.specs.Meaning.{letter_of, speaks, meaning_of}
-use Rattle.once_core.specs.Scenes.{Settled, at, happened, happened_all, is_idle, with_letter, with_post, with_settled}
-use Rattle.once_core.specs.Shown.{post_of}
-use Rattle.once_core.specs.declared.message.Message.{Message}
-use Rattle.once_core.specs.declared.message.Waiting.{Waiting}
+use Rattle.once_core.proofs.Names.{Adds, at, cond-false, Contains-append_cases, Contains-append_left, Contains-append_right, followed, Gateway, happened, happened_all, Happening, is_idle, is_reached, Letter, letter_of, meaning_of, Message, Moved, Post, post_of, Scene, Settled, speaks, still, Waiting, with_letter, with_post, with_settled}
 use Rattle.once_core.proofs.ListLemmas.{in_head, in_map, in_none, in_tail, of_map}
 use Rattle.once_core.proofs.MeaningLemmas.{GatewaySaid, Said}
 use Rattle.once_core.proofs.MoveLemmas.{at_same}

@@ -1,49 +1,27 @@
 -- The records of a history's items are such as the files are read with.
 use Rattle.std.proofs.Common.{◌≡◌, ℕ, zero, suc, ◌+◌, ◌-◌, ◌^◌, ◌<◌, ◌≤◌, ◌≢◌, ◌==◌, ◌/◌, ◌%◌, nat_lt, All, List, [], ◌∷◌, ◌++◌, length, length-append, length-take, map, drop, filter, Option, Some, None, option_map, refl, sym, subst, arith, ℤ, Contains, not, ⊎_elim}
-use Rattle.std.proofs.lemmas.List.{map-append}
-use Rattle.std.proofs.lemmas.List.Elements.{All-append, All-cons, All-contains, All-drop, All-filter, All-head, All-nil, All-push, All-same, All-tail, All-weaker}
-use Rattle.std.specs.List.{last_or}
+use Rattle.once_core.proofs.Names.{All-append, All-cons, All-contains, All-drop, All-filter, All-head, All-nil, All-push, All-same, All-tail, All-weaker, along, AreLimits, closed_first, closed_of, ClosureReason, divided_from, Division, ends_before, extension_of, filed_under, FiledRecord, FilePlace, held_packet, HistoryAct, HistoryEntry, IsCdrKind, items_by, items_by_act, items_of, kind_of, last_naming, last_or, last_stream, Limits, map-append, names, nat_tests, NodeId, once, option_and_then_some, packet_of, packet_of_hold, PacketForm, PacketKey, part_of, placed, present_entries, present_key, record_at, records_at, records_from, records_if, release_of, released_by, released_records, Rule, same_Some, Settings, stream_count, stream_item, stream_items, streams_of}
 use Rattle.cdr_file.specs.CdrFile.{FileSettings}
 use Rattle.cdr_file.specs.Timestamp.{stamp_of}
-use Rattle.cdr_file.specs.declared.closure.ClosureReason.{ClosureReason}
 use Rattle.cdr_shelf.specs.Files.{SealedFile}
 use Rattle.entry_codec.specs.Room.{capacity_of}
 use Rattle.entry_codec.specs.Spelling.{AreBelow, HasSpelling, IsAct}
-use Rattle.file_rotate.specs.Division.{Division, closed_first, divided_from, ends_before, still}
-use Rattle.file_rotate.specs.Items.{AreLimits, Filed}
+use Rattle.file_rotate.specs.Division.{still}
+use Rattle.file_rotate.specs.Items.{Filed}
 use Rattle.file_rotate.specs.Items as stream
-use Rattle.file_rotate.specs.declared.limits.Limits.{Limits}
 use Rattle.file_writer.specs.AllStreams.{IsFit}
 use Rattle.file_writer.specs.Files.{AreFilesOf, stream_files}
-use Rattle.file_writer.specs.Places.{FilePlace, record_at}
 use Rattle.file_writer.specs.Reading.{IsStamped, ReadsAt}
-use Rattle.file_writer.specs.Streams.{Settings, closed_of, stream_count, stream_item, stream_items}
 use Rattle.gate_journal.specs.Format.{most_octets}
-use Rattle.gateway_answer.specs.Filed.{along, filed_under, held_packet, packet_of_hold, present_key, records_from, records_if, released_by, released_records}
-use Rattle.gateway_answer.specs.Items.{items_by, items_by_act, items_of, part_of}
-use Rattle.gateway_answer.specs.declared.filing.FiledRecord.{FiledRecord}
 use Rattle.gtpp_header.specs.Header.{two_octets}
-use Rattle.gtpp_message.specs.Packet.{PacketForm, packet_of, records_at}
 use Rattle.gtpp_message.specs.Packet as packets
-use Rattle.gw_base.specs.CdrKind.{IsCdrKind, extension_of, kind_of, release_of}
-use Rattle.gw_base.specs.History.{last_naming, names, present_entries}
-use Rattle.gw_base.specs.Lists.{once}
-use Rattle.gw_base.specs.declared.address.NodeId.{NodeId}
-use Rattle.gw_base.specs.declared.history.HistoryAct.{HistoryAct}
 use Rattle.gw_base.specs.declared.history.HistoryAct.TheVariants as act
-use Rattle.gw_base.specs.declared.history.HistoryEntry.{HistoryEntry}
-use Rattle.gw_base.specs.declared.history.PacketKey.{PacketKey}
 use Rattle.gw_base.specs.declared.item.Item.{Item}
 use Rattle.gw_base.specs.declared.item.Item.TheVariants as item
 use Rattle.jiff_core.specs.Calendar.{IsWithin}
-use Rattle.route_filter.specs.Rules.{last_stream}
-use Rattle.route_filter.specs.declared.rule.Rule.{Rule}
-use Rattle.once_core.specs.FilePlaces.{placed, streams_of}
 use Rattle.once_core.proofs.FilePlaceLemmas.{stream_there}
 use Rattle.once_core.proofs.ListLemmas.{filtered, in_cons, in_head, in_tail, of_map}
-use Rattle.std.proofs.lemmas.Option.{option_and_then_some, same_Some}
 use Rattle.once_core.proofs.CaseLemmas.{by_option, if_both, map_known}
-use Rattle.std.proofs.lemmas.Bool.Decides.{nat_tests}
 
 -- ---- records of packets
 

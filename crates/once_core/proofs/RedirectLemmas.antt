@@ -1,24 +1,8 @@
 -- Redirection Requests, one node after the other.
 use Rattle.std.proofs.Common.{◌≡◌, ℕ, suc, ◌+◌, ◌-◌, ◌<◌, ◌≤◌, ◌%◌, false, List, [], ◌∷◌, ◌++◌, length, drop, get_or, Option, Some, None, map, arith, append_assoc}
 use Rattle.std.proofs.Math.Seq.{drop-cons}
-use Rattle.std.proofs.lemmas.List.{append-nil, drop_all}
-use Rattle.std.specs.List.{cons_option, filter_map}
-use Rattle.std.specs.Option.{option_map_or}
-use Rattle.gateway_answer.specs.Told.{path_of}
-use Rattle.gateway_answer.specs.Value.{history_of}
-use Rattle.gw_base.specs.Starts.{opening_of, start_of}
-use Rattle.gw_base.specs.declared.address.Addr.{Addr}
-use Rattle.gw_base.specs.declared.address.NodeId.{NodeId}
-use Rattle.gw_base.specs.declared.history.HistoryEntry.{HistoryEntry}
-use Rattle.gw_base.specs.declared.history.Opening.{Opening}
-use Rattle.node_core.specs.declared.port.Port.{Port}
+use Rattle.once_core.proofs.Names.{Addr, AllKept, append-nil, cons_option, drop_all, filter_map, first_node_ip, Gateway, history_of, HistoryEntry, Message, node_at, NodeId, Opening, opening_of, option_map_or, path_of, Port, port_at, redirecting, redirecting_one, redirection, start_of}
 use Rattle.once_core.proofs.HistoryKeptLemmas.{path_is_near}
-use Rattle.once_core.specs.Addresses.{first_node_ip, node_at, port_at}
-use Rattle.once_core.specs.Answers.{redirecting}
-use Rattle.once_core.specs.Gateway.{Gateway}
-use Rattle.once_core.specs.HistoryKept.{AllKept}
-use Rattle.once_core.specs.Redirecting.{redirecting_one, redirection}
-use Rattle.once_core.specs.declared.message.Message.{Message}
 
 pub same_byte : (n : ℕ) → n < 256 → n % 256 ≡ n
 same_byte n small = omega (arith, small)

@@ -1,19 +1,8 @@
 -- An answer that waits or is sent is a happening.
 use Rattle.std.proofs.Common.{◌≡◌, ⊎_elim, ℕ, nat_le, not, Bool, true, false, cond, List, [], ◌∷◌, ◌++◌, length, filter, Contains, refl, sym, ap, subst, ◌∙◌, append-nil, arith}
-use Rattle.std.proofs.lemmas.List.Elements.{Contains-push_cases, filter-append}
-use Rattle.std.proofs.lemmas.Bool.{both_ways}
-use Rattle.std.proofs.lemmas.List.Concat.{flat_map-append}
-use Rattle.gw_base.specs.declared.history.HistoryEntry.{HistoryEntry}
+use Rattle.once_core.proofs.Names.{both_ways, Contains-push_cases, filter-append, flat_map-append, Gateway, happened_all, Happening, HistoryEntry, is_reached, letter_of, Message, Post, post_of, replying, Scene, Settled, speaks, Waiting, waiting_for, waiting_if, waiting_letters, with_settled}
 use Rattle.once_core.specs.Answers as world
-use Rattle.once_core.specs.Answers.{replying}
-use Rattle.once_core.specs.Gateway.{Gateway, is_reached}
-use Rattle.once_core.specs.Happenings.{Happening, Scene, Post}
 use Rattle.once_core.specs.Happenings as did
-use Rattle.once_core.specs.Meaning.{letter_of, speaks}
-use Rattle.once_core.specs.Scenes.{Settled, happened_all, waiting_for, with_settled}
-use Rattle.once_core.specs.Shown.{post_of, waiting_if, waiting_letters}
-use Rattle.once_core.specs.declared.message.Message.{Message}
-use Rattle.once_core.specs.declared.message.Waiting.{Waiting}
 use Rattle.once_core.proofs.CommitPlays.{settled_rightly, settled_said}
 use Rattle.once_core.proofs.MeaningLemmas.{GatewaySaid}
 use Rattle.once_core.proofs.PlayLemmas.{Plays, Rightly, same_at, settled_plays}

@@ -1,15 +1,7 @@
 -- Each request number of a gateway has one role: two copies that use it are one.
 use Rattle.std.proofs.Common.{◌≡◌, ⊎_elim, ℕ, ◌≤◌, true, false, List, [], ◌∷◌, Some, Contains, sum_by, refl, sym, ap, subst, ◌∙◌, arith, eq-zero-or-pos}
-use Rattle.std.proofs.lemmas.Bool.{false≢true}
-use Rattle.std.proofs.lemmas.List.Elements.{All-contains}
-use Rattle.std.proofs.lemmas.List.Sums.{sum_by-cons, get_or-le-sum_by}
-use Rattle.node_core.specs.Packets.{PacketState}
-use Rattle.node_core.specs.Roles.{IsPlainFirst, uses, uses_by_copies, uses_by_copy}
-use Rattle.node_core.specs.declared.copy.Command.{Command}
-use Rattle.node_core.specs.declared.copy.PacketCopy.{PacketCopy}
+use Rattle.once_core.proofs.Names.{All-contains, Command, false≢true, get_or-le-sum_by, is_sum_by, IsPlainFirst, nat_tests, PacketCopy, PacketState, sum_by-cons, uses, uses_by_copies, uses_by_copy}
 use Rattle.once_core.proofs.ListLemmas.{in_cons, in_head, in_none, in_tail}
-use Rattle.std.proofs.lemmas.List.Recursion.{is_sum_by}
-use Rattle.std.proofs.lemmas.Bool.Decides.{nat_tests}
 
 -- ---- how often a copy uses a number
 

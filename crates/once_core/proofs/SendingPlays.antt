@@ -1,52 +1,20 @@
 -- Requests that a node sends, in a scene. What the octets of a node's sending mean is what the node asks with it: a tick of
 -- a node is what happens in a scene.
 use Rattle.std.proofs.Common.{◌≡◌, ⊎_elim, ℕ, ◌≤◌, ◌==◌, Bool, true, false, List, [], ◌∷◌, ◌++◌, length, map, All, Contains, refl, sym, ap, subst, ◌∙◌, append_assoc, append-nil, suc, ◌+◌, ◌-◌, ◌<◌, Option, Some, slice_get, arith, ◌%◌}
-use Rattle.std.specs.List.{flat_map}
-use Rattle.std.proofs.lemmas.List.Elements.{Contains-append_left, Contains-push, All-contains, Contains-append_right}
-use Rattle.std.proofs.lemmas.Bool.{cond-false, false≢true}
-use Rattle.node_core.specs.Log.{NodeSetup, LogEntry, Ticked, forms_of, packets_of, peers_of, runs, submitted}
-use Rattle.node_core.specs.Reached.{NodeCall, log_of, reached}
-use Rattle.node_core.specs.Roles.{IsSingle, IsRising}
-use Rattle.node_core.specs.declared.sending.Sending.{Sending}
+use Rattle.once_core.proofs.Names.{about, address_at, addresses_from, All-contains, AnyHasCopyAt, appointing, asked_by, Asks, big_bytes, cond-false, Contains-append_left, Contains-append_right, Contains-push, Deed, deeds_of, due, Empty, false≢true, First, flat_map, Follows, forms_ever, forms_of, Full, gateway_at, happened_all, Happening, is_request, is_spoken, IsRising, IsSingle, Letter, letter_of, log_after, log_of, LogEntry, logged, MaySend, meaning_in, meaning_of, Message, message_of, moved_at_tick, node_ip, node_setup, node_value, NodeAliveRequest, NodeCall, NodeSetup, NodeValue, order_of, Orders, outgoing, packet_numbered, PacketCopy, PacketForm, packets_in, packets_of, PacketState, PacketValue, peers_of, Port, Possible, reached, Request, runs, Scene, Second, Sending, Sends, Sent, speaks, starts_in, submitted, Tests, Ticked, ticking, transfer_of, TransferRequest, TransferValue, value_of, wire, with_deed, with_letter, written}
 use Rattle.node_core.specs.declared.sending.Sending.TheVariants as send
-use Rattle.once_core.specs.Deeds.{asked_by, deeds_of}
-use Rattle.once_core.specs.Followed.{packets_in}
-use Rattle.once_core.specs.Following.{Follows, AnyHasCopyAt, MaySend}
 use Rattle.once_core.specs.Happenings as happens
-use Rattle.once_core.specs.Happenings.{Deed, Happening, Letter, Scene, Sent, Asks, Orders, Sends, Tests, Request}
-use Rattle.once_core.specs.Scenes.{happened_all, is_request, with_deed, with_letter}
 use Rattle.once_core.proofs.ListLemmas.{in_cons, in_head, in_none, in_tail, in_one, of_flat_map, get_contains, in_flat, in_map, of_map}
 use Rattle.once_core.proofs.MoveLemmas.{at_same}
-use Rattle.byteorder.specs.Endian.{big_bytes}
-use Rattle.gtpp_message.specs.Message.{NodeAliveRequest, TransferRequest, Possible, TransferValue}
-use Rattle.gtpp_message.specs.Packet.{PacketForm, PacketValue, Empty, Full}
-use Rattle.gtpp_message.specs.PacketWriting.{value_of}
-use Rattle.gtpp_message.specs.Writing.{written}
-use Rattle.node_core.specs.Moving.{appointing, moved_at_tick}
-use Rattle.node_core.specs.Octets.{order_of, outgoing, packet_numbered, transfer_of, wire}
-use Rattle.node_core.specs.Packets.{PacketState}
-use Rattle.node_core.specs.Peers.{address_at}
 use Rattle.node_core.specs.Reached as call
-use Rattle.node_core.specs.Ticks.{due}
-use Rattle.node_core.specs.Value.{logged, NodeValue}
 use Rattle.node_core.specs.declared.copy.Order.TheVariants as order
-use Rattle.node_core.specs.declared.port.Port.TheVariants.{First, Second}
-use Rattle.node_core.specs.declared.port.Port.{Port}
-use Rattle.once_core.specs.Addresses.{addresses_from, gateway_at, node_ip, node_setup}
 use Rattle.once_core.specs.Deeds as did
-use Rattle.once_core.specs.Expired.{starts_in}
-use Rattle.once_core.specs.Messages.{about}
-use Rattle.once_core.specs.Meaning.{is_spoken, letter_of, meaning_in, meaning_of, speaks}
-use Rattle.once_core.specs.Shown.{forms_ever}
-use Rattle.once_core.specs.World.{log_after, message_of, node_value, ticking}
-use Rattle.once_core.specs.declared.message.Message.{Message}
 use Rattle.once_core.proofs.FormLemmas.{GoodForm, packet_is, value_octets_are}
 use Rattle.once_core.proofs.LogLemmas.{gateway_is, size, starts_same}
 use Rattle.once_core.proofs.MeaningLemmas.{IsWritten, ReadsBack, Said, meaning_is, said_by_node, FromNode}
 use Rattle.once_core.proofs.NodePlays.{NodeRightly, appointed_starts, NodePlays, NodeStands, after_call, appointed_deeds, appointed, tick_is}
 use Rattle.once_core.proofs.NumberLemmas.{Values, ever, ever_at, numbered_in, present_packet}
 use Rattle.once_core.proofs.NodeTurnLemmas.{addresses_length}
-use Rattle.node_core.specs.declared.copy.PacketCopy.{PacketCopy}
 
 -- ---- requests that a node sends
 

@@ -1,27 +1,7 @@
 -- Each record of each packet stands once in the files of all gateways, as it was filed once.
 use Rattle.std.proofs.Common.{◌≡◌, ℕ, ◌<◌, Bool, true, List, [], length, Option, Contains, sum_by, refl, ap, subst, ◌∙◌, arith, count_by}
-use Rattle.std.specs.Option.{option_map_or}
-use Rattle.std.proofs.lemmas.List.Elements.{All-contains}
-use Rattle.file_writer.specs.Places.{FilePlace}
-use Rattle.file_writer.specs.Streams.{Settings}
-use Rattle.gateway_answer.specs.Filed.{filed}
-use Rattle.gateway_answer.specs.Once.{is_record_of, times_filed}
-use Rattle.gateway_answer.specs.declared.filing.FiledRecord.{FiledRecord}
-use Rattle.gtpp_message.specs.Packet.{PacketForm, packet_of}
-use Rattle.gw_base.specs.declared.history.HistoryEntry.{HistoryEntry}
-use Rattle.gw_base.specs.declared.history.PacketKey.{PacketKey}
-use Rattle.node_core.specs.Drafts.{value_octets}
-use Rattle.node_core.specs.Packets.{is_resolved}
-use Rattle.node_core.specs.declared.copy.PacketCopy.{PacketCopy}
-use Rattle.once_core.specs.Addresses.{node_ip}
-use Rattle.once_core.specs.Epochs.{key_in, state_with, times_with, epoch_with}
-use Rattle.once_core.specs.FilePlaces.{placed}
-use Rattle.once_core.specs.Followed.{Followed, all_followed}
-use Rattle.once_core.specs.Once.{GivenRecord, IsFiledAs, IsFiledFor, IsFollowed, Once, firm_in}
-use Rattle.once_core.specs.FiledOnce.{filing_count, is_withheld, record_count}
+use Rattle.once_core.proofs.Names.{All-contains, all_followed, epoch_with, filed, FiledRecord, FilePlace, filing_count, firm_in, Followed, GivenRecord, HistoryEntry, is_record_of, is_resolved, is_withheld, IsFiledAs, IsFiledFor, IsFollowed, key_in, log_at, node_ip, Once, option_map_or, packet_of, PacketCopy, PacketForm, PacketKey, placed, record_count, Settings, state_with, times_filed, times_with, value_octets, WasSubmitted, World}
 use Rattle.once_core.specs.StandsOnce.{IsOfOne, IsPlaced, StandsOnce, places_of}
-use Rattle.once_core.specs.Told.{WasSubmitted}
-use Rattle.once_core.specs.World.{World, log_at}
 use Rattle.once_core.proofs.ListLemmas.{get_contains, number_of}
 use Rattle.once_core.proofs.CaseLemmas.{by_bool, by_option}
 

@@ -1,19 +1,9 @@
 -- The starts of nodes that a gateway knows of only rise.
 use Rattle.std.proofs.Common.{◌≡◌, ℕ, ◌≤◌, List, [], ◌∷◌, ◌++◌, Option, Some, None, sym, subst, arith}
 use Rattle.std.specs.Prelude.{option_map}
-use Rattle.gw_base.specs.EntryLaws.{opening_of-append}
-use Rattle.gw_base.specs.Starts.{start_by, start_of}
-use Rattle.gw_base.specs.declared.address.NodeId.{NodeId}
-use Rattle.gw_base.specs.declared.history.Caller.{Caller}
-use Rattle.gw_base.specs.declared.history.HistoryAct.{HistoryAct}
+use Rattle.once_core.proofs.Names.{Caller, GrowsTo, HistoryAct, HistoryEntry, nat_tests, NodeId, opened_by, Opening, opening_of-append, RisesBy, start_by, start_of, StartsRise}
 use Rattle.gw_base.specs.declared.history.HistoryAct.TheVariants as act
-use Rattle.gw_base.specs.declared.history.HistoryEntry.{HistoryEntry}
-use Rattle.gw_base.specs.declared.history.Opening.{Opening}
-use Rattle.path_mgmt.specs.GatewayPath.{opened_by}
-use Rattle.once_core.specs.Epochs.{RisesBy, StartsRise}
-use Rattle.once_core.specs.Growing.{GrowsTo}
 use Rattle.once_core.proofs.EachLemmas.{by_each_from, each_front}
-use Rattle.std.proofs.lemmas.Bool.Decides.{nat_tests}
 
 -- ---- with one entry
 

@@ -1,10 +1,6 @@
 -- States of keys move forward.
 use Rattle.std.proofs.Common.{◌≡◌, true, arith}
-use Rattle.gw_base.specs.declared.key_state.KeyState.{KeyState}
-use Rattle.gw_base.specs.declared.key_state.KeyState.TheVariants.{Released, Cancelled}
-use Rattle.gateway_answer.specs.Fit.{is_fresh}
-use Rattle.transfer_cmd.specs.Lists.{is_held}
-use Rattle.once_core.specs.Admitted.{moves_on}
+use Rattle.once_core.proofs.Names.{Cancelled, is_fresh, is_held, KeyState, moves_on, Released}
 
 pub stays : (s : KeyState) → moves_on s s ≡ true
 stays s = grind arith

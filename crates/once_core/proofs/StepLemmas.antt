@@ -1,30 +1,13 @@
 -- A turn of a world that is kept is the turn of the world that it stands for; and so what a step gives.
 use Rattle.std.proofs.Common.{◌≡◌, ℕ, ◌-◌, ◌≤◌, Bool, true, false, not, if◌then◌else◌, List, [], ◌∷◌, length, Option, Some, None, refl, ap, sym, ◌∙◌, subst, option_map, slice_get, ◌+◌, arith}
-use Rattle.std.specs.Option.{option_map_or, option_or}
-use Rattle.node_core.specs.Log.{LogEntry, Halted, runs}
-use Rattle.node_core.specs.Reached.{Halt, Start}
-use Rattle.node_core.specs.Ticks.{tick_entries}
+use Rattle.once_core.proofs.Names.{answered_by, at_gateway, at_node, called, calm, committing, cut, default_rules, delivered, delivered_to_node, delivering, draft_of, due_messages, Event, Gateway, gateway_kept, Halt, Halted, HasBegun, heard_by, length-map, log_in, LogEntry, making_close, making_tick, marked, Message, Moved, no_node, opened, option_map_or, option_or, quiet, reaching, redirected, redirected_kept, refusal_kept, refusal_of, refusal_to_start, refusing, runs, Stands, Start, started_again, starts_at, starts_in, still, submitted_entries, submitting, tick_entries, ticking, turn, turn_by, turn_kept, unless_refused, with_entries, with_gateway, with_node, World, world_kept, WorldKept, WorldKind}
 use Rattle.once_core.proofs.KeptMoveLemmas.{keeps_committing, keeps_cut, keeps_delivered, keeps_marking_close, keeps_marking_tick, moves_kept, opened_kept, redirects_kept, Keeps}
 use Rattle.once_core.proofs.KeptTurnLemmas.{gateway_changes, gateway_turns, node_changes, node_turns, refusals_same, starts_same}
 use Rattle.once_core.proofs.NodeCallLemmas.{NodeLaw, calls_halt, calls_hear, calls_start, calls_submit, nothing, calls_tick}
-use Rattle.once_core.specs.Answers.{delivered, making_close, making_tick, marked, redirected}
-use Rattle.once_core.specs.Beginning.{default_rules}
-use Rattle.once_core.specs.Expired.{starts_in}
-use Rattle.once_core.specs.Gateway.{committing, cut, opened, still, Gateway, Moved}
-use Rattle.once_core.specs.KeptTurn.{reaching, started_again, turn_kept, with_gateway, with_node, HasBegun, refusal_kept, starts_at}
-use Rattle.once_core.specs.NodeMoves.{answered_by, due_messages, heard_by, submitted_entries, with_entries}
-use Rattle.once_core.specs.Redirecting.{redirected_kept}
-use Rattle.once_core.specs.Standing.{quiet, world_kept, Stands, WorldKept, gateway_kept}
-use Rattle.once_core.specs.Turn.{at_gateway, at_node, calm, delivering, log_in, no_node, refusal_of, refusal_to_start, refusing, turn, turn_by, unless_refused}
-use Rattle.once_core.specs.World.{World, called, delivered_to_node, draft_of, submitting, ticking}
-use Rattle.once_core.specs.declared.event.Event.{Event}
 use Rattle.once_core.specs.declared.event.Event.TheVariants as event
-use Rattle.once_core.specs.declared.event.WorldKind.{WorldKind}
 use Rattle.once_core.specs.declared.event.WorldKind.TheVariants.{Halted as IsHalted}
-use Rattle.once_core.specs.declared.message.Message.{Message}
 use Rattle.once_core.proofs.CaseLemmas.{by_bool, by_option}
 use Rattle.once_core.proofs.PartLemmas.{it_runs, log_there}
-use Rattle.std.proofs.lemmas.List.{length-map}
 use Rattle.once_core.proofs.ArmLemmas.{turn_stays}
 use Rattle.once_core.specs.Stepping.{IsPlayed, IsRefused, IsSpent}
 

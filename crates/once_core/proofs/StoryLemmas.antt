@@ -1,21 +1,10 @@
 -- The story meets the premise.
 use Rattle.std.proofs.Common.{◌≡◌, ⊎_elim, ℕ, ◌≤◌, true, false, List, [], ◌∷◌, None, Contains, refl, subst, arith, All}
-use Rattle.std.proofs.lemmas.Bool.{false≢true}
-use Rattle.std.proofs.lemmas.List.Elements.{All-cons, All-nil}
-use Rattle.node_core.specs.Choosing.{IsChoice, ReleasesChoice}
-use Rattle.node_core.specs.Copies.{is_chosen}
-use Rattle.node_core.specs.Packets.{PacketState}
-use Rattle.node_core.specs.Resting.{AllRestOn, RestsOn}
-use Rattle.node_core.specs.Roles.{IsPlainFirst, uses}
-use Rattle.node_core.specs.declared.copy.PacketCopy.{PacketCopy}
+use Rattle.once_core.proofs.Names.{All-cons, All-nil, AllRestOn, Answers, Deed, false≢true, First, Follows, heard_in, is_chosen, IsChoice, IsPlainFirst, Letter, MaySend, nat_tests, PacketCopy, PacketState, ReleasesChoice, RestsOn, scene_after, Sent, uses}
 use Rattle.node_core.specs.declared.copy.Verdict.TheVariants.{Filed}
-use Rattle.node_core.specs.declared.port.Port.TheVariants.{First}
-use Rattle.once_core.specs.Following.{Follows, MaySend, heard_in}
-use Rattle.once_core.specs.Happenings.{Answers, Deed, Heard, Letter, Sent}
-use Rattle.once_core.specs.Scenes.{scene_after}
+use Rattle.once_core.specs.Happenings.{Heard}
 use Rattle.once_core.specs.Story.{first_letter, one_known, one_packet, one_story}
 use Rattle.once_core.proofs.ListLemmas.{in_cons, in_head, in_one}
-use Rattle.std.proofs.lemmas.Bool.Decides.{nat_tests}
 
 abbrev deeds : List Deed
 deeds = Sent first_letter ∷ Heard (record first_letter { says = Answers 128 }) ∷ []

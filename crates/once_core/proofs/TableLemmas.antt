@@ -1,38 +1,15 @@
 -- Each entry that a gateway of a world records keeps to the table of answers, and each mark is due: no answer is one.
 use Rattle.std.proofs.Common.{◌≡◌, Bool, false, refl, ℕ, ◌-◌, true, List, [], ◌∷◌, ◌++◌, length, take, drop, Option, Some, sym, ap, subst, ◌∙◌, append_assoc, append-nil, take-append-drop}
-use Rattle.gateway_answer.specs.Answer.{Given, answer_by, node_of, Decided, Replies, Silent, Says, decided, failure_answer}
+use Rattle.once_core.proofs.Names.{act_noted, acting, Addr, AllKeepLimits, AllMarksDue, answer_by, at_node, BookValue, both_ways, Called, called, Decided, decided, delivered_to_node, EachBehind, entry_by, failed_by, failure_answer, firm_in, first_world, Gateway, Given, history_of, HistoryAct, HistoryEntry, is_act_fit, is_act_lawful, is_close_due, is_mark, IsMarkDue, IsReached, IsWhole, LogEntry, Message, Moved, no_caller, node_address, node_id, NodeId, Note, Observed, observed, prepared_of, PreparedValue, recorded, Replies, ruled_turns, RuledTurn, Rules, same_Some, Silent, Starts, submitting, ticking, turn, World}
+use Rattle.gateway_answer.specs.Answer.{node_of, Says}
 use Rattle.gateway_answer.specs.EachAnswer.{HoldsOfEach, of_path, of_request}
-use Rattle.gateway_answer.specs.Marks.{is_mark}
-use Rattle.gateway_answer.specs.Preparing.{PreparedValue, Path, Request, IsWhole, prepared_of}
+use Rattle.gateway_answer.specs.Preparing.{Path, Request}
 use Rattle.gateway_answer.specs.Recording.{IfRecords, IsTabled}
-use Rattle.gw_base.specs.Observed.{Observed, observed}
-use Rattle.gw_base.specs.declared.address.Addr.{Addr}
-use Rattle.gw_base.specs.declared.history.HistoryAct.{HistoryAct}
 use Rattle.std.specs.Prelude.{⊤, slice_get}
-use Rattle.std.proofs.lemmas.Bool.{both_ways}
-use Rattle.std.proofs.lemmas.Option.{same_Some}
-use Rattle.gateway_answer.specs.Answered.{entry_by, no_caller}
-use Rattle.gateway_answer.specs.Fit.{is_act_fit, is_act_lawful}
 use Rattle.gateway_answer.specs.FitLaws.{records_also, records_tabled}
-use Rattle.gateway_answer.specs.Value.{BookValue, history_of, recorded}
-use Rattle.gw_base.specs.History.{is_close_due}
-use Rattle.gw_base.specs.declared.history.HistoryEntry.{HistoryEntry}
-use Rattle.node_core.specs.Log.{LogEntry}
 use Rattle.node_core.specs.Reached as call
-use Rattle.gw_base.specs.declared.address.NodeId.{NodeId}
-use Rattle.once_core.specs.Addresses.{node_address, node_id}
-use Rattle.once_core.specs.Admitted.{AllKeepLimits, AllMarksDue, IsMarkDue}
-use Rattle.once_core.specs.Answers.{acting, failed_by}
-use Rattle.once_core.specs.Beginning.{first_world, IsReached}
-use Rattle.once_core.specs.Epochs.{EachBehind}
-use Rattle.once_core.specs.Gateway.{Gateway, Moved, Rules}
-use Rattle.once_core.specs.Turn.{RuledTurn, at_node, ruled_turns, turn}
-use Rattle.once_core.specs.World.{Called, World, called, delivered_to_node, submitting, ticking}
-use Rattle.once_core.specs.declared.message.Message.{Message}
 use Rattle.once_core.proofs.EachLemmas.{each_also, each_front, each_more}
 use Rattle.once_core.proofs.PartLemmas.{history_is, PartsKeep, TurnKeeps, first_keeps, turn_keeps}
-use Rattle.once_core.specs.Happenings.{Note, Starts, act_noted}
-use Rattle.once_core.specs.Once.{firm_in}
 use Rattle.once_core.proofs.FirstPlays.{gateways_each}
 use Rattle.once_core.proofs.CaseLemmas.{if_both, map_known, set_known}
 

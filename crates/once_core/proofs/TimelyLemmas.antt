@@ -1,44 +1,12 @@
 -- What a node sends in a tick isn't expired: a gateway to which it sends a request knows its start as the present one,
 -- and no gateway knows of a later one.
 use Rattle.std.proofs.Common.{◌≡◌, ⊎_elim, ℕ, ◌-◌, ◌<◌, ◌≤◌, ◌%◌, ◌&&◌, not, nat_lt, Bool, true, false, if◌then◌else◌, List, [], ◌∷◌, ◌++◌, length, Option, Some, None, All, Contains, slice_get, refl, sym, ap, subst, ◌∙◌, arith, eqb-true, zero, suc, nat_le, ◌||◌, take, append-nil, length-take}
-use Rattle.std.specs.Option.{option_map_or}
-use Rattle.std.proofs.lemmas.Bool.{false≢true}
-use Rattle.std.proofs.lemmas.List.Elements.{All-contains, Contains-append_cases}
-use Rattle.std.proofs.lemmas.Option.{slice_get_within}
-use Rattle.gw_base.specs.History.{top_of}
-use Rattle.gw_base.specs.Nearest.{nearest}
-use Rattle.gw_base.specs.Starts.{start_of}
-use Rattle.gw_base.specs.declared.history.HistoryEntry.{HistoryEntry}
-use Rattle.node_core.specs.Log.{LogEntry, NodeSetup, Ticked, forms_of, packets_of, peers_of, runs, paths_of}
-use Rattle.node_core.specs.Moving.{appointing, moved_at_tick}
-use Rattle.node_core.specs.Nearness.{HasOpenCopy}
-use Rattle.node_core.specs.Octets.{outgoing}
-use Rattle.node_core.specs.Packets.{PacketState, is_done, is_of, packet_after_all, while_open}
-use Rattle.node_core.specs.Peers.{address_at, all_drawn}
-use Rattle.node_core.specs.Reached.{NodeCall, log_of, reached}
+use Rattle.once_core.proofs.Names.{about, address_at, addresses_from, All-contains, all_drawn, appointing, at_gateway, at_node, befallen, BookValue, calm, Contains-append_cases, deeds_of, default_rules, delivered, delivered_to_node, delivering, due, due_for_all, Event, false≢true, first_node_ip, forms_of, Fortune, Gateway, gateway_at, gateway_moved, Gone, HasCopyOf, HasOpenCopy, history_of, HistoryEntry, is_alive, is_done, is_expired, is_of, IsBetween, IsReached, IsSent, log_at, log_of, LogEntry, logged, lost_if, Message, message_of, Moved, moved_at_tick, nat_tests, nearest, node_called, node_ip, node_setup, node_value, NodeCall, NodeSetup, NodeValue, option_map_or, outgoing, packet_after_all, packets_of, PacketState, PathsOfNode, peers_of, Post, post_of, present_start, probes, reached, readying, refusal_of, Refused, refusing, reopened, Reopening, Rules, runs, Scene, scene_after, Sending, slice_get_within, start_of, starts_in, StartsRise, still, taken_for, taken_in, Ticked, ticking, top_of, tried, Turn, turn, turn_by, unless_refused, while_open, Whole, with_book, World, WorldKind}
+use Rattle.node_core.specs.Log.{paths_of}
 use Rattle.node_core.specs.Reached as call
-use Rattle.node_core.specs.Sendings.{due_for_all, probes}
-use Rattle.node_core.specs.Sent.{HasCopyOf, IsSent}
-use Rattle.node_core.specs.Ticks.{due}
-use Rattle.node_core.specs.Value.{NodeValue, befallen, logged}
-use Rattle.node_core.specs.declared.sending.Sending.{Sending}
 use Rattle.node_core.specs.declared.sending.Sending.TheVariants as send
-use Rattle.path_mgmt.specs.NodePath.{is_alive, PathsOfNode}
-use Rattle.once_core.specs.Addresses.{addresses_from, gateway_at, node_ip, node_setup, first_node_ip}
-use Rattle.once_core.specs.Deeds.{deeds_of}
-use Rattle.once_core.specs.Expired.{is_expired, present_start, starts_in, taken_for}
-use Rattle.once_core.specs.Gateway.{Gateway, Moved, Rules, readying, still, with_book}
-use Rattle.once_core.specs.Growing.{IsBetween}
-use Rattle.once_core.specs.Happenings.{Post, Scene}
-use Rattle.once_core.specs.Messages.{about, is_request}
-use Rattle.once_core.specs.Scenes.{scene_after}
-use Rattle.once_core.specs.Shown.{post_of}
-use Rattle.once_core.specs.Turn.{calm, node_called, refusal_of, turn_by, unless_refused, Turn, at_gateway, at_node, delivering, gateway_moved, lost_if, refusing, turn}
-use Rattle.once_core.specs.World.{World, log_at, message_of, node_value, ticking, delivered_to_node}
-use Rattle.once_core.specs.Beginning.{default_rules, IsReached}
+use Rattle.once_core.specs.Messages.{is_request}
 use Rattle.once_core.specs.declared.event.Event.TheVariants as event
-use Rattle.once_core.specs.declared.event.WorldKind.{WorldKind}
-use Rattle.once_core.specs.declared.message.Message.{Message}
 use Rattle.once_core.proofs.DueLemmas.{IsOfOpen, all_of_open, is_probe, one_packet, probes_are, stays_open, AllAlive, copies_alive}
 use Rattle.once_core.proofs.LogLemmas.{gateway_is, size, starts_same}
 use Rattle.once_core.proofs.MeantLemmas.{Numbers, meant}
@@ -51,14 +19,9 @@ use Rattle.once_core.proofs.NodeTurnLemmas.{addresses_length}
 use Rattle.once_core.proofs.LifeWorlds.{values_in, reached_lives, reached_made}
 use Rattle.once_core.proofs.PartLemmas.{log_or, log_there, firm_there, it_runs, book_is, history_is}
 use Rattle.once_core.proofs.CaseLemmas.{by_option, by_bool, if_known, map_known}
-use Rattle.gateway_answer.specs.Value.{BookValue, Fortune, Gone, Refused, Reopening, Whole, history_of, reopened, tried}
-use Rattle.once_core.specs.Answers.{delivered, taken_in}
-use Rattle.once_core.specs.Epochs.{StartsRise}
-use Rattle.once_core.specs.declared.event.Event.{Event}
 use Rattle.once_core.specs.declared.event.WorldKind.TheVariants.{NoMessage}
 use Rattle.once_core.proofs.GrowingLemmas.{on, on_with}
 use Rattle.once_core.proofs.StartLemmas.{front_low, start_rises}
-use Rattle.std.proofs.lemmas.Bool.Decides.{nat_tests}
 
 -- what the law of requests says
 abbrev pub RequestsSent : Type 0

@@ -1,34 +1,7 @@
 -- Each world is made by happenings, and so it files each record once, and what its messages tell is certain.
 use Rattle.once_core.proofs.LifeWorlds.{values_in, reached_made, reached_lives}
 use Rattle.std.proofs.Common.{◌≡◌, ℕ, ◌-◌, ◌≤◌, ◌==◌, List, [], ◌∷◌, length, filter, map, Option, Some, None, Contains, slice_get, refl, sym, ap, subst, ◌∙◌, arith, eq-eqb, ◌⊎◌, true, false, ⊎_elim}
-use Rattle.std.specs.Option.{option_map_or}
-use Rattle.std.proofs.lemmas.Bool.{and_parts, cases_lt, eq-eqb, eqb-true}
-use Rattle.std.proofs.lemmas.List.Elements.{All-contains}
-use Rattle.gw_base.specs.CdrKind.{kind_of}
-use Rattle.gw_base.specs.declared.history.HistoryEntry.{HistoryEntry}
-use Rattle.gw_base.specs.declared.history.PacketKey.{PacketKey}
-use Rattle.gateway_answer.specs.Once.{same_key}
-use Rattle.gateway_answer.specs.declared.filing.FiledRecord.{FiledRecord}
-use Rattle.node_core.specs.Drafts.{value_octets}
-use Rattle.node_core.specs.Log.{LogEntry}
-use Rattle.node_core.specs.Packets.{PacketState}
-use Rattle.node_core.specs.Reached.{log_of}
-use Rattle.node_core.specs.Roles.{uses_by_copies}
-use Rattle.node_core.specs.declared.copy.PacketCopy.{PacketCopy}
-use Rattle.once_core.specs.Addresses.{node_ip, node_setup, first_node_ip}
-use Rattle.once_core.specs.Beginning.{first_world, world_of, IsReached}
-use Rattle.once_core.specs.Deeds.{deeds_of}
-use Rattle.once_core.specs.Epochs.{epoch_with, key_in, RisesBy, StartsRise}
-use Rattle.once_core.specs.Followed.{Followed, all_followed, packets_in}
-use Rattle.once_core.specs.Following.{Follows}
-use Rattle.once_core.specs.Gateway.{Gateway, Rules}
-use Rattle.once_core.specs.Happenings.{Deed, Post, Answers, Asks, Letter, Meaning, Orders, Request, Sends, Sent}
-use Rattle.once_core.specs.Once.{GivenRecord, IsFiledAs, IsFiledFor, IsFollowed, Once, firm_in}
-use Rattle.once_core.specs.FiledOnce.{IsFiledUnder, IsOnce, kind_within, records_within}
-use Rattle.once_core.specs.Scenes.{is_telling}
-use Rattle.once_core.specs.Shown.{IsMade, Shows, forms_ever, post_of, values_of}
-use Rattle.once_core.specs.Turn.{Turn, ruled, ruled_turns, turn, turns, RuledTurn}
-use Rattle.once_core.specs.World.{World, log_at}
+use Rattle.once_core.proofs.Names.{All-contains, all_followed, ALREADY_FULFILLED, and_parts, Answers, AnswersACopy, asking, Asks, cases_lt, Command, Deed, deeds_of, epoch_with, eq-eqb, eqb-true, filed, FiledRecord, firm_in, first_node_ip, first_world, Followed, Follows, forms_ever, Gateway, GivenRecord, HistoryEntry, is_chosen, is_release, is_spoken, is_telling, IsAnswerFor, IsFiledAs, IsFiledFor, IsFiledUnder, IsFollowed, IsMade, IsOfCopy, IsOnce, IsReached, IsState, key_in, KeyState, kind_of, kind_within, Letter, letter_of, log_at, log_of, LogEntry, MeanCopies, Meaning, meaning_of, Message, NamesChoice, nat_tests, node_ip, node_setup, Once, option_map_or, Orders, PacketCopy, PacketKey, packets_in, PacketState, Post, post_of, records_within, Request, RisesBy, ruled, ruled_turns, RuledTurn, Rules, same_key, SceneHolds, Sends, Sent, Shows, StartsRise, TellStates, Turn, turn, turns, uses_by_copies, value_octets, values_of, WasSubmitted, World, world_of}
 use Rattle.once_core.proofs.ApartLemmas.{key_of, one_place}
 use Rattle.once_core.proofs.EpochLemmas.{start_is_one}
 use Rattle.once_core.proofs.FirstPlays.{same_world}
@@ -41,21 +14,11 @@ use Rattle.once_core.proofs.WorldPlays.{Laws, Made}
 use Rattle.once_core.proofs.NodeTurnLemmas.{addresses_length}
 use Rattle.once_core.proofs.PartLemmas.{log_or, log_there}
 use Rattle.once_core.proofs.EachLemmas.{each_front}
-use Rattle.gateway_answer.specs.Filed.{filed}
-use Rattle.gw_base.specs.declared.cause.TheConstants.{ALREADY_FULFILLED}
-use Rattle.node_core.specs.Copies.{is_chosen, is_release}
-use Rattle.node_core.specs.declared.copy.Command.{Command}
 use Rattle.node_core.specs.declared.copy.Order.TheVariants as order
-use Rattle.gw_base.specs.declared.key_state.KeyState.{KeyState}
-use Rattle.once_core.specs.Meaning.{is_spoken, letter_of, meaning_of}
-use Rattle.once_core.specs.Resting.{IsState, SceneHolds}
-use Rattle.once_core.specs.Told.{AnswersACopy, IsAnswerFor, IsOfCopy, MeanCopies, NamesChoice, TellStates, WasSubmitted, asking}
-use Rattle.once_core.specs.declared.message.Message.{Message}
 use Rattle.once_core.proofs.CountLemmas.{IsBrought, brought}
 use Rattle.once_core.proofs.MoveLemmas.{firm_rests, holds_always}
 use Rattle.once_core.proofs.KnownLemmas.{IsAnswered, by_release_answer, by_test_answer, choice_of, filed_by_answer, fulfilled_tells, sealed_by_answer, told_by}
 use Rattle.once_core.proofs.CaseLemmas.{by_option, map_known}
-use Rattle.std.proofs.lemmas.Bool.Decides.{nat_tests}
 
 firm_of : (o : Option Gateway) → (option_map_or post_of o (record { firm = []; rest = []; waiting = [] })).firm ≡ option_map_or (λ (g : Gateway). g.book.firm) o []
 firm_of o = grind arith

@@ -1,25 +1,11 @@
 -- A world goes on with a gateway's move and with a node's call, and so with each turn: they are what happens in a scene.
 use Rattle.std.proofs.Common.{◌≡◌, ℕ, zero, suc, ◌<◌, ◌≤◌, List, [], ◌∷◌, ◌++◌, length, length-set, Option, Some, Contains, slice_get, slice_set, refl, sym, ap, subst, ◌∙◌, arith, ne_eqb, take, true}
-use Rattle.std.specs.Option.{option_map_or}
-use Rattle.std.proofs.lemmas.Option.{same_Some}
-use Rattle.node_core.specs.Log.{LogEntry, runs}
-use Rattle.once_core.specs.Addresses.{first_node_ip, node_ip}
-use Rattle.once_core.specs.Deeds.{deeds_of}
-use Rattle.once_core.specs.Gateway.{Gateway, Moved, Rules}
-use Rattle.once_core.specs.Happenings.{Happening, Scene}
-use Rattle.once_core.specs.Meaning.{letter_of, speaks}
-use Rattle.once_core.specs.Scenes.{happened_all, nothing_yet, scene_after}
-use Rattle.once_core.specs.Shown.{Shows, post_of, forms_ever}
-use Rattle.once_core.specs.Turn.{at_gateway, at_node, gateway_moved, node_called, Turn, turn}
-use Rattle.once_core.specs.World.{Called, World, log_at, called, delivered_to_node, submitting, ticking}
-use Rattle.once_core.specs.declared.message.Message.{Message}
+use Rattle.once_core.proofs.Names.{at_gateway, at_node, Called, called, deeds_of, delivered_to_node, first_node_ip, forms_ever, Gateway, gateway_moved, happened_all, Happening, letter_of, log_at, LogEntry, Message, Moved, node_called, node_ip, nothing_yet, option_map_or, post_of, RolesRead, Rules, runs, same_Some, Scene, scene_after, Shows, speaks, starts_in, submitting, ticking, Turn, turn, World}
 use Rattle.once_core.proofs.MeaningLemmas.{Said, ReadsBack}
 use Rattle.once_core.proofs.NodePlays.{NodePlays, NodeRightly, NodeStands, halt_turns, hear_turns, start_turns, submit_turns}
 use Rattle.once_core.proofs.PlayLemmas.{Plays, Rightly, Stands, happened_more, of_both}
 use Rattle.once_core.proofs.CaseLemmas.{map_known, set_known}
-use Rattle.gateway_answer.specs.PreparingLaws.{RolesRead}
 use Rattle.node_core.specs.Reached as call
-use Rattle.once_core.specs.Expired.{starts_in}
 use Rattle.once_core.proofs.FormLemmas.{RecordsSpelled}
 use Rattle.once_core.proofs.NumberLemmas.{Values}
 use Rattle.once_core.proofs.SendingPlays.{NodesFollow, OneCopyEach, tick_turns}

@@ -1,40 +1,12 @@
 -- What a gateway makes of a message, by what its book answers.
 use Rattle.std.proofs.Common.{◌≡◌, ◌∙◌, refl, sym, ap, ℕ, Bool, true, false, if◌then◌else◌, All, subst, nat_le, not, List, [], ◌∷◌, ◌++◌, length, map, filter, Option, None, arith, Some}
-use Rattle.std.proofs.lemmas.List.{append-nil}
-use Rattle.gateway_answer.specs.Answer.{Decided, Silent, decided, failure_answer, Says}
-use Rattle.gateway_book.specs.Calls.{given_at, Left, cause_in, left_by, outcome_at}
-use Rattle.gateway_answer.specs.Preparing.{prepared_of}
-use Rattle.gateway_answer.specs.Value.{BookValue, Fortune, history_of, readied, recorded_if}
+use Rattle.replay_gateway.proofs.Names.{acting, AfterCall, answer_at, answered, answering, append-nil, Armed, Asked, asked_to_ready, AsksNothing, BookValue, Breaks, came_of, cause_in, Decided, decided, decided_ending, Delivery, dropped_as, Ending, ending_at, ending_by, Failed, failed, failed_by, failure_answer, firm_in, followed, Fortune, fortune_by, Gateway, given_at, giving_up, GoesAsArmed, GoesOn, HasAnswered, HasMoved, history_of, HistoryAct, if_broken, is_expired, is_reached, is_stop, IsAnswered, IsCalled, IsTaken, Left, left_by, Machine, machine_after, machine_with, Message, Moved, moved_after, moved_by, no_caller, node_address, Nothing, Outcome, outcome_at, prepared_of, readied, recorded_if, rules_in, Says, Sent, Sequel, sequel_on, settling, Setup, Silent, Stops, taken_of, taking, Waiting, waits_then, Went, with_book}
 use Rattle.gtpp_message.specs.declared.reading.Why.{Why}
-use Rattle.once_core.specs.Addresses.{node_address}
-use Rattle.once_core.specs.Answers.{acting, answer_at, answered, failed, failed_by, if_broken}
-use Rattle.once_core.specs.Gateway.{Gateway, Moved, followed, giving_up, is_reached, settling, with_book}
-use Rattle.once_core.specs.declared.message.Message.{Message}
-use Rattle.replay_gateway.specs.Taking.{taking, HasAnswered, IsAnswered, IsTaken, decided_ending, dropped_as, ending_at, ending_by, waits_then}
-use Rattle.replay_gateway.specs.Setup.{Setup, rules_in}
 use Rattle.replay_gateway.proofs.GoesLemmas.{after, broken, readying_is, unbroken, Tells, goes_as_armed, rearmed, site_tells, recorded_firm}
-use Rattle.area_disk.specs.Armed.{Armed}
-use Rattle.area_disk.specs.Armed.Armed.{Nothing}
-use Rattle.gateway_answer.specs.Answered.{no_caller}
-use Rattle.gateway_book.specs.Comes.{Asked, AsksNothing, asked_to_ready}
-use Rattle.gateway_book.specs.Up.{Sequel, GoesOn, Breaks, Stops, fortune_by}
-use Rattle.gateway_book.specs.declared.outcome.Outcome.{Outcome}
 use Rattle.gateway_book.specs.declared.outcome.Outcome.TheVariants as outcome
 use Rattle.gateway_book.specs.declared.outcome.Receipt.{Receipt}
-use Rattle.gw_base.specs.declared.history.HistoryAct.{HistoryAct}
-use Rattle.once_core.specs.Expired.{is_expired}
-use Rattle.once_core.specs.Messages.{answering}
-use Rattle.once_core.specs.declared.message.Waiting.{Waiting}
-use Rattle.replay_gateway.specs.Called.{AfterCall, IsCalled, firm_in, moved_after, taken_of}
-use Rattle.replay_gateway.specs.Device.{is_stop, machine_after, machine_with, sequel_on}
-use Rattle.replay_gateway.specs.Moves.{GoesAsArmed, HasMoved, came_of, moved_by}
-use Rattle.replay_gateway.specs.Machine.{Machine}
 use Rattle.replay_gateway.specs.declared.machine.Came.{Came}
-use Rattle.replay_gateway.specs.declared.machine.Came.TheVariants.{Went, Failed}
 use Rattle.replay_gateway.specs.declared.machine.Machine as real
-use Rattle.replay_gateway.specs.declared.machine.Sent.{Sent}
-use Rattle.replay_gateway.specs.declared.taking.Delivery.{Delivery}
-use Rattle.replay_gateway.specs.declared.taking.Ending.{Ending}
 use Rattle.replay_gateway.specs.declared.taking.Ending.TheVariants as ending
 use Rattle.replay_gateway.proofs.CallLemmas.{failure_acts, none_reached}
 

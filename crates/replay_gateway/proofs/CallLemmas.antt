@@ -1,44 +1,7 @@
 -- What a gateway stands for once its area was called, or its items were read and written.
 use Rattle.std.proofs.Common.{◌≡◌, ◌∙◌, refl, ap, subst, ℕ, ◌-◌, nat_le, Bool, true, false, not, if◌then◌else◌, List, [], ◌++◌, All, length, map, filter, take, Option, Some, arith, length-append, None, ◌+◌, ◌<◌, ◌^◌, drop, length-take, length-drop}
-use Rattle.std.proofs.lemmas.Bool.{not-true}
-use Rattle.std.proofs.lemmas.List.{append-nil, take_all}
-use Rattle.std.proofs.lemmas.List.Elements.{filter_passes}
-use Rattle.area_disk.specs.Armed.{Armed}
-use Rattle.area_disk.specs.Armed.Armed.{Nothing}
-use Rattle.area_disk.specs.declared.memory.MemoryArea.{MemoryArea}
-use Rattle.file_writer.specs.Streams.{Settings}
-use Rattle.gateway_book.specs.Book.{Stays}
-use Rattle.gateway_book.specs.Calls.{Left, given_at, taken}
-use Rattle.gateway_answer.specs.Filed.{along}
-use Rattle.gateway_answer.specs.Items.{items_by, items_of}
-use Rattle.gateway_book.specs.Up.{HasLeft, Sequel, GoesOn, Breaks, Stops, fortune_by, ready_sequel_of, IsUp}
-use Rattle.gateway_answer.specs.Value.{BookValue, history_of, readied}
-use Rattle.gateway_book.specs.declared.book.Book.{Book}
-use Rattle.gw_base.specs.declared.history.HistoryEntry.{HistoryEntry}
-use Rattle.gw_base.specs.declared.item.Item.{Item}
-use Rattle.once_core.specs.Gateway.{Gateway, cut, giving_up, is_reached, settling, still}
-use Rattle.once_core.specs.Messages.{failing, is_response}
-use Rattle.once_core.specs.declared.message.Message.{Message}
-use Rattle.once_core.specs.declared.message.Waiting.{Waiting}
-use Rattle.replay_gateway.specs.Called.{AfterCall, BookStands, IsCalled, SiteIsCalled, SiteIsCut, SiteIsDown, firm_in, taken_of}
-use Rattle.replay_gateway.specs.Device.{entries_kept, is_stop}
-use Rattle.replay_gateway.specs.Moves.{HasMoved, came_of}
-use Rattle.replay_gateway.specs.Setup.{Setup, files_in}
-use Rattle.replay_gateway.specs.Standing.{MachineStands, SiteStands, StandsUp, area_tells, header_at}
-use Rattle.replay_gateway.specs.Written.{FilesStand, HasWritten}
-use Rattle.replay_gateway.specs.Machine.{Filing, Machine, disarmed, ended}
-use Rattle.replay_gateway.specs.declared.files.Files.{Files}
-use Rattle.replay_gateway.specs.declared.machine.Came.TheVariants.{Went, Failed, Stopped}
+use Rattle.replay_gateway.proofs.Names.{act_decided, Addr, AfterCall, along, append-nil, area_tells, Armed, Book, BookStands, BookValue, Breaks, came_of, cut, decided, disarmed, Down, Drop, ended, entries_kept, Failed, failing, failure_answer, Files, files_in, FilesStand, Filing, filter_passes, firm_in, fortune_by, Gateway, given_at, giving_up, GoesOn, HasLeft, HasMoved, HasWritten, header_at, history_of, HistoryEntry, is_reached, is_response, is_stop, IsCalled, IsUp, Item, items_by, items_of, Left, Machine, MachineStands, MemoryArea, Message, no_caller, node_address, not-true, Nothing, Outcome, prepared_of, PreparedValue, readied, ready_sequel_of, Sent, Sequel, Settings, settling, Setup, Site, SiteIsCalled, SiteIsCut, SiteIsDown, SiteStands, StandsUp, Stays, still, Stopped, Stops, take_all, taken, taken_of, Waiting, Went}
 use Rattle.replay_gateway.specs.declared.machine.Machine as real
-use Rattle.replay_gateway.specs.declared.machine.Sent.{Sent}
-use Rattle.replay_gateway.specs.declared.site.Site.{Site}
-use Rattle.replay_gateway.specs.declared.site.Site.TheVariants.{Down}
-use Rattle.gateway_answer.specs.Answer.{decided, failure_answer}
-use Rattle.gateway_answer.specs.Answered.{act_decided, no_caller}
-use Rattle.gateway_answer.specs.Preparing.{PreparedValue, prepared_of, Drop}
-use Rattle.gateway_book.specs.declared.outcome.Outcome.{Outcome}
-use Rattle.gw_base.specs.declared.address.Addr.{Addr}
-use Rattle.once_core.specs.Addresses.{node_address}
 use Rattle.replay_gateway.proofs.GoesLemmas.{Keeps, answer_grows, stop_breaks}
 use Rattle.gateway_book.specs.Read.{IsUnchanged}
 use Rattle.replay_gateway.specs.WritingFiles.{WritesFiles}

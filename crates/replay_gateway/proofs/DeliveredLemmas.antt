@@ -1,27 +1,8 @@
 -- What a message makes of a gateway that it comes to, by what the gateway is.
 use Rattle.std.proofs.Common.{◌≡◌, Bool, true, false, if◌then◌else◌, Option, Some, None, ◌∙◌, ap, ℕ, ◌||◌, refl, [], arith, sym, List, append-nil}
-use Rattle.std.proofs.lemmas.Option.{same_Some}
-use Rattle.gateway_answer.specs.Value.{history_of, Fortune, is_batch_full, reopened, readied, BookValue, Gone, Whole, faulted}
-use Rattle.once_core.specs.Expired.{is_expired}
-use Rattle.once_core.specs.Gateway.{Gateway, Moved, committing, followed, still, with_book, giving_up, settling}
-use Rattle.once_core.specs.declared.message.Message.{Message}
-use Rattle.replay_gateway.specs.Taking.{met_by, IsDelivered, IsTaken, taking, HasMore, decided_ending, ending_by}
-use Rattle.replay_gateway.specs.declared.taking.Ending.{Ending}
+use Rattle.replay_gateway.proofs.Names.{answered, Asked, asked_by_message, asked_to_commit, asked_to_ready, AsksNothing, AsksReopening, BookValue, Breaks, came_of, committing, decided, decided_ending, delivered, delivered_broken, delivered_running, Delivery, Ending, ending_by, failed, failure_answer, faulted, followed, Fortune, fortune_by, Gateway, giving_up, GoesAsArmed, GoesOn, Gone, HasMore, HasMoved, history_of, if_broken, is_batch_full, is_expired, IsDelivered, IsTaken, Machine, machine_with, MachineStands, Message, met_by, Moved, moved_by, prepared_of, readied, reopened, rules_in, same_Some, Sent, Sequel, sequel_on, settling, Setup, still, Stops, taking, unless_expired, Went, Whole, with_book}
 use Rattle.replay_gateway.specs.declared.taking.Ending.TheVariants as ending
-use Rattle.gateway_book.specs.Comes.{AsksReopening, asked_to_commit, Asked, AsksNothing, asked_to_ready}
-use Rattle.once_core.specs.Answers.{answered, delivered, delivered_broken, delivered_running, if_broken, unless_expired, failed}
-use Rattle.replay_gateway.specs.Device.{asked_by_message, sequel_on, machine_with}
-use Rattle.replay_gateway.specs.Setup.{Setup, rules_in}
-use Rattle.gateway_book.specs.Up.{Sequel, GoesOn, fortune_by, Breaks, Stops}
-use Rattle.replay_gateway.specs.Moves.{GoesAsArmed, moved_by, HasMoved, came_of}
-use Rattle.replay_gateway.specs.Standing.{MachineStands}
-use Rattle.replay_gateway.specs.Machine.{Machine}
-use Rattle.replay_gateway.specs.declared.machine.Came.TheVariants.{Went}
-use Rattle.replay_gateway.specs.declared.machine.Sent.{Sent}
-use Rattle.replay_gateway.specs.declared.taking.Delivery.{Delivery}
 use Rattle.replay_gateway.proofs.AnsweredLemmas.{history_ready}
-use Rattle.gateway_answer.specs.Answer.{decided, failure_answer}
-use Rattle.gateway_answer.specs.Preparing.{prepared_of}
 use Rattle.replay_gateway.specs.declared.machine.Machine as real
 use Rattle.replay_gateway.proofs.GoesLemmas.{after, broken, unbroken}
 

@@ -1,33 +1,17 @@
 -- The files that items close: their numbers, how many there are, and which are open.
 use Rattle.std.proofs.Common.{◌≡◌, ◌∙◌, refl, sym, ap, ℕ, zero, suc, ◌+◌, ◌-◌, ◌≤◌, ◌==◌, ◌&&◌, Bool, false, cond, if◌then◌else◌, List, [], ◌∷◌, ◌++◌, length, take, Option, Some, None, option_map, slice_get, take_all, arith, append_assoc, append-nil, eq-eqb, ne_eqb, ◌<◌, ◌^◌, length-append, length-take}
-use Rattle.std.proofs.lemmas.Bool.Decides.{nat_tests}
-use Rattle.std.proofs.lemmas.Bool.{and_from, and_right}
-use Rattle.std.specs.List.{flat_map}
-use Rattle.cdr_file.specs.CdrFile.{FileSettings}
-use Rattle.cdr_shelf.specs.Files.{SealedFile, file_named, in_stream}
+use Rattle.replay_gateway.proofs.Names.{along, and_from, and_right, Close, closed_first, closed_of, ClosedRun, cuts_at, divided_from, Division, ends_after, ends_before, file_line, file_named, Filed, files_from, FileSettings, flat_map, flat_map-append, HistoryAct, HistoryEntry, in_stream, Item, items_by, items_by_act, items_of, joined, nat_tests, Rule, run_after, SealedFile, Settings, stream_division, stream_files, stream_item, stream_items, Tick}
 use Rattle.cdr_shelf.specs.declared.file_name.FileName.{FileName}
-use Rattle.file_rotate.specs.Division.{ClosedRun, Division, closed_first, cuts_at, divided_from, joined, run_after, ends_after, ends_before}
-use Rattle.file_writer.specs.Files.{files_from, stream_files}
-use Rattle.file_writer.specs.Streams.{Settings, stream_division, closed_of, stream_item, stream_items}
-use Rattle.gw_base.specs.declared.item.Item.{Item}
-use Rattle.replay_gateway.specs.GatewayReport.{file_line}
 use Rattle.cdr_file.specs.declared.closure.ClosureReason.{ClosureReason}
 use Rattle.file_rotate.specs.Items as stream
-use Rattle.file_rotate.specs.Items.{Filed, Tick, Close}
 use Rattle.file_rotate.specs.declared.limits.Limits.{Limits}
-use Rattle.route_filter.specs.declared.rule.Rule.{Rule}
 use Rattle.replay_gateway.proofs.WriterLemmas.{files_length}
 use Rattle.replay_gateway.proofs.ListLemmas.{mapped_from, mapped_none, none_beyond, take_next}
-use Rattle.std.proofs.lemmas.Grind.{flat_map-append}
 use Rattle.file_writer.specs.Laws.{DivisionGoesOn}
-use Rattle.gateway_answer.specs.Filed.{along}
-use Rattle.gateway_answer.specs.Items.{items_by, items_by_act, items_of}
 use Rattle.gw_base.specs.EntryLaws.{is_close_due-append}
 use Rattle.gw_base.specs.History.{due_after, is_close_due}
 use Rattle.gw_base.specs.ListLaws.{by_last}
-use Rattle.gw_base.specs.declared.history.HistoryAct.{HistoryAct}
 use Rattle.gw_base.specs.declared.history.HistoryAct.TheVariants as act
-use Rattle.gw_base.specs.declared.history.HistoryEntry.{HistoryEntry}
 
 -- The files of a stream, by their numbers.
 

@@ -1,39 +1,13 @@
 -- What a call makes of a book, and that a gateway goes as what is armed for its area says.
 use Rattle.std.proofs.Common.{◌≡◌, ◌∙◌, refl, sym, ℕ, Bool, true, false, if◌then◌else◌, List, [], ◌∷◌, ◌++◌, arith, ap, not, ◌||◌, ◌&&◌, All, map, filter, Some, None}
-use Rattle.std.proofs.lemmas.List.{append-nil}
-use Rattle.area_disk.specs.Armed.{Armed}
-use Rattle.gateway_answer.specs.Answer.{Decided}
-use Rattle.gateway_answer.specs.Answered.{act_decided, no_caller}
-use Rattle.gateway_book.specs.Calls.{left_by, marked_at, marked_if_ready}
+use Rattle.replay_gateway.proofs.Names.{act_decided, after_commit, AfterCall, AllByRecursion, append-nil, Armed, Asked, asked_by, asked_move, asked_to_commit, asked_value, asked_with, AsksNothing, AsksReopening, BookValue, Breaks, committed, committing, cond_both, Decided, faulted, followed, Fortune, fortune_by, Gateway, giving_up, GoesAsArmed, GoesOn, HasMoved, history_of, HistoryAct, HistoryEntry, if_broken, is_batch_full, is_reached, is_stop, IsCalled, left_by, Machine, machine_after, machine_with, MachineStands, making_close, making_tick, marked, marked_at, marked_if_ready, Message, Moved, moved_after, moved_by, no_caller, readied, ready_sequel_of, readying, recorded_if, recorded_where, recursion_from_All, Refused, reopened, Reopening, rules_in, Sent, Sequel, sequel_of, sequel_on, settling, Setup, Site, SiteIsCalled, SiteStands, still, Stops, tried, tried_with, Up, Waiting, Whole, with_book}
 use Rattle.gateway_answer.specs.Marks.{Mark, NotDue, Makes, close_mark, made_if, tick_mark}
-use Rattle.gateway_book.specs.Up.{Sequel, fortune_by, ready_sequel_of, GoesOn, Breaks, Stops, sequel_of}
-use Rattle.gateway_answer.specs.Value.{is_batch_full, BookValue, Fortune, Refused, Reopening, Whole, after_commit, committed, faulted, readied, recorded_if, reopened, tried_with, history_of, tried}
 use Rattle.gw_base.specs.declared.history.Caller.{Caller}
-use Rattle.gw_base.specs.declared.history.HistoryAct.{HistoryAct}
-use Rattle.gw_base.specs.declared.history.HistoryEntry.{HistoryEntry}
-use Rattle.replay_gateway.specs.Device.{is_stop, machine_after, machine_with, sequel_on}
 use Rattle.std.specs.Prelude.{Option}
-use Rattle.std.proofs.lemmas.Bool.{cond_both}
-use Rattle.std.proofs.lemmas.List.Elements.{recursion_from_All}
-use Rattle.std.specs.List.{AllByRecursion}
-use Rattle.gateway_book.specs.Comes.{Asked, AsksReopening, asked_to_commit, asked_with, AsksNothing}
 use Rattle.gw_base.specs.declared.history.HistoryAct.TheVariants.{Tick, Close}
-use Rattle.once_core.specs.Answers.{if_broken, making_close, making_tick, marked, recorded_where}
-use Rattle.once_core.specs.Gateway.{Gateway, Moved, committing, followed, giving_up, is_reached, readying, settling, still, with_book}
-use Rattle.once_core.specs.declared.message.Message.{Message}
-use Rattle.once_core.specs.declared.message.Waiting.{Waiting}
-use Rattle.replay_gateway.specs.Called.{AfterCall, IsCalled, SiteIsCalled, moved_after}
-use Rattle.replay_gateway.specs.Moves.{GoesAsArmed, HasMoved, moved_by}
-use Rattle.replay_gateway.specs.Setup.{Setup, rules_in}
-use Rattle.replay_gateway.specs.Standing.{MachineStands, SiteStands}
-use Rattle.replay_gateway.specs.Machine.{Machine}
 use Rattle.replay_gateway.specs.declared.machine.Machine as real
-use Rattle.replay_gateway.specs.declared.machine.Sent.{Sent}
-use Rattle.replay_gateway.specs.declared.site.Site.{Site}
-use Rattle.replay_gateway.specs.Asking.{asked_by, asked_move, asked_value}
 use Rattle.replay_gateway.specs.declared.calls.GatewayCall.{GatewayCall}
 use Rattle.replay_gateway.specs.declared.calls.GatewayCall.TheVariants as call
-use Rattle.replay_gateway.specs.declared.site.Site.TheVariants.{Up}
 
 -- What a call makes of a book's value: which entries stay, and what a stop leaves.
 

@@ -11,3 +11,4 @@ mod RedirectLemmas
 mod ReportLemmas
 mod RestLemmas
 mod WriterLemmas
+pub mod Names

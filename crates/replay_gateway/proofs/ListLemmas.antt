@@ -1,7 +1,6 @@
 -- Lists that are read place by place, and what a filter picks of a list that grows.
 use Rattle.std.proofs.Common.{◌≡◌, All, subst, Bool, cond, ℕ, zero, suc, ◌+◌, ◌≤◌, List, [], ◌∷◌, ◌++◌, length, take, drop, map, filter, Option, Some, None, option_map, slice_get, arith}
-use Rattle.std.proofs.lemmas.List.{drop_all, drop_more, take_more}
-use Rattle.std.proofs.lemmas.Option.{get_or_from_slice_get, slice_get_within}
+use Rattle.replay_gateway.proofs.Names.{drop_all, drop_more, get_or_from_slice_get, slice_get_within, take_more}
 
 -- the rest of a list from a place on
 pub rest_at : {X : Type 0} (xs : List X) (i : ℕ) {x : _} → slice_get xs i ≡ Some x → drop i xs ≡ x ∷ drop (i + 1) xs

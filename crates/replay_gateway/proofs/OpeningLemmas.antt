@@ -1,50 +1,18 @@
 -- A gateway's area: how it is armed, stopped, handed out and opened.
 use Rattle.std.proofs.Common.{◌⊎◌, ◌≡◌, ◌∙◌, ap, ℕ, ◌+◌, ◌<◌, Bool, false, ◌&&◌, if◌then◌else◌, List, [], ◌∷◌, ◌++◌, Option, None, Some, MatchOption, take, arith, inl, refl, sym, ◌≤◌, true, slice_index, Result, Ok, Err, append-nil}
 use Rattle.std.proofs.Math.Bool.{and-false}
-use Rattle.area_disk.specs.Armed.{Armed, IsArmed}
-use Rattle.area_disk.specs.Armed.Armed.{Nothing, Fail, Stop}
+use Rattle.replay_gateway.proofs.Names.{after_commit, along, area_of, area_tells, AreOpenFiles, AreSealed, Armed, armed, ArmsAs, asked_to_commit, begun_gateway, Book, BookStands, BookValue, committed, Down, Fail, files_in, FindsHistory, first_gateway, first_machine, fortune_by, Gateway, gateway_address, get_or-replicate, GoesOn, header_at, history_of, HistoryEntry, HoldsHistory, is_device, is_memory_fault, IsAreaOf, IsArmed, IsHandedOut, IsMadeAnew, IsNotOurs, IsOpened, IsOpenedForCounts, IsRefused, IsUp, items_by, items_of, LeavesFit, left_by_stop, Machine, MachineStands, MemoryArea, MemoryShelf, New, no_caller, Nothing, Old, opened, OpensAsPlanned, plan_of, recorded, room_for, rules_in, Schedule, schedule_of, sequel_of, sequel_on, Setup, shelf_tells, Site, SiteIsOpened, SiteStands, size_of, standing_for, StandsDown, StandsFitFor, StandsUp, Start, Stays, Stop, stop_stands, Up, value_of}
 use Rattle.area_disk.specs.Disk.{last_count, zeros}
 use Rattle.area_disk.specs.Memory.{IsKept, IsLeft}
-use Rattle.area_disk.specs.Plan.{Schedule, armed, schedule_of}
-use Rattle.area_disk.specs.declared.memory.MemoryArea.{MemoryArea}
 use Rattle.area_disk.specs.declared.plan.Outcome3.{Outcome3}
-use Rattle.area_disk.specs.declared.plan.Outcome3.TheVariants.{Old, New}
 use Rattle.area_disk.specs.declared.plan.Plan.{Plan}
-use Rattle.cdr_shelf.specs.declared.memory.MemoryShelf.{MemoryShelf}
-use Rattle.cgf_journal.specs.Trail.{stop_stands}
-use Rattle.file_writer.specs.Leaving.{AreOpenFiles}
-use Rattle.gateway_answer.specs.Items.{items_of, items_by}
-use Rattle.gateway_book.specs.Book.{Stays, area_of, value_of, size_of}
-use Rattle.gateway_book.specs.Opened.{StandsFitFor, FindsHistory, IsMadeAnew, IsNotOurs, IsOpened, IsRefused}
-use Rattle.gateway_book.specs.Up.{HoldsHistory, IsUp, GoesOn, fortune_by, sequel_of}
-use Rattle.gateway_answer.specs.Value.{BookValue, after_commit, committed, history_of, opened, recorded, standing_for}
-use Rattle.gateway_book.specs.declared.book.Book.{Book}
-use Rattle.replay_gateway.specs.Opening.{ArmsAs, IsOpenedForCounts, SiteIsOpened, begun_gateway}
-use Rattle.once_core.specs.Gateway.{Gateway, opened as reopened}
-use Rattle.replay_gateway.specs.HandedOut.{IsAreaOf, IsHandedOut}
-use Rattle.replay_gateway.specs.Setup.{Setup, files_in, rules_in}
-use Rattle.replay_gateway.specs.Standing.{area_tells, header_at, MachineStands, SiteStands, StandsDown, StandsUp}
-use Rattle.replay_gateway.specs.Written.{AreSealed, shelf_tells}
-use Rattle.replay_gateway.specs.Machine.{Machine, first_machine}
-use Rattle.std.proofs.lemmas.List.{get_or-replicate}
+use Rattle.once_core.specs.Gateway.{opened as reopened}
 use Rattle.area_disk.specs.Course.{IsTied}
 use Rattle.gate_journal.specs.Format.{Starts, header}
-use Rattle.gateway_answer.specs.Answered.{no_caller, room_for}
-use Rattle.gateway_book.specs.Comes.{LeavesFit, asked_to_commit, left_by_stop, plan_of}
-use Rattle.gateway_answer.specs.Filed.{along}
-use Rattle.gateway_book.specs.OpenPlan.{OpensAsPlanned, is_device, is_memory_fault}
 use Rattle.gateway_book.specs.declared.outcome.BookFault.{BookFault}
 use Rattle.gateway_book.specs.declared.outcome.BookFault.TheVariants.{Device, NotOurs}
-use Rattle.gw_base.specs.declared.history.HistoryAct.TheVariants.{Start}
-use Rattle.gw_base.specs.declared.history.HistoryEntry.{HistoryEntry}
-use Rattle.once_core.specs.Addresses.{gateway_address}
-use Rattle.once_core.specs.Beginning.{first_gateway}
-use Rattle.replay_gateway.specs.Called.{BookStands}
-use Rattle.replay_gateway.specs.Device.{sequel_on}
 use Rattle.replay_gateway.specs.declared.machine.Machine as real
-use Rattle.replay_gateway.specs.declared.site.Site.{Site}
 use Rattle.replay_gateway.proofs.CallLemmas.{WrittenStays}
-use Rattle.replay_gateway.specs.declared.site.Site.TheVariants.{Up, Down}
 
 -- The area of a gateway that is down.
 

@@ -1,39 +1,25 @@
 -- What holds of the lines that the grammar of scripts takes: settings are in their ranges, rules are rules, and there are
 -- no more of them than there may be.
 use Rattle.std.proofs.Common.{◌≡◌, ℕ, suc, ◌+◌, ◌*◌, ◌≤◌, ◌<◌, Bool, true, false, ◌&&◌, ◌==◌, nat_le, nat_lt, if◌then◌else◌, List, [], ◌∷◌, ◌++◌, length, count_by, All, Option, Some, None, is_some, option_and_then, Result, Ok, Err, IfOk, IsUtf8, slice_index_or, refl, ap, arith, codes, length-append, ℤ, pos, neg_ℤ}
-use Rattle.std.proofs.lemmas.Bool.Decides.{nat_tests}
+use Rattle.replay_gateway.proofs.Names.{All-append, All-cons, and_parts, AreInRange, at_most, bytes_eq, cond_both, contented, flat_map, flat_map-append, IfOk-at_ok, IfOk-weaker, is_rule_line, IsInRange, IsWithin, keyed, leb-true, Line, ltb-false, ltb-true, most_rules, most_text, nat_tests, number_up_to, octets_of, onward, progress_of, reading_of, Refusal, rule_of, rules_in_line, same_Some, script_after, script_in, ScriptKind, ScriptValue, worded, words_of, ◌>>=◌}
 use Rattle.std.proofs.lemmas.Int.{ints}
-use Rattle.std.proofs.lemmas.Bool.{cond_both, leb-true, ltb-true, ltb-false, and_parts}
-use Rattle.std.proofs.lemmas.List.Elements.{All-append, All-cons}
 use Rattle.std.proofs.lemmas.List.Sums.{AllPass-from_list_all, sum_by-append, sum_by-cons}
 use Rattle.std.proofs.lemmas.Str.{IsUtf8-from_ascii}
 use Rattle.std.proofs.lemmas.Str.Ascii.{IsAscii-from_reads}
 use Rattle.std.specs.Int.{is_in_range}
-use Rattle.std.specs.List.{flat_map}
-use Rattle.std.proofs.lemmas.Grind.{flat_map-append}
-use Rattle.std.proofs.lemmas.Option.{same_Some}
-use Rattle.std.proofs.lemmas.Result.{IfOk-at_ok, IfOk-weaker}
 use Rattle.std.specs.Option.{ok_or}
-use Rattle.std.specs.Str.{bytes_eq}
-use Rattle.jiff_core.specs.Calendar.{IsWithin}
-use Rattle.route_filter.specs.Rules.{most_rules, rule_of}
-use Rattle.route_filter.specs.Words.{at_most, number_up_to, octets_of, words_of, ◌>>=◌}
 use Rattle.world_script.specs.Forms.{is_setting, keyword_of}
 use Rattle.world_script.specs.Printing.{ReadsBack, printed}
 use Rattle.world_script.specs.Saying.{arm_said, at_said, call_of, fail_said, in_said, limit_said, offset_said, one_between, read_or, read_then, redirect_said, rule_said, ruled, said_as, said_by, submit_said, word_said}
-use Rattle.world_script.specs.Script.{Refusal, ScriptValue, contented, is_rule_line, keyed, most_text, onward, progress_of, reading_of, script_after, script_in, worded}
 use Rattle.world_script.specs.Text.{RawLine, is_blank, is_printable, line_content, line_size, onto_line, raw_lines, size_of}
 use Rattle.world_script.specs.Values.{address_of, mode_of, number_between, number_of, offset_of, records_of, signed, two_digits, version_of}
 use Rattle.world_script.specs.declared.fault.InputKind.{InputKind}
 use Rattle.world_script.specs.declared.fault.InputKind.TheVariants as kind
 use Rattle.world_script.specs.declared.keyword.Keyword.{Keyword}
 use Rattle.world_script.specs.declared.keyword.Keyword.TheVariants as keyword
-use Rattle.world_script.specs.declared.line.Line.{Line}
 use Rattle.world_script.specs.declared.line.Line.TheVariants as line
 use Rattle.world_script.specs.declared.mode.Mode.{Mode}
-use Rattle.world_script.specs.declared.kind.ScriptKind.{ScriptKind}
 use Rattle.world_script.specs.declared.progress.Progress.{Progress}
-use Rattle.replay_gateway.specs.Settings.{AreInRange, IsInRange, rules_in_line}
 
 -- ---- what a test leaves
 

@@ -1,31 +1,13 @@
 -- The requests of a gateway to all nodes that it has a path to.
 use Rattle.std.proofs.Common.{◌≡◌, ◌∙◌, refl, ap, ℕ, suc, ◌+◌, ◌%◌, ◌≤◌, ◌<◌, false, List, [], ◌∷◌, ◌++◌, All, length, map, take, Option, Some, None, option_and_then, slice_get, take_all, arith}
-use Rattle.std.specs.List.{cons_option, filter_map}
-use Rattle.std.proofs.lemmas.List.Elements.{All-head, All-tail}
-use Rattle.std.proofs.lemmas.List.{map_push}
-use Rattle.area_disk.specs.declared.memory.MemoryArea.{MemoryArea}
-use Rattle.gateway_book.specs.Book.{value_of}
+use Rattle.replay_gateway.proofs.Names.{Addr, All-head, All-tail, area_tells, Book, book_in, BookValue, cons_option, Down, filter_map, Gateway, HasMoved, history_of, Machine, MachineStands, map_push, MemoryArea, Message, node_at, redirected, redirecting, Setup, Site, SiteStands, Up, value_of}
 use Rattle.gateway_index.specs.Limits.{most_nodes}
 use Rattle.gateway_answer.specs.Told.{paths_of}
-use Rattle.gateway_answer.specs.Value.{BookValue, history_of}
-use Rattle.gateway_book.specs.declared.book.Book.{Book}
 use Rattle.gw_base.specs.Known.{known_nodes}
 use Rattle.gw_base.specs.Starts.{start_of}
-use Rattle.gw_base.specs.declared.address.Addr.{Addr}
 use Rattle.gw_base.specs.declared.address.NodeId.{NodeId}
-use Rattle.once_core.specs.Addresses.{node_at}
-use Rattle.once_core.specs.Answers.{redirected, redirecting}
-use Rattle.once_core.specs.Gateway.{Gateway}
-use Rattle.once_core.specs.declared.message.Message.{Message}
-use Rattle.replay_gateway.specs.Called.{book_in}
 use Rattle.replay_gateway.specs.Redirecting.{KnowsNear, asking, path_in}
-use Rattle.replay_gateway.specs.Moves.{HasMoved}
-use Rattle.replay_gateway.specs.Setup.{Setup}
-use Rattle.replay_gateway.specs.Standing.{MachineStands, SiteStands, area_tells}
-use Rattle.replay_gateway.specs.Machine.{Machine}
-use Rattle.replay_gateway.specs.declared.site.Site.{Site}
 use Rattle.replay_gateway.proofs.ListLemmas.{mapped_from, mapped_none, none_beyond, take_next}
-use Rattle.replay_gateway.specs.declared.site.Site.TheVariants.{Up, Down}
 
 -- the request to the node with a path
 abbrev pub asks_path : ℕ → ℕ → ℕ → Option ℕ → BookValue → Addr → Message

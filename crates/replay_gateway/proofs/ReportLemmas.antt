@@ -1,30 +1,14 @@
 -- What is reported of a gateway: its files and its counts.
 use Rattle.std.proofs.Common.{◌≡◌, ◌∙◌, sym, ap, append_assoc, ℕ, ◌+◌, ◌-◌, ◌/◌, ◌%◌, List, [], ◌∷◌, ◌++◌, arith, suc, Bool, true, false, if◌then◌else◌, take, Option, append-nil, refl, zero, take_all}
-use Rattle.replay_gateway.specs.GatewayReport.{digits, book_of, counts_line, counts_text, file_line, gateway_text, sealed_below, sealed_lines, gateway_report}
-use Rattle.std.specs.List.{flat_map}
+use Rattle.replay_gateway.proofs.Names.{book_of, closed_of, counts_line, counts_text, digits, file_line, files_below, files_in, Filing, first_machine, flat_map, Gateway, gateway_report, gateway_text, history_of, HistoryAct, HistoryEntry, IsAllWritten, IsOpenedForCounts, Item, items_of, Machine, no_caller, recorded, room_for, rules_in, sealed_below, sealed_lines, Settings, Setup, Site, SiteIsOpened, SiteStands, standing_for, Start, stream_count, stream_files}
 use Rattle.std.proofs.lemmas.List.Concat.{flat_map-append}
-use Rattle.file_writer.specs.Files.{stream_files, files_below}
-use Rattle.gateway_answer.specs.Answered.{no_caller, room_for}
-use Rattle.gateway_answer.specs.Items.{items_of}
-use Rattle.gateway_answer.specs.Value.{history_of, recorded, standing_for}
 use Rattle.gw_base.specs.History.{copies_of, fate_of, with_entry}
-use Rattle.gw_base.specs.declared.history.HistoryAct.{HistoryAct}
-use Rattle.gw_base.specs.declared.history.HistoryAct.TheVariants.{Start}
-use Rattle.gw_base.specs.declared.history.HistoryEntry.{HistoryEntry}
-use Rattle.once_core.specs.Gateway.{Gateway, opened as reopened}
+use Rattle.once_core.specs.Gateway.{opened as reopened}
 use Rattle.gateway_book.specs.declared.outcome.Counts as told
-use Rattle.replay_gateway.specs.Opening.{IsOpenedForCounts, SiteIsOpened}
-use Rattle.replay_gateway.specs.Setup.{Setup, files_in, rules_in}
-use Rattle.replay_gateway.specs.Standing.{SiteStands}
 use Rattle.replay_gateway.specs.Tally.{IsTallied, Tells}
-use Rattle.replay_gateway.specs.Machine.{Machine, first_machine, Filing}
 use Rattle.replay_gateway.specs.declared.machine.Machine as real
-use Rattle.replay_gateway.specs.declared.site.Site.{Site}
 use Rattle.replay_gateway.specs.declared.gateway_report.Tally.{Tally}
 use Rattle.replay_gateway.proofs.OpeningLemmas.{firm_again, site_later}
-use Rattle.file_writer.specs.Streams.{Settings, closed_of, stream_count}
-use Rattle.gw_base.specs.declared.item.Item.{Item}
-use Rattle.replay_gateway.specs.AtRest.{IsAllWritten}
 use Rattle.replay_gateway.proofs.WriterLemmas.{files_count}
 
 -- The last decimal digits of a number.

@@ -1,47 +1,17 @@
 -- A gateway at rest: what it hands out, and what it filed, which is read.
 use Rattle.std.proofs.Common.{sym, ◌∙◌, append_assoc, append-nil, ◌≡◌, inl, inr, ap, subst, Bool, false, ℕ, ◌+◌, List, [], ◌++◌, length, take, take_all, Option, None, arith, refl, zero, suc, ◌<◌, ◌≤◌, ◌∷◌, map, All, Contains, Some, IfSome, codes, slice_get, Ok}
-use Rattle.std.proofs.lemmas.Bool.{cases_lt, cond_both}
-use Rattle.area_disk.specs.declared.memory.MemoryArea.{MemoryArea}
-use Rattle.cdr_shelf.specs.Files.{UnsealedFile, SealedFile}
-use Rattle.cdr_shelf.specs.declared.memory.MemoryShelf.{MemoryShelf}
-use Rattle.file_rotate.specs.Items.{Filed, AreLimits}
-use Rattle.file_writer.specs.Files.{AreFilesOf, stream_files}
-use Rattle.file_writer.specs.Leaving.{AreOpenFiles, IsOpenFile}
-use Rattle.file_writer.specs.Streams.{Settings, closed_of, stream_count, stream_division, stream_record}
-use Rattle.gateway_answer.specs.Items.{items_of}
-use Rattle.gw_base.specs.declared.history.HistoryEntry.{HistoryEntry}
-use Rattle.gw_base.specs.declared.item.Item.{Item}
+use Rattle.replay_gateway.proofs.Names.{after_setting, after_settings, All-append, All-cons, All-head, All-nil, All-tail, any_or, area_tells, AreFilesOf, AreLimits, AreOpenFiles, AreShut, bytes_eq, cases_lt, closed_of, ClosedRun, cond_both, default_setup, Filed, files_in, Filing, flat_map, format_in, Gateway, header_at, HistoryEntry, IsAllWritten, IsAtRest, IsHandedOut, IsInRange, IsOpenFile, IsRead, IsWithin, Item, items_of, last_stream, LeavesHistory, length-map, Line, Machine, MemoryArea, MemoryShelf, number_up_to, Rule, rule_by, rule_of, rules_in_line, rules_said, script_in, ScriptKind, SealedFile, Settings, Setup, setup_of, shelf_tells, StandsFitFor, stream_count, stream_division, stream_files, stream_record, tag_in, UnsealedFile, words_of, ◌>>=◌}
 use Rattle.gw_base.specs.declared.tag.Tag.{Tag}
-use Rattle.once_core.specs.Gateway.{Gateway}
-use Rattle.replay_gateway.specs.AtRest.{AreShut, IsAllWritten, IsAtRest, IsRead}
-use Rattle.replay_gateway.specs.HandedOut.{IsHandedOut, LeavesHistory}
-use Rattle.replay_gateway.specs.Machine.{Filing, Machine}
-use Rattle.replay_gateway.specs.Setup.{Setup, files_in, after_setting, after_settings, default_setup, rules_said, setup_of}
-use Rattle.replay_gateway.specs.Written.{shelf_tells}
 use Rattle.replay_gateway.proofs.WriterLemmas.{files_count}
-use Rattle.std.proofs.lemmas.List.{length-map}
-use Rattle.std.proofs.lemmas.List.Elements.{All-append, All-cons, All-head, All-nil, All-tail}
 use Rattle.std.specs.Option.{option_map_or}
-use Rattle.std.specs.Str.{bytes_eq}
-use Rattle.std.specs.List.{flat_map}
-use Rattle.file_rotate.specs.Division.{ClosedRun}
 use Rattle.file_writer.specs.Places.{FilePlace, in_run, record_at, run_with}
 use Rattle.file_writer.specs.Reading.{ReadsAt}
 use Rattle.gate_journal.specs.Format.{most_octets}
-use Rattle.gateway_book.specs.Opened.{StandsFitFor}
 use Rattle.gateway_answer.specs.declared.filing.FiledRecord.{FiledRecord}
-use Rattle.jiff_core.specs.Calendar.{IsWithin}
 use Rattle.once_core.specs.FilePlaces.{placed}
 use Rattle.once_core.specs.Readable.{AreFileSettings}
-use Rattle.route_filter.specs.Rules.{any_or, format_in, last_stream, rule_by, rule_of, rule_said, tag_in}
-use Rattle.route_filter.specs.Words.{number_up_to, words_of, ◌>>=◌}
-use Rattle.route_filter.specs.declared.rule.Rule.{Rule}
-use Rattle.world_script.specs.Script.{script_in}
-use Rattle.world_script.specs.declared.kind.ScriptKind.{ScriptKind}
-use Rattle.world_script.specs.declared.line.Line.{Line}
+use Rattle.route_filter.specs.Rules.{rule_said}
 use Rattle.world_script.specs.declared.line.Line.TheVariants as line
-use Rattle.replay_gateway.specs.Settings.{IsInRange, rules_in_line}
-use Rattle.replay_gateway.specs.Standing.{area_tells, header_at}
 use Rattle.replay_gateway.proofs.RangeLemmas.{lines_in_range, number_within, pos_within}
 
 -- The area and the shelf that a gateway hands out which has written all.

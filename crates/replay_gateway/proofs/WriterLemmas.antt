@@ -1,34 +1,20 @@
 -- What a writer makes of items, by what is armed for its shelf.
 use Rattle.std.proofs.Common.{◌≡◌, ◌∙◌, refl, sym, ap, subst, ℕ, ◌+◌, ◌-◌, ◌^◌, ◌<◌, ◌≤◌, ◌==◌, max, true, false, List, [], ◌∷◌, ◌++◌, length, take, drop, Result, Ok, Err, Option, Some, None, All, arith, append-nil, length-append, length-drop, length-take}
-use Rattle.std.proofs.lemmas.List.{take-append-drop, take-append-le, take_all}
-use Rattle.std.proofs.lemmas.List.Elements.{All-append, All-nil, All-weaker, filter-append}
-use Rattle.std.proofs.lemmas.Option.{same_Some}
-use Rattle.area_disk.specs.Armed.{Armed, Came, IsArmed, calls_under}
-use Rattle.area_disk.specs.Armed.Armed.{Nothing}
+use Rattle.replay_gateway.proofs.Names.{All-append, All-nil, All-weaker, AreOfStreams, AreOpenFiles, AreSealed, Armed, begun_after, BreaksOff, calls_under, closed_of, ClosedRun, Files, files_from, FileSettings, FilesStand, Filing, filter-append, greatest_in, HasTaken, HasWritten, in_stream, IsArmed, IsOn, IsWritable, Item, later_files, LeavesUnsealed, MemoryShelf, Nothing, NothingIsLeft, resting, same_Some, SealedFile, Settings, shelf_tells, ShelfHolds, stream_count, stream_files, take-append-drop, take-append-le, take_all, UnsealedFile, WriterStands, wrote_by}
+use Rattle.area_disk.specs.Armed.{Came}
 use Rattle.area_disk.specs.Armed.Came.{Ran, FailedAt, StoppedAt}
-use Rattle.cdr_file.specs.CdrFile.{FileSettings}
-use Rattle.cdr_shelf.specs.Files.{SealedFile, UnsealedFile, greatest_in, in_stream}
-use Rattle.cdr_shelf.specs.declared.memory.MemoryShelf.{MemoryShelf}
-use Rattle.file_rotate.specs.Division.{ClosedRun}
 use Rattle.file_writer.specs.Advancing.{Advances, HasRecovered, calls}
 use Rattle.file_writer.specs.AllStreams.{IsFit}
 use Rattle.file_writer.specs.Asking.{IsAsked}
 use Rattle.file_writer.specs.Calls.{Call, calls_of, seals}
-use Rattle.file_writer.specs.Files.{AreOfStreams, files_from, later_files, stream_files}
 use Rattle.file_writer.specs.Holding.{files_after}
-use Rattle.file_writer.specs.Leaving.{AreOpenFiles, AreShut, LeavesUnsealed, begun_after}
+use Rattle.file_writer.specs.Leaving.{AreShut}
 use Rattle.file_writer.specs.Making.{Comes, Failed, Went, done_at}
-use Rattle.file_writer.specs.Streams.{Settings, closed_of, stream_count}
 use Rattle.file_writer.specs.Writer as writer
 use Rattle.file_writer.specs.declared.fault.ShelfFault.{ShelfFault}
 use Rattle.file_writer.specs.declared.fault.ShelfFault.TheVariants.{Device, NoMemory}
 use Rattle.file_writer.specs.declared.writer.Writer.{Writer}
-use Rattle.gateway_answer.specs.Items.{IsWritable}
-use Rattle.gw_base.specs.declared.item.Item.{Item}
 use Rattle.replay_gateway.specs.Filing.{all_filed, filed_by, filing_after, items_given, items_taken, shelf_calls, shelf_came}
-use Rattle.replay_gateway.specs.Machine.{Filing, resting}
-use Rattle.replay_gateway.specs.Written.{AreSealed, BreaksOff, FilesStand, HasTaken, HasWritten, IsOn, NothingIsLeft, ShelfHolds, WriterStands, shelf_tells, wrote_by}
-use Rattle.replay_gateway.specs.declared.files.Files.{Files}
 use Rattle.replay_gateway.specs.declared.files.Wrote.{Wrote}
 use Rattle.replay_gateway.specs.declared.files.Wrote.TheVariants as wrote
 

@@ -1,26 +1,9 @@
 -- A replay that begins.
 use Rattle.std.proofs.Common.{◌≡◌, refl, ℕ, zero, suc, ◌+◌, ◌≤◌, List, [], ◌∷◌, ◌++◌, All, length, arith, vec_capacity, false, ◌∙◌, sym, Bool, if◌then◌else◌, Option, length-set, Some, None, true}
-use Rattle.node_core.specs.Log.{LogEntry, Began}
-use Rattle.once_core.specs.Beginning.{IsReached, first_gateway, times_of}
-use Rattle.once_core.specs.Expired.{starts_in}
-use Rattle.once_core.specs.Gateway.{Gateway}
-use Rattle.once_core.specs.World.{node_value, World}
-use Rattle.replay_gateway.specs.Setup.{Setup, rules_in}
-use Rattle.replay_world.specs.Stands.{CountsStarts, EachStands, Stands, nodes_from}
-use Rattle.replay_gateway.specs.Standing.{MachineStands}
-use Rattle.replay_gateway.specs.Machine.{Machine, first_machine}
-use Rattle.replay_world.specs.Value.{begun, ReplayValue}
+use Rattle.replay_world.proofs.Names.{after_step, after_steps, Began, begun, CountsStarts, EachStands, Event, first_gateway, first_machine, Gateway, HaveMachines, IsReached, Line, line_after, lines_after, LogEntry, Loses, Machine, machines_after, machines_at, machines_in, MachineStands, node_value, nodes_from, option_map_or, Plays, Replay, ReplayValue, rules_in, Setup, Site, site_of, Stands, starts_in, Step, steps_of, Tells, times_of, with_machine, World, world_after}
 use Rattle.replay_gateway.specs.declared.machine.Machine as real
-use Rattle.replay_world.specs.declared.replay.Replay.{Replay}
 use Rattle.replay_world.proofs.StandsLemmas.{each_lengths, world_holds}
-use Rattle.std.specs.Option.{option_map_or}
-use Rattle.once_core.specs.declared.event.Event.{Event}
 use Rattle.once_core.specs.declared.event.Event.TheVariants as event
-use Rattle.replay_world.specs.Lines.{after_steps, line_after, steps_of}
-use Rattle.replay_world.specs.Report.{lines_after}
-use Rattle.replay_world.specs.Settled.{HaveMachines}
-use Rattle.replay_world.specs.Steps.{Site, Step, Plays, Loses, Tells, after_step, machines_after, machines_at, machines_in, site_of, with_machine, world_after}
-use Rattle.world_script.specs.declared.line.Line.{Line}
 
 pub times_length : {A : Type 0} (n : ℕ) (a : A) → length (times_of n a) ≡ n
 times_length zero a = refl

@@ -1,26 +1,6 @@
 -- Steps at gateways for whose areas and shelves nothing is armed.
 use Rattle.std.proofs.Common.{◌≡◌, ◌∙◌, refl, subst, ℕ, zero, suc, ◌-◌, ◌≤◌, ◌<◌, Bool, false, List, [], ◌∷◌, length, set, Some, None, slice_get, arith, length-set}
-use Rattle.std.specs.Option.{option_map_or}
-use Rattle.std.proofs.lemmas.List.Elements.{All-set}
-use Rattle.std.proofs.lemmas.Option.{get_or_from_slice_get, slice_get_within}
-use Rattle.area_disk.specs.Armed.Armed.{Nothing}
-use Rattle.gateway_book.specs.Comes.{Asked, AsksCommit, AsksNothing, AsksReopening}
-use Rattle.gateway_book.specs.Up.{GoesOn, fortune_by, sequel_of}
-use Rattle.gateway_answer.specs.Value.{Fortune, history_of}
-use Rattle.gw_base.specs.History.{is_close_due}
-use Rattle.gw_base.specs.declared.history.HistoryAct.TheVariants.{Close}
-use Rattle.once_core.specs.Answers.{making_close, marked}
-use Rattle.once_core.specs.Gateway.{Gateway, Moved, Rules}
-use Rattle.once_core.specs.Turn.{no_running_gateway}
-use Rattle.once_core.specs.World.{World}
-use Rattle.once_core.specs.declared.event.Event.{Event}
-use Rattle.replay_world.specs.Events.{asked_of}
-use Rattle.replay_gateway.specs.Device.{machine_after, machine_with, sequel_on}
-use Rattle.replay_world.specs.Settling.{AreUnarmed, IsIdle, Stays}
-use Rattle.replay_world.specs.Steps.{Step, Plays, after_step, ends_line, machines_at, machines_in, site_of}
-use Rattle.replay_gateway.specs.Machine.{Machine}
-use Rattle.replay_world.specs.Value.{ReplayValue}
-use Rattle.once_core.specs.declared.message.Message.{Message}
+use Rattle.replay_world.proofs.Names.{after_step, All-set, AreUnarmed, Asked, asked_of, AsksCommit, AsksNothing, AsksReopening, Close, ends_line, Event, Fortune, fortune_by, Gateway, get_or_from_slice_get, GoesOn, history_of, is_close_due, IsIdle, Machine, machine_after, machine_with, machines_at, machines_in, making_close, marked, Message, Moved, no_running_gateway, Nothing, option_map_or, Plays, ReplayValue, Rules, sequel_of, sequel_on, site_of, slice_get_within, Stays, Step, World}
 use Rattle.replay_world.proofs.GatewayEventLemmas.{machines_are, moved, IsAt, site_is, world_moved}
 use Rattle.replay_world.proofs.StandsLemmas.{Sets}
 use Rattle.replay_world.proofs.TakenSteps.{is_there}

@@ -1,47 +1,14 @@
 -- Messages that are delivered, to a gateway or to a node, and one after the other.
 use Rattle.std.proofs.Common.{◌≡◌, refl, ℕ, ◌-◌, ◌==◌, ◌≤◌, ◌<◌, Bool, not, if◌then◌else◌, List, [], ◌∷◌, length, Some, None, slice_get, arith, ◌∙◌, sym, ap, subst, ◌+◌, ◌&&◌, true, false, ◌++◌, set, append-nil, suc, ◌%◌, cond, map, drop, get_or, drop-cons, eq-eqb, ne_eqb}
-use Rattle.std.proofs.lemmas.List.Elements.{All-filter}
-use Rattle.std.proofs.lemmas.Option.{slice_get-get_or, slice_get_past, slice_get_within}
-use Rattle.once_core.specs.Turn.{refusal_of, at_gateway, calm, gateway_moved, no_running_gateway, turn, turn_by, unless_refused, is_none_of, refusing}
+use Rattle.replay_world.proofs.Names.{after_step, after_steps, All-filter, AllByRecursion, asked_by_message, asked_of, asked_to_ready, AsksNothing, at_gateway, calm, came_notices, delivered, delivers, delivery_notices, DoesAll, DoesOrEnds, ending_at, ending_notices, Event, Fortune, Gateway, gateway_moved, goes_on_after, GoesAsArmed, HasSent, history_of, is_expired, is_none_of, is_stop, IsDelivered, IsDistinct, IsReceiver, IsTo, Lcg, Loses, lot_steps, Machine, Message, mixed_steps, Moved, nat_tests, no_running_gateway, NoMessage, notice_lines, notices_last, option_map_or, passed, pcg32, pcg32_of_seed, place_asked, Plays, receiver_of, refusal_of, refusing, Replay, ReplayValue, rules_in, seeded, sequel_on, site_of, slice_get-get_or, slice_get_past, slice_get_within, Stands, Step, turn, turn_at, turn_by, unless_refused, WereSent, without, World, world_after}
 use Rattle.once_core.specs.declared.event.Event.TheVariants as event
-use Rattle.once_core.specs.declared.message.Message.{Message}
-use Rattle.replay_world.specs.Sending.{IsTo, passed, HasSent, came_notices, goes_on_after}
-use Rattle.replay_world.specs.Stands.{Stands}
-use Rattle.replay_world.specs.Steps.{without, Plays, site_of, turn_at, world_after, Step, Loses, after_step}
-use Rattle.replay_world.specs.Value.{ReplayValue}
-use Rattle.replay_world.specs.declared.replay.Replay.{Replay}
 use Rattle.replay_world.proofs.GatewayEventLemmas.{none_of, refused_not, does_event, moves_at, IsAt, site_is}
-use Rattle.std.specs.Option.{option_map_or}
-use Rattle.gateway_book.specs.Comes.{AsksNothing, asked_to_ready}
-use Rattle.gateway_answer.specs.Value.{Fortune, history_of}
-use Rattle.once_core.specs.Answers.{delivered}
-use Rattle.once_core.specs.Expired.{is_expired}
-use Rattle.once_core.specs.Gateway.{Gateway, Moved}
-use Rattle.once_core.specs.declared.event.Event.{Event}
-use Rattle.replay_gateway.specs.Taking.{IsDelivered, ending_at}
-use Rattle.replay_gateway.specs.Device.{asked_by_message, is_stop, sequel_on}
-use Rattle.replay_world.specs.Events.{asked_of, place_asked}
-use Rattle.replay_world.specs.Does.{DoesOrEnds, DoesAll}
-use Rattle.replay_gateway.specs.Moves.{GoesAsArmed}
-use Rattle.replay_world.specs.Telling.{delivery_notices, ending_notices, notices_last}
-use Rattle.replay_world.specs.Notices.{notice_lines}
-use Rattle.replay_gateway.specs.Setup.{rules_in}
-use Rattle.replay_gateway.specs.Machine.{Machine}
 use Rattle.replay_gateway.specs.declared.taking.Ending.{Ending}
 use Rattle.replay_world.proofs.NodeEventLemmas.{does_nothing, drop_all}
 use Rattle.replay_world.proofs.TakenSteps.{is_there}
-use Rattle.std.proofs.lemmas.Bool.Decides.{nat_tests}
-use Rattle.std.specs.List.{AllByRecursion, IsDistinct}
 use Rattle.std.specs.Set.{remove_key}
-use Rattle.once_core.specs.World.{World}
-use Rattle.once_core.specs.declared.event.WorldKind.TheVariants.{NoMessage}
-use Rattle.rand_pcg.specs.Lcg.{Lcg}
-use Rattle.rand_pcg.specs.Pcg.{pcg32, pcg32_of_seed}
-use Rattle.replay_world.specs.Lines.{after_steps, delivers, lot_steps, mixed_steps}
-use Rattle.replay_world.specs.Receiving.{IsReceiver, WereSent, receiver_of}
 use Rattle.replay_world.proofs.StepsLemmas.{does_one, steps_more}
 use Rattle.rand_core.specs.Pcg32Seed.{pcg32_seed}
-use Rattle.world_script.specs.Sample.{seeded}
 
 -- A message that is delivered: it waits no more, and goes to a gateway or to a node.
 

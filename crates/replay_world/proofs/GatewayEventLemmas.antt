@@ -1,36 +1,9 @@
 -- An event at a gateway that runs: what it makes of a replay, once its machine was called and its messages were sent.
 use Rattle.std.proofs.Common.{◌≡◌, ◌∙◌, refl, ap, ℕ, ◌+◌, ◌-◌, ◌≤◌, true, false, Some, None, slice_get, arith, List, length, set, sym, not, ◌++◌, append_assoc, Bool, [], Option, Result, Ok, Err, IfOk, OnOk, append-nil}
-use Rattle.gateway_book.specs.Up.{Sequel, GoesOn, Breaks, Stops, fortune_by}
-use Rattle.gateway_answer.specs.Value.{Fortune}
-use Rattle.once_core.specs.Gateway.{Gateway, Moved, cut, still}
-use Rattle.once_core.specs.Turn.{Turn, at_gateway, gateway_moved, lost_if, no_running_gateway, refusal_of, turn, turn_by, is_none_of, refusing}
-use Rattle.once_core.specs.World.{World}
-use Rattle.once_core.specs.declared.event.Event.{Event}
-use Rattle.replay_world.specs.Events.{asked_of, place_asked, turn_with, event_asked}
-use Rattle.replay_gateway.specs.Device.{entries_kept, is_stop, sequel_on, machine_after}
-use Rattle.replay_gateway.specs.Moves.{moved_by, GoesAsArmed, came_of}
-use Rattle.replay_gateway.specs.Setup.{rules_in}
-use Rattle.replay_world.specs.Steps.{Site, Plays, site_of, world_after, after_step, machines_at, machines_in, sent_by, waiting_in, ends_line}
-use Rattle.replay_gateway.specs.Machine.{Machine}
-use Rattle.replay_world.specs.Value.{ReplayValue}
-use Rattle.std.specs.Option.{option_map_or, option_or}
-use Rattle.replay_world.specs.Sending.{HasSent, numbered_from, came_notices, goes_on_after}
-use Rattle.replay_world.specs.Stands.{Stands}
+use Rattle.replay_world.proofs.Names.{after_step, asked_by, asked_move, asked_of, asked_to_ready, at_gateway, Breaks, came_notices, came_of, cut, device_notices, DoesOrEnds, ends_line, entries_kept, Event, event_asked, flat_map-append, Fortune, fortune_by, Gateway, gateway_moved, goes_on_after, GoesAsArmed, GoesOn, HasSent, is_none_of, is_stop, lost_if, Machine, machine_after, machines_at, machines_in, MachineStands, making_close, making_tick, marked, Moved, moved_by, nat_tests, no_running_gateway, NoGateway, Notice, notice_line, notice_lines, notices_first, notices_last, numbered_from, option_map_or, option_or, place_asked, Plays, refusal_of, refusing, Replay, ReplayValue, rules_in, sent_by, sent_notices, Sequel, sequel_on, Site, site_of, Stands, step_notices, still, Stopped, Stops, Turn, turn, turn_by, turn_with, waiting_in, World, world_after, WorldKind}
 use Rattle.replay_gateway.specs.declared.machine.Machine as real
 use Rattle.replay_gateway.specs.declared.machine.Sent.{Sent}
-use Rattle.replay_world.specs.declared.replay.Replay.{Replay}
 use Rattle.replay_world.proofs.StandsLemmas.{drop_front, stands_set, StandsAt, each_at, each_lengths}
-use Rattle.std.proofs.lemmas.List.Concat.{flat_map-append}
-use Rattle.replay_world.specs.Notices.{Notice, notice_line, notice_lines}
-use Rattle.replay_world.specs.Telling.{device_notices, notices_first, notices_last, sent_notices, step_notices}
-use Rattle.std.proofs.lemmas.Bool.Decides.{nat_tests}
-use Rattle.gateway_book.specs.Comes.{asked_to_ready}
-use Rattle.once_core.specs.Answers.{marked, making_close, making_tick}
-use Rattle.once_core.specs.declared.event.WorldKind.{WorldKind}
-use Rattle.once_core.specs.declared.event.WorldKind.TheVariants.{NoGateway, Stopped}
-use Rattle.replay_world.specs.Does.{DoesOrEnds}
-use Rattle.replay_gateway.specs.Standing.{MachineStands}
-use Rattle.replay_gateway.specs.Asking.{asked_by, asked_move}
 use Rattle.replay_gateway.specs.declared.calls.GatewayCall.{GatewayCall}
 use Rattle.replay_gateway.specs.declared.calls.GatewayCall.TheVariants as call
 

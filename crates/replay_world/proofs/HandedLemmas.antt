@@ -2,21 +2,9 @@
 use Rattle.std.proofs.Common.{◌≡◌, refl, ℕ, zero, suc, ◌+◌, ◌<◌, ◌≤◌, List, [], ◌∷◌, ◌++◌, length, take, Option, Some, None, MatchOption, slice_get, arith, length-take, ◌∙◌, ap, subst, Contains}
 use Rattle.area_disk.specs.declared.memory.MemoryArea.{MemoryArea}
 use Rattle.cdr_shelf.specs.declared.memory.MemoryShelf.{MemoryShelf}
-use Rattle.once_core.specs.Gateway.{Gateway}
-use Rattle.replay_gateway.specs.AtRest.{IsAllWritten, IsAtRest, IsRead}
+use Rattle.replay_world.proofs.Names.{AreRead, EachAtRest, EachHandedOut, files_in, firm_in, Gateway, HasPlayedOut, HistoryEntry, IsAllWritten, IsAtRest, IsRead, Line, line_after, lines_after, Machine, option_map_or, ReplayValue, Setup}
 use Rattle.replay_gateway.specs.HandedOut.{IsHandedOut}
-use Rattle.replay_gateway.specs.Machine.{Machine}
-use Rattle.replay_world.specs.Played.{EachHandedOut}
-use Rattle.replay_world.specs.Settled.{EachAtRest, AreRead, HasPlayedOut}
-use Rattle.replay_gateway.specs.Setup.{Setup, files_in}
-use Rattle.std.specs.Option.{option_map_or}
-use Rattle.gw_base.specs.declared.history.HistoryEntry.{HistoryEntry}
 use Rattle.once_core.specs.FilePlaces.{placed}
-use Rattle.once_core.specs.Once.{firm_in}
-use Rattle.world_script.specs.declared.line.Line.{Line}
-use Rattle.replay_world.specs.Lines.{line_after}
-use Rattle.replay_world.specs.Report.{lines_after}
-use Rattle.replay_world.specs.Value.{ReplayValue}
 use Rattle.replay_world.specs.declared.replay.Played.{Played}
 use Rattle.replay_world.proofs.LineLemmas.{line_setup}
 

@@ -21,3 +21,4 @@ mod TakenLines
 mod TakenScripts
 mod TakenSteps
 mod TakenWorlds
+pub mod Names

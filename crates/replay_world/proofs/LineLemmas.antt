@@ -1,14 +1,6 @@
 -- Steps and lines move the world as their turns.
 use Rattle.std.proofs.Common.{◌≡◌, ◌∙◌, refl, sym, ap, Bool, if◌then◌else◌, List, [], ◌∷◌, ◌++◌, true, false}
-use Rattle.once_core.specs.Gateway.{Rules}
-use Rattle.once_core.specs.Turn.{Turn, turn, turns}
-use Rattle.once_core.specs.World.{World}
-use Rattle.replay_world.specs.Lines.{after_steps, line_after, steps_of, turns_by, turns_of}
-use Rattle.replay_world.specs.Report.{lines_after, turns_from}
-use Rattle.replay_gateway.specs.Setup.{rules_in}
-use Rattle.replay_world.specs.Steps.{Step, after_step, ends_line, step_turns}
-use Rattle.replay_world.specs.Value.{ReplayValue}
-use Rattle.world_script.specs.declared.line.Line.{Line}
+use Rattle.replay_world.proofs.Names.{after_step, after_steps, ends_line, Line, line_after, lines_after, ReplayValue, Rules, rules_in, Step, step_turns, steps_of, Turn, turn, turns, turns_by, turns_from, turns_of, World}
 
 turns_append : (rules : Rules) (w : World) (first later : List Turn) →
     turns rules w (first ++ later) ≡ turns rules (turns rules w first) later

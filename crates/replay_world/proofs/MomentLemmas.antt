@@ -1,13 +1,7 @@
 -- The present moment of a replay.
 use Rattle.std.proofs.Common.{◌≡◌, subst, ℕ, [], None, append-nil}
-use Rattle.once_core.specs.Beginning.{IsReached}
-use Rattle.once_core.specs.Turn.{calm, refusal_of}
+use Rattle.replay_world.proofs.Names.{after_step, calm, Does, IsReached, Plays, refusal_of, Replay, ReplayValue, sent_by, Stands}
 use Rattle.once_core.specs.declared.event.Event.TheVariants as event
-use Rattle.replay_world.specs.Does.{Does}
-use Rattle.replay_world.specs.Stands.{Stands}
-use Rattle.replay_world.specs.Steps.{Plays, after_step, sent_by}
-use Rattle.replay_world.specs.Value.{ReplayValue}
-use Rattle.replay_world.specs.declared.replay.Replay.{Replay}
 use Rattle.replay_world.proofs.NodeEventLemmas.{drop_all}
 use Rattle.replay_world.proofs.GatewayEventLemmas.{allowed_turn}
 use Rattle.replay_world.proofs.StandsLemmas.{reached_after}

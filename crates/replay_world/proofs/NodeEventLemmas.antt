@@ -1,39 +1,13 @@
 -- What halting and starting make of a replay, and what a message that comes to a node does.
 use Rattle.std.proofs.Common.{◌≡◌, ◌∙◌, refl, sym, ap, subst, ℕ, suc, ◌+◌, ◌-◌, ◌%◌, ◌≤◌, ◌<◌, Bool, true, false, not, if◌then◌else◌, List, [], ◌∷◌, ◌++◌, length, set, Option, Some, None, slice_get, arith, ◌||◌, append-nil, zero, drop}
-use Rattle.std.specs.Prelude.{nat_le}
-use Rattle.std.specs.Option.{option_or, option_map_or}
-use Rattle.std.proofs.lemmas.List.Sums.{sum_by-cons}
-use Rattle.gw_base.specs.declared.address.Addr.{Addr}
-use Rattle.node_core.specs.Hearing.{Dropped, Says, Taken, entries_from, heard_entries, taken, taken_entries, heeds}
-use Rattle.node_core.specs.Log.{LogEntry, Began, Halted, NodeSetup, counter_of, runs}
-use Rattle.node_core.specs.Peers.{place_of}
-use Rattle.node_core.specs.Reached.{Halt, Start, call_entries, entries_halted, entries_running, Hear}
-use Rattle.node_core.specs.Ticks.{tick_entries}
-use Rattle.node_core.specs.Value.{CanFollowAll, IsNode, NodeValue, befallen, befell, logged}
-use Rattle.node_core.specs.declared.port.Port.{Port}
-use Rattle.once_core.specs.Addresses.{node_setup, gateway_address}
-use Rattle.once_core.specs.Expired.{begins, starts_in, is_expired_at_node}
-use Rattle.once_core.specs.Turn.{at_node, is_none_of, log_in, most_starts, no_running_node, refusal_of, refusing, calm, node_called, turn_by}
-use Rattle.once_core.specs.World.{Called, World, called, log_at, node_value, answers_of, delivered_to_node, hearing}
-use Rattle.once_core.specs.declared.event.Event.{Event}
+use Rattle.replay_world.proofs.Names.{Addr, after_step, answers_of, at_node, befallen, befell, Began, begins, call_entries, Called, called, calm, CanFollowAll, counter_of, CountsStarts, delivered_to_node, Does, Down, Dropped, entries_from, entries_halted, entries_running, Event, Expired, gateway_address, Halt, Halted, HasSent, Hear, heard_entries, hearing, hearing_notices, heeded_notices, heeds, is_expired_at_node, is_none_of, IsNode, IsTo, log_at, log_in, LogEntry, logged, machines_in, Message, most_starts, nat_le, no_running_node, node_called, node_setup, node_value, NodeSetup, NodeValue, Notice, notice_line, notice_lines, notices_last, option_map_or, option_or, passed, place_of, Plays, Port, refusal_of, refusing, Replay, ReplayValue, rules_in, runs, Says, site_of, slice_get_within, Stands, Start, starts_in, sum_by-cons, Taken, taken, taken_entries, tick_entries, turn_by, waiting_in, World, world_after}
 use Rattle.once_core.specs.declared.event.Event.TheVariants as event
 use Rattle.once_core.specs.declared.event.WorldKind.TheVariants as kind
-use Rattle.replay_world.specs.Does.{Does}
-use Rattle.replay_world.specs.Notices.{notice_lines, Notice, Down, Expired, notice_line}
-use Rattle.replay_world.specs.Sending.{HasSent, IsTo, passed}
-use Rattle.replay_world.specs.Stands.{CountsStarts, Stands}
-use Rattle.replay_world.specs.Steps.{Plays, waiting_in, after_step, machines_in, site_of, world_after}
-use Rattle.replay_world.specs.Telling.{notices_last, hearing_notices, heeded_notices}
-use Rattle.replay_world.specs.Value.{ReplayValue}
-use Rattle.replay_world.specs.declared.replay.Replay.{Replay}
 use Rattle.replay_world.proofs.NodeStepLemmas.{IsAtNode, are_plain, counts_plain, does_called, counter_is, follow_all}
 use Rattle.replay_world.proofs.GatewayEventLemmas.{first_not, none_of}
 use Rattle.replay_world.proofs.RefusalLemmas.{NodeAt, node_at, nodes_count}
 use Rattle.replay_world.proofs.StepsLemmas.{sent_none}
 use Rattle.node_core.specs.declared.message.Heeded.{Heeded}
-use Rattle.once_core.specs.declared.message.Message.{Message}
-use Rattle.std.proofs.lemmas.Option.{slice_get_within}
-use Rattle.replay_gateway.specs.Setup.{rules_in}
 
 -- What halting, starting, ticking, submitting and hearing make of a replay.
 

@@ -1,26 +1,9 @@
 -- A replay stands for what an event at a node makes of it, once the node was called and its messages were sent.
 use Rattle.std.proofs.Common.{◌≡◌, ◌∙◌, refl, sym, ap, subst, ℕ, zero, suc, ◌+◌, Bool, true, false, not, if◌then◌else◌, List, [], ◌∷◌, ◌++◌, All, length, set, Some, None, slice_get, arith, append_assoc, length-set}
-use Rattle.std.specs.List.{list_all}
-use Rattle.std.proofs.lemmas.List.Elements.{All-set}
-use Rattle.std.proofs.lemmas.List.Sums.{sum_by-cons}
-use Rattle.node_core.specs.Log.{LogEntry, Began, Halted, Submitted, Appointed, Ticked, Heard, Saying, counter_of, paths_hearing, paths_of, Path}
-use Rattle.node_core.specs.Value.{CanFollowAll, logged}
-use Rattle.once_core.specs.Expired.{begins, starts_in}
-use Rattle.once_core.specs.Turn.{at_node, calm, node_called, refusal_of, turn_by}
-use Rattle.once_core.specs.World.{Called, World, node_value}
-use Rattle.once_core.specs.declared.event.Event.{Event}
+use Rattle.replay_world.proofs.Names.{All-set, Appointed, at_node, Began, begins, Called, calm, CanFollowAll, counter_of, CountsStarts, Does, EachStands, Event, Halted, HasSent, Heard, list_all, LogEntry, logged, machines_in, node_called, node_value, nodes_from, notice_lines, notices_first, notices_last, numbered_from, Path, paths_hearing, paths_of, Plays, refusal_of, Replay, ReplayValue, rules_in, Saying, sent_by, sent_notices, site_of, Stands, starts_in, Submitted, sum_by-cons, Ticked, turn_by, waiting_in, World, world_after}
 use Rattle.path_mgmt.specs.NodePath.{PathsOfNode, node_after}
 use Rattle.path_mgmt.specs.declared.event.PathEvent.{PathEvent}
 use Rattle.path_mgmt.specs.declared.event.PathEvent.TheVariants.{EchoAsked}
-use Rattle.replay_world.specs.Does.{Does}
-use Rattle.replay_world.specs.Notices.{notice_lines}
-use Rattle.replay_world.specs.Sending.{HasSent, numbered_from}
-use Rattle.replay_gateway.specs.Setup.{rules_in}
-use Rattle.replay_world.specs.Stands.{CountsStarts, EachStands, Stands, nodes_from}
-use Rattle.replay_world.specs.Steps.{Plays, machines_in, sent_by, site_of, waiting_in, world_after}
-use Rattle.replay_world.specs.Telling.{notices_first, notices_last, sent_notices}
-use Rattle.replay_world.specs.Value.{ReplayValue}
-use Rattle.replay_world.specs.declared.replay.Replay.{Replay}
 use Rattle.replay_world.proofs.StandsLemmas.{Leaves, drop_front, messages_before, stands_then}
 use Rattle.replay_world.proofs.GatewayEventLemmas.{lines_join}
 

@@ -1,44 +1,17 @@
 -- What a tick and a packet that is submitted make of a replay.
 use Rattle.std.proofs.Common.{◌≡◌, ℕ, zero, suc, ◌+◌, ◌<◌, ◌≤◌, List, [], ◌∷◌, map, Option, Some, refl, ap, ◌∙◌, arith, sym, ◌-◌, true, length, set, None, append-nil, ◌≢◌, drop, get_or, Err, drop-cons, subst, false, if◌then◌else◌, ◌++◌, Ok, append_assoc}
-use Rattle.std.proofs.lemmas.Option.{slice_get-map}
-use Rattle.std.specs.Option.{option_map_or}
-use Rattle.std.specs.Prelude.{slice_get, slice_set, nat_lt}
-use Rattle.gw_base.specs.declared.address.Addr.{Addr}
-use Rattle.node_core.specs.Log.{LogEntry, Submitted, Appointed, Ticked, Heard, peers_of, runs}
+use Rattle.replay_world.proofs.Names.{addition_fault, addition_fault_of, Addr, address_at, addresses_from, after_step, all_drawn, Appointed, at_node, at_place, befallen, befell, Called, called, CanFollowAll, CountsStarts, Does, DoesAll, draft_of, drafted, DraftFault, drawn, due, ends_line, entries_halted, entries_running, gateway_at, HasSent, Heard, is_draft, is_without_records, IsPacket, log_at, log_in, LogEntry, logged, Message, message_kept, message_of, most_submissions, nat_lt, nat_tests, no_running_node, node_value, NodeValue, Notice, notice_line, notice_lines, notices_last, option_map_or, packet_anew, packet_of, packet_of_form, PacketForm, peer_anew, peers_of, Plays, Refused, Replay, ReplayValue, runs, slice_get, slice_get-map, slice_set, Stands, starts_in, step_notices, Submit, submit_entries, submit_fault_name, submit_notices, Submitted, submitted_notice, submitted_notices, submitting, takes_all, Tells, tick_entries, Ticked, ticking, Took, unless_fault, unless_refused, value_octets, with_records, World}
 use Rattle.node_core.specs.Octets.{gateway_of, outgoing}
-use Rattle.node_core.specs.Peers.{address_at, all_drawn, at_place, drawn, peer_anew}
 use Rattle.node_core.specs.declared.peer.Peer.{Peer}
 use Rattle.node_core.specs.declared.sending.Sending.{Sending}
-use Rattle.once_core.specs.Addresses.{addresses_from, gateway_at}
-use Rattle.once_core.specs.Expired.{starts_in}
-use Rattle.once_core.specs.NodeMoves.{message_kept}
-use Rattle.once_core.specs.World.{message_of, node_value, log_at, ticking, Called, World, called, draft_of, is_draft, submitting, takes_all}
-use Rattle.node_core.specs.Ticks.{due, tick_entries}
-use Rattle.node_core.specs.Value.{NodeValue, befallen, logged, CanFollowAll, befell}
-use Rattle.once_core.specs.Turn.{at_node, log_in, no_running_node, unless_refused}
 use Rattle.once_core.specs.declared.event.Event.TheVariants as event
-use Rattle.once_core.specs.declared.message.Message.{Message}
-use Rattle.replay_world.specs.Does.{Does, DoesAll}
-use Rattle.replay_world.specs.Sending.{HasSent}
-use Rattle.replay_world.specs.Stands.{Stands, CountsStarts}
-use Rattle.replay_world.specs.Steps.{Plays, Tells, after_step, ends_line}
-use Rattle.replay_world.specs.Value.{ReplayValue}
-use Rattle.replay_world.specs.declared.replay.Replay.{Replay}
 use Rattle.replay_world.proofs.NodeEventLemmas.{NodeLaw, does_node, log_there, none_both, plain_tick, does_nothing, drop_all, set_same}
 use Rattle.replay_world.proofs.NodeStepLemmas.{IsAtNode, counter_is, counts_plain, follow_all}
 use Rattle.replay_world.proofs.RefusalLemmas.{NodeAt, node_at}
-use Rattle.gtpp_message.specs.Packet.{PacketForm, IsPacket, packet_of}
 use Rattle.gtpp_message.specs.PacketWriting.{with_record}
-use Rattle.node_core.specs.Drafts.{addition_fault, addition_fault_of, is_without_records, packet_anew, packet_of_form, value_octets}
-use Rattle.node_core.specs.declared.fault.DraftFault.{DraftFault}
 use Rattle.node_core.specs.declared.fault.DraftFault.TheVariants.{NoMemory}
-use Rattle.replay_world.specs.Packets.{with_records, drafted, unless_fault}
-use Rattle.std.proofs.lemmas.Bool.Decides.{nat_tests}
-use Rattle.node_core.specs.Reached.{Submit, entries_halted, entries_running, most_submissions, submit_entries}
 use Rattle.node_core.specs.Submitting.{refusal}
 use Rattle.node_core.specs.declared.fault.SubmitFault.{SubmitFault}
-use Rattle.replay_world.specs.Notices.{Notice, Refused, Took, notice_line, notice_lines, submit_fault_name}
-use Rattle.replay_world.specs.Telling.{notices_last, step_notices, submit_notices, submitted_notice, submitted_notices}
 use Rattle.replay_world.proofs.StepsLemmas.{sent_none}
 
 -- The messages of a tick go to the gateways of the network, whose places an octet holds.

@@ -1,32 +1,9 @@
 -- What is done at a gateway that asks no device: it is stopped between two calls, opened again, redirects, or its files are
 -- written, or something is armed for its area or its shelf.
 use Rattle.std.proofs.Common.{◌≡◌, ◌∙◌, refl, sym, ap, ℕ, ◌-◌, ◌≤◌, Bool, true, false, not, [], ◌∷◌, ◌++◌, length, set, Option, Some, None, option_map, slice_get, arith, append-nil}
-use Rattle.std.specs.Option.{option_or}
-use Rattle.area_disk.specs.Armed.{Armed, Came}
-use Rattle.area_disk.specs.Armed.Came.{Ran}
-use Rattle.gateway_answer.specs.Items.{items_of}
-use Rattle.once_core.specs.Answers.{redirected}
-use Rattle.once_core.specs.Gateway.{Gateway, Moved}
-use Rattle.once_core.specs.Turn.{at_gateway, calm, gateway_moved, is_down_in, no_running_gateway, refusal_of, refusing, turn_by, no_gateway}
-use Rattle.once_core.specs.World.{World}
-use Rattle.once_core.specs.declared.event.Event.{Event}
+use Rattle.replay_world.proofs.Names.{Armed, Arms, ArmsShelf, at_gateway, calm, Came, came_steps, Disarms, Does, Event, files_in, files_written, filing_then, Gateway, gateway_moved, HasMoved, HasSent, is_down_in, items_firm, items_of, Machine, machines_in, MachineStands, Moved, no_gateway, no_running_gateway, NoGateway, notices_last, option_or, Plays, Ran, redirected, refusal_of, refusing, Replay, ReplayValue, rules_in, Running, sent_by, sent_notices, shelf_armed, shelf_came, site_of, Stands, step_notices, steps_behind, turn_by, unarmed, waiting_left, with_machine, World, world_after, WorldKind, write_steps, Writes}
 use Rattle.once_core.specs.declared.event.Event.TheVariants as event
-use Rattle.once_core.specs.declared.event.WorldKind.{WorldKind}
-use Rattle.once_core.specs.declared.event.WorldKind.TheVariants.{NoGateway, Running}
-use Rattle.replay_world.specs.Does.{Does}
-use Rattle.replay_gateway.specs.Moves.{HasMoved}
-use Rattle.replay_world.specs.Sending.{HasSent, steps_behind}
-use Rattle.replay_gateway.specs.Filing.{filing_then, shelf_came}
-use Rattle.replay_world.specs.Lines.{came_steps, write_steps}
-use Rattle.replay_gateway.specs.Setup.{files_in, rules_in}
-use Rattle.replay_gateway.specs.Standing.{MachineStands}
-use Rattle.replay_world.specs.Stands.{Stands}
-use Rattle.replay_world.specs.Steps.{Arms, ArmsShelf, Disarms, Plays, Writes, files_written, items_firm, machines_in, sent_by, site_of, waiting_left, with_machine, world_after}
-use Rattle.replay_world.specs.Telling.{notices_last, sent_notices, step_notices}
-use Rattle.replay_gateway.specs.Machine.{Machine, shelf_armed, unarmed}
-use Rattle.replay_world.specs.Value.{ReplayValue}
 use Rattle.replay_gateway.specs.Written.{wrote_by}
-use Rattle.replay_world.specs.declared.replay.Replay.{Replay}
 use Rattle.replay_world.proofs.GatewayEventLemmas.{machines_count, none_of, allowed_turn, moved_there}
 use Rattle.replay_world.proofs.NodeEventLemmas.{set_same}
 use Rattle.replay_world.proofs.StepsLemmas.{sent_none}

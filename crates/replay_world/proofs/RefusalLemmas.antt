@@ -1,22 +1,9 @@
 -- What a replay that stands for a value tells of the gateways and the nodes of its world.
 use Rattle.std.proofs.Common.{◌≡◌, ◌∙◌, refl, ap, subst, ℕ, ◌+◌, Bool, true, false, List, ◌<◌, get_or, length, Option, Some, None, option_map, slice_get, arith, ◌++◌, IfSome, MatchOption}
-use Rattle.std.specs.Option.{option_map_or}
-use Rattle.std.proofs.lemmas.Option.{get_or_from_slice_get, slice_get_read, slice_get_within}
-use Rattle.node_core.specs.Log.{LogEntry, runs}
-use Rattle.node_core.specs.Value.{NodeValue}
-use Rattle.once_core.specs.Expired.{starts_in}
-use Rattle.once_core.specs.Gateway.{Gateway}
-use Rattle.once_core.specs.World.{log_at, node_value}
-use Rattle.replay_world.specs.Stands.{CountsStarts, Stands}
-use Rattle.replay_gateway.specs.Standing.{MachineStands}
-use Rattle.replay_gateway.specs.Machine.{Machine}
-use Rattle.replay_world.specs.Value.{ReplayValue}
-use Rattle.replay_gateway.specs.Setup.{Setup}
+use Rattle.replay_world.proofs.Names.{CountsStarts, Gateway, get_or_from_slice_get, log_at, LogEntry, Machine, MachineStands, node_value, NodeValue, notice_line, option_map_or, Refused, Replay, ReplayValue, runs, Setup, slice_get_read, slice_get_within, Stands, starts_in}
 use Rattle.replay_gateway.specs.declared.machine.Machine as real
-use Rattle.replay_world.specs.declared.replay.Replay.{Replay}
 use Rattle.replay_world.proofs.NodeStepLemmas.{counter_is}
 use Rattle.replay_world.proofs.StandsLemmas.{StandsAt, each_at, each_lengths, nodes_get, nodes_length}
-use Rattle.replay_world.specs.Notices.{Refused, notice_line}
 
 -- What stands in a place that was read.
 pub read_at : {A : Type 0} (xs : List A) {place : _} {index : ℕ} {x : A} → index ≡ place → index < length xs →

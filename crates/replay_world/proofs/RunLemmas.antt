@@ -1,22 +1,12 @@
 -- A line that was run.
 use Rattle.std.proofs.Common.{◌≡◌, refl, sym, ℕ, ◌+◌, ◌-◌, ◌%◌, ◌≤◌, ◌<◌, Bool, true, false, List, [], ◌∷◌, length, Option, Some, None, option_map, Result, OnOk, arith, append-nil, ◌∙◌, ap, OnErr, Ok, Err, subst}
-use Rattle.std.specs.Option.{option_or}
-use Rattle.area_disk.specs.Armed.Armed.{Stop}
+use Rattle.replay_world.proofs.Names.{Does, end_of, has_failed, Line, line_notices, LineRan, Makes, no_running_gateway, no_running_node, notice_lines, option_or, refusal_of, refusal_of_line, refusing, Replay, ReplayValue, RunsIf, Stands, steps_of, Stop, WorldKind}
 use Rattle.area_disk.specs.Disk.{last_count}
 use Rattle.area_disk.specs.declared.plan.Plan.{Plan}
-use Rattle.once_core.specs.Turn.{no_running_gateway, no_running_node, refusal_of, refusing}
 use Rattle.once_core.specs.declared.event.Event.TheVariants as event
-use Rattle.once_core.specs.declared.event.WorldKind.{WorldKind}
 use Rattle.once_core.specs.declared.event.WorldKind.TheVariants as kind
-use Rattle.replay_world.specs.Does.{Does, LineRan, Makes, RunsIf, end_of}
-use Rattle.replay_world.specs.Lines.{line_notices, refusal_of_line, steps_of}
-use Rattle.replay_world.specs.Notices.{notice_lines}
 use Rattle.replay_gateway.specs.Opening.{ArmsAs}
-use Rattle.replay_world.specs.Stands.{Stands, has_failed}
-use Rattle.replay_world.specs.Value.{ReplayValue}
-use Rattle.replay_world.specs.declared.replay.Replay.{Replay}
 use Rattle.world_script.specs.Script.{is_end_line}
-use Rattle.world_script.specs.declared.line.Line.{Line}
 use Rattle.replay_world.proofs.GatewayEventLemmas.{first_not, is_there, none_of}
 use Rattle.replay_world.proofs.StepsLemmas.{makes_one}
 use Rattle.replay_world.specs.Failing.{Fails, lacks_memory}

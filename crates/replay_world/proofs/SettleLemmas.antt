@@ -1,40 +1,14 @@
 -- Gateways that settle.
 use Rattle.std.proofs.Common.{◌≡◌, ◌∙◌, refl, sym, ap, subst, ℕ, zero, suc, ◌+◌, ◌-◌, ◌%◌, ◌==◌, ◌≤◌, ◌<◌, Bool, true, false, not, if◌then◌else◌, List, [], ◌∷◌, ◌++◌, length, map, set, get_or, Some, None, slice_get, arith, append_assoc, append-nil, length-set, eq-eqb, eqb-true}
 use Rattle.replay_world.proofs.TakenSteps.{is_there as number_there}
-use Rattle.std.proofs.lemmas.Bool.Decides.{nat_tests}
-use Rattle.std.specs.List.{flat_map, range_with_len}
-use Rattle.std.specs.Option.{option_map_or}
-use Rattle.std.proofs.lemmas.Option.{slice_get-get_or}
-use Rattle.area_disk.specs.Armed.{calls_under}
-use Rattle.area_disk.specs.Armed.Armed.{Nothing}
-use Rattle.area_disk.specs.Armed.Came.{Ran}
-use Rattle.file_writer.specs.Streams.{Settings}
-use Rattle.gateway_answer.specs.Items.{items_of}
-use Rattle.gateway_answer.specs.Value.{Fortune}
-use Rattle.gw_base.specs.declared.item.Item.{Item}
-use Rattle.once_core.specs.Answers.{making_close, marked}
-use Rattle.once_core.specs.Gateway.{Gateway, Moved, committing, opened, still}
-use Rattle.once_core.specs.Turn.{is_down_in, no_gateway, no_running_gateway, refusal_of}
-use Rattle.once_core.specs.World.{World}
-use Rattle.once_core.specs.declared.event.Event.{Event}
+use Rattle.replay_world.proofs.Names.{after_step, after_steps, all_filed, AreUnarmed, calls_under, committing, Disarms, Does, DoesAll, DoesOrEnds, ends_line, Event, files_in, Filing, filing_then, flat_map, Fortune, Gateway, is_down_in, IsIdle, Item, items_of, Machine, machines_at, machines_in, Makes, making_close, marked, Moved, nat_tests, no_gateway, no_running_gateway, Nothing, notice_lines, notices_of, opened, opening_steps, option_map_or, Plays, Ran, range_with_len, refusal_of, Replay, ReplayValue, rules_in, Settings, settle_steps, Settles, settling_steps, shelf_calls, site_of, slice_get-get_or, Stands, Stays, Step, still, unarmed_one, World, Writes}
 use Rattle.once_core.specs.declared.event.Event.TheVariants as event
-use Rattle.replay_world.specs.Does.{Does, DoesAll, DoesOrEnds, Makes}
-use Rattle.replay_world.specs.Lines.{after_steps, settle_steps, settling_steps, notices_of}
-use Rattle.replay_gateway.specs.Filing.{all_filed, filing_then, shelf_calls}
-use Rattle.replay_gateway.specs.Setup.{files_in, rules_in}
-use Rattle.replay_world.specs.Settling.{AreUnarmed, IsIdle, Settles, Stays, opening_steps}
-use Rattle.replay_world.specs.Stands.{Stands}
-use Rattle.replay_world.specs.Steps.{Step, Disarms, Plays, Writes, after_step, ends_line, machines_at, machines_in, site_of}
-use Rattle.replay_gateway.specs.Machine.{Filing, Machine, unarmed as unarmed_one}
-use Rattle.replay_world.specs.Value.{ReplayValue}
-use Rattle.replay_world.specs.declared.replay.Replay.{Replay}
 use Rattle.replay_world.proofs.CalmLemmas.{close_stays_up, found, get_other, get_same, line_goes_on, running_there, runs_after, stays_at, stays_none, stays_set, stays_then, there_then, unarmed_there}
 use Rattle.replay_world.proofs.GatewayEventLemmas.{is_there, none_of, refused_not, runs_there, IsAt}
 use Rattle.replay_world.proofs.QuietLemmas.{filed_machine, machines_stay, plays, writes}
 use Rattle.replay_world.proofs.StandsLemmas.{each_lengths}
 use Rattle.replay_world.proofs.StepsLemmas.{SoFar, after_append, does_none, does_one, does_then, ends_either, makes_then}
 use Rattle.replay_world.proofs.TakenWorlds.{committing_stays}
-use Rattle.replay_world.specs.Notices.{notice_lines}
 
 -- One after the other.
 pub settles_then : {v first later number before middle after r s : _} → Settles v first number before middle r →

@@ -1,35 +1,9 @@
 -- What a settling leaves of each gateway.
 use Rattle.std.proofs.Common.{◌≡◌, ◌∙◌, refl, sym, ap, subst, ℕ, zero, suc, ◌+◌, ◌-◌, ◌==◌, ◌≤◌, ◌<◌, ◌||◌, Bool, true, false, if◌then◌else◌, List, [], ◌∷◌, ◌++◌, length, set, Option, Some, None, slice_get, arith, append_assoc, length-set, eq-eqb, eqb-true}
-use Rattle.std.specs.List.{flat_map, range_with_len}
-use Rattle.std.specs.Option.{option_map_or}
-use Rattle.std.proofs.lemmas.Option.{slice_get_within}
-use Rattle.area_disk.specs.Armed.Armed.{Nothing}
+use Rattle.replay_world.proofs.Names.{after_step, after_steps, AreShut, AreUnarmed, AreWritten, asked_of, book_committing, BookValue, Close, committed, committing, Disarms, ends_line, Event, files_in, flat_map, Fortune, fortune_by, Gateway, goes_on, GoesOn, Gone, HaveMachines, history_of, HistoryEntry, is_close_due, is_down_in, IsAllWritten, IsIdle, items_of, Machine, machine_after, machines_at, machines_in, making_close, marked, moved_by, no_gateway, no_running_gateway, Nothing, opened, option_map_or, Plays, range_with_len, readying, recorded, reopened, ReplayValue, Rules, rules_in, sequel_on, settle_steps, settled, settling_steps, site_of, slice_get_within, Step, still, unarmed_one, Whole, World, Writes}
 use Rattle.gateway_answer.specs.Answered.{no_caller}
-use Rattle.gateway_answer.specs.Items.{items_of}
-use Rattle.gateway_book.specs.Up.{GoesOn, fortune_by}
-use Rattle.gateway_answer.specs.Value.{BookValue, Fortune, Gone, Whole, committed, history_of, recorded, reopened}
 use Rattle.gw_base.specs.EntryLaws.{is_close_due-append}
-use Rattle.gw_base.specs.History.{is_close_due}
-use Rattle.gw_base.specs.declared.history.HistoryAct.TheVariants.{Close}
-use Rattle.gw_base.specs.declared.history.HistoryEntry.{HistoryEntry}
-use Rattle.once_core.specs.Answers.{making_close, marked}
-use Rattle.once_core.specs.Gateway.{Gateway, Rules, book_committing, committing, opened, readying, still}
-use Rattle.once_core.specs.Turn.{is_down_in, no_gateway, no_running_gateway}
-use Rattle.once_core.specs.World.{World}
-use Rattle.once_core.specs.declared.event.Event.{Event}
 use Rattle.once_core.specs.declared.event.Event.TheVariants as event
-use Rattle.replay_world.specs.Events.{asked_of}
-use Rattle.replay_gateway.specs.Device.{machine_after, sequel_on}
-use Rattle.replay_world.specs.Does.{goes_on}
-use Rattle.replay_world.specs.Lines.{after_steps, settle_steps, settled, settling_steps}
-use Rattle.replay_gateway.specs.Moves.{moved_by}
-use Rattle.replay_gateway.specs.AtRest.{AreShut, IsAllWritten}
-use Rattle.replay_world.specs.Settled.{AreWritten, HaveMachines}
-use Rattle.replay_world.specs.Settling.{AreUnarmed, IsIdle}
-use Rattle.replay_gateway.specs.Setup.{files_in, rules_in}
-use Rattle.replay_world.specs.Steps.{Step, Disarms, Plays, Writes, after_step, ends_line, machines_at, machines_in, site_of}
-use Rattle.replay_gateway.specs.Machine.{Machine, unarmed as unarmed_one}
-use Rattle.replay_world.specs.Value.{ReplayValue}
 use Rattle.replay_world.proofs.CalmLemmas.{close_stays_up, found, get_other, get_same, line_goes_on, running_there, sets_at, stays_set, there_then, unarmed_after, unarmed_there, goes_on_then}
 use Rattle.replay_world.proofs.QuietLemmas.{filed_machine, machines_stay, plays, writes}
 use Rattle.replay_world.proofs.StandsLemmas.{Sets}

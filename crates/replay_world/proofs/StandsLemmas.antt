@@ -1,30 +1,9 @@
 -- What the gateways and the nodes of a replay tell, and what a step leaves of it.
 use Rattle.std.proofs.Common.{◌≡◌, refl, ℕ, zero, suc, ◌+◌, List, [], ◌∷◌, length, Some, slice_get, set, option_map, arith, ◌-◌, Bool, true, false, Option, None, ◌∙◌, sym, ap, subst, ◌≤◌, ◌++◌, drop, All, map, length-append, length-set}
-use Rattle.node_core.specs.Log.{LogEntry}
-use Rattle.once_core.specs.Gateway.{Gateway, Moved}
-use Rattle.once_core.specs.World.{node_value, Called, World}
-use Rattle.replay_gateway.specs.Setup.{Setup, rules_in}
-use Rattle.replay_world.specs.Stands.{EachStands, nodes_from, CountsStarts, Stands}
-use Rattle.replay_gateway.specs.Standing.{MachineStands}
-use Rattle.replay_gateway.specs.Machine.{Machine}
+use Rattle.replay_world.proofs.Names.{after_step, All-append, at_gateway, at_node, Called, cond_both, CountsStarts, delivering, Does, EachStands, enumerate_from, Event, Gateway, gateway_moved, HasSent, IsReached, LogEntry, lost_if, Machine, machines_after, MachineStands, Message, Moved, node_called, node_value, nodes_from, numbered_from, option_map_or, Plays, Replay, ReplayValue, rules_in, sent_by, sent_notices, Setup, Stands, Step, step_notices, Turn, turn_by, turn_of, unless_refused, waiting_left, World, world_after, WorldKind}
 use Rattle.replay_gateway.specs.declared.machine.Machine as real
-use Rattle.std.proofs.lemmas.List.Elements.{All-append}
-use Rattle.std.specs.Option.{option_map_or}
-use Rattle.std.proofs.lemmas.Bool.{cond_both}
-use Rattle.once_core.specs.Turn.{Turn, at_gateway, at_node, delivering, gateway_moved, lost_if, node_called, turn_by, unless_refused}
-use Rattle.once_core.specs.declared.message.Message.{Message}
 use Rattle.once_core.specs.ReachedLaws.{reached_then}
 use Rattle.once_core.specs.declared.event.Event.TheVariants as event
-use Rattle.once_core.specs.declared.event.Event.{Event}
-use Rattle.once_core.specs.declared.event.WorldKind.{WorldKind}
-use Rattle.once_core.specs.Beginning.{IsReached}
-use Rattle.std.specs.List.{enumerate_from}
-use Rattle.replay_world.specs.Does.{Does}
-use Rattle.replay_world.specs.Sending.{HasSent, numbered_from}
-use Rattle.replay_world.specs.Steps.{Step, Plays, after_step, machines_after, sent_by, turn_of, waiting_left, world_after}
-use Rattle.replay_world.specs.Telling.{sent_notices, step_notices}
-use Rattle.replay_world.specs.Value.{ReplayValue}
-use Rattle.replay_world.specs.declared.replay.Replay.{Replay}
 
 -- What the gateways and the nodes of a replay tell that stands for a value.
 

@@ -1,22 +1,10 @@
 -- Messages that are sent, and steps that are made, one after the other.
 use Rattle.std.proofs.Common.{◌≡◌, ◌∙◌, refl, sym, ap, ℕ, suc, ◌+◌, ◌≤◌, ◌<◌, ◌==◌, false, List, [], ◌∷◌, ◌++◌, All, length, map, arith, append_assoc, append-nil, length-append, subst, Bool, true, not, if◌then◌else◌}
-use Rattle.std.proofs.lemmas.List.{map-append, length-take}
+use Rattle.replay_world.proofs.Names.{after_step, after_steps, All-append, Does, DoesAll, DoesOrEnds, ends_line, enumerate_from, goes_on, HasSent, length-take, list_any, Makes, map-append, Message, Notice, notice_line, notice_lines, notices_of, numbered_from, Replay, ReplayValue, sent_notices, Stands, Step, step_notices, World, world_after}
 use Rattle.indexmap.specs.IndexSet.{insert_key}
-use Rattle.std.specs.List.{enumerate_from, list_any}
-use Rattle.std.proofs.lemmas.List.Elements.{All-append}
-use Rattle.once_core.specs.declared.message.Message.{Message}
-use Rattle.replay_world.specs.Notices.{Sent, notice_line, notice_lines, Notice}
-use Rattle.replay_world.specs.Sending.{HasSent, numbered_from}
-use Rattle.replay_world.specs.Telling.{sent_notices, step_notices}
-use Rattle.replay_world.specs.declared.replay.Replay.{Replay}
+use Rattle.replay_world.specs.Notices.{Sent}
 use Rattle.replay_world.proofs.StandsLemmas.{all_within, numbers_within, world_holds}
 use Rattle.replay_world.proofs.GatewayEventLemmas.{lines_join}
-use Rattle.once_core.specs.World.{World}
-use Rattle.replay_world.specs.Does.{Does, DoesAll, DoesOrEnds, Makes, goes_on}
-use Rattle.replay_world.specs.Lines.{after_steps, notices_of}
-use Rattle.replay_world.specs.Stands.{Stands}
-use Rattle.replay_world.specs.Steps.{Step, after_step, ends_line, world_after}
-use Rattle.replay_world.specs.Value.{ReplayValue}
 
 -- Messages that are sent one after the other.
 

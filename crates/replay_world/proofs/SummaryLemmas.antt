@@ -1,24 +1,10 @@
 -- Sums of what gateways and nodes count.
 use Rattle.std.proofs.Common.{◌≡◌, ◌∙◌, refl, ap, ℕ, zero, suc, ◌+◌, ◌-◌, ◌*◌, ◌<◌, ◌^◌, List, [], ◌∷◌, ◌++◌, take, sum_by, Option, Some, None, slice_get, arith, sym, ◌%◌, ◌≤◌, length, set, append_assoc, append-nil, length-set}
-use Rattle.std.proofs.lemmas.List.Sums.{sum_by-append, sum_by-cons}
-use Rattle.std.specs.List.{enumerate_from, flat_map, range_with_len}
-use Rattle.node_core.specs.Counting.{counts_of}
-use Rattle.node_core.specs.Log.{LogEntry}
+use Rattle.replay_world.proofs.Names.{AreGatewaySums, AreNodeSums, counts_at, counts_of, enumerate_from, filed_of, flat_map, flat_map-append, Gateway, gateway_lines, gateway_sums, gateway_text, held_of, LogEntry, MachineStands, node_line, node_sums, node_text, node_value, option_map_or, range_with_len, Replay, ReplayValue, report_of, Stands, stranded_of, sum_by-append, sum_by-cons, TalliesIf}
 use Rattle.node_core.specs.declared.counts.NodeCounts.{NodeCounts}
-use Rattle.once_core.specs.Gateway.{Gateway}
-use Rattle.once_core.specs.World.{node_value}
-use Rattle.replay_world.specs.Summary.{AreGatewaySums, AreNodeSums, TalliesIf, counts_at, filed_of, gateway_sums, held_of, node_sums, stranded_of}
 use Rattle.replay_gateway.specs.declared.gateway_report.Tally.{Tally}
 use Rattle.replay_world.specs.declared.summary.GatewaySums.{GatewaySums}
 use Rattle.replay_world.specs.declared.summary.NodeSums.{NodeSums}
-use Rattle.std.specs.Option.{option_map_or}
-use Rattle.std.proofs.lemmas.List.Concat.{flat_map-append}
-use Rattle.replay_world.specs.Report.{gateway_lines, node_line, node_text, report_of}
-use Rattle.replay_gateway.specs.GatewayReport.{gateway_text}
-use Rattle.replay_gateway.specs.Standing.{MachineStands}
-use Rattle.replay_world.specs.Stands.{Stands}
-use Rattle.replay_world.specs.Value.{ReplayValue}
-use Rattle.replay_world.specs.declared.replay.Replay.{Replay}
 use Rattle.replay_world.proofs.NodeEventLemmas.{set_same}
 use Rattle.replay_world.proofs.StandsLemmas.{each_set}
 

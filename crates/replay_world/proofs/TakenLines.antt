@@ -1,27 +1,8 @@
 -- The lines that a world surely takes: none is refused, each of their turns is allowed, and the replay stays as they say.
 use Rattle.std.proofs.Common.{◌≡◌, ⊎_elim, ℕ, zero, suc, ◌+◌, ◌-◌, ◌%◌, ◌≤◌, ◌<◌, ◌==◌, ◌&&◌, nat_le, nat_lt, Bool, true, false, if◌then◌else◌, List, [], ◌∷◌, ◌++◌, length, map, Option, Some, None, slice_get, slice_set, refl, sym, ap, ◌∙◌, arith, append-nil, eq-eqb, eq-or-lt_of_le, le-leb, leb-true, ltb-true, length-set}
-use Rattle.std.proofs.lemmas.Bool.Decides.{nat_tests}
-use Rattle.std.proofs.lemmas.Bool.{and_from, and_parts, eqb-false, ne_eqb, not-false}
-use Rattle.std.specs.List.{AllByRecursion, flat_map, range_with_len}
-use Rattle.std.specs.Option.{option_map_or}
-use Rattle.area_disk.specs.Armed.{Came}
-use Rattle.area_disk.specs.Armed.Came.{Ran, FailedAt, StoppedAt}
-use Rattle.once_core.specs.Gateway.{Gateway, Moved, cut, opened, still}
-use Rattle.once_core.specs.Turn.{at_gateway, gateway_moved, is_down_in, is_none_of, no_gateway, no_running_gateway, no_running_node, refusal_of, refusing}
-use Rattle.once_core.specs.World.{World}
+use Rattle.replay_world.proofs.Names.{AllByRecursion, and_from, and_parts, at_gateway, Came, came_of_write, came_steps, cut, delivers, Disarms, eqb-false, FailedAt, files_in, flat_map, Gateway, gateway_moved, is_down_in, is_none_of, is_stopped, IsAsSaid, items_firm, Lcg, Loses, lot_steps, Machine, mixed_steps, Moved, nat_tests, ne_eqb, no_gateway, no_running_gateway, no_running_node, NoMessage, not-false, opened, option_map_or, pcg32, Plays, Ran, range_with_len, refusal_of, refusing, ReplayValue, rules_in, Scene, settling_steps, shelf_calls, Step, still, StoppedAt, World, write_steps, Writes}
 use Rattle.once_core.specs.declared.event.Event.TheVariants as event
-use Rattle.once_core.specs.declared.event.WorldKind.TheVariants.{NoMessage}
-use Rattle.rand_pcg.specs.Lcg.{Lcg}
-use Rattle.rand_pcg.specs.Pcg.{pcg32}
-use Rattle.replay_gateway.specs.Filing.{shelf_calls}
-use Rattle.replay_world.specs.Lines.{came_of_write, came_steps, delivers, lot_steps, mixed_steps, settling_steps, write_steps}
-use Rattle.replay_gateway.specs.Setup.{files_in, rules_in}
-use Rattle.replay_world.specs.Steps.{Disarms, Loses, Plays, Step, Writes, items_firm}
-use Rattle.replay_world.specs.Taken.{IsAsSaid}
-use Rattle.replay_gateway.specs.Machine.{Machine}
-use Rattle.replay_world.specs.Value.{ReplayValue}
 use Rattle.replay_world.proofs.TakenSteps.{Facts, Holds, HoldsOf, Passes, calm_passes, disarms_passes, loses_passes, passes_none, quiet_passes, tells_passes, within, writes_passes, all_get, calls_calm, is_calm, is_there, with_unarmed}
-use Rattle.world_script.specs.World.{Scene, is_stopped}
 
 -- ---- what a scene says of a replay
 

@@ -1,33 +1,14 @@
 -- Each line that a world surely takes, lines one after the other, and whole scripts.
 use Rattle.std.proofs.Common.{◌≡◌, ℕ, suc, ◌==◌, ◌||◌, not, nat_le, Bool, true, false, if◌then◌else◌, List, [], ◌∷◌, length, filter, None, Result, Ok, Err, refl, sym, ap, subst, ◌∙◌, arith, eqb-true, le-leb, zero, ◌-◌, ◌<◌, ◌++◌, slice_get, leb-true}
-use Rattle.std.proofs.lemmas.Bool.{and_from, and_parts, not-true, or_parts}
-use Rattle.std.specs.List.{flat_map, list_any, range_with_len, AllByRecursion}
-use Rattle.gtpp_message.specs.Packet.{PacketForm}
-use Rattle.node_core.specs.declared.fault.DraftFault.{DraftFault}
-use Rattle.once_core.specs.Turn.{no_running_gateway, no_running_node, refusal_of, Turn}
-use Rattle.once_core.specs.World.{World}
-use Rattle.once_core.specs.declared.event.Event.{Event}
+use Rattle.replay_world.proofs.Names.{after_line, after_setting, after_settings, AllByRecursion, Allows, and_from, and_parts, are_settings_first, Began, begun, default_setup, drafted, DraftFault, Event, first_gateway, first_scene, flat_map, Gateway, has_gateway, has_node, has_running, is_stopped, IsAsSaid, Line, line_after, list_any, LogEntry, no_running_gateway, no_running_node, not-true, option_map_or, or_parts, PacketForm, Plays, range_with_len, refusal_of, refusal_of_line, refused_from, refused_or, replay_of, ReplayValue, rules_in, runs, Scene, seeded, settle_steps, settling_steps, Setup, steps_of, submit_steps, takes, times_of, Turn, turns_from, turns_of, World}
 use Rattle.once_core.specs.declared.event.Event.TheVariants as event
-use Rattle.replay_world.specs.Lines.{line_after, refusal_of_line, settle_steps, settling_steps, steps_of, submit_steps, turns_of}
-use Rattle.replay_world.specs.Packets.{drafted}
-use Rattle.replay_world.specs.Report.{refused_from, refused_or, turns_from}
-use Rattle.replay_gateway.specs.Setup.{Setup, rules_in, after_setting, after_settings, default_setup}
-use Rattle.replay_world.specs.Steps.{Plays}
-use Rattle.replay_world.specs.Taken.{Allows, IsAsSaid}
-use Rattle.replay_world.specs.Value.{ReplayValue, begun, replay_of}
 use Rattle.replay_world.proofs.LineLemmas.{line_setup, line_world}
 use Rattle.replay_world.proofs.TakenLines.{changed, disarms_all, facts, flow_passes, gateway_opens, gateway_runs, holds_said, mix_passes, moment_comes, node_runs, opens_passes, said_holds, settles_from, stops_passes, write_passes}
 use Rattle.replay_world.proofs.TakenSteps.{Facts, Holds, Passes, allows_append, calm_passes, passes_none, quiet_passes, tells_passes, within}
 use Rattle.replay_world.proofs.TakenWorlds.{is_quiet}
-use Rattle.world_script.specs.Sample.{seeded}
 use Rattle.world_script.specs.Script.{is_setting_line, is_action_line, is_blank_line}
-use Rattle.world_script.specs.World.{Scene, after_line, has_gateway, has_node, has_running, is_stopped, takes, takes_all, are_settings_first, first_scene}
-use Rattle.world_script.specs.declared.line.Line.{Line}
+use Rattle.world_script.specs.World.{takes_all}
 use Rattle.world_script.specs.declared.line.Line.TheVariants as line
-use Rattle.std.specs.Option.{option_map_or}
-use Rattle.node_core.specs.Log.{LogEntry, Began, runs}
-use Rattle.once_core.specs.Beginning.{first_gateway, times_of}
-use Rattle.once_core.specs.Gateway.{Gateway}
 use Rattle.replay_world.proofs.BeginningLemmas.{times_length}
 
 -- Each line that a world surely takes, and lines one after the other.

@@ -1,31 +1,7 @@
 -- Steps of lines that a world allows, one after the other, and what holds of the replay after them.
 use Rattle.std.proofs.Common.{◌≡◌, ℕ, zero, suc, ◌+◌, ◌≤◌, ◌&&◌, ◌==◌, not, Bool, true, false, if◌then◌else◌, List, [], ◌∷◌, ◌++◌, length, map, filter, Option, Some, None, slice_get, slice_set, refl, ap, subst, ◌∙◌, arith, le-leb, lt-ltb, leb-true, nat_le, nat_lt, drop, sym, length-drop}
-use Rattle.std.proofs.lemmas.Bool.{and_from, and_parts, not-false, not-true}
-use Rattle.std.specs.List.{AllByRecursion, enumerate_from}
-use Rattle.std.specs.Option.{option_map_or}
-use Rattle.area_disk.specs.Armed.{Armed, Came, calls_under, one_later}
-use Rattle.area_disk.specs.Armed.Armed.{Nothing, Fail, Stop}
-use Rattle.area_disk.specs.Armed.Came.{Ran, FailedAt, StoppedAt}
-use Rattle.gateway_book.specs.Comes.{Asked, AsksCommit, AsksNothing, AsksReopening}
-use Rattle.gateway_book.specs.Up.{Sequel, GoesOn, Breaks, Stops, commit_sequel, reopening_sequel}
-use Rattle.once_core.specs.Turn.{calm, is_none_of, Turn, is_down_in, log_in, refusal_of, turn, turn_by, turns, unless_refused}
-use Rattle.once_core.specs.declared.event.Event.{Event}
+use Rattle.replay_world.proofs.Names.{after_step, after_steps, AllByRecursion, Allows, and_from, and_parts, Armed, arms_stop, Asked, asked_of, AsksCommit, AsksNothing, AsksReopening, Breaks, calls_under, calm, Came, commit_sequel, Disarms, ends_line, enumerate_from, Event, Fail, FailedAt, files_in, files_written, Filing, filing_after, filing_then, GoesOn, is_down_in, is_none_of, is_stop, is_stopped_in, Item, items_firm, log_in, Loses, Machine, machine_after, machine_with, machines_after, machines_at, machines_in, Message, not-false, not-true, Nothing, one_later, option_map_or, place_asked, Plays, Ran, refusal_of, reopening_sequel, ReplayValue, Rules, rules_in, runs, Sequel, sequel_at, sequel_on, Settings, shelf_came, Site, site_in, site_of, Step, step_turns, Stop, StoppedAt, Stops, Turn, turn, turn_at, turn_by, turn_of, turn_with, turns, turns_by, unarmed_one, unless_refused, waiting_after, waiting_left, with_machine, World, world_after, Writes}
 use Rattle.once_core.specs.declared.event.Event.TheVariants as event
-use Rattle.once_core.specs.declared.message.Message.{Message}
-use Rattle.replay_world.specs.Events.{asked_of, place_asked, turn_with}
-use Rattle.replay_gateway.specs.Device.{is_stop, machine_after, machine_with, sequel_on}
-use Rattle.replay_world.specs.Steps.{Site, is_stopped_in, sequel_at, site_in, site_of, turn_at, turn_of, with_machine, Plays, Loses, Disarms, Writes, files_written, Step, after_step, ends_line, items_firm, machines_at, machines_after, machines_in, step_turns, waiting_after, waiting_left, world_after}
-use Rattle.replay_world.specs.Taken.{arms_stop, Allows}
-use Rattle.replay_gateway.specs.Machine.{Machine, Filing, unarmed as unarmed_one}
-use Rattle.replay_world.specs.Value.{ReplayValue}
-use Rattle.file_writer.specs.Streams.{Settings}
-use Rattle.gw_base.specs.declared.item.Item.{Item}
-use Rattle.node_core.specs.Log.{runs}
-use Rattle.once_core.specs.Gateway.{Rules}
-use Rattle.once_core.specs.World.{World}
-use Rattle.replay_world.specs.Lines.{after_steps, turns_by}
-use Rattle.replay_gateway.specs.Filing.{filing_after, filing_then, shelf_came}
-use Rattle.replay_gateway.specs.Setup.{files_in, rules_in}
 use Rattle.replay_world.proofs.TakenWorlds.{Same, is_quiet, turn_same}
 
 -- Steps of lines that a world allows, and what holds of the replay after them.

@@ -1,33 +1,12 @@
 -- What a turn leaves of a world: how many gateways and nodes there are, which of them run, and the moment.
 use Rattle.std.proofs.Common.{take, ◌≡◌, ℕ, zero, suc, ◌≤◌, ◌-◌, ◌||◌, not, Bool, true, false, if◌then◌else◌, List, [], ◌∷◌, ◌++◌, length, Option, Some, None, slice_get, slice_set, refl, sym, ap, ◌∙◌, arith, length-append, length-set}
-use Rattle.std.proofs.lemmas.Bool.Decides.{nat_tests}
-use Rattle.std.proofs.lemmas.List.{length-take}
-use Rattle.std.specs.Option.{option_map_or}
-use Rattle.std.proofs.lemmas.Bool.{cond_both}
+use Rattle.replay_world.proofs.Names.{acting, Addr, answer_at, answered, at_gateway, at_node, book_committing, call_entries, Called, closing, committing, cond_both, delivered, delivered_broken, delivered_running, delivered_to_node, delivering, draft_of, entries_from, Event, failed, failed_by, followed, Fortune, Gateway, gateway_address, hearing, history_of, if_broken, is_down_in, is_expired, is_expired_at_node, length-take, log_in, LogEntry, logged, lost_if, making_tick, marked, Message, Moved, nat_tests, node_called, node_value, NodeValue, option_map_or, PacketForm, place_of, Port, readying, recorded_where, refusal_of, Rules, runs, still, submitting, submitting_form, Taken, taken, taken_entries, ticking, Turn, turn, turn_by, unless_expired, unless_refused, World, WorldKind}
 use Rattle.gateway_answer.specs.Answer.{Decided, Silent, Says, decided, failure_answer}
 use Rattle.gateway_answer.specs.Preparing.{prepared_of}
-use Rattle.gateway_answer.specs.Value.{Fortune, history_of}
-use Rattle.gtpp_message.specs.Packet.{PacketForm}
-use Rattle.gw_base.specs.declared.address.Addr.{Addr}
 use Rattle.gw_base.specs.declared.history.HistoryAct.{HistoryAct}
-use Rattle.node_core.specs.Hearing.{Taken, entries_from, taken, taken_entries}
 use Rattle.node_core.specs.Hearing as heard
-use Rattle.node_core.specs.Log.{LogEntry, runs}
-use Rattle.node_core.specs.Peers.{place_of}
-use Rattle.node_core.specs.Reached.{call_entries}
 use Rattle.node_core.specs.Reached as call
-use Rattle.node_core.specs.Value.{NodeValue, logged}
-use Rattle.node_core.specs.declared.port.Port.{Port}
-use Rattle.once_core.specs.Addresses.{gateway_address}
-use Rattle.once_core.specs.Answers.{acting, answer_at, answered, closing, delivered, delivered_broken, delivered_running, failed, failed_by, if_broken, making_tick, marked, recorded_where, unless_expired}
-use Rattle.once_core.specs.Expired.{is_expired, is_expired_at_node}
-use Rattle.once_core.specs.Gateway.{Gateway, Moved, Rules, book_committing, committing, followed, readying, still}
-use Rattle.once_core.specs.Turn.{Turn, at_gateway, at_node, delivering, is_down_in, log_in, lost_if, node_called, refusal_of, turn, turn_by, unless_refused}
-use Rattle.once_core.specs.World.{Called, World, delivered_to_node, draft_of, hearing, node_value, submitting, submitting_form, ticking}
-use Rattle.once_core.specs.declared.event.Event.{Event}
 use Rattle.once_core.specs.declared.event.Event.TheVariants as event
-use Rattle.once_core.specs.declared.event.WorldKind.{WorldKind}
-use Rattle.once_core.specs.declared.message.Message.{Message}
 
 -- ---- gateways that move, and stay up or down
 

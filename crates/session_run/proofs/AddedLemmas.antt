@@ -1,24 +1,8 @@
 -- What the turns of a pass added, in turn, and what stands of it in the history.
 use Rattle.std.proofs.Common.{◌≡◌, ◌≢◌, ◌⊎◌, ⊎_elim, inl, inr, ℕ, ◌==◌, Bool, true, false, if◌then◌else◌, List, [], ◌∷◌, ◌++◌, Option, None, Some, refl, sym, ap, subst, ◌∙◌, append_assoc, arith}
-use Rattle.std.specs.Prelude.{All, slice_index_or}
-use Rattle.std.proofs.lemmas.Bool.{cases_eq, ne_eqb}
-use Rattle.std.proofs.lemmas.Bool.Decides.{nat_tests}
-use Rattle.std.proofs.lemmas.List.{append-nil}
-use Rattle.std.proofs.lemmas.List.Elements.{All-cons, All-head, All-nil, All-tail}
+use Rattle.session_run.proofs.Names.{added_by, AddsAnswers, All, All-cons, All-head, All-nil, All-tail, AnswersJob, append-nil, AreFirstsOf, base, by_session, called_at, called_for, caller_of, cases_eq, decided_at, entries_of, facts_of, HasNumber, history_at, HistoryEntry, InTurn, IsAnswerTo, Job, KeepsTurnsOf, KeptTurn, Knowledge, nat_tests, ne_eqb, Owns, placed, slice_index_or}
 use Rattle.gateway_answer.specs.Answered.{act_decided}
-use Rattle.gw_base.specs.Owes.{base}
 use Rattle.gw_base.specs.declared.history.HistoryAct.{HistoryAct}
-use Rattle.gw_base.specs.declared.history.HistoryEntry.{HistoryEntry}
-use Rattle.job_inbox.specs.declared.job.Job.{Job}
-use Rattle.node_session.specs.Answering.{AddsAnswers, IsAnswerTo, called_at, history_at}
-use Rattle.node_session.specs.Serving.{caller_of}
-use Rattle.node_session.specs.Together.{AreFirstsOf, KeepsTurnsOf}
-use Rattle.node_session.specs.Turns.{called_for, decided_at, entries_of}
-use Rattle.turn_cell.specs.Knowing.{facts_of}
-use Rattle.turn_cell.specs.Placed.{HasNumber, Owns, added_by, by_session, placed}
-use Rattle.turn_cell.specs.declared.knowing.KeptTurn.{KeptTurn}
-use Rattle.turn_cell.specs.declared.knowing.Knowledge.{Knowledge}
-use Rattle.session_run.specs.History.{AnswersJob, InTurn}
 use Rattle.session_run.proofs.InTurnLemmas.{in_turn_both, in_turn_sub}
 
 abbrev Placed : Type 0

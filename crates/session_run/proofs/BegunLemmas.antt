@@ -1,40 +1,14 @@
 -- What each who serves has done at first: nothing. Passes are numbered in their order, and taken from the end.
 use Rattle.std.proofs.Common.{◌≡◌, ◌≢◌, ℕ, ◌-◌, List, [], ◌∷◌, ◌++◌, length, refl, sym, ap, ◌∙◌, Bool, false, Option, None, Some, arith}
-use Rattle.std.specs.Prelude.{All, map, slice_index_or}
-use Rattle.std.proofs.lemmas.List.{length-map}
-use Rattle.std.proofs.lemmas.List.Elements.{All-map, All-nil, All-same}
-use Rattle.std.proofs.lemmas.Option.{IfSome_then}
+use Rattle.session_run.proofs.Names.{Addr, All, All-map, All-nil, All-same, AreDesksOf, AreNumbered, AreOfEach, began_at, CountsTurns, Desk, Facts, hand_at, hands_of, HasWorked, HaveServed, idle, IfSome_then, IfTurns, Inbox, InboxPass, IsAnswerTo, IsFew, IsFresh, IsNewAt, IsOf, IsReady, IsSeated, IsSince, IsTeamOf, Knowledge, known_among, known_at, known_by, length-map, link_at, link_of, links_of, map, newcomer, newcomers, Pass, passes_among, Reception, slice_index_or, Team, TurnCell, Until, Writer}
 use Rattle.std.proofs.lemmas.Simd.{map-map}
 use Rattle.turn_cell.specs.Cell.{knowledge}
-use Rattle.turn_cell.specs.declared.cell.Pass.{Pass}
 use Rattle.cdr_shelf.specs.declared.shelf.Shelf as shelves
-use Rattle.file_writer.specs.declared.writer.Writer.{Writer}
-use Rattle.gw_base.specs.Facts.{Facts}
-use Rattle.gw_base.specs.declared.address.Addr.{Addr}
 use Rattle.job_inbox.specs.Inbox as inboxes
-use Rattle.job_inbox.specs.Rule.{idle}
-use Rattle.job_inbox.specs.declared.inbox.Inbox.{Inbox}
-use Rattle.job_inbox.specs.declared.inbox.InboxPass.{InboxPass}
-use Rattle.net_link.specs.Datagrams.{IsNewAt}
 use Rattle.net_link.specs.declared.link.Link as paths
-use Rattle.node_session.specs.Answering.{IsAnswerTo}
-use Rattle.node_session.specs.Passes.{IsOf, known_by}
-use Rattle.node_session.specs.Receiving.{AreOfEach, hands_of}
 use Rattle.node_session.specs.Writing as writing
 use Rattle.turn_cell.specs.Cell as cells
-use Rattle.turn_cell.specs.Knowing.{newcomer, newcomers}
-use Rattle.turn_cell.specs.declared.cell.TurnCell.{TurnCell}
-use Rattle.turn_cell.specs.declared.knowing.Knowledge.{Knowledge}
-use Rattle.session_run.specs.Desks.{HasWorked, IsSince, began_at, hand_at, known_at, link_at}
-use Rattle.session_run.specs.Ending.{AreNumbered, IsFresh, IsSeated, known_among, links_of, passes_among}
-use Rattle.session_run.specs.Reception.{CountsTurns, IfTurns, link_of}
-use Rattle.session_run.specs.Running.{IsFew}
-use Rattle.session_run.specs.Team.{AreDesksOf, HaveServed, IsReady, IsTeamOf}
-use Rattle.session_run.specs.declared.desk.Desk.{Desk}
-use Rattle.session_run.specs.declared.reception.Reception.{Reception}
-use Rattle.session_run.specs.declared.round.Team.{Team}
 use Rattle.session_run.specs.declared.running.Seats.{Seats}
-use Rattle.session_run.specs.declared.until.Until.{Until}
 use Rattle.session_run.specs.declared.until.Until.TheVariants as until
 use Rattle.session_run.proofs.ReceptionLemmas.{all_idle, each_length}
 

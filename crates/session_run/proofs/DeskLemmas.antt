@@ -1,41 +1,12 @@
 -- What a session has done at its desk behind jobs that it served together.
 use Rattle.std.proofs.Common.{◌≡◌, ◌⊎◌, ⊎_elim, inl, inr, ℕ, ◌<◌, ◌≤◌, Bool, true, List, [], ◌∷◌, ◌++◌, Option, None, Some, refl, sym, ap, subst, ◌∙◌, append_assoc, arith}
-use Rattle.std.specs.Prelude.{All, MatchOption}
-use Rattle.std.specs.List.{Contains}
-use Rattle.std.specs.Option.{option_or}
-use Rattle.std.proofs.lemmas.List.{append-nil}
-use Rattle.std.proofs.lemmas.List.Elements.{All-contains, All-push, Contains-append_left, Contains-append_right}
-use Rattle.std.proofs.lemmas.Option.{IfSome_then}
-use Rattle.area_disk.specs.declared.area.Area.{Ghosts}
+use Rattle.session_run.proofs.Names.{Addr, All, All-contains, All-push, append-nil, AreRepliesTo, AreServed, AreTaken, Began, Begins, caller_of, Contains, Contains-append_left, Contains-append_right, Datagram, datagram_of, decided_at, Desk, EachTells, entries_of, Facts, first_stop, Ghosts, Go, GoesFrom, GoesOn, GoOn, hand_at, HasFailedSince, HasLostBehind, HasRepliedBehind, HasSent, HasWorked, HearsNothing, history_at, HistoryEntry, IfSome_then, IsAnswered, IsFaultAt, IsReplyAt, IsSince, Job, KeepsTurnsOf, kept, KeptTurn, Knowledge, known_at, later_of, latest, link_at, LinkState, MatchOption, option_or, Outcome, RepliesTo, Rose, Served, Stop, stop_of, tells_lists, TellsBehind, TellsFailure, TellTogether, with_all_taken, with_one}
 use Rattle.gateway_answer.specs.Answer.{Says as SaysReply, failure_reply, reply_in}
 use Rattle.gateway_answer.specs.Preparing.{prepared_of}
-use Rattle.gateway_book.specs.Turning.{tells_lists}
-use Rattle.gateway_book.specs.declared.outcome.Outcome.{Outcome}
 use Rattle.gateway_book.specs.declared.outcome.Outcome.TheVariants as outcome
-use Rattle.gw_base.specs.Facts.{Facts}
-use Rattle.gw_base.specs.Faults.{Rose}
-use Rattle.gw_base.specs.Owes.{Begins}
-use Rattle.gw_base.specs.declared.address.Addr.{Addr}
-use Rattle.gw_base.specs.declared.history.HistoryEntry.{HistoryEntry}
-use Rattle.job_inbox.specs.declared.job.Job.{Job}
-use Rattle.net_link.specs.Datagrams.{Datagram, LinkState, with_one}
 use Rattle.net_link.specs.declared.link.Link as paths
-use Rattle.node_session.specs.Answering.{HasLostBehind, HasRepliedBehind, HasSent, IsFaultAt, IsReplyAt, TellsBehind, history_at}
-use Rattle.node_session.specs.Serving.{GoesOn, caller_of}
-use Rattle.node_session.specs.Together.{AreServed, AreTaken, EachTells, GoOn, GoesFrom, KeepsTurnsOf, TellTogether}
-use Rattle.node_session.specs.Turns.{decided_at, entries_of}
-use Rattle.node_session.specs.declared.gate.Go.{Go}
-use Rattle.node_session.specs.declared.served.Served.{Served}
 use Rattle.node_session.specs.declared.served.Served.TheVariants as served
-use Rattle.turn_cell.specs.Knowing.{kept}
 use Rattle.turn_cell.specs.Passes.{Took}
-use Rattle.turn_cell.specs.declared.knowing.KeptTurn.{KeptTurn}
-use Rattle.turn_cell.specs.declared.knowing.Knowledge.{Knowledge}
-use Rattle.session_run.specs.Desks.{AreRepliesTo, Began, HasFailedSince, HasWorked, HearsNothing, IsSince, RepliesTo, first_stop, hand_at, known_at, link_at, stop_of, with_all_taken}
-use Rattle.session_run.specs.History.{IsAnswered, TellsFailure, datagram_of}
-use Rattle.session_run.specs.Latest.{later_of, latest}
-use Rattle.session_run.specs.declared.desk.Desk.{Desk}
-use Rattle.session_run.specs.declared.stop.Stop.{Stop}
 use Rattle.session_run.specs.declared.stop.Stop.TheVariants as stop
 use Rattle.session_run.proofs.AddedLemmas.{added_on}
 use Rattle.session_run.proofs.InTurnLemmas.{in_turn_both, in_turn_more, in_turn_weaker}

@@ -1,44 +1,17 @@
 -- What a gateway hands back that served, or that had no memory to.
 use Rattle.std.proofs.Common.{◌≡◌, ◌≤◌, inl, inr, ℕ, Bool, true, List, [], ◌∷◌, ◌++◌, length, Option, None, Some, refl, sym, subst, ◌∙◌, arith}
-use Rattle.std.specs.Prelude.{All, slice_index_or, ⊤}
-use Rattle.std.specs.Option.{option_or}
-use Rattle.std.proofs.lemmas.List.{append-nil}
-use Rattle.std.proofs.lemmas.List.Elements.{All-head, All-nil, All-tail, All-weaker}
-use Rattle.std.proofs.lemmas.Option.{IfSome_then}
+use Rattle.session_run.proofs.Names.{Addr, All, All-head, All-nil, All-tail, All-weaker, AnyOf, append-nil, AreAllSettled, AreDesksOf, AreFiveOf, AreNewAt, ArePassesFor, AreSettledWith, began_at, Begins, CountsTurns, Datagram, Desk, Facts, Ghosts, GoesOnUntil, HasDispatched, HasFailed, HasStopCause, HasWorked, HaveReplied, HaveServed, HearsNothing, HistoryEntry, IfSome_then, IfTurns, Inbox, InboxPass, IsCalledFor, IsEmpty, IsNewAt, IsOf, IsReply, known_among, known_by, link_of, links_of, NoneFailed, option_or, Pair, Pass, Reception, Rose, sent_by, slice_index_or, Stop, stop_among, TakesAtMost, Team, TeamWorksOn, TellsOfClock, TurnCell, turns_by, Until, Writer, ⊤}
 use Rattle.cdr_shelf.specs.declared.shelf.Shelf as shelves
-use Rattle.file_writer.specs.declared.writer.Writer.{Writer}
-use Rattle.area_disk.specs.declared.area.Area.{Ghosts}
 use Rattle.gateway_answer.specs.Value.{BookValue, history_of, torn_of}
 use Rattle.gateway_book.specs.Book.{value_of}
 use Rattle.gateway_book.specs.Turning.{facts_of}
 use Rattle.gateway_book.specs.declared.book.Book.{Book}
-use Rattle.gw_base.specs.Facts.{Facts, joined}
-use Rattle.gw_base.specs.Faults.{Rose}
-use Rattle.gw_base.specs.Owes.{Begins}
-use Rattle.gw_base.specs.declared.address.Addr.{Addr}
-use Rattle.gw_base.specs.declared.history.HistoryEntry.{HistoryEntry}
-use Rattle.net_link.specs.Datagrams.{Datagram, IsEmpty, IsNewAt}
+use Rattle.gw_base.specs.Facts.{joined}
 use Rattle.net_link.specs.declared.link.Link as paths
 use Rattle.job_inbox.specs.Inbox as inboxes
-use Rattle.job_inbox.specs.declared.inbox.Inbox.{Inbox}
-use Rattle.job_inbox.specs.declared.inbox.InboxPass.{InboxPass}
-use Rattle.node_session.specs.Passes.{IsOf, known_by}
 use Rattle.node_session.specs.Writing as writing
 use Rattle.turn_cell.specs.Cell as cells
-use Rattle.turn_cell.specs.declared.cell.Pass.{Pass}
-use Rattle.turn_cell.specs.declared.cell.TurnCell.{TurnCell}
-use Rattle.session_run.specs.Desks.{HasWorked, HearsNothing, began_at}
-use Rattle.session_run.specs.Ending.{AreAllSettled, ArePassesFor, AreSettledWith, known_among, links_of}
-use Rattle.session_run.specs.History.{GoesOnUntil, IsCalledFor, IsReply}
-use Rattle.session_run.specs.Reception.{CountsTurns, HasDispatched, IfTurns, TellsOfClock, link_of}
-use Rattle.session_run.specs.Running.{AnyOf, AreFiveOf, AreNewAt, HasFailed, HasStopCause, HaveReplied, NoneFailed, TakesAtMost, sent_by, turns_by}
-use Rattle.session_run.specs.Team.{AreDesksOf, HaveServed, Pair, TeamWorksOn, stop_among}
-use Rattle.session_run.specs.declared.desk.Desk.{Desk}
-use Rattle.session_run.specs.declared.reception.Reception.{Reception}
-use Rattle.session_run.specs.declared.round.Team.{Team}
-use Rattle.session_run.specs.declared.stop.Stop.{Stop}
 use Rattle.session_run.specs.declared.stop.Stop.TheVariants as stop
-use Rattle.session_run.specs.declared.until.Until.{Until}
 use Rattle.session_run.specs.declared.until.Until.TheVariants as until
 use Rattle.session_run.proofs.ReceptionLemmas.{never_by_clock}
 use Rattle.session_run.proofs.StopLemmas.{none_of}

@@ -1,14 +1,7 @@
 -- Lists one of which is for another in turn, and what passes to an inbox took that others pushed.
 use Rattle.std.proofs.Common.{◌≡◌, inl, inr, ◌≤◌, Bool, true, false, cond, List, [], ◌∷◌, ◌++◌, length, refl, sym, ap, subst, ◌∙◌, arith}
-use Rattle.std.specs.Prelude.{All, filter, sum_by}
-use Rattle.std.proofs.lemmas.List.{append-nil}
-use Rattle.std.proofs.lemmas.List.Elements.{All-cons, All-head, All-nil, All-tail}
+use Rattle.session_run.proofs.Names.{All, All-cons, All-head, All-nil, All-tail, append-nil, AreSettled, filter, Hand, InTurn, IsSublist, Job, sum_by}
 use Rattle.std.proofs.lemmas.List.Sums.{sum_by-cons}
-use Rattle.job_inbox.specs.Hands.{AreSettled}
-use Rattle.job_inbox.specs.declared.hand.Hand.{Hand}
-use Rattle.job_inbox.specs.declared.job.Job.{Job}
-use Rattle.turn_cell.specs.Placed.{IsSublist}
-use Rattle.session_run.specs.History.{InTurn}
 
 module _ {A B : Type 0} where
   pub in_turn_weaker : (R S : A → B → Type 0) → ((a : A) (b : B) → R a b → S a b) → (xs : List A) (ys : List B) → InTurn R xs ys

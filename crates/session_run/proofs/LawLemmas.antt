@@ -1,19 +1,9 @@
 -- What is in turn stays so, and what links sent all together.
 use Rattle.std.proofs.Common.{◌≡◌, ℕ, ◌==◌, Bool, true, false, if◌then◌else◌, List, [], ◌∷◌, ◌++◌, Option, None, Some, refl, sym, ap, subst, ◌∙◌, append_assoc}
-use Rattle.std.specs.Prelude.{IfSome}
-use Rattle.std.proofs.lemmas.List.{append-nil}
-use Rattle.std.proofs.lemmas.Option.{IfSome_then, same_Some}
+use Rattle.session_run.proofs.Names.{AnswerInTurn, AnswersJob, append-nil, Begins, by_session, Datagram, HistoryEntry, IfSome, IfSome_then, InTurn, IsJobOf, IsReplyTo, Jobs, joined, placed, ReplyInTurn, same_Some, sent_by, sent_with, those_of}
 use Rattle.area_disk.specs.Disk.{Rose}
-use Rattle.gw_base.specs.Owes.{Begins}
-use Rattle.gw_base.specs.declared.history.HistoryEntry.{HistoryEntry}
-use Rattle.net_link.specs.Datagrams.{Datagram, joined}
 use Rattle.net_link.specs.Making.{GrowsBy}
 use Rattle.net_link.specs.declared.link.Link as paths
-use Rattle.turn_cell.specs.Placed.{by_session, placed}
-use Rattle.session_run.specs.History.{AnswerInTurn, AnswersJob, InTurn, IsJobOf, IsReplyTo, ReplyInTurn, those_of}
-use Rattle.session_run.specs.Latest.{Jobs}
-use Rattle.session_run.specs.Links.{sent_with}
-use Rattle.session_run.specs.Running.{sent_by}
 use Rattle.session_run.proofs.DeskLemmas.{says_later}
 use Rattle.session_run.proofs.InTurnLemmas.{in_turn_before, in_turn_front, in_turn_weaker}
 

@@ -5,6 +5,7 @@ pub mod EndLemmas
 pub mod InTurnLemmas
 pub mod LawLemmas
 pub mod LinksLemmas
+pub mod Names
 pub mod ReceptionLemmas
 pub mod RepliedLemmas
 pub mod RunLemmas

@@ -1,17 +1,8 @@
 -- Links of one address that are made, and given back, one after the other, the last first.
 use Rattle.std.proofs.Common.{◌≡◌, ◌≢◌, inl, inr, ◌+◌, List, [], ◌∷◌, ◌++◌, length, Option, None, Some, Ok, refl, arith, length-append, ⊎_elim, ℕ, ◌<◌, ◌≤◌, sym, ap, ◌∙◌, append_assoc}
-use Rattle.std.specs.Prelude.{All, IfSome}
-use Rattle.std.proofs.lemmas.List.Elements.{All-contains, All-head, All-push, All-tail, All-weaker, Contains-append_right}
-use Rattle.std.proofs.lemmas.Bool.{cases_eq}
-use Rattle.std.proofs.lemmas.List.{append-nil}
-use Rattle.gw_base.specs.Faults.{Rose}
-use Rattle.gw_base.specs.declared.address.Addr.{Addr}
-use Rattle.net_link.specs.Datagrams.{Datagram, IsNewAt, LinkState, added, joined}
+use Rattle.session_run.proofs.Names.{added, Addr, All, All-contains, All-head, All-push, All-tail, All-weaker, AnyOf, append-nil, AreNewAt, cases_eq, Contains-append_right, Datagram, GivesBack, HasFailed, HasMade, IfSome, IsIdleAt, IsNewAt, joined, LinkState, received_with, Rose, sent_with, Stop}
 use Rattle.net_link.specs.Making.{LinksState, Makes, RoseBy, TakesBack}
 use Rattle.net_link.specs.declared.link.Link as paths
-use Rattle.session_run.specs.Links.{GivesBack, HasMade, IsIdleAt, received_with, sent_with}
-use Rattle.session_run.specs.Running.{AnyOf, AreNewAt, HasFailed}
-use Rattle.session_run.specs.declared.stop.Stop.{Stop}
 use Rattle.session_run.specs.declared.stop.Stop.TheVariants as stop
 
 module _ {L : Type 0} (tells : paths.Ghosts L) (at : Addr) where

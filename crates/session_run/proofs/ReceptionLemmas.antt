@@ -1,24 +1,9 @@
 -- What who receives has done behind one more step of its dispatcher.
 use Rattle.std.proofs.Common.{◌≡◌, ◌≢◌, Bool, false, true, inl, ℕ, zero, suc, ◌+◌, ◌-◌, ◌<◌, ◌≤◌, List, [], ◌∷◌, ◌++◌, length, length-set, replicate, Option, None, Some, refl, sym, ap, ◌∙◌, arith}
-use Rattle.std.specs.Prelude.{IfSome}
-use Rattle.std.proofs.lemmas.List.{length-map}
-use Rattle.gw_base.specs.Faults.{Rose, next_count}
-use Rattle.gw_base.specs.declared.address.Addr.{Addr}
-use Rattle.job_inbox.specs.Rule.{idle}
-use Rattle.job_inbox.specs.declared.hand.Hand.{Hand}
-use Rattle.job_inbox.specs.declared.inbox.Inbox.{Inbox}
-use Rattle.job_inbox.specs.declared.inbox.InboxPass.{InboxPass}
-use Rattle.job_inbox.specs.declared.job.Job.{Job}
-use Rattle.net_link.specs.Datagrams.{Datagram, LinkState, with_one}
+use Rattle.session_run.proofs.Names.{Addr, AreOfEach, ArePushed, CountsTurns, Datagram, datagram_of, Dispatcher, Hand, hands_of, HasDispatched, HasHeardOne, idle, IfSome, Inbox, InboxPass, InTurn, IsOneFor, Job, length-map, link_of, LinkState, next_count, passes_of, Reception, Rose, session_for, Stop, stop_behind, TakesTurn, TellsOf, TellsOfClock, turns_of, was_quiet, with_job, with_one}
 use Rattle.net_link.specs.declared.link.Link as paths
-use Rattle.node_session.specs.Receiving.{AreOfEach, HasHeardOne, TellsOf, hands_of, passes_of, session_for, with_job}
 use Rattle.node_session.specs.declared.dispatched.Dispatched.{Dispatched}
 use Rattle.node_session.specs.declared.dispatched.Dispatched.TheVariants as dispatched
-use Rattle.node_session.specs.declared.dispatcher.Dispatcher.{Dispatcher}
-use Rattle.session_run.specs.History.{InTurn, datagram_of}
-use Rattle.session_run.specs.Reception.{ArePushed, CountsTurns, HasDispatched, IsOneFor, TakesTurn, TellsOfClock, link_of, stop_behind, turns_of, was_quiet}
-use Rattle.session_run.specs.declared.reception.Reception.{Reception}
-use Rattle.session_run.specs.declared.stop.Stop.{Stop}
 use Rattle.session_run.specs.declared.stop.Stop.TheVariants as stop
 use Rattle.session_run.proofs.DeskLemmas.{rose_since}
 use Rattle.session_run.proofs.InTurnLemmas.{in_turn_both, in_turn_more}
@@ -181,7 +166,7 @@ module _ {L : Type 0} (tells : paths.Ghosts L) (inboxes : List Inbox) (old new :
   pub clock_told : (d ≢ dispatched.Clock → clock' ≡ clock) → TellsOfClock clock clock' new.stop
   clock_told stood = (
     λ is. clock_on inboxes old.dispatcher new.dispatcher (link_of tells old) (link_of tells new) clock clock' d told
-    (sym stops ∙ is),
+        (sym stops ∙ is),
     λ other. stood (λ is. other (stops ∙ ap (λ (x : Dispatched). stop_behind x) is)),
   )
 

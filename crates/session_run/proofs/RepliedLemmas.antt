@@ -1,14 +1,7 @@
 -- What links of several sessions sent, all together: replies in turn.
 use Rattle.std.proofs.Common.{◌≡◌, ◌≢◌, ◌⊎◌, inl, inr, ℕ, suc, ◌%◌, ◌≤◌, ◌==◌, false, List, [], ◌∷◌, ◌++◌, Option, None, Some, refl, sym, ◌∙◌, arith}
-use Rattle.std.specs.Prelude.{All, IfSome}
-use Rattle.std.proofs.lemmas.Bool.{cases_eq, ne_eqb}
-use Rattle.std.proofs.lemmas.List.{append-nil}
-use Rattle.std.proofs.lemmas.List.Elements.{All-append, All-nil, All-weaker, filter-append}
-use Rattle.gw_base.specs.declared.history.HistoryEntry.{HistoryEntry}
-use Rattle.net_link.specs.Datagrams.{Datagram}
+use Rattle.session_run.proofs.Names.{All, All-append, All-nil, All-weaker, append-nil, cases_eq, Datagram, filter-append, HistoryEntry, IfSome, InTurn, IsFor, IsReplyTo, ne_eqb, ReplyInTurn, sent_by, session_count, those_of}
 use Rattle.net_link.specs.declared.link.Link as paths
-use Rattle.session_run.specs.History.{InTurn, IsFor, IsReplyTo, ReplyInTurn, session_count, those_of}
-use Rattle.session_run.specs.Running.{sent_by}
 use Rattle.session_run.proofs.InTurnLemmas.{filter_none, filter_sub, in_turn_all, in_turn_sub}
 use Rattle.session_run.proofs.TeamLemmas.{joined_holds}
 
@@ -58,7 +51,7 @@ module _ (size : ℕ) (firm : List HistoryEntry) (before now : ℕ) (asked : Lis
       by s (inr apart) =
           let none = none_of s (IsFor session) mine own (λ d at e. apart (sym e ∙ at)) in
           rw (filter-append (λ (d : Datagram). d.peer.ip % session_count == s) others mine, none, append-nil)
-              (rest.each s)
+          (rest.each s)
 
 -- links, each of its session from one on
 module _ {L : Type 0} (tells : paths.Ghosts L) (size : ℕ) (firm : List HistoryEntry) (before now : ℕ) where

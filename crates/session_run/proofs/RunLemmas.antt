@@ -1,38 +1,12 @@
 -- What a gateway that served hands back, by what each of its parts has done.
 use Rattle.std.proofs.Common.{◌≡◌, ◌⊎◌, ℕ, zero, suc, ◌≤◌, Bool, true, List, [], ◌∷◌, ◌++◌, length, Option, None, Some, refl, sym, subst, ◌∙◌, arith}
-use Rattle.std.specs.Prelude.{All, IfSome}
-use Rattle.std.specs.List.{Contains}
-use Rattle.std.proofs.lemmas.List.Elements.{All-contains, All-contains_itself, All-nil}
-use Rattle.std.proofs.lemmas.Option.{IfSome_then}
+use Rattle.session_run.proofs.Names.{added_by, Addr, All, All-contains, All-contains_itself, All-nil, AnswersJob, AreAllSettled, ArePushed, AreSettled, began_at, by_session, caller_of, Contains, Datagram, datagram_of, Desk, Facts, facts_of, Follows, GoesOnUntil, Hand, hand_at, hands_of, HasFailedSince, HasWorked, HaveReplied, HaveServed, IfSome, IfSome_then, InTurn, IsAnswered, IsCalledFor, IsFor, IsHeard, IsJobOf, IsLegal, IsReply, IsReplyTo, Job, KeepsWriter, KeptTurn, Knowledge, known_among, known_at, last_among, latest, latest_of, link_at, link_of, links_of, placed, PushedOf, Reception, RepliesTo, session_count, StaysAs, Team, TellsFailure, WhereTold, Writer}
 use Rattle.area_disk.specs.Disk.{Rose}
 use Rattle.cdr_shelf.specs.declared.shelf.Shelf as shelves
-use Rattle.file_writer.specs.declared.writer.Writer.{Writer}
-use Rattle.gw_base.specs.Facts.{Facts, WhereTold, joined}
-use Rattle.gw_base.specs.declared.address.Addr.{Addr}
-use Rattle.job_inbox.specs.Hands.{AreSettled}
-use Rattle.job_inbox.specs.declared.hand.Hand.{Hand}
-use Rattle.job_inbox.specs.declared.job.Job.{Job}
-use Rattle.net_link.specs.Datagrams.{Datagram}
+use Rattle.gw_base.specs.Facts.{joined}
 use Rattle.net_link.specs.declared.link.Link as paths
-use Rattle.node_session.specs.Receiving.{hands_of}
-use Rattle.node_session.specs.Serving.{caller_of}
 use Rattle.node_session.specs.Writing as writing
-use Rattle.turn_cell.specs.Knowing.{Follows, IsLegal, facts_of}
 use Rattle.turn_cell.specs.Passes.{Ended}
-use Rattle.turn_cell.specs.Placed.{added_by, by_session, placed}
-use Rattle.turn_cell.specs.declared.knowing.KeptTurn.{KeptTurn}
-use Rattle.turn_cell.specs.declared.knowing.Knowledge.{Knowledge}
-use Rattle.session_run.specs.Desks.{HasFailedSince, HasWorked, RepliesTo, began_at, hand_at, known_at, link_at}
-use Rattle.session_run.specs.Ending.{AreAllSettled, known_among, links_of}
-use Rattle.session_run.specs.Filing.{KeepsWriter}
-use Rattle.session_run.specs.History.{AnswersJob, GoesOnUntil, InTurn, IsAnswered, IsCalledFor, IsFor, IsHeard, IsJobOf, IsReply, IsReplyTo, TellsFailure, datagram_of, session_count}
-use Rattle.session_run.specs.Latest.{latest, latest_of}
-use Rattle.session_run.specs.Reception.{ArePushed, PushedOf, link_of}
-use Rattle.session_run.specs.Running.{HaveReplied, StaysAs}
-use Rattle.session_run.specs.Team.{HaveServed, last_among}
-use Rattle.session_run.specs.declared.desk.Desk.{Desk}
-use Rattle.session_run.specs.declared.reception.Reception.{Reception}
-use Rattle.session_run.specs.declared.round.Team.{Team}
 use Rattle.session_run.proofs.AddedLemmas.{all_in_turn, all_sessions, none_added}
 use Rattle.session_run.proofs.DeskLemmas.{begins_then, says_later}
 use Rattle.session_run.proofs.InTurnLemmas.{in_turn_all, in_turn_through, taken_in_turn}
@@ -107,8 +81,15 @@ module _ {F L : Type 0} {files : shelves.Ghosts F} {tells : paths.Ghosts L} {tol
 
     last_of_all : last_among team ≡ latest_of jobs
     last_of_all =
-        cc (served.one.last, served.two.last, served.three.last, served.four.last, latest_of_both (jobs 0) (jobs 1),
-        latest_of_both (jobs 2) (jobs 3), latest_of_both (jobs 0 ++ jobs 1) (jobs 2 ++ jobs 3))
+        cc (
+          served.one.last,
+          served.two.last,
+          served.three.last,
+          served.four.last,
+          latest_of_both (jobs 0) (jobs 1),
+          latest_of_both (jobs 2) (jobs 3),
+          latest_of_both (jobs 0 ++ jobs 1) (jobs 2 ++ jobs 3),
+        )
 
     pub run_goes_on : (last : Option ℕ) → last ≡ last_among team → WhereTold told (GoesOnUntil heard start now last)
     run_goes_on last is y =

@@ -1,12 +1,7 @@
 -- Why a session stopped that served several jobs.
 use Rattle.std.proofs.Common.{◌≡◌, ◌≢◌, ◌⊎◌, inl, inr, ℕ, ◌+◌, ◌<◌, List, [], ◌∷◌, ◌++◌, length, take, Option, None, Some, refl, sym}
-use Rattle.std.specs.Prelude.{slice_index_or}
-use Rattle.std.specs.Option.{option_or}
-use Rattle.std.proofs.lemmas.List.{take_more}
-use Rattle.node_session.specs.declared.served.Served.{Served}
+use Rattle.session_run.proofs.Names.{first_stop, option_or, Served, slice_index_or, Stop, stop_of, take_more}
 use Rattle.node_session.specs.declared.served.Served.TheVariants as served
-use Rattle.session_run.specs.Desks.{first_stop, stop_of}
-use Rattle.session_run.specs.declared.stop.Stop.{Stop}
 use Rattle.session_run.specs.declared.stop.Stop.TheVariants as stop
 
 or_none : (o : Option Stop) → o ≡ option_or o None

@@ -1,27 +1,8 @@
 -- Jobs whose datagrams are taken as they come, and their latest moment.
 use Rattle.std.proofs.Common.{◌≡◌, ℕ, List, [], ◌∷◌, ◌++◌, Option, None, Some, refl, sym, ap, arith, Bool, length, append_assoc}
 use Rattle.std.proofs.Math.Seq.{take-append_seam}
-use Rattle.std.proofs.lemmas.List.{append-nil, take_all}
-use Rattle.std.proofs.lemmas.List.Elements.{All-nil}
-use Rattle.job_inbox.specs.declared.job.Job.{Job}
-use Rattle.area_disk.specs.declared.area.Area.{Ghosts}
-use Rattle.gateway_book.specs.declared.outcome.Outcome.{Outcome}
-use Rattle.job_inbox.specs.declared.hand.Hand.{Hand}
-use Rattle.job_inbox.specs.declared.inbox.Inbox.{Inbox}
-use Rattle.job_inbox.specs.Inbox.{knowledge}
-use Rattle.net_link.specs.Datagrams.{LinkState}
-use Rattle.node_session.specs.Batches.{jobs_of, outcomes_of}
+use Rattle.session_run.proofs.Names.{All-nil, append-nil, AreServed, AreTaken, Desk, FirstAreTaken, Ghosts, Go, GoOn, Hand, HasTaken, Inbox, IsDeskOf, IsTaken, Job, jobs_of, Knowledge, knowledge, knowledge_of, later_of, latest, LinkState, Outcome, outcomes_of, Served, take_all, TurnCell, with_all_taken}
 use Rattle.node_session.specs.Learning.{HasTurnFor}
-use Rattle.node_session.specs.Passes.{knowledge_of}
-use Rattle.node_session.specs.Together.{AreServed, AreTaken, FirstAreTaken, GoOn}
-use Rattle.node_session.specs.declared.gate.Go.{Go}
-use Rattle.node_session.specs.declared.served.Served.{Served}
-use Rattle.turn_cell.specs.declared.cell.TurnCell.{TurnCell}
-use Rattle.turn_cell.specs.declared.knowing.Knowledge.{Knowledge}
-use Rattle.session_run.specs.Latest.{later_of, latest}
-use Rattle.session_run.specs.Desks.{IsDeskOf, with_all_taken}
-use Rattle.session_run.specs.Taking.{HasTaken, IsTaken}
-use Rattle.session_run.specs.declared.desk.Desk.{Desk}
 
 pub later_none : (one : Option ℕ) → later_of one None ≡ one
 later_none None = refl

@@ -1,17 +1,8 @@
 -- What holds of all of a team, and what a team has done in one round, and in the next.
 use Rattle.std.proofs.Common.{◌≡◌, Bool, ℕ, List, [], ◌∷◌, ◌++◌, Option, None, Some}
-use Rattle.std.specs.Prelude.{All, IfSome, slice_index_or}
-use Rattle.std.proofs.lemmas.List.Elements.{All-from_recursion}
+use Rattle.session_run.proofs.Names.{All, All-from_recursion, AreDesksOf, ArePairOf, CountsTurns, Datagram, IfSome, IfTurns, Inbox, joined, Pair, PairWorksOn, Reception, slice_index_or, Team, TeamWorksOn, TurnCell, Until}
 use Rattle.cdr_shelf.specs.declared.shelf.Shelf as shelves
-use Rattle.net_link.specs.Datagrams.{Datagram, joined}
 use Rattle.net_link.specs.declared.link.Link as paths
-use Rattle.job_inbox.specs.declared.inbox.Inbox.{Inbox}
-use Rattle.turn_cell.specs.declared.cell.TurnCell.{TurnCell}
-use Rattle.session_run.specs.Reception.{CountsTurns, IfTurns}
-use Rattle.session_run.specs.Team.{AreDesksOf, ArePairOf, Pair, PairWorksOn, TeamWorksOn}
-use Rattle.session_run.specs.declared.reception.Reception.{Reception}
-use Rattle.session_run.specs.declared.round.Team.{Team}
-use Rattle.session_run.specs.declared.until.Until.{Until}
 use Rattle.session_run.specs.declared.until.Until.TheVariants as until
 
 pub if_some : {X : Type 0} (o : Option X) {P : X → Type 0} → ((x : X) → P x) → IfSome o P

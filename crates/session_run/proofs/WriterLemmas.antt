@@ -1,20 +1,13 @@
 -- What who writes the files has done behind one more step, and of a history that went on.
 use Rattle.std.proofs.Common.{◌≡◌, ◌≤◌, Bool, List, [], ◌++◌, inl, ap, ◌∙◌, arith}
-use Rattle.std.proofs.lemmas.List.Elements.{All-append, All-weaker}
+use Rattle.session_run.proofs.Names.{AddsAnswers, All-append, All-weaker, Began, HasWritten, HistoryEntry, IsAnswerTo, KeepsWriter, Knowledge, WhereTold, Writer}
 use Rattle.cdr_shelf.specs.declared.shelf.Shelf as shelves
 use Rattle.file_writer.specs.Writer.{settings_in, shelf_of}
-use Rattle.file_writer.specs.declared.writer.Writer.{Writer}
 use Rattle.gateway_answer.specs.Filed.{along}
 use Rattle.gateway_answer.specs.Items.{items_by, items_of}
-use Rattle.gw_base.specs.Facts.{WhereTold}
 use Rattle.gw_base.specs.Owes as owes
-use Rattle.gw_base.specs.declared.history.HistoryEntry.{HistoryEntry}
-use Rattle.node_session.specs.Answering.{AddsAnswers, IsAnswerTo}
 use Rattle.node_session.specs.Writing as writing
 use Rattle.node_session.specs.declared.actor.FileActor.{FileActor}
-use Rattle.turn_cell.specs.declared.knowing.Knowledge.{Knowledge}
-use Rattle.session_run.specs.Desks.{Began}
-use Rattle.session_run.specs.Filing.{HasWritten, KeepsWriter}
 use Rattle.session_run.proofs.DeskLemmas.{begins_then}
 
 -- the items of a history begin those of a longer one

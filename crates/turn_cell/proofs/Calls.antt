@@ -1,32 +1,12 @@
 -- The steps, as the calls that make them see their seats.
 use Rattle.std.proofs.Common.{◌≡◌, ℕ, zero, suc, ◌+◌, ◌-◌, ◌<◌, eqb, Bool, List, [], ◌∷◌, ◌++◌, append_assoc, sym, ap, ◌∙◌, subst, arith, Option, Some, None}
-use mathlib.Core.Option.{none}
+use Rattle.turn_cell.proofs.Names.{after_turn, All, All-cons, All-head, All-nil, All-push, All-tail, Allows, AreIn, AreNew, AreSound, behind_first, both, called, Did, drew, either, Facts, facts_of, first_alone, first_of, FoundInPlace, HasCome, HasTaken, HistoryEntry, Holding, IsLegal, IsOwnSession, IsPassIn, IsPlaced, IsSettled, Joins, kept, KeptTurn, Knowledge, knowledge, left, looked, newcomer, newcomers_from, none, Owes, Pass, rest, Resting, seat, Seated, SeatView, settled, Splits, Standing, standing, Step, step, Took, Waiting, WhereTold, without_first}
 use mathlib.Core.List.{map-append}
-use prog.Atomic.{either}
-use Rattle.std.proofs.lemmas.List.Elements.{All-cons, All-head, All-nil, All-push, All-tail}
-use Rattle.std.specs.List.{All}
 use Rattle.atomic_table.specs.Seated.{TableId}
-use Rattle.atomic_table.specs.Table.{Allows, Joins, Splits, Step, rest, step}
-use Rattle.gw_base.specs.Facts.{AreSound, Facts, WhereTold}
-use Rattle.gw_base.specs.declared.history.HistoryEntry.{HistoryEntry}
 use Rattle.turn_cell.proofs.Joins.{joins, splits}
 use Rattle.turn_cell.proofs.Keeps.{R, calls, draws, leaves, looks, placed_on, settles}
 use Rattle.turn_cell.proofs.Lists.{all_first, head_of}
 use Rattle.turn_cell.proofs.TurnLemmas.{legal_own}
-use Rattle.turn_cell.specs.Cell.{AreIn, AreNew, IsPassIn, knowledge}
-use Rattle.turn_cell.specs.Knowing.{IsLegal, after_turn, facts_of, first_of, kept, newcomer, newcomers_from, standing}
-use Rattle.gw_base.specs.Owes.{Owes}
-use Rattle.turn_cell.specs.Passes.{FoundInPlace, IsOwnSession, Took}
-use Rattle.turn_cell.specs.Placed.{IsPlaced}
-use Rattle.turn_cell.specs.Rule.{seat}
-use Rattle.turn_cell.specs.Steps.{Did, Seated, behind_first, both, called, drew, first_alone, left, looked, settled, without_first}
-use Rattle.turn_cell.specs.Taking.{HasCome, HasTaken, IsSettled}
-use Rattle.turn_cell.specs.declared.cell.Pass.{Pass}
-use Rattle.turn_cell.specs.declared.knowing.KeptTurn.{KeptTurn}
-use Rattle.turn_cell.specs.declared.knowing.Knowledge.{Knowledge}
-use Rattle.turn_cell.specs.declared.knowing.SeatView.{SeatView}
-use Rattle.turn_cell.specs.declared.knowing.Stage.TheVariants.{Resting, Waiting, Holding}
-use Rattle.turn_cell.specs.declared.knowing.Standing.{Standing}
 
 module _ {V : Type 0} (told : Bool) (made : ℕ) (facts : V → Facts) (start : Facts) where
   pub draws_at : (slots id next : ℕ) (ks : List Knowledge) (me : Seated V) → me ≡ (seat Resting ks, [])

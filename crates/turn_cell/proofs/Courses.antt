@@ -1,21 +1,10 @@
 -- How a step on a running cell keeps its rule, where it changes what one seat knows.
 use Rattle.std.proofs.Common.{◌≡◌, ◌≢◌, inl, inr, ⊎_elim, ℕ, ◌<◌, ◌≤◌, Bool, List, [], ◌∷◌, length, get_or, set, sym, ap, ◌∙◌, subst, arith, Option}
-use mathlib.Core.Logic.{dite}
-use mathlib.Core.Option.{some}
+use Rattle.turn_cell.proofs.Names.{AreSound, at_set, Course, dite, Facts, facts_of, Fits, get_elem?, HasIt, HasNumber, HasTicket, HasValue, Holding, IsAtStage, IsSomewhere, keeps, Resting, Rule, Runs, SeatView, set_again, set_else, set_here, some, Stands, State, stepped, Waiting, WhereTold, ℕ_discrete}
 use mathlib.Core.Option as maybe
-use native.Mathlib.Decide.{ℕ_discrete}
-use lib.ListN.{get_elem?}
 use lib.Seq.{set-get_or}
-use Rattle.atomic_table.proofs.Lists.{at_set, set_again, set_here, set_else}
-use Rattle.atomic_table.specs.Table.{State, keeps, stepped}
-use Rattle.gw_base.specs.Facts.{AreSound, Facts, WhereTold}
 use Rattle.turn_cell.proofs.Seats.{inside, same_one, passes_set}
-use Rattle.turn_cell.specs.Knowing.{facts_of}
-use Rattle.turn_cell.specs.Placed.{HasNumber, Stands}
-use Rattle.turn_cell.specs.Rule.{Course, Fits, HasIt, HasTicket, HasValue, IsAtStage, IsSomewhere, Rule, Runs}
-use Rattle.turn_cell.specs.declared.knowing.SeatView.{SeatView}
 use Rattle.turn_cell.specs.declared.knowing.Stage.{Stage}
-use Rattle.turn_cell.specs.declared.knowing.Stage.TheVariants.{Resting, Waiting, Holding}
 
 -- who has the value has the ticket whose turn it is
 pub holds_served : (c : Course) (j : ℕ) (stage : Stage) → IsAtStage c j stage → HasIt stage → c.holder c.served ≡ j

@@ -1,11 +1,6 @@
 -- Several turns, one behind the other.
 use Rattle.std.proofs.Common.{◌≡◌, ℕ, ◌+◌, ◌<◌, Bool, List, [], ◌∷◌, ◌++◌, length, take, Option, None, Some, refl, sym, ap, ◌∙◌, subst, append_assoc}
-use Rattle.std.specs.Prelude.{slice_index_or}
-use Rattle.std.proofs.lemmas.List.{append-nil, take_all, take_more}
-use Rattle.gw_base.specs.Facts.{Facts}
-use Rattle.gw_base.specs.declared.history.HistoryEntry.{HistoryEntry}
-use Rattle.turn_cell.specs.Passes.{IsOwnSession, TookEach, TookFor, TookMore}
-use Rattle.turn_cell.specs.declared.knowing.Knowledge.{Knowledge}
+use Rattle.turn_cell.proofs.Names.{append-nil, Facts, HistoryEntry, IsOwnSession, Knowledge, slice_index_or, take_all, take_more, TookEach, TookFor, TookMore}
 
 -- the session that turns name is that of the pass still
 pub own_on : (session : Option ℕ) (before after : Knowledge) → after.number ≡ before.number → IsOwnSession session before → IsOwnSession session after

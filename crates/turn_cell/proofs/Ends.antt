@@ -1,27 +1,9 @@
 -- What is known of a cell at first, and of one whose passes are all in one seat.
 use Rattle.std.proofs.Common.{◌≡◌, ◌≢◌, inl, inr, ⊎_elim, ℕ, zero, suc, ◌+◌, ◌<◌, ◌≤◌, Bool, List, [], ◌∷◌, length, refl, sym, ap, ◌∙◌, subst, arith, Option, Some}
-use mathlib.Core.Logic.{dite}
-use mathlib.Core.Option.{none, some}
+use Rattle.turn_cell.proofs.Names.{All, All-cons, All-nil, All-weaker, append-nil, AreSound, Course, dite, Ended, Facts, facts_of, Final, Fits, Follows, get_elem?, HasIt, HasNumber, HistoryEntry, IsAway, IsHome, IsKept, IsLegal, joined, KeptTurn, Knowledge, newcomer, newcomers, newcomers_from, none, opening, Owns, Resting, Rule, seat, Seated, SeatView, Seen, some, Stands, ℕ_discrete}
 use mathlib.Core.Option as maybe
-use native.Mathlib.Decide.{ℕ_discrete}
-use lib.ListN.{get_elem?}
-use Rattle.std.proofs.lemmas.List.{append-nil}
-use Rattle.std.proofs.lemmas.List.Elements.{All-nil, All-cons, All-weaker}
-use Rattle.std.specs.List.{All}
-use Rattle.atomic_table.specs.Table.{Final, Seen, opening}
-use Rattle.gw_base.specs.Facts.{AreSound, Facts, joined}
-use Rattle.gw_base.specs.declared.history.HistoryEntry.{HistoryEntry}
 use Rattle.turn_cell.proofs.Lists.{begins_more, begins_self, begins_then}
 use Rattle.turn_cell.proofs.Seats.{only_one, passes_at, passes_at_two, same_one}
-use Rattle.turn_cell.specs.Knowing.{Follows, IsLegal, facts_of, newcomer, newcomers, newcomers_from}
-use Rattle.turn_cell.specs.Passes.{Ended}
-use Rattle.turn_cell.specs.Placed.{HasNumber, Owns, Stands}
-use Rattle.turn_cell.specs.Rule.{Course, Fits, HasIt, IsAway, IsHome, IsKept, Rule, seat}
-use Rattle.turn_cell.specs.Steps.{Seated}
-use Rattle.turn_cell.specs.declared.knowing.KeptTurn.{KeptTurn}
-use Rattle.turn_cell.specs.declared.knowing.Knowledge.{Knowledge}
-use Rattle.turn_cell.specs.declared.knowing.SeatView.{SeatView}
-use Rattle.turn_cell.specs.declared.knowing.Stage.TheVariants.{Resting}
 
 some_number : (n : ℕ) (ks : List Knowledge) → HasNumber n ks → 0 < length ks
 some_number n [] h = absurd h

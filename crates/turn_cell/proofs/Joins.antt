@@ -1,25 +1,11 @@
 -- How seats are split and joined.
 use Rattle.std.proofs.Common.{◌≡◌, ◌≢◌, inl, inr, ⊎_elim, ℕ, zero, suc, ◌<◌, ◌==◌, Bool, List, [], ◌∷◌, ◌++◌, length, set, if◌then◌else◌, refl, sym, ap, ◌∙◌, subst, arith, eq-eqb, ne_eqb}
-use mathlib.Core.Logic.{dite}
-use mathlib.Core.Option.{some}
-use native.Mathlib.Decide.{ℕ_discrete}
-use lib.ListN.{get_elem?}
+use Rattle.turn_cell.proofs.Names.{All, All-append, All-cons, All-head, All-nil, All-tail, All-weaker, at_last, at_longer, at_set, Course, dite, Facts, Fits, get_elem?, HasIt, HasNumber, HasTicket, HasValue, IsAway, IsHome, IsKept, Joins, Knowledge, newcomer, newcomers_from, Resting, seat, SeatView, set_else, set_here, some, Splits, ℕ_discrete}
 use Rattle.std.proofs.Math.ListN.{length-set}
-use Rattle.std.proofs.lemmas.List.Elements.{All-nil, All-append, All-cons, All-head, All-tail, All-weaker}
-use Rattle.std.specs.List.{All}
-use Rattle.atomic_table.proofs.Lists.{at_set, at_last, at_longer, set_here, set_else}
-use Rattle.atomic_table.specs.Table.{Splits, Joins}
-use Rattle.gw_base.specs.Facts.{Facts}
 use Rattle.turn_cell.proofs.Courses.{stage_on}
 use Rattle.turn_cell.proofs.Keeps.{R}
 use Rattle.turn_cell.proofs.Lists.{all_both}
 use Rattle.turn_cell.proofs.Seats.{at_snoc_place, has_left, has_right, inside, passes_more, passes_set, same_one}
-use Rattle.turn_cell.specs.Knowing.{newcomer, newcomers_from}
-use Rattle.turn_cell.specs.Placed.{HasNumber}
-use Rattle.turn_cell.specs.Rule.{Course, Fits, HasIt, HasTicket, HasValue, IsAway, IsHome, IsKept, seat}
-use Rattle.turn_cell.specs.declared.knowing.Knowledge.{Knowledge}
-use Rattle.turn_cell.specs.declared.knowing.SeatView.{SeatView}
-use Rattle.turn_cell.specs.declared.knowing.Stage.TheVariants.{Resting}
 
 -- newcomers behind a first number have greater ones
 above : (start : Facts) (first n : ℕ) → All (λ (k : Knowledge). first < k.number) (newcomers_from start (suc first) n)

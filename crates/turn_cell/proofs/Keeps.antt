@@ -1,31 +1,11 @@
 -- Each step on the words keeps the rule, and tells what it says.
 use Rattle.std.proofs.Common.{◌≡◌, ◌≢◌, inl, inr, ⊎_elim, ℕ, ◌+◌, ◌<◌, ◌==◌, eqb, Bool, true, false, List, [], ◌∷◌, ◌++◌, get_or, set, if◌then◌else◌, refl, sym, ap, ◌∙◌, subst, arith, Option, Some, None, eq-eqb, ne_eqb}
-use mathlib.Core.Logic.{dite}
-use mathlib.Core.Option.{none, some, some-injective, some-ne-none}
+use Rattle.turn_cell.proofs.Names.{Adds, after_turn, All, All-cons, All-head, All-nil, All-weaker, Allows, AreSound, at_set, Begins, called, Course, Did, dite, drew, either, Facts, facts_of, get_elem?, gives, HasIt, HasTicket, HistoryEntry, Holding, IsAway, IsHome, IsKept, IsLegal, IsOwnSession, IsPlaced, keeps, Knowledge, left, looked, none, Owes, Owns, Resting, Rule, Runs, Saw, seat, SeatView, set_here, settled, some, some-injective, some-ne-none, Standing, standing, Stands, State, step, stepped, takes, Waiting, WhereTold, ℕ_discrete}
 use mathlib.Core.Option as maybe
-use native.Mathlib.Decide.{ℕ_discrete}
-use lib.ListN.{get_elem?}
-use prog.Atomic.{either}
-use Rattle.std.proofs.lemmas.List.Elements.{All-nil, All-cons, All-head, All-weaker}
-use Rattle.std.specs.List.{All}
-use Rattle.atomic_table.proofs.Lists.{at_set, set_here}
-use Rattle.atomic_table.specs.Table.{State, Allows, step, keeps, takes, gives, stepped}
-use Rattle.gw_base.specs.Facts.{AreSound, Facts, WhereTold}
-use Rattle.gw_base.specs.declared.history.HistoryEntry.{HistoryEntry}
 use Rattle.turn_cell.proofs.Courses.{Brings, holds_served, reseat, same_state, stage_on, stays_somewhere}
 use Rattle.turn_cell.proofs.Lists.{Entries}
 use Rattle.turn_cell.proofs.Seats.{inside, same_one}
 use Rattle.turn_cell.proofs.TurnLemmas.{cut_at, knowing, legal_on, legal_own, legal_seen, owns_on, owns_own, saw, stands_on}
-use Rattle.turn_cell.specs.Knowing.{IsLegal, Saw, after_turn, facts_of, standing}
-use Rattle.gw_base.specs.Owes.{Adds, Begins, Owes}
-use Rattle.turn_cell.specs.Passes.{IsOwnSession}
-use Rattle.turn_cell.specs.Placed.{IsPlaced, Owns, Stands}
-use Rattle.turn_cell.specs.Rule.{Course, HasIt, HasTicket, IsAway, IsHome, IsKept, Rule, Runs, seat}
-use Rattle.turn_cell.specs.Steps.{Did, called, drew, left, looked, settled}
-use Rattle.turn_cell.specs.declared.knowing.Knowledge.{Knowledge}
-use Rattle.turn_cell.specs.declared.knowing.SeatView.{SeatView}
-use Rattle.turn_cell.specs.declared.knowing.Stage.TheVariants.{Resting, Waiting, Holding}
-use Rattle.turn_cell.specs.declared.knowing.Standing.{Standing}
 
 -- a course with other tickets
 abbrev ticketed : Course → ℕ → ℕ → (ℕ → ℕ) → Course

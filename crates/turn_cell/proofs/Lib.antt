@@ -1,4 +1,5 @@
 pub mod Lists
+pub mod Names
 pub mod TurnLemmas
 pub mod Seats
 pub mod Courses

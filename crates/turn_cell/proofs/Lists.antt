@@ -1,14 +1,7 @@
 -- Lists that begin with others, sublists, and entries with what stands in front of them.
 use Rattle.std.proofs.Common.{◌≡◌, ◌≢◌, inl, inr, ⊎_elim, ℕ, ◌≤◌, ◌==◌, Bool, true, false, List, [], ◌∷◌, ◌++◌, length, take, drop, if◌then◌else◌, refl, sym, ap, ◌∙◌, subst, append_assoc, arith}
 use Rattle.std.proofs.lemmas.Bool.{eq-eqb, ne_eqb}
-use Rattle.std.proofs.lemmas.List.{append-nil, take-append-drop, take-append-le}
-use Rattle.std.proofs.lemmas.List.Elements.{All-nil, All-cons, All-head, All-tail}
-use Rattle.std.specs.List.{All}
-use Rattle.gw_base.specs.declared.history.HistoryEntry.{HistoryEntry}
-use Rattle.turn_cell.specs.Knowing.{facts_of}
-use Rattle.gw_base.specs.Owes.{AreAligned, Begins, base}
-use Rattle.turn_cell.specs.Placed.{IsSublist, added_by, by_session, placed}
-use Rattle.turn_cell.specs.declared.knowing.KeptTurn.{KeptTurn}
+use Rattle.turn_cell.proofs.Names.{added_by, All, All-cons, All-head, All-nil, All-tail, append-nil, AreAligned, base, Begins, by_session, facts_of, HistoryEntry, IsSublist, KeptTurn, placed, take-append-drop, take-append-le}
 
 abbrev pub Entries : Type 0
 Entries = List HistoryEntry

@@ -1,11 +1,6 @@
 -- Seats, read by their numbers, and how many passes they have.
 use Rattle.std.proofs.Common.{◌≡◌, ◌≢◌, ◌⊎◌, inl, inr, ⊎_elim, ℕ, zero, suc, ◌+◌, ◌<◌, ◌≤◌, List, [], ◌∷◌, ◌++◌, length, set, refl, sym, ap, ◌∙◌, arith}
-use mathlib.Core.Option.{some, some-injective, some-ne-none}
-use lib.ListN.{get_elem?}
-use Rattle.turn_cell.specs.Placed.{HasNumber}
-use Rattle.turn_cell.specs.Rule.{passes_in}
-use Rattle.turn_cell.specs.declared.knowing.Knowledge.{Knowledge}
-use Rattle.turn_cell.specs.declared.knowing.SeatView.{SeatView}
+use Rattle.turn_cell.proofs.Names.{get_elem?, HasNumber, Knowledge, passes_in, SeatView, some, some-injective, some-ne-none}
 
 module _ {A : Type 0} where
   pub inside : (l : List A) (i : ℕ) (a : A) → get_elem? l i ≡ some a → i < length l

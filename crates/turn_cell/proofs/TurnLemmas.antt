@@ -1,19 +1,8 @@
 -- What a turn keeps of what passes know, on plain lists.
 use Rattle.std.proofs.Common.{◌≡◌, ◌≢◌, ◌⊎◌, inl, inr, ⊎_elim, ℕ, ◌<◌, ◌≤◌, Bool, true, false, [], ◌∷◌, ◌++◌, length, take, refl, sym, ap, ◌∙◌, subst, append_assoc, arith, Option, Some, None}
-use mathlib.Core.Logic.{dite}
-use native.Mathlib.Decide.{ℕ_discrete}
-use Rattle.std.proofs.lemmas.List.{append-nil, length-take-le}
-use Rattle.std.proofs.lemmas.List.Elements.{All-nil, All-weaker, All-append, All-push}
-use Rattle.std.specs.List.{All}
-use Rattle.gw_base.specs.Facts.{AreSound, Facts, joined}
+use Rattle.turn_cell.proofs.Names.{added_by, Adds, after_turn, All, All-append, All-nil, All-push, All-weaker, append-nil, AreAligned, AreBy, AreSound, base, Begins, by_session, dite, Facts, facts_of, Follows, front, HistoryEntry, IsLegal, IsSublist, joined, kept, KeptTurn, Knowledge, length-take-le, Owes, Owns, placed, Saw, Stands, ℕ_discrete}
 use Rattle.gw_base.specs.Faults.{Stood}
-use Rattle.gw_base.specs.declared.history.HistoryEntry.{HistoryEntry}
 use Rattle.turn_cell.proofs.Lists.{Entries, Pairs, added_by-append, after_same, all_first, begins_more, begins_self, begins_take, begins_then, begins_whole, by_other, by_own, by_session-append, placed-append, sub_append, sub_first, sub_nil, take_begun, two_beginnings}
-use Rattle.turn_cell.specs.Knowing.{Follows, IsLegal, Saw, after_turn, facts_of, kept}
-use Rattle.gw_base.specs.Owes.{Adds, AreAligned, AreBy, Begins, Owes, base, front}
-use Rattle.turn_cell.specs.Placed.{IsSublist, Owns, Stands, added_by, by_session, placed}
-use Rattle.turn_cell.specs.declared.knowing.KeptTurn.{KeptTurn}
-use Rattle.turn_cell.specs.declared.knowing.Knowledge.{Knowledge}
 
 module _ (told : Bool) where
   -- the front of sound facts begins their list

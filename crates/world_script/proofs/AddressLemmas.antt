@@ -1,17 +1,6 @@
 -- Lemmas on addresses, offsets and modes: what a word says is printed as a word that says it, and that is as long.
 use Rattle.std.proofs.Common.{◌≡◌, ℕ, ◌+◌, ◌*◌, ◌/◌, ◌%◌, ◌^◌, ◌<◌, ◌≤◌, Bool, true, ◌==◌, if◌then◌else◌, List, [], ◌∷◌, ◌++◌, length, Option, Some, None, option_map, refl, ap, sym, ◌∙◌, subst, arith, append_assoc, length-append, le-leb, ℤ, pos, neg_ℤ, codes, inl, inr}
-use Rattle.std.proofs.lemmas.Bool.Decides.{nat_tests}
-use Rattle.std.proofs.lemmas.Bool.{eqb-true, leb-true}
-use Rattle.std.proofs.lemmas.Option.{same_Some}
-use Rattle.std.proofs.lemmas.Slice.Eq.{bytes_eq-Decides}
-use Rattle.std.specs.Char.{is_ascii_digit}
-use Rattle.std.specs.Fmt.{decimal}
-use Rattle.std.specs.Str.{bytes_eq}
-use Rattle.gw_base.specs.declared.address.Addr.{Addr}
-use Rattle.route_filter.specs.Words.{cut_at, number_up_to}
-use Rattle.world_script.specs.Printing.{address_text, hours_text, mode_text, offset_text, pair_text}
-use Rattle.world_script.specs.Values.{address_of, ip_of, mode_of, offset_of, signed, two_digits}
-use Rattle.world_script.specs.declared.mode.Mode.{Mode}
+use Rattle.world_script.proofs.Names.{Addr, address_of, address_text, bytes_eq, bytes_eq-Decides, cut_at, decimal, eqb-true, hours_text, ip_of, is_ascii_digit, leb-true, Mode, mode_of, mode_text, nat_tests, number_up_to, offset_of, offset_text, pair_text, same_Some, signed, two_digits}
 use Rattle.world_script.specs.declared.mode.Mode.TheVariants as mode
 use Rattle.world_script.proofs.ValueLemmas.{decimal_is_word, number_printed, then_some, where_some, if_cases}
 use Rattle.world_script.proofs.WordLemmas.{AllGlyphs, IsWord}

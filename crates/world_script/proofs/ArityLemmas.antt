@@ -1,15 +1,9 @@
 -- Lemmas on the words of a line: records, one a word, and lines with too few or too many words.
 use Rattle.std.proofs.Common.{◌≡◌, ℕ, ◌+◌, ◌<◌, List, [], ◌∷◌, ◌++◌, length, drop, get_or, map, Option, Some, None, option_map, option_and_then, refl, sym, arith, append_assoc, ◌≢◌, ◌==◌, false, ◌≤◌, Result, Err, subst}
-use Rattle.std.proofs.Math.Seq.{drop-cons}
+use Rattle.world_script.proofs.Names.{Arity, arm_on, arm_said, datagram_said, drop-cons, fail_on, fail_said, in_said, limit_on, limit_said, Line, Mode, octets_in, packet_said, records_of, redirect_on, redirect_said, redirect_to, rule_said, ruled, submit_said}
 use Rattle.std.specs.Borrow.{Bor}
-use Rattle.route_filter.specs.Words.{octets_in}
-use Rattle.world_script.specs.Values.{records_of}
 use Rattle.world_script.specs.Outcome.{Says}
-use Rattle.world_script.specs.Saying.{arm_on, arm_said, datagram_said, fail_on, fail_said, in_said, limit_on, limit_said, packet_said, redirect_on, redirect_said, redirect_to, rule_said, ruled, submit_said}
 use Rattle.world_script.specs.declared.fault.LineFault.{LineFault}
-use Rattle.world_script.specs.declared.line.Line.{Line}
-use Rattle.world_script.specs.declared.mode.Mode.{Mode}
-use Rattle.world_script.specs.declared.fault.InputKind.TheVariants.{Arity}
 
 -- records in front of those of the words that are left
 abbrev pub after_records : List (List ℕ) → Option (List (List ℕ)) → Option (List (List ℕ))

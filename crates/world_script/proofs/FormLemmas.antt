@@ -1,28 +1,13 @@
 -- Lemmas on lines of every form: what a line says is printed as words that say it, and that are no longer.
 use Rattle.std.proofs.Common.{◌≡◌, ℕ, ◌^◌, ◌<◌, ◌≤◌, true, List, [], ◌∷◌, ◌++◌, Option, Some, None, Result, Ok, refl, ap, sym, ◌∙◌, arith, append_assoc, codes, ℤ, append-nil, inl, inr, Bool, false, map}
-use Rattle.std.proofs.lemmas.Grind.{flat_map-append}
-use Rattle.std.specs.Fmt.{decimal}
-use Rattle.std.specs.Option.{ok_or}
-use Rattle.std.specs.Str.{bytes_eq}
-use Rattle.route_filter.specs.Words.{number_up_to, octets_of}
-use Rattle.world_script.specs.Printing.{line_text, offset_text, words_text, gateway_text, armed_text, mode_text, version_text}
-use Rattle.world_script.specs.Saying.{last_moment, limit_said, offset_said, one_between, one_gateway, one_number, read_or, read_then, said_as, said_by, word_said, arm_said, call_of, fail_said, in_said, packet_said, redirect_said, submit_said}
-use Rattle.world_script.specs.Forms.{is_setting}
-use Rattle.world_script.specs.Script.{is_setting_line}
-use Rattle.world_script.specs.Values.{number_between, number_of, offset_of, address_of, mode_of, records_of, version_of}
-use Rattle.world_script.specs.declared.fault.InputKind.{InputKind}
+use Rattle.world_script.proofs.Names.{address_of, arm_said, armed_text, bytes_eq, call_of, decimal, encode_upper, fail_said, flat_map-append, gateway_text, in_said, InputKind, is_setting, is_setting_line, Keyword, last_moment, limit_said, Line, line_text, Mode, mode_of, mode_text, number_between, number_of, number_up_to, octets_of, offset_of, offset_said, offset_text, ok_or, one_between, one_gateway, one_number, packet_said, read_or, read_then, records_of, redirect_said, said_as, said_by, ScriptKind, submit_said, version_of, version_text, word_said, words_text}
 use Rattle.world_script.specs.declared.fault.InputKind.TheVariants as kind
-use Rattle.world_script.specs.declared.keyword.Keyword.{Keyword}
 use Rattle.world_script.specs.declared.keyword.Keyword.TheVariants as keyword
-use Rattle.world_script.specs.declared.kind.ScriptKind.{ScriptKind}
 use Rattle.world_script.specs.declared.kind.ScriptKind.TheVariants as script
-use Rattle.world_script.specs.declared.line.Line.{Line}
 use Rattle.world_script.specs.declared.line.Line.TheVariants as line
 use Rattle.world_script.proofs.AddressLemmas.{offset_printed, same_bytes, address_printed, mode_printed}
 use Rattle.world_script.proofs.ValueLemmas.{any_printed, between_printed, number_printed, if_cases, where_ok}
 use Rattle.world_script.proofs.WordLemmas.{AreWords, span}
-use Rattle.hex.specs.Hex.{encode_upper}
-use Rattle.world_script.specs.declared.mode.Mode.{Mode}
 use Rattle.world_script.proofs.HexadecimalLemmas.{datagram_printed, records_printed, version_printed}
 
 -- the first word of lines of this form

@@ -1,17 +1,12 @@
 -- Lemmas on octets in hexadecimal: how they are read from pairs of digits, and printed as words that say them again.
 use Rattle.std.proofs.Common.{◌≡◌, ◌≢◌, ℕ, ◌+◌, ◌*◌, ◌%◌, ◌<◌, ◌≤◌, List, [], ◌∷◌, ◌++◌, length, take, drop, slice_index, slice_set, Option, Some, None, unwrap_or, option_and_then, Result, Ok, Err, refl, ap, sym, ◌∙◌, arith, append-nil, zero, suc, ◌/◌, map, length-append}
-use Rattle.std.proofs.lemmas.Bool.Decides.{nat_tests}
+use Rattle.world_script.proofs.Names.{decode_of, decode_pairs, decoded, encode_upper, encode_with, hex_digit_value, IsBytes, nat_tests, octets_in, octets_of, pair_value, records_of, same_Some, two_octets, upper_digits, value_at, version_of, version_text, ◌>>=◌}
 use Rattle.std.specs.Result.{result_ok}
 use Rattle.hex.proofs.HexLemmas.{decode_of-even, IsDigits-upper_digits, decode_of-encode_upper, decode_of-ok, length-encode_with}
 use Rattle.hex.proofs.Pairs.{decode_done, decode_err, decode_step, prepend}
-use Rattle.hex.specs.Hex.{decode_of, decode_pairs, hex_digit_value, pair_value, value_at, ◌>>=◌, IsBytes, encode_upper, encode_with, upper_digits}
 use Rattle.hex.specs.declared.error.FromHexError.{FromHexError}
-use Rattle.route_filter.specs.Words.{decoded, octets_in, octets_of}
 use Rattle.world_script.proofs.WordLemmas.{AllGlyphs, AreWords, IsWord, span}
 use Rattle.world_script.proofs.ValueLemmas.{passed, then_some}
-use Rattle.std.proofs.lemmas.Option.{same_Some}
-use Rattle.world_script.specs.Printing.{version_text}
-use Rattle.world_script.specs.Values.{records_of, two_octets, version_of}
 
 -- Digits.
 

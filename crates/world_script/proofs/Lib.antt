@@ -3,6 +3,7 @@ pub mod ArityLemmas
 pub mod FormLemmas
 pub mod HexadecimalLemmas
 pub mod LineLemmas
+pub mod Names
 pub mod PrintedLemmas
 pub mod SampleGrammar
 pub mod SampleLemmas

@@ -1,31 +1,15 @@
 -- Lemmas on one line of a script: its text is no longer than the line that said it, and says it again; and
 -- settings stand before all other lines.
 use Rattle.std.proofs.Common.{◌≡◌, ℕ, ◌+◌, ◌≤◌, Bool, true, false, ◌&&◌, if◌then◌else◌, List, [], ◌∷◌, ◌++◌, length, count_by, Option, Some, None, Result, Ok, Err, refl, ap, sym, ◌∙◌, subst, arith, length-append, inl, inr}
-use Rattle.std.proofs.lemmas.Option.{same_Some}
-use Rattle.std.specs.List.{list_any}
-use Rattle.std.specs.Option.{option_or}
-use Rattle.std.specs.Str.{bytes_eq}
-use Rattle.route_filter.specs.Words.{words_of}
-use Rattle.world_script.specs.Forms.{feed_form, form_in, gateway_form, is_later_in, is_setting, keyword_of, known, network_form, shared_form}
-use Rattle.world_script.specs.Printing.{line_text, words_text}
-use Rattle.world_script.specs.Saying.{said_by}
-use Rattle.world_script.specs.Script.{contented, is_action_line, is_end_line, is_rule_line, is_setting_line, keyed, progress_of, worded, Refusal, onward}
-use Rattle.world_script.specs.Text.{is_blank, is_printable}
-use Rattle.world_script.specs.declared.fault.InputKind.{InputKind}
+use Rattle.world_script.proofs.Names.{and-true, bytes_eq, cases_Bool, contented, feed_form, form_in, gateway_form, InputKind, is_action_line, is_blank, is_end_line, is_later_in, is_printable, is_rule_line, is_setting, is_setting_line, keyed, Keyword, keyword_of, known, Line, line_text, list_any, network_form, onward, option_or, Progress, progress_of, Refusal, said_by, same_Some, ScriptKind, shared_form, worded, words_of, words_text}
 use Rattle.world_script.specs.declared.fault.InputKind.TheVariants as kind
-use Rattle.world_script.specs.declared.keyword.Keyword.{Keyword}
 use Rattle.world_script.specs.declared.keyword.Keyword.TheVariants as keyword
-use Rattle.world_script.specs.declared.kind.ScriptKind.{ScriptKind}
 use Rattle.world_script.specs.declared.kind.ScriptKind.TheVariants as script
-use Rattle.world_script.specs.declared.progress.Progress.{Progress}
-use Rattle.world_script.specs.declared.line.Line.{Line}
 use Rattle.world_script.specs.declared.line.Line.TheVariants as line
 use Rattle.world_script.proofs.AddressLemmas.{same_bytes}
 use Rattle.world_script.proofs.FormLemmas.{is_rule_form, spoken, name}
 use Rattle.world_script.proofs.WordLemmas.{AreWords, IsWord, are_words, joined_printable, length_words, span, words_of_joined, words_span}
 use Rattle.world_script.proofs.ValueLemmas.{ok_if, if_cases, passed, where_ok}
-use Rattle.std.proofs.lemmas.Bool.{cases_Bool}
-use Rattle.std.proofs.Math.Bool.{and-true}
 
 -- The first word is that of the form.
 
@@ -168,7 +152,7 @@ words_printed of before content said r plain other =
     let shows = names_show r.form (words_text s.spoken) in
     let plain_text = joined_printable (name r.form) s.spoken word_of s.are in
     let again : (size : ℕ) → contented (progress_of of size before) (name r.form ++ words_text s.spoken) ≡ Ok said =
-        search (arith, name, words_of_joined) in
+    search (arith, name, words_of_joined) in
     let long : length (line_text of said) ≡ length (name r.form) + span s.spoken =
     ap length s.text ∙ omega (arith, length-append (name r.form) (words_text s.spoken), length_words s.spoken) in
     record {

@@ -1,16 +1,6 @@
 -- Lemmas on the text of a script: it reads as that script.
 use Rattle.std.proofs.Common.{◌≡◌, ℕ, zero, suc, ◌+◌, ◌-◌, ◌<◌, ◌≤◌, Bool, true, false, ◌==◌, nat_lt, if◌then◌else◌, List, [], ◌∷◌, ◌++◌, length, take, slice_get, Ok, Err, refl, ap, sym, ◌∙◌, subst, arith, append_assoc, append-nil, length-append}
-use Rattle.std.proofs.lemmas.Bool.Decides.{nat_tests}
-use Rattle.std.proofs.lemmas.Bool.{cases_lt, le-leb, lt-leb, ltb-false, ne_eqb}
-use Rattle.std.proofs.lemmas.List.{length-take, take_at}
-use Rattle.std.specs.List.{list_any}
-use Rattle.std.specs.Option.{option_map_or}
-use Rattle.world_script.specs.Printing.{ReadsBack, fitted, line_text, lines_text}
-use Rattle.world_script.specs.Script.{Refusal, is_end_line, most_text, progress_of, reading_of, script_after, script_in}
-use Rattle.world_script.specs.Text.{RawLine, is_printable, line_content, line_size, onto_line, raw_lines}
-use Rattle.world_script.specs.declared.fault.InputKind.TheVariants.{NoEnd, TooLong}
-use Rattle.world_script.specs.declared.kind.ScriptKind.{ScriptKind}
-use Rattle.world_script.specs.declared.line.Line.{Line}
+use Rattle.world_script.proofs.Names.{cases_lt, fitted, is_end_line, is_printable, le-leb, length-take, Line, line_content, line_size, line_text, lines_text, list_any, lt-leb, ltb-false, most_text, nat_tests, ne_eqb, NoEnd, onto_line, option_map_or, progress_of, raw_lines, RawLine, reading_of, ReadsBack, Refusal, script_after, script_in, ScriptKind, take_at, TooLong}
 use Rattle.world_script.proofs.LineLemmas.{IsPrintedLine, IsSayable, line_printed, onward_ok}
 use Rattle.world_script.proofs.WordLemmas.{printable_parts}
 use Rattle.world_script.proofs.ScriptLemmas.{not_long}

@@ -1,25 +1,10 @@
 -- Lemmas on samples: a sample is in the grammar.
 use Rattle.std.proofs.Common.{◌≡◌, ℕ, zero, suc, ◌+◌, ◌-◌, ◌*◌, ◌/◌, ◌%◌, ◌^◌, ◌<◌, ◌≤◌, min, nat_lt, Bool, true, false, if◌then◌else◌, List, [], ◌∷◌, ◌++◌, length, map, Option, Some, None, option_and_then, Ok, refl, ap, sym, ◌∙◌, subst, arith, length-append, codes, bit_xor, mod-lt}
-use Rattle.std.proofs.Math.Bool.{or-true}
+use Rattle.world_script.proofs.Names.{after_words, block, block_time, blocks, calm_round, commits, decimal, encode_upper, Extent, first_moment, flat_map-append, is_end_line, IsBytes, Lcg, length-decimal-le, Line, line_text, lines_text, list_any, list_any-append, ltb-false, most_text, opening, or-true, packet_said, packets_from, packets_of, range_with_len, ReadsBack, record_octets, records_of, Replay, runs, sample_of, seeded, stopped_during, stormy, submitted, ticks, times, two_octets, version_of, version_text, wild_round, wild_rounds, word, words_of_block, words_text, writes}
 use Rattle.std.proofs.Math.Nat.{div-le_self, mul-div-le}
-use Rattle.std.proofs.lemmas.Fmt.{length-decimal-le}
-use Rattle.std.proofs.lemmas.Grind.{flat_map-append}
-use Rattle.std.proofs.lemmas.List.Folds.{list_any-append}
 use Rattle.std.proofs.lemmas.Nat.{or_lt}
-use Rattle.std.specs.Fmt.{decimal}
-use Rattle.std.specs.List.{list_any, range_with_len}
-use Rattle.hex.specs.Hex.{IsBytes, encode_upper}
-use Rattle.rand_pcg.specs.Lcg.{Lcg}
 use Rattle.rand_pcg.specs.Pcg.{output_xsh_rr}
-use Rattle.world_script.specs.Printing.{ReadsBack, line_text, lines_text, version_text, words_text}
-use Rattle.world_script.specs.Sample.{after_words, block, block_time, blocks, calm_round, commits, first_moment, opening, packets_from, packets_of, record_octets, runs, sample_of, seeded, stopped_during, stormy, submitted, ticks, times, wild_round, wild_rounds, word, words_of_block, writes}
-use Rattle.world_script.specs.Saying.{packet_said}
-use Rattle.world_script.specs.Script.{is_end_line, most_text}
-use Rattle.world_script.specs.Values.{records_of, two_octets, version_of}
-use Rattle.world_script.specs.declared.extent.Extent.{Extent}
 use Rattle.world_script.specs.declared.keyword.Keyword.TheVariants as keyword
-use Rattle.world_script.specs.declared.kind.ScriptKind.TheVariants.{Replay}
-use Rattle.world_script.specs.declared.line.Line.{Line}
 use Rattle.world_script.specs.declared.line.Line.TheVariants as line
 use Rattle.world_script.proofs.HexadecimalLemmas.{hex_word, printed_length, printed_octets}
 use Rattle.world_script.proofs.PrintedLemmas.{AreSayable, fitting}
@@ -28,7 +13,6 @@ use Rattle.world_script.proofs.FormLemmas.{packet_again, more_words}
 use Rattle.world_script.proofs.SampleTaken.{after_settings}
 use Rattle.world_script.proofs.ValueLemmas.{decimal_is_word, printed_between, printed_number}
 use Rattle.world_script.proofs.WordLemmas.{AreWords, length_words, span}
-use Rattle.std.proofs.lemmas.Bool.{ltb-false}
 
 -- Rounds.
 
@@ -130,7 +114,7 @@ submit_part node packet h k =
     more_words (codes "submit") (decimal node ∷ decimal 1 ∷ []) (version_text 0x0600 ∷ map encode_upper records) in
     let version = hex_word (6 ∷ 0 ∷ []) (omega arith) version_bytes in
     let all : packet_said (decimal node) (decimal 1) (version_text 0x0600) (map encode_upper records) ≡ Ok (submitted node packet) =
-        search (arith, printed_number, version_back) in
+    search (arith, printed_number, version_back) in
     one 92 (submitted node packet)
     (record {
       plain = plain_as keyword.Submit (submitted node packet) words

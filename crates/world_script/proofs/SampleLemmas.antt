@@ -1,15 +1,9 @@
 -- Lemmas on samples: lists that grow by one number at their end.
 use Rattle.std.proofs.Common.{◌≡◌, ℕ, zero, suc, ◌+◌, ◌*◌, ◌%◌, ◌≤◌, Bool, if◌then◌else◌, Option, List, [], ◌∷◌, ◌++◌, map, filter, refl, ap, sym, ◌∙◌, arith, append_assoc}
-use Rattle.std.proofs.lemmas.Bool.{le-ltb}
-use Rattle.std.proofs.lemmas.List.{map-append, map_push, flat_map_more}
+use Rattle.world_script.proofs.Names.{after_words, block, blocks, Extent, flat_map, flat_map_more, Lcg, le-ltb, Line, map-append, map_push, opening, range_with_len, sample_of, seeded, stopped_during, stormy, times, wild_round, word, words_of_block}
 use Rattle.std.proofs.lemmas.List.Elements.{filter-append}
-use Rattle.std.specs.List.{flat_map, range_with_len}
 use Rattle.rand_core.specs.Pcg32Seed.{pcg32_seed}
-use Rattle.rand_pcg.specs.Lcg.{Lcg}
 use Rattle.rand_pcg.specs.Pcg.{pcg32, pcg32_of_seed}
-use Rattle.world_script.specs.Sample.{after_words, block, blocks, opening, sample_of, seeded, stopped_during, times, stormy, wild_round, word, words_of_block}
-use Rattle.world_script.specs.declared.extent.Extent.{Extent}
-use Rattle.world_script.specs.declared.line.Line.{Line}
 use Rattle.world_script.specs.declared.line.Line.TheVariants as line
 
 pub range-snoc : (a n : ℕ) → range_with_len a (suc n) ≡ range_with_len a n ++ (a + n) ∷ []

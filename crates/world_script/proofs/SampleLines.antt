@@ -1,29 +1,14 @@
 -- Lemmas on the lines of samples: each is words, and how long it is.
 use Rattle.std.proofs.Common.{◌≡◌, ℕ, zero, suc, ◌+◌, ◌*◌, ◌^◌, ◌<◌, ◌≤◌, ◌&&◌, ◌||◌, Bool, true, false, if◌then◌else◌, List, [], ◌∷◌, ◌++◌, length, map, filter, Option, Some, Ok, refl, ap, ◌∙◌, subst, arith, length-append}
-use Rattle.std.proofs.lemmas.Fmt.{length-decimal-le}
-use Rattle.std.proofs.lemmas.Grind.{flat_map-append}
-use Rattle.std.proofs.lemmas.List.Folds.{list_any-append}
-use Rattle.std.specs.Fmt.{decimal}
-use Rattle.std.specs.List.{flat_map, list_any, range_with_len}
-use Rattle.world_script.specs.Forms.{is_setting, keyword_of}
-use Rattle.world_script.specs.Printing.{line_text, lines_text, words_text}
-use Rattle.world_script.specs.Saying.{one_number, read_or, said_as, said_by}
-use Rattle.world_script.specs.Script.{is_action_line, is_end_line}
+use Rattle.world_script.proofs.Names.{decimal, flat_map, flat_map-append, flat_map_single, is_action_line, is_end_line, is_setting, Keyword, keyword_of, length-decimal-le, Line, line_text, lines_text, list_any, list_any-append, number_of, number_up_to, ok_or, one_number, range_with_len, read_or, Replay, said_as, said_by, words_text}
 use Rattle.world_script.specs.declared.fault.InputKind.TheVariants as kind
-use Rattle.world_script.specs.declared.keyword.Keyword.{Keyword}
 use Rattle.world_script.specs.declared.keyword.Keyword.TheVariants as keyword
-use Rattle.world_script.specs.declared.kind.ScriptKind.TheVariants.{Replay}
-use Rattle.world_script.specs.declared.line.Line.{Line}
 use Rattle.world_script.specs.declared.line.Line.TheVariants as line
 use Rattle.world_script.proofs.LineLemmas.{IsSayable, again_by_words, names_show}
 use Rattle.world_script.proofs.PrintedLemmas.{AreSayable}
 use Rattle.world_script.proofs.FormLemmas.{name}
 use Rattle.world_script.proofs.ValueLemmas.{decimal_is_word, printed_number}
 use Rattle.world_script.proofs.WordLemmas.{AreWords, IsWord, are_words, joined_printable, length_words, words_of_joined}
-use Rattle.std.proofs.lemmas.List.Concat.{flat_map_single}
-use Rattle.std.specs.Option.{ok_or}
-use Rattle.world_script.specs.Values.{number_of}
-use Rattle.route_filter.specs.Words.{number_up_to}
 
 -- Lines that are words.
 

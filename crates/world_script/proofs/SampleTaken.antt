@@ -1,16 +1,7 @@
 -- Lemmas on samples: the world takes each line of one.
 use Rattle.std.proofs.Common.{◌≡◌, ℕ, zero, suc, ◌+◌, ◌-◌, ◌*◌, ◌%◌, ◌<◌, ◌≤◌, min, not, ◌||◌, ◌==◌, nat_le, nat_lt, Bool, true, false, if◌then◌else◌, List, [], ◌∷◌, ◌++◌, map, filter, Option, Some, None, refl, ap, subst, arith, le-leb, eq-eqb, mod-lt, ◌&&◌}
-use Rattle.std.proofs.lemmas.Bool.Decides.{nat_tests}
-use Rattle.std.proofs.lemmas.Bool.{and_from, and_parts, or_from, or_parts}
-use Rattle.std.specs.List.{flat_map, range_with_len, list_any}
-use Rattle.rand_pcg.specs.Lcg.{Lcg}
-use Rattle.world_script.specs.Sample.{after_words, block, block_time, blocks, calm_round, commits, first_moment, opening, packets_from, packets_of, runs, sample_of, seeded, stopped_during, stormy, submitted, ticks, times, wild_round, wild_rounds, word, words_of_block, writes}
-use Rattle.world_script.specs.World.{Scene, after_line, first_scene, has_gateway, has_node, has_running, is_stopped, takes, takes_all, are_settings_first}
-use Rattle.world_script.specs.declared.extent.Extent.{Extent}
-use Rattle.world_script.specs.declared.line.Line.{Line}
+use Rattle.world_script.proofs.Names.{after_line, after_words, and_from, and_parts, are_settings_first, block, block_time, blocks, calm_round, commits, Extent, first_moment, first_scene, flat_map, flat_map_single, has_gateway, has_node, has_running, is_setting_line, is_stopped, Lcg, Line, list_any, nat_tests, opening, or_from, or_parts, packets_from, packets_of, range_with_len, runs, sample_of, Scene, seeded, stopped_during, stormy, submitted, takes, takes_all, ticks, times, wild_round, wild_rounds, word, words_of_block, writes}
 use Rattle.world_script.specs.declared.line.Line.TheVariants as line
-use Rattle.std.proofs.lemmas.List.Concat.{flat_map_single}
-use Rattle.world_script.specs.Script.{is_setting_line}
 
 -- Lines that the world takes from one scene to another.
 

@@ -1,40 +1,17 @@
 -- Lemmas on the lines of a script: loops that read and print one a turn, a line of a feed that is a datagram with its
 -- octets in one word, and that settings stand before all other lines.
 use Rattle.std.proofs.Common.{◌≡◌, ℕ, ◌+◌, ◌<◌, List, [], ◌∷◌, ◌++◌, length, take, get_or, map, ap, sym, ◌∙◌, append_assoc, ◌||◌, Bool, true, false, if◌then◌else◌, count_by, Ok, Err, arith, length-append, ◌≤◌, nat_lt, Some, None, refl, append-nil, codes, not}
-use Rattle.std.proofs.lemmas.List.Folds.{flat_map-map, list_any-append}
-use Rattle.std.specs.List.{flat_map, list_any}
-use Rattle.hex.specs.Hex.{encode_upper}
-use Rattle.world_script.specs.Printing.{line_text, lines_text, words_text}
-use Rattle.world_script.specs.declared.kind.ScriptKind.{ScriptKind}
-use Rattle.world_script.specs.declared.line.Line.{Line}
-use Rattle.std.proofs.lemmas.List.{flat_map_more, take_more}
-use Rattle.std.proofs.Math.Bool.{or-false}
+use Rattle.world_script.proofs.Names.{Addr, address_of, are_settings_first, behind_in, bytes_eq, bytes_eq-Decides, cond_both, contented, encode_upper, ended_by, Feed, flat_map, flat_map-map, flat_map_more, InputKind, is_action_line, is_blank, is_empty, is_printable, is_setting_line, keyword_of, Line, line_content, line_size, line_text, lines_text, list_any, list_any-append, most_text, NoEnd, not-true, octets_in, one_datagram, or-false, Progress, progress_of, raw_lines, RawLine, read_or, read_then, reading_of, same_Some, script_after, script_in, ScriptKind, take_more, TooLong, words_of, words_text}
 use Rattle.std.proofs.lemmas.List.Sums.{fold-append}
 use Rattle.world_script.specs.Outcome.{progress_after}
-use Rattle.world_script.specs.Script.{ended_by, is_action_line, progress_of, reading_of, script_after, script_in, contented, most_text, is_setting_line}
-use Rattle.world_script.specs.Text.{RawLine, line_size, is_blank, is_printable, line_content, raw_lines}
-use Rattle.world_script.specs.declared.fault.InputKind.{InputKind}
-use Rattle.world_script.specs.declared.fault.InputKind.TheVariants.{NoEnd, TooLong}
-use Rattle.world_script.specs.declared.progress.Progress.{Progress}
-use Rattle.std.proofs.lemmas.Option.{same_Some}
-use Rattle.std.proofs.lemmas.Slice.Eq.{bytes_eq-Decides}
-use Rattle.std.specs.Str.{bytes_eq}
-use Rattle.gw_base.specs.declared.address.Addr.{Addr}
-use Rattle.route_filter.specs.Words.{is_empty, octets_in, words_of}
-use Rattle.world_script.specs.Saying.{behind_in, one_datagram, read_or, read_then}
-use Rattle.world_script.specs.Values.{address_of}
 use Rattle.world_script.specs.declared.fault.InputKind.TheVariants as kind
-use Rattle.world_script.specs.Forms.{keyword_of}
 use Rattle.world_script.specs.declared.keyword.Keyword.TheVariants.{In}
-use Rattle.world_script.specs.declared.kind.ScriptKind.TheVariants.{Feed}
 use Rattle.world_script.specs.declared.line.Line.TheVariants as line
 use Rattle.world_script.proofs.AddressLemmas.{address_word, cut_joined}
 use Rattle.world_script.proofs.HexadecimalLemmas.{octets_glyphs, one_word}
 use Rattle.world_script.proofs.LineLemmas.{again_by_words, line_printed, onward_ok}
 use Rattle.world_script.proofs.ValueLemmas.{then_some, where_some, ok_if, passed}
 use Rattle.world_script.proofs.WordLemmas.{AreWords, IsWord, joined_printable, words_of_joined}
-use Rattle.std.proofs.lemmas.Bool.{not-true, cond_both}
-use Rattle.world_script.specs.World.{are_settings_first}
 
 -- one more item of a list
 more : {A : Type 0} (f : A → List ℕ) (xs : List A) (i : ℕ) (d : A) (old now new : List ℕ) → i < length xs →

@@ -1,19 +1,10 @@
 -- Lemmas on numbers and other values: how a number is read, a digit at a time, and printed as the word that says it.
 use Rattle.std.proofs.Common.{◌≡◌, ℕ, suc, ◌+◌, ◌*◌, ◌<◌, ◌≤◌, nat_le, Bool, true, false, if◌then◌else◌, List, [], ◌∷◌, length, drop, get_or, Option, Some, None, refl, ap, sym, ◌∙◌, arith, ◌^◌, not, ◌==◌, option_and_then, subst, le-leb, Ok, Err, Result, ◌⊎◌}
-use Rattle.std.proofs.Math.Seq.{drop-cons}
-use Rattle.std.proofs.lemmas.Bool.Decides.{nat_tests}
-use Rattle.std.proofs.lemmas.List.{at_drop_all}
-use Rattle.std.specs.Char.{is_ascii_digit, digit_value}
-use Rattle.std.specs.List.{list_all}
+use Rattle.world_script.proofs.Names.{and_parts, at_drop_all, at_most, decimal, decimal-digits_value, decimal_digit, decimal_is_IsNumeral, digit_value, drop-cons, first_decimal, has_decimal_form, is_ascii_digit, is_decimal, leb-true, list_all, nat_tests, number_between, number_of, number_up_to, same_Some, with_digit}
 use Rattle.std.specs.Str.Parse.{digits_value_after, AllDigits, digits_value}
-use Rattle.route_filter.specs.Words.{at_most, has_decimal_form, number_up_to, ◌>>=◌, is_decimal}
-use Rattle.world_script.specs.Values.{with_digit, number_between, number_of}
-use Rattle.std.proofs.lemmas.Bool.{and_parts, leb-true}
-use Rattle.std.proofs.lemmas.Fmt.{decimal-digits_value, decimal_digit, decimal_is_IsNumeral, first_decimal}
-use Rattle.std.proofs.lemmas.Option.{same_Some}
+use Rattle.route_filter.specs.Words.{◌>>=◌}
 use Rattle.std.proofs.lemmas.Str.{digit_value_digit}
 use Rattle.std.proofs.lemmas.Str.Parse.{digit_from_value, numerals_by_value, tells_digits}
-use Rattle.std.specs.Fmt.{decimal}
 use Rattle.std.specs.Int.{IsInRange}
 use Rattle.world_script.proofs.WordLemmas.{AllGlyphs, IsWord}
 

@@ -1,16 +1,7 @@
 -- Lemmas on the lines of a text, and on the words of a line.
 use Rattle.std.proofs.Common.{◌≡◌, ℕ, zero, suc, ◌+◌, ◌<◌, ◌≤◌, Bool, true, false, ◌&&◌, ◌==◌, if◌then◌else◌, List, [], ◌∷◌, length, take, drop, get_or, slice_index, Option, Some, None, option_map, refl, ap, sym, ◌∙◌, subst, arith, not, ◌++◌, append-nil, append_assoc, length-append, filter}
-use Rattle.std.proofs.lemmas.Bool.Decides.{nat_tests}
-use Rattle.std.proofs.Math.Bool.{and-true}
-use Rattle.std.proofs.Math.Seq.{drop-cons}
-use Rattle.std.proofs.lemmas.Bool.{false_from_ne_true, and_parts, leb-true}
-use Rattle.std.proofs.lemmas.List.{at_drop_all}
+use Rattle.world_script.proofs.Names.{and-true, and_parts, at_drop_all, cut_at, drop-cons, false_from_ne_true, is_empty, is_printable, leb-true, list_all-append, nat_tests, onto_first, onto_line, raw_lines, RawLine, slice_split, with_word, words_of, words_text}
 use Rattle.std.specs.Int.{is_in_range}
-use Rattle.route_filter.specs.Words.{cut_at, is_empty, with_word, words_of}
-use Rattle.world_script.specs.Text.{RawLine, is_printable, onto_line, raw_lines}
-use Rattle.std.proofs.lemmas.List.Folds.{list_all-append}
-use Rattle.std.specs.List.{onto_first, slice_split}
-use Rattle.world_script.specs.Printing.{words_text}
 
 -- a text without a line feed is one line, if it has an octet
 abbrev pub one_line : List ℕ → List RawLine

@@ -13,7 +13,7 @@ use Rattle.ber_frame.proofs.frame.walk_through.Goals as goal
 pub returns-in-Some : goal.returns-in-Some
 returns-in-Some c =
     flat_walks c.args.octets.now c.in-Some.tag (are_octets c.args.octets.now (λ i. omega (arith, c.type_inv.octets i)))
-        (sym c.in-Some.ensures)
+    (sym c.in-Some.ensures)
 
 pub loop-walk-preserved : goal.loop-walk-preserved
 loop-walk-preserved c = λ outcome fate.

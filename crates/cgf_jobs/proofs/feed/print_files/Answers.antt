@@ -1,8 +1,5 @@
 use Rattle.std.proofs.Common.{◌≡◌, ℕ, ◌++◌, ap, sym, ◌∙◌, append-nil, arith}
-use Rattle.std.specs.List.{flat_map}
-use Rattle.file_writer.specs.Files.{files_below}
-use Rattle.replay_gateway.specs.GatewayReport.{file_line}
-use Rattle.replay_gateway.specs.Setup.{files_in}
+use Rattle.cgf_jobs.proofs.Names.{file_line, files_below, files_in, flat_map}
 use Rattle.cgf_jobs.proofs.PrintLemmas.{stream_printed}
 use Rattle.cgf_jobs.proofs.feed.print_files.Goals as goal
 

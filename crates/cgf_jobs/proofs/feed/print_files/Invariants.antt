@@ -1,10 +1,5 @@
 use Rattle.std.proofs.Common.{◌≡◌, ◌<◌, ℕ, List, ◌++◌}
-use Rattle.std.specs.List.{flat_map}
-use Rattle.cdr_shelf.specs.Files.{in_stream}
-use Rattle.file_writer.specs.Files.{files_below, stream_files}
-use Rattle.file_writer.specs.Streams.{Settings, stream_count}
-use Rattle.gw_base.specs.declared.item.Item.{Item}
-use Rattle.replay_gateway.specs.GatewayReport.{file_line}
+use Rattle.cgf_jobs.proofs.Names.{file_line, files_below, flat_map, in_stream, Item, Settings, stream_count, stream_files}
 use Rattle.cgf_jobs.proofs.feed.print_files.Given as goal
 
 -- the lines of the files of the streams so far were printed

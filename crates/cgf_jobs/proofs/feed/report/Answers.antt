@@ -1,6 +1,5 @@
 use Rattle.std.proofs.Common.{sym, ◌∙◌, arith}
-use Rattle.std.proofs.lemmas.Option.{slice_get_within}
-use Rattle.cgf_jobs.specs.Steps.{setup_seen, state_of}
+use Rattle.cgf_jobs.proofs.Names.{setup_seen, slice_get_within, state_of}
 use Rattle.cgf_jobs.proofs.FeedLemmas.{feed_begins, feed_ends_if, feed_goes_on, feed_stops, is_seen}
 use Rattle.cgf_jobs.proofs.feed.report.Goals as goal
 

@@ -1,8 +1,6 @@
 use Rattle.std.proofs.Common.{◌≡◌, ◌≤◌, ◌+◌, ◌-◌, length, drop}
-use Rattle.cgf_jobs.specs.FeedReport.{fed_from, fed_of, with_print}
+use Rattle.cgf_jobs.proofs.Names.{fed_from, fed_of, setup_of, state_of, with_print}
 use Rattle.replay_gateway.specs.Settings.{AreSound}
-use Rattle.replay_gateway.specs.Setup.{setup_of}
-use Rattle.cgf_jobs.specs.Steps.{state_of}
 use Rattle.cgf_jobs.proofs.feed.report.Given as goal
 
 -- what was printed, and what is printed for the lines that are left

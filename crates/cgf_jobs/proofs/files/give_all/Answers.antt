@@ -1,10 +1,6 @@
 use Rattle.std.proofs.Common.{◌≡◌, ◌∙◌, refl, sym, ap, subst, ℕ, ◌+◌, ◌<◌, ◌^◌, List, count_by, length, length-drop, length-take, drop, take, take_all, arith, rules}
-use Rattle.cdr_shelf.specs.contracts.quiet.QuietShelfShelf.TheImpl.{ghosts as shelf_tells}
+use Rattle.cgf_jobs.proofs.Names.{GatewayValue, HasAdvanced, is_part, Item, items_of, part_of, shelf_tells}
 use Rattle.file_writer.specs.Making.{ending_at}
-use Rattle.file_writer.specs.Parts.{HasAdvanced, part_of}
-use Rattle.gateway_answer.specs.Items.{is_part, items_of}
-use Rattle.gw_base.specs.declared.item.Item.{Item}
-use Rattle.cgf_jobs.specs.Gateway.{GatewayValue}
 use Rattle.cgf_jobs.proofs.FileLemmas.{counted_on, never_rose}
 use Rattle.cgf_jobs.proofs.files.give_all.Goals as goal
 

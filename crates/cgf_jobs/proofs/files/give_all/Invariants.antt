@@ -1,8 +1,5 @@
 use Rattle.std.proofs.Common.{◌≡◌, ◌+◌, ◌-◌, ◌<◌, ◌≤◌, ◌^◌, count_by, false, length, take}
-use Rattle.cdr_shelf.specs.contracts.quiet.QuietShelfShelf.TheImpl.{ghosts as shelf_tells}
-use Rattle.file_writer.specs.Parts.{HasAdvanced}
-use Rattle.file_writer.specs.Writer.{is_broken, settings_in, taken_of}
-use Rattle.gateway_answer.specs.Items.{is_part, items_of}
+use Rattle.cgf_jobs.proofs.Names.{HasAdvanced, is_broken, is_part, items_of, settings_in, shelf_tells, taken_of}
 use Rattle.cgf_jobs.proofs.files.give_all.Given as goal
 
 -- the items of the parts that were given are taken, and their records counted

@@ -1,9 +1,6 @@
 use Rattle.std.proofs.Common.{ap, refl, ◌∙◌}
-use Rattle.cdr_shelf.specs.Files.{in_stream}
+use Rattle.cgf_jobs.proofs.Names.{files_in, in_stream, items_of, setup_seen}
 use Rattle.cdr_shelf.specs.declared.quiet.QuietShelf.{QuietShelf}
-use Rattle.gateway_answer.specs.Items.{items_of}
-use Rattle.replay_gateway.specs.Setup.{files_in}
-use Rattle.cgf_jobs.specs.Steps.{setup_seen}
 use Rattle.cgf_jobs.proofs.FileLemmas.{files_written}
 use Rattle.cgf_jobs.proofs.files.write_files.Goals as goal
 

@@ -1,6 +1,5 @@
 use Rattle.std.proofs.Common.{sym, subst}
-use Rattle.cgf_jobs.specs.Steps.{IsReport}
-use Rattle.cgf_jobs.specs.declared.command.Command.{Command}
+use Rattle.cgf_jobs.proofs.Names.{Command, IsReport}
 use Rattle.cgf_jobs.proofs.job.report_of.Goals as goal
 
 -- A command that has a seed has a report whatever octets there are.

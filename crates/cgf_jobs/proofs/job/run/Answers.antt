@@ -1,7 +1,6 @@
 use Rattle.std.proofs.Common.{◌∙◌, refl, sym, ap, map, string_bytes, Err, true≢false}
-use Rattle.cgf_jobs.specs.Command.{command_of}
+use Rattle.cgf_jobs.proofs.Names.{command_of, may_have_written}
 use Rattle.cgf_jobs.specs.Job.{job_of}
-use Rattle.cgf_jobs.specs.Run.{may_have_written}
 use Rattle.cgf_jobs.specs.declared.report.NoReport.{NoReport}
 use Rattle.cgf_jobs.specs.declared.status.Status.TheVariants as status
 use Rattle.cgf_jobs.proofs.Clauses.{input_not_words, no_fault, not_words, not_write, ok_is_err, was_taken, words_decide, write_not_words}

@@ -1,12 +1,9 @@
 use Rattle.std.proofs.Common.{◌∙◌, refl, sym, ap, ℕ, List, ◌++◌, arith}
-use Rattle.std.proofs.lemmas.Option.{slice_get_within}
-use Rattle.replay_gateway.specs.Setup.{setup_of}
-use Rattle.replay_world.specs.Value.{replay_of}
+use Rattle.cgf_jobs.proofs.Names.{printed, replay_of, setup_of, slice_get_within}
 use Rattle.cgf_jobs.proofs.EndingLemmas.{ended_told, ended_written, reads_ends}
 use Rattle.replay_world.specs.Summary.{summary_text}
 use Rattle.replay_world.specs.declared.summary.Summary.{Summary}
 use Rattle.cgf_jobs.proofs.NetworkLemmas.{at_end, at_first, at_next, never_refused, ran_network}
-use Rattle.world_script.specs.Printing.{printed}
 use Rattle.cgf_jobs.proofs.network.drill.Goals as goal
 
 pub loop-line-init : goal.loop-line-init

@@ -1,6 +1,5 @@
 use Rattle.std.proofs.Common.{◌∙◌, ap}
-use Rattle.replay_world.specs.Report.{refusal_of_lines}
-use Rattle.cgf_jobs.specs.Command.{extent_of}
+use Rattle.cgf_jobs.proofs.Names.{extent_of, refusal_of_lines}
 use Rattle.cgf_jobs.proofs.network.drill_report_of.Goals as goal
 
 -- the lines are those of a sample

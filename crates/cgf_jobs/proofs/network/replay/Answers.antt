@@ -1,10 +1,7 @@
 use Rattle.std.proofs.Common.{◌∙◌, refl, sym, ℕ, suc, arith}
-use Rattle.std.proofs.lemmas.Option.{slice_get_within}
-use Rattle.replay_gateway.specs.Setup.{setup_of}
-use Rattle.replay_world.specs.Value.{replay_of}
+use Rattle.cgf_jobs.proofs.Names.{printed, replay_of, setup_of, slice_get_within}
 use Rattle.cgf_jobs.proofs.EndingLemmas.{ended_told, ended_written, reads_ends}
 use Rattle.cgf_jobs.proofs.NetworkLemmas.{all_printed, at_end, line_ran, line_refused, none_refused, refused_at, replayed_front, replayed_whole, run_first}
-use Rattle.world_script.specs.Printing.{printed}
 use Rattle.cgf_jobs.proofs.network.replay.Goals as goal
 
 pub loop-line-init : goal.loop-line-init

@@ -1,7 +1,5 @@
 use Rattle.std.proofs.Common.{◌≡◌, sym, arith}
-use Rattle.std.proofs.lemmas.Option.{slice_get_within}
-use Rattle.cdr_shelf.specs.Files.{file_of}
-use Rattle.cgf_jobs.specs.FeedReport.{lines_size}
+use Rattle.cgf_jobs.proofs.Names.{file_of, lines_size, slice_get_within}
 use Rattle.cgf_jobs.proofs.PrintLemmas.{size_counted, size_more}
 use Rattle.cgf_jobs.proofs.printing.make_room.Goals as goal
 

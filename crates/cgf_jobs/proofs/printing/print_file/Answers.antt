@@ -1,7 +1,6 @@
 use Rattle.std.specs.Prelude.{codes}
 use Rattle.std.specs.Fmt.{digits as digits_in}
-use Rattle.hex.specs.Hex.{encode_upper}
-use Rattle.replay_gateway.specs.GatewayReport.{file_name}
+use Rattle.cgf_jobs.proofs.Names.{encode_upper, file_name}
 use Rattle.cgf_jobs.proofs.PrintLemmas.{file_printed}
 use Rattle.cgf_jobs.proofs.printing.print_file.Goals as goal
 

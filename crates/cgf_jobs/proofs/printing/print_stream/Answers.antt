@@ -1,6 +1,5 @@
 use Rattle.std.proofs.Common.{◌++◌, sym, arith}
-use Rattle.std.proofs.lemmas.Option.{slice_get_within}
-use Rattle.cdr_shelf.specs.Files.{file_of}
+use Rattle.cgf_jobs.proofs.Names.{file_of, slice_get_within}
 use Rattle.cgf_jobs.proofs.PrintLemmas.{line_printed, lines_in, lines_printed}
 use Rattle.cgf_jobs.proofs.printing.print_stream.Goals as goal
 

@@ -1,7 +1,5 @@
 use Rattle.std.proofs.Common.{◌≡◌, ◌≤◌, ◌++◌, ◌-◌, length, drop}
-use Rattle.std.specs.List.{flat_map}
-use Rattle.cdr_shelf.specs.Files.{in_stream}
-use Rattle.replay_gateway.specs.GatewayReport.{file_line}
+use Rattle.cgf_jobs.proofs.Names.{file_line, flat_map, in_stream}
 use Rattle.cgf_jobs.proofs.printing.print_stream.Given as goal
 
 -- what was printed, and the lines of the files that are left

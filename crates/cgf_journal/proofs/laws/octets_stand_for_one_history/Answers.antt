@@ -1,6 +1,4 @@
-use Rattle.gate_journal.specs.Format.{header}
-use Rattle.gate_journal.specs.Spelling.{length-header}
-use Rattle.cgf_journal.specs.BatchLaws.{in_batches}
+use Rattle.cgf_journal.proofs.Names.{header, in_batches, length-header}
 use Rattle.cgf_journal.proofs.Meanings.{one_history}
 use Rattle.cgf_journal.proofs.laws.octets_stand_for_one_history.Goals as goal
 

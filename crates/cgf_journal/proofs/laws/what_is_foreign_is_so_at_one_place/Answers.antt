@@ -1,7 +1,5 @@
 use Rattle.std.proofs.Common.{length}
-use Rattle.gate_journal.specs.Format.{header}
-use Rattle.gate_journal.specs.Spelling.{first-header, length-header}
-use Rattle.cgf_journal.specs.Format.{AreBatches}
+use Rattle.cgf_journal.proofs.Names.{AreBatches, first-header, header, length-header}
 use Rattle.cgf_journal.proofs.Meanings.{are_batches-first, foreign_or_starts, one_place}
 use Rattle.cgf_journal.proofs.laws.what_is_foreign_is_so_at_one_place.Goals as goal
 

@@ -1,8 +1,5 @@
 use Rattle.std.proofs.Common.{length}
-use Rattle.gate_journal.specs.Format.{header}
-use Rattle.gate_journal.specs.Spelling.{first-header, length-header}
-use Rattle.cgf_journal.specs.BatchLaws.{in_batches}
-use Rattle.cgf_journal.specs.Format.{AreBatches}
+use Rattle.cgf_journal.proofs.Names.{AreBatches, first-header, header, in_batches, length-header}
 use Rattle.cgf_journal.proofs.Meanings.{are_batches-first, stands_or_foreign, stands_or_starts}
 use Rattle.cgf_journal.proofs.laws.what_stands_is_ours.Goals as goal
 

@@ -1,8 +1,7 @@
 use Rattle.std.proofs.Common.{◌≡◌, ◌-◌, ◌≤◌}
-use Rattle.gate_journal.specs.Journal.{area_of, batches, end}
+use Rattle.cgf_journal.proofs.Names.{AreListed, batches, end, IsJudged, IsTakenUpTo}
+use Rattle.gate_journal.specs.Journal.{area_of}
 use Rattle.gate_journal.specs.Kept.{IsKept}
-use Rattle.cgf_journal.specs.Judged.{IsJudged}
-use Rattle.cgf_journal.specs.Opening.{AreListed, IsTakenUpTo}
 use Rattle.cgf_journal.proofs.listing.list.Given as goal
 
 abbrev pub invariant-loop-gate : goal.invariant-loop-gate

@@ -1,6 +1,5 @@
 use Rattle.std.proofs.Common.{List, ℕ, sym, subst, arith}
-use Rattle.gate_journal.specs.Agreeing.{place_of}
-use Rattle.cgf_journal.specs.Fit.{AreFit}
+use Rattle.cgf_journal.proofs.Names.{AreFit, place_of}
 use Rattle.cgf_journal.proofs.Listings.{no_more}
 use Rattle.cgf_journal.proofs.listing.list_before.Goals as goal
 

@@ -1,7 +1,5 @@
 use Rattle.std.proofs.Common.{◌≡◌, ◌⊎◌, ◌-◌, ◌≤◌}
-use Rattle.gate_journal.specs.Moments.{Kept}
-use Rattle.cgf_journal.specs.Judged.{IsJudged}
-use Rattle.cgf_journal.specs.Opening.{AreListedBefore, IsTakenUpTo}
+use Rattle.cgf_journal.proofs.Names.{AreListedBefore, IsJudged, IsTakenUpTo, Kept}
 use Rattle.cgf_journal.proofs.listing.list_before.Given as goal
 
 abbrev pub invariant-loop-gate : goal.invariant-loop-gate

@@ -1,7 +1,5 @@
 use Rattle.std.proofs.Common.{◌≡◌, ℕ, ◌+◌, List, ◌∷◌, ◌++◌, length, take, ◌∙◌, ap, arith}
-use Rattle.std.proofs.lemmas.List.{length-take-le}
-use Rattle.gate_journal.specs.Agreeing.{place_of}
-use Rattle.cgf_journal.specs.Opening.{AreListedBefore}
+use Rattle.cgf_journal.proofs.Names.{AreListedBefore, length-take-le, place_of}
 use Rattle.cgf_journal.proofs.Listings.{breaks_next, costs_within, goes_on, read_next, taken_next}
 use Rattle.cgf_journal.proofs.listing.take_before.Goals as goal
 

@@ -1,10 +1,6 @@
 use Rattle.std.proofs.Common.{◌≡◌, ℕ, ◌+◌, ◌-◌, List, length, take, refl, ◌∙◌, ap, arith, ◌++◌, ◌∷◌}
-use Rattle.std.proofs.lemmas.Bool.{true≢false}
-use Rattle.std.proofs.lemmas.List.{length-take-le}
+use Rattle.cgf_journal.proofs.Names.{AreListed, batches, end, end_of, length-take-le, true≢false}
 use Rattle.area_disk.specs.CourseLaws.{read_runs, runs_on}
-use Rattle.gate_journal.specs.Format.{end_of}
-use Rattle.gate_journal.specs.Journal.{batches, end}
-use Rattle.cgf_journal.specs.Opening.{AreListed}
 use Rattle.cgf_journal.proofs.Listings.{breaks_next, costs_within, read_next, taken_next, whole_read}
 use Rattle.cgf_journal.proofs.listing.take_next.Goals as goal
 

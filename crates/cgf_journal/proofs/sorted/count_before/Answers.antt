@@ -1,7 +1,5 @@
 use Rattle.std.proofs.Common.{◌∙◌, sym, nat_lt, rules}
-use Rattle.std.proofs.lemmas.List.Sorted.{IsPartitionPoint-from_clause, IsPartitionedBy-ltb}
-use Rattle.cgf_journal.specs.Keys.{rank}
-use Rattle.cgf_journal.specs.declared.key.KeptKey.{KeptKey}
+use Rattle.cgf_journal.proofs.Names.{IsPartitionedBy-ltb, IsPartitionPoint-from_clause, KeptKey, rank}
 use Rattle.cgf_journal.proofs.MergedLemmas.{stays_in_place}
 use Rattle.cgf_journal.proofs.Orders.{before_by, ordered}
 use Rattle.cgf_journal.proofs.sorted.count_before.Goals as goal

@@ -1,7 +1,5 @@
 use Rattle.std.proofs.Common.{nat_lt, arith, rules, refl, sym}
-use Rattle.std.proofs.lemmas.List.Sorted.{IsPartitionPoint-from_clause, IsPartitionedBy-ltb}
-use Rattle.cgf_journal.specs.Keys.{rank, rank_of}
-use Rattle.cgf_journal.specs.declared.key.KeptKey.{KeptKey}
+use Rattle.cgf_journal.proofs.Names.{IsPartitionedBy-ltb, IsPartitionPoint-from_clause, KeptKey, rank, rank_of}
 use Rattle.cgf_journal.proofs.Orders.{absent_at, absent_end, before_by, found_at, not_before_by, ordered}
 use Rattle.cgf_journal.proofs.sorted.search.Goals as goal
 

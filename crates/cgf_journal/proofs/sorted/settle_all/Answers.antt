@@ -1,5 +1,4 @@
-use Rattle.cgf_journal.specs.Keys.{settled_key}
-use Rattle.cgf_journal.specs.declared.key.KeptKey.{KeptKey}
+use Rattle.cgf_journal.proofs.Names.{KeptKey, settled_key}
 use Rattle.cgf_journal.proofs.Orders.{written}
 use Rattle.cgf_journal.proofs.sorted.settle_all.Goals as goal
 

@@ -1,8 +1,6 @@
 use Rattle.std.proofs.Common.{arith}
-use Rattle.std.proofs.lemmas.List.{get_or_default}
+use Rattle.cgf_journal.proofs.Names.{get_or_default, KeptKey, settled_key}
 use Rattle.std.proofs.lemmas.List.Edits.{map_over_more}
-use Rattle.cgf_journal.specs.Keys.{settled_key}
-use Rattle.cgf_journal.specs.declared.key.KeptKey.{KeptKey}
 use Rattle.cgf_journal.proofs.sorted.settle_keys.Goals as goal
 
 pub loop-key-preserved : goal.loop-key-preserved

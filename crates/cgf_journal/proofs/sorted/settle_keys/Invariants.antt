@@ -1,6 +1,5 @@
 use Rattle.std.proofs.Common.{◌≡◌, ◌++◌, take, drop, map}
-use Rattle.cgf_journal.specs.Keys.{settled_key}
-use Rattle.cgf_journal.specs.declared.key.KeptKey.{KeptKey}
+use Rattle.cgf_journal.proofs.Names.{KeptKey, settled_key}
 use Rattle.cgf_journal.proofs.sorted.settle_keys.Given as goal
 
 -- the keys so far are settled, and the others are as they were

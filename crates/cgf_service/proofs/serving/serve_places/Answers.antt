@@ -1,6 +1,5 @@
 use Rattle.std.proofs.Common.{sym, ap, arith, map, option_map, string_bytes, Option}
-use Rattle.cgf_service.specs.Serving.{serve_places_in}
-use Rattle.cgf_service.specs.declared.serving.Serving.{Serving}
+use Rattle.cgf_service.proofs.Names.{serve_places_in, Serving}
 use Rattle.cgf_service.proofs.ServingWords.{other_words, places_there}
 use Rattle.cgf_service.proofs.serving.serve_places.Goals as goal
 

@@ -1,7 +1,5 @@
 use Rattle.std.proofs.Common.{◌≡◌, ◌-◌, ◌<◌, ℕ, List, length}
-use Rattle.std.specs.Io.KnownBytes.{Appends, Consumes}
-use Rattle.cgf_service.specs.StreamEnds.{most_stream}
-use Rattle.cgf_service.specs.StreamSteps.{IsGoingOn}
+use Rattle.cgf_service.proofs.Names.{Appends, Consumes, IsGoingOn, most_stream}
 use Rattle.cgf_service.proofs.stream.serve.Given as goal
 
 -- these octets came, and this was sent for them

@@ -1,6 +1,5 @@
 use Rattle.std.proofs.Common.{sym, ap, arith, map, option_map, string_bytes, Option}
-use Rattle.cgf_service.specs.Streaming.{stream_places_in}
-use Rattle.cgf_service.specs.declared.streaming.Streaming.{Streaming}
+use Rattle.cgf_service.proofs.Names.{stream_places_in, Streaming}
 use Rattle.cgf_service.proofs.StreamWords.{other_words, places_there}
 use Rattle.cgf_service.proofs.streaming.stream_places.Goals as goal
 

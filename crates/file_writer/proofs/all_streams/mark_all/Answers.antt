@@ -1,8 +1,5 @@
 use Rattle.std.proofs.Common.{◌≡◌, ℕ, ◌+◌, List, [], ◌∷◌, slice_index_or, sym, subst, arith}
-use Rattle.gw_base.specs.declared.item.Item.{Item}
-use Rattle.file_writer.specs.AllStreams.{StreamAt, mark_told}
-use Rattle.file_writer.specs.Calls.{calls_below, stream_calls}
-use Rattle.file_writer.specs.Streams.{stream_count}
+use Rattle.file_writer.proofs.Names.{calls_below, Item, mark_told, stream_calls, stream_count, StreamAt}
 use Rattle.file_writer.proofs.AllLemmas.{all_done, below_more, below_next, below_none, not_yet}
 use Rattle.file_writer.proofs.FollowingLemmas.{no_result}
 use Rattle.file_writer.proofs.MakingLemmas.{makes_none, makes_then, stopped_at, by_calls}

@@ -1,5 +1,4 @@
-use Rattle.file_writer.specs.AllStreams.{HasMarked, mark_told}
-use Rattle.file_writer.specs.Writing.{settings_of}
+use Rattle.file_writer.proofs.Names.{HasMarked, mark_told, settings_of}
 use Rattle.file_writer.proofs.all_streams.mark_all.Given as goal
 
 abbrev pub invariant-loop-s : goal.invariant-loop-s

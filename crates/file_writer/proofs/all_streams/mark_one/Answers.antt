@@ -1,10 +1,5 @@
 use Rattle.std.proofs.Common.{ℕ, ◌+◌, [], ◌∷◌, arith}
-use Rattle.gw_base.specs.declared.item.Item.{Item}
-use Rattle.file_writer.specs.AllStreams.{StreamAt, mark_told, up_to}
-use Rattle.file_writer.specs.Calls.{stream_calls}
-use Rattle.file_writer.specs.Following.{mark_item}
-use Rattle.file_writer.specs.Streams.{stream_division}
-use Rattle.file_writer.specs.declared.stream.Stream.{Stream}
+use Rattle.file_writer.proofs.Names.{Item, mark_item, mark_told, Stream, stream_calls, stream_division, StreamAt, up_to}
 use Rattle.file_writer.proofs.AllLemmas.{all_done, at_stays, calls_are, each_set, mark_stream_item, not_yet, safe_set, taken_at, up_to_other}
 use Rattle.file_writer.proofs.FollowingLemmas.{no_result}
 use Rattle.file_writer.proofs.LeavingLemmas.{left_set}

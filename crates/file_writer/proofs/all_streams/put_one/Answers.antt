@@ -1,9 +1,6 @@
 use Rattle.std.proofs.Common.{◌≡◌, ℕ, List, [], ◌∷◌, ◌++◌, slice_index_or, sym, ◌∙◌, arith}
-use Rattle.file_rotate.specs.Items.{Item, Record}
-use Rattle.file_writer.specs.AllStreams.{StreamAt}
-use Rattle.file_writer.specs.Calls.{calls_below}
-use Rattle.file_writer.specs.Streams.{stream_count, stream_division, stream_item, stream_record}
-use Rattle.file_writer.specs.declared.stream.Stream.{Stream}
+use Rattle.file_writer.proofs.Names.{calls_below, Record, Stream, stream_count, stream_division, stream_item, stream_record, StreamAt}
+use Rattle.file_rotate.specs.Items.{Item}
 use Rattle.file_writer.proofs.AllLemmas.{at_stays, calls_are, each_set, not_taken, only_calls, safe_set, taken_at}
 use Rattle.file_writer.proofs.AmongLemmas.{number_within}
 use Rattle.file_writer.proofs.FollowingLemmas.{no_result}

@@ -1,10 +1,5 @@
 use Rattle.std.proofs.Common.{◌≡◌, ℕ, ◌+◌, ◌-◌, ◌^◌, List, [], ◌∷◌, ◌++◌, length, take, drop, sym, ap, ◌∙◌, subst, arith, append_assoc}
-use Rattle.std.proofs.lemmas.List.{take-append-drop, take_all}
-use Rattle.gw_base.specs.declared.item.Item.{Item}
-use Rattle.file_writer.specs.AllStreams.{AllAt, GoesShut}
-use Rattle.file_writer.specs.Calls.{calls_below, calls_of}
-use Rattle.file_writer.specs.Leaving.{AreAmong}
-use Rattle.file_writer.specs.Streams.{stream_count, Settings}
+use Rattle.file_writer.proofs.Names.{AllAt, AreAmong, calls_below, calls_of, GoesShut, Item, Settings, stream_count, take-append-drop, take_all}
 use Rattle.file_writer.proofs.AllLemmas.{calls-append, calls-one, take_next}
 use Rattle.file_writer.proofs.AmongLemmas.{among_fewer, among_next, in_front}
 use Rattle.file_writer.proofs.FollowingLemmas.{no_result}

@@ -1,5 +1,4 @@
-use Rattle.file_writer.specs.AllStreams.{HasTakenSome}
-use Rattle.file_writer.specs.Writing.{settings_of}
+use Rattle.file_writer.proofs.Names.{HasTakenSome, settings_of}
 use Rattle.file_writer.proofs.all_streams.take_all.Given as goal
 
 abbrev pub invariant-loop-item : goal.invariant-loop-item

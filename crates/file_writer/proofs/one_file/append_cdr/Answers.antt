@@ -1,9 +1,6 @@
 use Rattle.std.proofs.Common.{◌≡◌, List, [], ◌∷◌, ℕ, length, ◌++◌, sym, subst, ◌∙◌, arith}
-use Rattle.cdr_file.specs.CdrFile.{cdr_header_length}
+use Rattle.file_writer.proofs.Names.{appended, cdr_header_length, StepsAt, Writes}
 use Rattle.cdr_file.specs.Laws.{length-cdr_header_octets}
-use Rattle.cdr_shelf.specs.Steps.{StepsAt}
-use Rattle.file_writer.specs.Calls.{Writes}
-use Rattle.file_writer.specs.Writing.{appended}
 use Rattle.file_writer.proofs.MakingLemmas.{makes_then, stopped_at}
 use Rattle.file_writer.proofs.WritingLemmas.{has_longer, on_ok, takes_end, written_both}
 use Rattle.file_writer.proofs.one_file.append_cdr.Goals as goal

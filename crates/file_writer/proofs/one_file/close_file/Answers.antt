@@ -1,11 +1,7 @@
 use Rattle.std.proofs.Common.{◌≡◌, ℕ, List, [], ◌∷◌, ◌++◌, length, Option, refl, ap, ◌∙◌, arith}
-use Rattle.cdr_file.specs.CdrFile.{header_length, header_of}
+use Rattle.file_writer.proofs.Names.{body_of, FiledKind, header_length, header_of, Seals, settings_of, UnsealedFile, Writes}
 use Rattle.cdr_file.specs.FileHeader.{header_octets}
-use Rattle.cdr_file.specs.declared.filed_kind.FiledKind.{FiledKind}
-use Rattle.cdr_shelf.specs.Files.{UnsealedFile}
-use Rattle.file_writer.specs.Writing.{body_of, settings_of}
 use Rattle.file_writer.proofs.WritingLemmas.{named_file, sealed_of}
-use Rattle.file_writer.specs.Calls.{Writes, Seals}
 use Rattle.file_writer.proofs.MakingLemmas.{makes_then, stopped_at}
 use Rattle.file_writer.proofs.one_file.close_file.Goals as goal
 

@@ -1,11 +1,5 @@
 use Rattle.std.proofs.Common.{arith, ◌+◌, Bool, Option, [], ◌∷◌, subst, sym}
-use Rattle.std.proofs.lemmas.Bool.{lt-leb}
-use Rattle.cdr_file.specs.CdrFile.{FiledRecord}
-use Rattle.cdr_file.specs.declared.run.RunFacts.{RunFacts}
-use Rattle.cdr_shelf.specs.Files.{UnsealedFile}
-use Rattle.cdr_shelf.specs.declared.file_name.FileName.{FileName}
-use Rattle.file_writer.specs.Calls.{Writes}
-use Rattle.file_writer.specs.Writing.{GrownWhere, IsBegun, beginning_of, filed_of, name_in}
+use Rattle.file_writer.proofs.Names.{beginning_of, filed_of, FiledRecord, FileName, GrownWhere, IsBegun, lt-leb, name_in, RunFacts, UnsealedFile, Writes}
 use Rattle.file_writer.proofs.MakingLemmas.{ended_at, makes_then, stopped_at}
 use Rattle.file_writer.proofs.WritingLemmas.{grown_at, is_fresh, makes_unsealed}
 use Rattle.file_writer.proofs.progress.append.Goals as goal

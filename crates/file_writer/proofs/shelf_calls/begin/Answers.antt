@@ -1,6 +1,5 @@
 use Rattle.std.proofs.Common.{Err, ap}
-use Rattle.cdr_shelf.specs.Steps.{is_memory}
-use Rattle.cdr_shelf.specs.declared.shelf.ShelfStop.{ShelfStop}
+use Rattle.file_writer.proofs.Names.{is_memory, ShelfStop}
 use Rattle.file_writer.proofs.ShuttingLemmas.{begins, failed, went}
 use Rattle.file_writer.proofs.shelf_calls.begin.Goals as goal
 

@@ -1,8 +1,5 @@
 use Rattle.std.proofs.Common.{◌≡◌, ◌⊎◌, ◌∙◌, ◌++◌, List, [], ◌∷◌, if◌then◌else◌, ap, arith}
-use Rattle.area_disk.specs.Plan.{next_fate}
-use Rattle.cdr_shelf.specs.Files.{SealedFile}
-use Rattle.cdr_shelf.specs.Steps.{is_done}
-use Rattle.file_writer.specs.Calls.{Seals}
+use Rattle.file_writer.proofs.Names.{is_done, next_fate, SealedFile, Seals}
 use Rattle.file_writer.proofs.MakingLemmas.{one_failed, one_went}
 use Rattle.file_writer.proofs.ShuttingLemmas.{seals_shut}
 use Rattle.file_writer.proofs.shelf_calls.seal.Goals as goal

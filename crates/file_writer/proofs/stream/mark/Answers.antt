@@ -1,14 +1,6 @@
 use Rattle.std.proofs.Common.{◌≡◌, ℕ, List, Option, None, sym, ap, ◌∙◌, subst, arith}
-use Rattle.cdr_file.specs.declared.closure.ClosureReason.{ClosureReason}
-use Rattle.file_rotate.specs.Cutting.{Cutting, file_of, mark_reason}
-use Rattle.file_rotate.specs.Division.{Cuts, cuts_at, run_after, still}
-use Rattle.file_rotate.specs.Items.{Filed, Item}
-use Rattle.file_rotate.specs.declared.cut.Cut.{Cut}
-use Rattle.file_rotate.specs.declared.open_file.OpenFile.{OpenFile}
-use Rattle.file_writer.specs.Calls.{calls_at, closed_by}
-use Rattle.file_writer.specs.Following.{Follows, IsBehind, Pairs, mark_item}
-use Rattle.file_writer.specs.Making.{Ending, Makes, Went}
-use Rattle.file_writer.specs.Writing.{ClosesOpen, closing_of, settings_of}
+use Rattle.file_writer.proofs.Names.{calls_at, closed_by, ClosesOpen, closing_of, ClosureReason, Cut, Cuts, cuts_at, Cutting, Ending, file_of, Filed, Follows, IsBehind, Makes, mark_item, mark_reason, OpenFile, Pairs, run_after, settings_of, still, Went}
+use Rattle.file_rotate.specs.Items.{Item}
 use Rattle.file_writer.proofs.FollowingLemmas.{close_follows, close_stays, close_up, closed_count, closed_sealed, makes_closing, mark_calls, mark_closes, mark_cuts_is, mark_file_is, mark_run, no_answer, only_before, pairs_closed}
 use Rattle.file_writer.proofs.LeavingLemmas.{close_left}
 use Rattle.file_writer.proofs.MakingLemmas.{ended_at}
@@ -32,8 +24,11 @@ module _ (g : given.Over) (c : After-close g) where
 
     cuts : only_before c.reason_of.result ≡ cuts_at c.args.stream.cutter.limits run item
     cuts =
-        cc (is_reason, mark_cuts_is c.args.stream.cutter.limits (file_of run) c.args.closes c.args.moment,
-        c.cutter_keeps_the_run.ensures.cuts c.args.stream.cutter.limits run item)
+        cc (
+          is_reason,
+          mark_cuts_is c.args.stream.cutter.limits (file_of run) c.args.closes c.args.moment,
+          c.cutter_keeps_the_run.ensures.cuts c.args.stream.cutter.limits run item,
+        )
 
     -- the calls are those for the item
     makes : (ended : Ending)

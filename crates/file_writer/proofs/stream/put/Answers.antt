@@ -1,22 +1,8 @@
 use Rattle.std.proofs.Common.{◌≡◌, ◌≤◌, ◌+◌, IsTrue, ℕ, List, length, Option, Some, None, sym, ap, ◌∙◌, subst, arith}
-use Rattle.cdr_file.specs.CdrFile.{FiledRecord}
-use Rattle.cdr_file.specs.Profile.{IsFiledKind, in_profile}
-use Rattle.cdr_file.specs.declared.closure.ClosureReason.{ClosureReason}
-use Rattle.cdr_file.specs.declared.filed_kind.FiledKind.{FiledKind}
-use Rattle.file_rotate.specs.Cutting.{Cutting, file_with, kind_change, limit_reached, record_file, with_record}
-use Rattle.file_rotate.specs.Division.{cuts_at, still}
-use Rattle.file_rotate.specs.Items.{AreLimits, Filed, Record}
-use Rattle.file_rotate.specs.declared.limits.Limits.{Limits}
-use Rattle.file_rotate.specs.declared.cut.Cut.{Cut}
-use Rattle.file_rotate.specs.declared.open_file.OpenFile.{OpenFile}
-use Rattle.file_writer.specs.Calls.{closed_by}
-use Rattle.file_writer.specs.Following.{IsBehind, Pairs}
-use Rattle.file_writer.specs.Streams.{stream_record}
-use Rattle.file_writer.specs.Writing.{IsGrown, filed_of, grown, settings_of}
+use Rattle.file_writer.proofs.Names.{AreLimits, closed_by, ClosureReason, Cut, cuts_at, Cutting, file_with, Filed, filed_of, FiledKind, FiledRecord, grown, in_profile, IsBehind, IsFiledKind, IsGrown, kind_change, limit_reached, Limits, OpenFile, Pairs, Progress, Record, record_file, settings_of, still, stream_record, with_record}
 use Rattle.file_writer.proofs.FollowingLemmas.{FactsLaws, append_stays, append_up, close_stays, close_up, grown_closes, pairs_closed, pairs_grown, record_closes, stays_then}
 use Rattle.file_writer.proofs.LeavingLemmas.{append_left, close_left}
 use Rattle.file_writer.proofs.PuttingLemmas.{all_went, first_ended, number_1, second_ended, third_ended}
-use Rattle.file_writer.specs.declared.progress.Progress.{Progress}
 use Rattle.file_writer.proofs.stream.put.Goals as goal
 use Rattle.file_writer.proofs.stream.put.Goals.{In_ok-file, In_ok-file-2}
 

@@ -1,7 +1,5 @@
 use Rattle.std.proofs.Common.{◌≡◌, ◌+◌, length, Some, sym, ◌∙◌, subst, arith}
-use Rattle.gate_journal.specs.Format.{end_of}
-use Rattle.gate_journal.specs.Verdicts.{IsBehind, content_at}
-use Rattle.gate_journal.specs.Agreeing.{listed_before, small_before}
+use Rattle.gate_journal.proofs.Names.{content_at, end_of, IsBehind, listed_before, small_before}
 use Rattle.gate_journal.proofs.Finding.{content_found}
 use Rattle.gate_journal.proofs.before.batch_before.Goals as goal
 

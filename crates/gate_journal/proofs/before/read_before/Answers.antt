@@ -1,7 +1,5 @@
 use Rattle.std.proofs.Common.{take, drop, sym, ◌∙◌, ap}
-use Rattle.gate_journal.specs.Format.{end_of, length_at}
-use Rattle.gate_journal.specs.Agreeing.{batch_before}
-use Rattle.area_disk.specs.CourseLaws.{read_runs}
+use Rattle.gate_journal.proofs.Names.{batch_before, end_of, length_at, read_runs}
 use Rattle.gate_journal.proofs.Turns.{other_bool}
 use Rattle.gate_journal.proofs.before.read_before.Goals as goal
 

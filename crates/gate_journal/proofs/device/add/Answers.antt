@@ -1,11 +1,8 @@
 use Rattle.std.proofs.Common.{◌≡◌, ◌+◌, ◌≤◌, List, ℕ, length, ap, subst, arith, rules}
-use Rattle.area_disk.specs.Disk.{Torn}
+use Rattle.gate_journal.proofs.Names.{is_err, join, Outcome3, Torn, widen}
 use Rattle.gate_journal.proofs.Laying.{staged, length-staged, behind_gate, at_gate, gate_opened}
-use Rattle.std.specs.Prelude.{is_err}
-use Rattle.area_disk.specs.declared.plan.Outcome3.{Outcome3}
 use Rattle.gate_journal.proofs.Plans.{append_stopped, append_ended}
 use Rattle.gate_journal.proofs.Counts.{more_calls}
-use Rattle.area_disk.specs.MomentLaws.{widen, join}
 use Rattle.gate_journal.proofs.device.add.Goals as goal
 
 pub returns-in_err-put-clause-any_moment : goal.returns-in_err-put-clause-any_moment

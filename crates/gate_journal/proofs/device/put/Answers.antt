@@ -1,9 +1,7 @@
 use Rattle.gate_journal.proofs.Counts.{one_call, more_calls}
 use Rattle.std.proofs.Common.{ℕ, List, length, ap, subst, sym, rules}
-use Rattle.area_disk.specs.Disk.{Torn}
-use Rattle.area_disk.specs.MomentLaws.{begin, step, torn_write}
+use Rattle.gate_journal.proofs.Names.{begin, is_err, step, Torn, torn_write}
 use Rattle.area_disk.specs.Octets.{torn_same}
-use Rattle.std.specs.Prelude.{is_err}
 use Rattle.gate_journal.proofs.Plans.{put_failed, put_synced}
 use Rattle.gate_journal.proofs.device.put.Goals as goal
 

@@ -1,8 +1,6 @@
 use Rattle.std.proofs.Common.{ℕ, List, get_or, ◌∙◌, sym, ap, subst, rules}
-use Rattle.gate_journal.specs.Format.{header}
-use Rattle.gate_journal.specs.Opening.{IsLaid}
+use Rattle.gate_journal.proofs.Names.{first-header, header, IsLaid}
 use Rattle.gate_journal.proofs.Openings.{below_first, laid_listed}
-use Rattle.gate_journal.specs.Spelling.{first-header}
 use Rattle.gate_journal.proofs.opening.lay.Goals as goal
 
 pub lay_front-requires-clause-first : goal.lay_front-requires-clause-first

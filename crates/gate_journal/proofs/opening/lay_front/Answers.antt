@@ -1,8 +1,7 @@
 use Rattle.std.proofs.Common.{rules}
 use Rattle.gate_journal.proofs.Turns.{length-rest}
 use Rattle.gate_journal.proofs.Laying.{laid_blank, laid_gate, torn_blank, torn_gate, on_ok}
-use Rattle.area_disk.specs.MomentLaws.{widen}
-use Rattle.std.proofs.lemmas.List.{length-append}
+use Rattle.gate_journal.proofs.Names.{length-append, widen}
 use Rattle.gate_journal.proofs.opening.lay_front.Goals as goal
 
 pub returns-then-blank-clause-laid : goal.returns-then-blank-clause-laid

@@ -1,9 +1,7 @@
 use Rattle.std.proofs.Common.{inl, refl, ap, subst, arith, rules}
-use Rattle.gate_journal.specs.Format.{header}
-use Rattle.gate_journal.specs.Verdicts.{IsScanned, LiesIn}
+use Rattle.gate_journal.proofs.Names.{header, IsScanned, length-header, LiesIn}
 use Rattle.gate_journal.specs.declared.faults.OpenFault.TheVariants.{NotOurs}
 use Rattle.gate_journal.proofs.Openings.{scanned_listed, scanned_broken, shut_or_broken}
-use Rattle.gate_journal.specs.Spelling.{length-header}
 use Rattle.gate_journal.proofs.Apart.{one_broken}
 use Rattle.gate_journal.proofs.opening.list.Goals as goal
 

@@ -1,7 +1,6 @@
 use Rattle.std.proofs.Common.{rules}
 use Rattle.gate_journal.proofs.Seen.{length_read}
-use Rattle.area_disk.specs.CourseLaws.{read_on, read_runs}
-use Rattle.area_disk.specs.MomentLaws.{kept_read}
+use Rattle.gate_journal.proofs.Names.{kept_read, read_on, read_runs}
 use Rattle.gate_journal.proofs.Turns.{other_bool}
 use Rattle.gate_journal.proofs.reading.length_behind.Goals as goal
 

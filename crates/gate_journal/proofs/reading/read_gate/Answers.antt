@@ -1,6 +1,5 @@
 use Rattle.std.proofs.Common.{rules}
-use Rattle.area_disk.specs.MomentLaws.{kept_trans}
-use Rattle.area_disk.specs.CourseLaws.{runs_on}
+use Rattle.gate_journal.proofs.Names.{kept_trans, runs_on}
 use Rattle.gate_journal.proofs.Turns.{other_bool}
 use Rattle.gate_journal.proofs.reading.read_gate.Goals as goal
 

@@ -1,11 +1,6 @@
 use Rattle.std.proofs.Common.{ℕ, List, sym, ◌∙◌, ap, subst, arith, rules}
-use Rattle.std.specs.Prelude.{IsTrue}
-use Rattle.byteorder.specs.Endian.{big_bytes}
-use Rattle.gate_journal.specs.Verdicts.{IsBehind, Fits}
-use Rattle.gate_journal.specs.declared.reading.Behind.TheVariants.{Whole}
+use Rattle.gate_journal.proofs.Names.{big_bytes, Fits, IsBehind, IsTrue, kept_refl, kept_trans, runs_on, Whole}
 use Rattle.gate_journal.proofs.Openings.{none_below, one_more}
-use Rattle.area_disk.specs.MomentLaws.{kept_refl, kept_trans}
-use Rattle.area_disk.specs.CourseLaws.{runs_on}
 use Rattle.gate_journal.proofs.Turns.{other_bool}
 use Rattle.gate_journal.proofs.reading.scan.Goals as goal
 

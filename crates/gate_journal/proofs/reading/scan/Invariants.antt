@@ -1,7 +1,5 @@
 use Rattle.std.proofs.Common.{◌≡◌, ◌<◌, ◌≤◌, ◌-◌}
-use Rattle.std.specs.Prelude.{IsTrue}
-use Rattle.gate_journal.specs.Moments.{Kept}
-use Rattle.gate_journal.specs.Verdicts.{AreBelow}
+use Rattle.gate_journal.proofs.Names.{AreBelow, IsTrue, Kept}
 use Rattle.gate_journal.proofs.reading.scan.Given as goal
 
 abbrev pub invariant-batches : goal.invariant-batches

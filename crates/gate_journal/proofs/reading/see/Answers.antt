@@ -1,6 +1,5 @@
 use Rattle.std.proofs.Common.{refl, rules}
-use Rattle.area_disk.specs.CourseLaws.{read_on_trans, runs_on}
-use Rattle.area_disk.specs.MomentLaws.{follow, kept_leaves}
+use Rattle.gate_journal.proofs.Names.{follow, kept_leaves, read_on_trans, runs_on}
 use Rattle.gate_journal.proofs.Plans.{sync_ran}
 use Rattle.gate_journal.proofs.Turns.{other_bool}
 use Rattle.gate_journal.proofs.reading.see.Goals as goal

@@ -1,6 +1,5 @@
 use Rattle.std.proofs.Common.{rules}
-use Rattle.gate_journal.specs.Agreeing.{same_not_starts}
-use Rattle.gate_journal.specs.Spelling.{length-header, first-header}
+use Rattle.gate_journal.proofs.Names.{first-header, length-header, same_not_starts}
 use Rattle.gate_journal.proofs.Turns.{other_bool}
 use Rattle.gate_journal.proofs.starting.starts.Goals as goal
 

@@ -1,7 +1,5 @@
 use Rattle.std.proofs.Common.{◌≡◌, [], ap, ◌∙◌, arith}
-use Rattle.entry_codec.specs.Spelling.{cost_of}
-use Rattle.gw_base.specs.declared.history.HistoryAct.{HistoryAct}
-use Rattle.gateway_answer.specs.Answered.{entry_by, no_caller}
+use Rattle.gateway_answer.proofs.Names.{cost_of, entry_by, HistoryAct, no_caller}
 use Rattle.gateway_answer.proofs.PlainLemmas.{rest_costs}
 use Rattle.gateway_answer.proofs.costs.costs_of.Goals as goal
 

@@ -1,7 +1,6 @@
 use Rattle.std.proofs.Common.{◌≡◌, ◌+◌, ◌++◌, length}
-use Rattle.gtpp_message.specs.Packet.{packet_octets}
+use Rattle.gateway_answer.proofs.Names.{filed_under, packet_octets, records_from}
 use Rattle.gtpp_message.specs.Values.{packet_value}
-use Rattle.gateway_answer.specs.Filed.{filed_under, records_from}
 use Rattle.gateway_answer.proofs.filing.file_records.Given as goal
 
 -- the records so far, and those that are left, are those of the whole packet

@@ -1,6 +1,5 @@
 use Rattle.std.proofs.Common.{◌≡◌, ℕ, ◌-◌, ◌<◌, ◌==◌, true, false, List, drop, sym, ap, ◌∙◌, arith}
-use Rattle.std.specs.Prelude.{slice_index_or}
-use Rattle.std.specs.List.{list_any}
+use Rattle.gateway_answer.proofs.Names.{list_any, slice_index_or}
 use Rattle.gateway_answer.proofs.FitLemmas.{differ_on, same_here, within_on}
 use Rattle.gateway_answer.proofs.fit.are_distinct.Goals as goal
 

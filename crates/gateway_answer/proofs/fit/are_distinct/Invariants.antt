@@ -1,6 +1,5 @@
 use Rattle.std.proofs.Common.{◌≡◌, ◌≤◌, true, drop, length}
-use Rattle.gateway_answer.specs.Fit.{are_distinct}
-use Rattle.gateway_answer.specs.Numbers.{AreWithin}
+use Rattle.gateway_answer.proofs.Names.{are_distinct, AreWithin}
 use Rattle.gateway_answer.proofs.fit.are_distinct.Given as goal
 
 -- the numbers from this place on differ, and lie between the bounds

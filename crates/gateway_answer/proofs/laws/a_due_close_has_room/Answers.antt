@@ -1,5 +1,4 @@
-use Rattle.gw_base.specs.History.{moment_after}
-use Rattle.gateway_answer.specs.Answered.{no_caller}
+use Rattle.gateway_answer.proofs.Names.{moment_after, no_caller}
 use Rattle.gateway_answer.proofs.laws.a_due_close_has_room.Goals as goal
 
 pub returns : goal.returns

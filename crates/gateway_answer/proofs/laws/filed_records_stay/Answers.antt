@@ -1,7 +1,6 @@
 use Rattle.std.proofs.Common.{[]}
-use Rattle.gateway_answer.specs.Filed.{filed_by}
+use Rattle.gateway_answer.proofs.Names.{filed_by, items_by}
 use Rattle.gateway_answer.specs.FiledLaws.{along-append}
-use Rattle.gateway_answer.specs.Items.{items_by}
 use Rattle.gateway_answer.proofs.laws.filed_records_stay.Goals as goal
 
 pub returns-clause-records : goal.returns-clause-records

@@ -1,6 +1,5 @@
 use Rattle.std.proofs.Common.{◌≡◌, ◌≤◌, drop, length, map}
-use Rattle.gw_base.specs.Nearest.{nearest}
-use Rattle.gateway_answer.specs.Asked.{held_ones}
+use Rattle.gateway_answer.proofs.Names.{held_ones, nearest}
 use Rattle.gateway_answer.proofs.ListsLemmas.{held_from}
 use Rattle.gateway_answer.proofs.listing.find_few.Given as goal
 

@@ -1,6 +1,5 @@
 use Rattle.std.proofs.Common.{ℕ, List, ap, sym, subst, ◌∙◌, map, arith}
-use Rattle.gw_base.specs.Nearest.{nearest}
-use Rattle.gateway_answer.specs.WireMarks.{AreMarked}
+use Rattle.gateway_answer.proofs.Names.{AreMarked, nearest}
 use Rattle.gateway_answer.proofs.ListsLemmas.{held_from, held_is, none_marked}
 use Rattle.gateway_answer.proofs.listing.find_many.Goals as goal
 

@@ -1,7 +1,5 @@
 use Rattle.std.proofs.Common.{◌≡◌, ◌≤◌, drop, length, map}
-use Rattle.gw_base.specs.Nearest.{nearest}
-use Rattle.gateway_answer.specs.Asked.{held_ones}
-use Rattle.gateway_answer.specs.WireMarks.{AreMarked}
+use Rattle.gateway_answer.proofs.Names.{AreMarked, held_ones, nearest}
 use Rattle.gateway_answer.proofs.ListsLemmas.{held_from}
 use Rattle.gateway_answer.proofs.listing.find_many.Given as goal
 

@@ -1,12 +1,6 @@
 use Rattle.std.proofs.Common.{◌≡◌, ◌∙◌, ℕ, List, subst}
-use Rattle.std.specs.Prelude.{IfOk}
-use Rattle.gw_base.specs.Observed.{observed}
-use Rattle.gw_base.specs.declared.address.Addr.{Addr}
-use Rattle.gw_base.specs.declared.history.HistoryEntry.{HistoryEntry}
-use Rattle.gateway_answer.specs.Answer.{Decided, answer_within, decided, node_of}
-use Rattle.gateway_answer.specs.Answered.{answer, room_for}
+use Rattle.gateway_answer.proofs.Names.{Addr, answer, answer_within, Decided, decided, HistoryEntry, IfOk, node_of, observed, prepared_of, PreparedValue, room_for}
 use Rattle.gateway_answer.specs.Plain.{answer_view}
-use Rattle.gateway_answer.specs.Preparing.{PreparedValue, prepared_of}
 use Rattle.gateway_answer.proofs.plain.answer.Goals as goal
 
 -- what is answered by the same history, octets and size

@@ -1,9 +1,5 @@
 use Rattle.std.proofs.Common.{false, Some, ap, ◌∙◌}
-use Rattle.gateway_book.specs.Adding.{room_in, room_told}
-use Rattle.gateway_answer.specs.Answer.{node_of}
-use Rattle.gateway_answer.specs.Cases.{case_value}
-use Rattle.gateway_index.specs.Index.{observed_by}
-use Rattle.gateway_book.specs.declared.adding.Done.{Done}
+use Rattle.gateway_book.proofs.Names.{case_value, Done, node_of, observed_by, room_in, room_told}
 use Rattle.gateway_book.proofs.AddingLemmas.{answer_alike, said_with, said_without, silent_with, silent_without}
 use Rattle.gateway_book.proofs.adding.answer.Goals as goal
 

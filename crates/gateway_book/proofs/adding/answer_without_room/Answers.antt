@@ -1,9 +1,5 @@
 use Rattle.std.proofs.Common.{◌≡◌, List, ℕ, sym, ap, ◌∙◌}
-use Rattle.std.specs.Option.{option_map}
-use Rattle.gw_base.specs.Entry.{act_view}
-use Rattle.gateway_answer.specs.Answer.{Says}
-use Rattle.gateway_answer.specs.Decisions.{decision_view}
-use Rattle.gateway_answer.specs.declared.decision.Decision.{Decision}
+use Rattle.gateway_book.proofs.Names.{act_view, Decision, decision_view, option_map, Says}
 use Rattle.gateway_book.proofs.adding.answer_without_room.Goals as goal
 
 pub returns-in-Reply-clause-said : goal.returns-in-Reply-clause-said

@@ -1,5 +1,4 @@
-use Rattle.gateway_book.specs.Book.{size_of}
-use Rattle.gateway_answer.specs.Preparing.{prepared_of}
+use Rattle.gateway_book.proofs.Names.{prepared_of, size_of}
 use Rattle.gateway_book.proofs.armed.delivered.Goals as goal
 
 pub returns : goal.returns

@@ -1,7 +1,5 @@
 use Rattle.std.proofs.Common.{subst}
-use Rattle.std.specs.Prelude.{◌≡◌, IfOk}
-use Rattle.gateway_answer.specs.Items.{items_between}
-use Rattle.gateway_answer.specs.Value.{BookValue}
+use Rattle.gateway_book.proofs.Names.{BookValue, IfOk, items_between, ◌≡◌}
 use Rattle.gateway_book.proofs.armed.told.Goals as goal
 
 pub returns : goal.returns

@@ -1,8 +1,5 @@
 use Rattle.std.proofs.Common.{ℕ, List, subst, ap, ◌∙◌, length, arith}
-use Rattle.std.specs.Prelude.{is_err}
-use Rattle.std.proofs.lemmas.Bool.{false≢true}
-use Rattle.gw_base.specs.declared.history.HistoryEntry.{HistoryEntry}
-use Rattle.gateway_book.specs.Cursor.{IsWithin}
+use Rattle.gateway_book.proofs.Names.{false≢true, HistoryEntry, is_err, IsWithin}
 use Rattle.gateway_book.proofs.CursorLemmas.{end_items, stands_still}
 use Rattle.gateway_book.proofs.ReadLemmas.{read_on}
 use Rattle.gateway_book.proofs.cursor.gather.Goals as goal

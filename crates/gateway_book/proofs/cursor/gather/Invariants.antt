@@ -1,9 +1,5 @@
 use Rattle.std.proofs.Common.{◌≡◌, ◌-◌, List}
-use Rattle.gate_journal.specs.Moments.{Told}
-use Rattle.cgf_journal.specs.Trail.{area_of, firm_length}
-use Rattle.gw_base.specs.declared.history.HistoryEntry.{HistoryEntry}
-use Rattle.gateway_book.specs.Cursor.{IsAt, IsWithin, StandsIn, gathered_at_last}
-use Rattle.gateway_book.specs.Read.{IsRead}
+use Rattle.gateway_book.proofs.Names.{area_of, firm_length, gathered_at_last, HistoryEntry, IsAt, IsRead, IsWithin, StandsIn, Told}
 use Rattle.gateway_book.proofs.cursor.gather.Given as goal
 
 -- in the end as much is gathered

@@ -1,7 +1,5 @@
 use Rattle.std.proofs.Common.{sym, ◌∙◌, eqb-true, eq-eqb, true≢false, arith}
-use Rattle.cgf_journal.specs.Trail.{firm_length}
-use Rattle.gw_base.specs.Entry.{entry_view}
-use Rattle.gateway_book.specs.HeldCopies.{places_of}
+use Rattle.gateway_book.proofs.Names.{entry_view, firm_length, places_of}
 use Rattle.gateway_book.proofs.CursorLemmas.{at_more, at_still, below_up, full_on, passed_on, was_gathered, within_more}
 use Rattle.gateway_book.proofs.ReadLemmas.{read_on}
 use Rattle.gateway_book.proofs.cursor.step.Goals as goal

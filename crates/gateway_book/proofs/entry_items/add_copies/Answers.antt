@@ -1,7 +1,5 @@
 use Rattle.std.proofs.Common.{ℕ, refl, sym, ap, subst, ◌∙◌}
-use Rattle.std.specs.Prelude.{is_err}
-use Rattle.std.proofs.lemmas.Bool.{false≢true}
-use Rattle.gateway_book.specs.HeldCopies.{AreBelow, places_of}
+use Rattle.gateway_book.proofs.Names.{AreBelow, false≢true, is_err, places_of}
 use Rattle.gateway_book.proofs.CursorLemmas.{held_still}
 use Rattle.gateway_book.proofs.ItemsLemmas.{released_end, released_on}
 use Rattle.gateway_book.proofs.ReadLemmas.{read_on}

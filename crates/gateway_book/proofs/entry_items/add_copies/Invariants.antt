@@ -1,11 +1,5 @@
 use Rattle.std.proofs.Common.{◌≡◌, List, drop}
-use Rattle.gate_journal.specs.Moments.{Told}
-use Rattle.cgf_journal.specs.Trail.{area_of, firm_length}
-use Rattle.gw_base.specs.declared.history.HistoryEntry.{HistoryEntry}
-use Rattle.gateway_book.specs.Cursor.{AreHeldIn}
-use Rattle.gateway_book.specs.Gathering.{gathered}
-use Rattle.gateway_book.specs.HeldCopies.{AreBelow, places_of}
-use Rattle.gateway_book.specs.Read.{IsRead}
+use Rattle.gateway_book.proofs.Names.{area_of, AreBelow, AreHeldIn, firm_length, gathered, HistoryEntry, IsRead, places_of, Told}
 use Rattle.gateway_book.proofs.ItemsLemmas.{released_items}
 use Rattle.gateway_book.proofs.entry_items.add_copies.Given as goal
 

@@ -1,9 +1,5 @@
 use Rattle.std.proofs.Common.{◌≡◌, List, [], ℕ, OnOk, Option, ap, subst, sym, ◌∙◌, map}
-use Rattle.std.specs.Option.{option_map_or}
-use Rattle.gw_base.specs.Entry.{entry_view}
-use Rattle.gateway_answer.specs.Filed.{filed_under, present_key}
-use Rattle.gateway_book.specs.Gathering.{gathered}
-use Rattle.gateway_answer.specs.Items.{part_of}
+use Rattle.gateway_book.proofs.Names.{entry_view, filed_under, gathered, option_map_or, part_of, present_key}
 use Rattle.gateway_answer.specs.declared.filing.FiledRecord.{FiledRecord}
 use Rattle.gateway_book.proofs.CursorLemmas.{released_in}
 use Rattle.gateway_book.proofs.ItemsLemmas.{none_more}

@@ -1,8 +1,5 @@
 use Rattle.std.proofs.Common.{◌≡◌, List, OnOk, ap, subst}
-use Rattle.gw_base.specs.Entry.{act_view, entry_view}
-use Rattle.gw_base.specs.declared.item.Item.{Item}
-use Rattle.gateway_answer.specs.Filed.{present_key}
-use Rattle.gateway_book.specs.Gathering.{gathered}
+use Rattle.gateway_book.proofs.Names.{act_view, entry_view, gathered, Item, present_key}
 use Rattle.gateway_book.proofs.ItemsLemmas.{file_items, release_items}
 use Rattle.gateway_book.proofs.entry_items.add_items.Goals as goal
 

@@ -1,5 +1,4 @@
-use Rattle.cgf_journal.specs.Trail.{firm_entries, is_closed, waiting}
-use Rattle.gateway_book.specs.Book.{size_of}
+use Rattle.gateway_book.proofs.Names.{firm_entries, is_closed, size_of, waiting}
 use Rattle.gateway_book.proofs.StandingLemmas.{front_few, history_knows_few}
 use Rattle.gateway_book.proofs.laws.a_book_is_within_the_limits.Goals as goal
 

@@ -1,8 +1,5 @@
-use Rattle.gateway_answer.specs.Answer.{decided}
-use Rattle.gateway_book.specs.Calls.{given_at, left_by, marked_if_ready}
-use Rattle.gateway_answer.specs.Marks.{close_mark, tick_mark}
+use Rattle.gateway_book.proofs.Names.{close_mark, decided, given_at, history_of, left_by, marked_if_ready, tick_mark}
 use Rattle.gateway_book.specs.UpLaws.{has_committed, has_readied, mark_keeps, taken_keeps}
-use Rattle.gateway_answer.specs.Value.{history_of}
 use Rattle.gateway_book.proofs.laws.a_gateway_goes_as_armed.Goals as goal
 
 pub returns-clause-commit : goal.returns-clause-commit

@@ -1,7 +1,5 @@
 use Rattle.std.proofs.Common.{◌≡◌, ℕ, refl}
-use Rattle.gtpp_message.specs.Message.{MessageValue, EchoRequest}
-use Rattle.gtpp_message.specs.Writing.{written}
-use Rattle.gateway_book.specs.Calls.{cause_in, cause_of}
+use Rattle.gateway_book.proofs.Names.{cause_in, cause_of, EchoRequest, MessageValue, written}
 use Rattle.gateway_book.proofs.laws.a_reply_has_its_cause.Goals as goal
 
 by_message : (number : ℕ) (message : MessageValue) → cause_in (written number message) ≡ cause_of message

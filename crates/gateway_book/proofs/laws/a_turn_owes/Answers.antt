@@ -1,6 +1,4 @@
-use Rattle.gateway_answer.specs.Marks.{close_mark, tick_mark}
-use Rattle.gateway_book.specs.Book.{fortune_of, value_of}
-use Rattle.gateway_answer.specs.Value.{history_of, readied}
+use Rattle.gateway_book.proofs.Names.{close_mark, fortune_of, history_of, readied, tick_mark, value_of}
 use Rattle.gateway_book.proofs.TurnLemmas.{committed_turn, failed_none, marked_turn, read_turn, readied_behind, readied_turn, taken_turn}
 use Rattle.gateway_book.proofs.laws.a_turn_owes.Goals as goal
 

@@ -1,15 +1,10 @@
 use Rattle.std.proofs.Common.{◌≡◌, ℕ, if◌then◌else◌, Bool, List, ap, ◌∙◌}
 use Rattle.gw_base.specs.Nearest.{nearest}
-use Rattle.gw_base.specs.Observed.{Observed, observed}
+use Rattle.gateway_book.proofs.Names.{answer_within, HistoryEntry, is_act_fit, key_seen, node_of, NodeId, Observed, observed}
 use Rattle.gw_base.specs.Starts.{start_of}
-use Rattle.gw_base.specs.declared.address.NodeId.{NodeId}
-use Rattle.gw_base.specs.declared.history.HistoryEntry.{HistoryEntry}
 use Rattle.gateway_index.specs.Windows.{if_held, narrowed}
-use Rattle.gateway_answer.specs.Answer.{answer_within, node_of}
-use Rattle.gateway_answer.specs.Fit.{is_act_fit}
 use Rattle.gateway_answer.specs.FitLaws.{nearest_in_window}
 use Rattle.gateway_answer.specs.Told.{key_of}
-use Rattle.gateway_book.specs.Lookups.{key_seen}
 use Rattle.gateway_book.proofs.observed.an_index_is_enough.Goals as goal
 
 -- what a number on the wire means lies in the window

@@ -1,8 +1,6 @@
 use Rattle.std.proofs.Common.{sym, ap, ◌∙◌}
-use Rattle.std.specs.Prelude.{is_err}
-use Rattle.std.proofs.lemmas.Bool.{true≢false}
+use Rattle.gateway_book.proofs.Names.{area_of, is_err, true≢false}
 use Rattle.area_disk.specs.CourseLaws.{read_runs}
-use Rattle.cgf_journal.specs.Trail.{area_of}
 use Rattle.gateway_book.proofs.ReadLemmas.{begins_with}
 use Rattle.gateway_book.proofs.reading.read_entry.Goals as goal
 

@@ -1,8 +1,5 @@
 use Rattle.std.proofs.Common.{◌≡◌, ◌<◌, ◌^◌, ◌∙◌, ap, arith, List, count_by, drop, length, take}
-use Rattle.gateway_book.specs.Book.{value_of}
-use Rattle.gateway_answer.specs.Items.{is_part, items_between, items_of}
-use Rattle.gateway_answer.specs.Value.{BookValue}
-use Rattle.gw_base.specs.declared.item.Item.{Item}
+use Rattle.gateway_book.proofs.Names.{BookValue, is_part, Item, items_between, items_of, value_of}
 use Rattle.gateway_book.proofs.PieceLemmas.{counted_last, counted_more, goes_on_within, unchanged_then}
 use Rattle.gateway_book.proofs.records.count_records.Goals as goal
 

@@ -1,8 +1,6 @@
 use Rattle.std.proofs.Common.{◌≡◌, ◌+◌, ◌-◌, ◌≤◌, ◌^◌, length, take}
-use Rattle.gate_journal.specs.Moments.{Told}
-use Rattle.gateway_book.specs.Book.{area_of, value_of}
-use Rattle.gateway_answer.specs.Items.{items_of, part_count}
-use Rattle.gateway_book.specs.Read.{IsUnchanged}
+use Rattle.gateway_book.proofs.Names.{IsUnchanged, items_of, part_count, Told, value_of}
+use Rattle.gateway_book.specs.Book.{area_of}
 use Rattle.gateway_book.proofs.records.count_records.Given as goal
 
 -- the items up to a place were counted

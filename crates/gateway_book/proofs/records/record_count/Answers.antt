@@ -1,7 +1,6 @@
 use Rattle.std.proofs.Common.{ℕ, List, take, count_by, ap, ◌∙◌, arith}
 use Rattle.std.proofs.Math.Seq.{take-length}
-use Rattle.gw_base.specs.declared.item.Item.{Item}
-use Rattle.gateway_answer.specs.Items.{is_part}
+use Rattle.gateway_book.proofs.Names.{is_part, Item}
 use Rattle.gateway_book.proofs.records.record_count.Goals as goal
 
 pub returns-clause-parts : goal.returns-clause-parts

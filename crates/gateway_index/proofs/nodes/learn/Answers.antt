@@ -1,6 +1,5 @@
 use Rattle.std.proofs.Common.{List, ap, ◌∙◌, arith}
-use Rattle.gateway_index.specs.Nodes.{place_in}
-use Rattle.gateway_index.specs.declared.nodes.Slot.{Slot}
+use Rattle.gateway_index.proofs.Names.{place_in, Slot}
 use Rattle.gateway_index.proofs.NodeLemmas.{learnt_known, learnt_new}
 use Rattle.gateway_index.proofs.SlotLemmas.{known_by_place, unknown_by_place}
 use Rattle.gateway_index.proofs.nodes.learn.Goals as goal

@@ -1,8 +1,5 @@
 use Rattle.std.proofs.Common.{arith}
-use Rattle.std.proofs.lemmas.List.{get_or_default}
-use Rattle.std.proofs.lemmas.List.Edits.{map_over_more}
-use Rattle.gateway_index.specs.Nodes.{reopened}
-use Rattle.gateway_index.specs.declared.nodes.Slot.{Slot}
+use Rattle.gateway_index.proofs.Names.{get_or_default, map_over_more, reopened, Slot}
 use Rattle.gateway_index.proofs.nodes.reopen.Goals as goal
 
 pub loop-slot-preserved : goal.loop-slot-preserved

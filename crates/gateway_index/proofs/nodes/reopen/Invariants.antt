@@ -1,6 +1,5 @@
 use Rattle.std.proofs.Common.{◌≡◌, ◌++◌, take, drop, map}
-use Rattle.gateway_index.specs.Nodes.{reopened}
-use Rattle.gateway_index.specs.declared.nodes.Slot.{Slot}
+use Rattle.gateway_index.proofs.Names.{reopened, Slot}
 use Rattle.gateway_index.proofs.nodes.reopen.Given as goal
 
 -- the slots so far are changed, and the others are as they were

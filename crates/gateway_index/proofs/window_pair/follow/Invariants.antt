@@ -1,7 +1,5 @@
 use Rattle.std.proofs.Common.{◌≡◌, length}
-use Rattle.seq_window.specs.Stored.{seen_of}
-use Rattle.gateway_index.specs.Limits.{half}
-use Rattle.gateway_index.specs.GivenStates.{MaySetEach, with_each}
+use Rattle.gateway_index.proofs.Names.{half, MaySetEach, seen_of, with_each}
 use Rattle.gateway_index.proofs.window_pair.follow.Given as goal
 
 -- the steps that are left may be taken, and come to what all come to

@@ -1,7 +1,5 @@
 use Rattle.std.proofs.Common.{false, ◌+◌, ◌≤◌, subst}
-use Rattle.std.specs.Prelude.{IfSome}
-use Rattle.seq_window.specs.Seen.{Seen}
-use Rattle.gateway_index.specs.Limits.{half}
+use Rattle.gateway_index.proofs.Names.{half, IfSome, Seen}
 use Rattle.gateway_index.proofs.PairLemmas.{seen_there, stepped_at}
 use Rattle.gateway_index.proofs.windows.set_at.Goals as goal
 

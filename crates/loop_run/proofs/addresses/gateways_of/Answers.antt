@@ -1,8 +1,5 @@
 use Rattle.std.proofs.Common.{arith, ap, map, ◌∙◌, sym, List, ◌++◌, ◌∷◌, []}
-use Rattle.std.specs.List.{range_with_len}
-use Rattle.std.proofs.lemmas.List.FromFn.{map-range_with_len_more}
-use Rattle.gw_base.specs.declared.address.Addr.{Addr}
-use Rattle.loop_run.specs.Addresses.{gateway_at}
+use Rattle.loop_run.proofs.Names.{Addr, gateway_at, map-range_with_len_more, range_with_len}
 use Rattle.loop_run.proofs.addresses.gateways_of.Goals as goal
 
 pub loop-place-preserved : goal.loop-place-preserved

@@ -1,6 +1,5 @@
 use Rattle.std.proofs.Common.{◌≡◌, map}
-use Rattle.std.specs.List.{range_with_len}
-use Rattle.loop_run.specs.Addresses.{gateway_at}
+use Rattle.loop_run.proofs.Names.{gateway_at, range_with_len}
 use Rattle.loop_run.proofs.addresses.gateways_of.Given as goal
 
 abbrev pub invariant-loop-place : goal.invariant-loop-place

@@ -1,8 +1,5 @@
 use Rattle.std.proofs.Common.{ℕ, [], length, ap, refl, ◌∙◌}
-use Rattle.gate_journal.specs.Format.{header}
-use Rattle.gateway_answer.specs.Value.{opened}
-use Rattle.gw_base.specs.declared.address.Addr.{Addr}
-use Rattle.loop_run.specs.Looped.{area_length}
+use Rattle.loop_run.proofs.Names.{Addr, area_length, header, opened}
 use Rattle.loop_run.proofs.BookLemmas.{opened_begun, zeros_ours, zeros_start}
 use Rattle.loop_run.proofs.books.open_book.Goals as goal
 

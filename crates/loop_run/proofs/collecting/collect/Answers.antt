@@ -1,10 +1,5 @@
 use Rattle.std.proofs.Common.{◌≡◌, ◌∷◌, [], ◌++◌, length, refl, sym, ap, subst, ◌∙◌, append_assoc, append-nil, arith}
-use Rattle.std.specs.Prelude.{All}
-use Rattle.std.specs.Vec.Iter.{into_iter_items}
-use Rattle.std.proofs.lemmas.List.{nil_from_length}
-use Rattle.std.specs.Option.{option_or}
-use Rattle.loop_run.specs.Collecting.{CanLeave}
-use Rattle.loop_run.specs.Seats.{AllRan}
+use Rattle.loop_run.proofs.Names.{All, AllRan, CanLeave, into_iter_items, nil_from_length, option_or}
 use Rattle.loop_run.proofs.CollectLemmas.{IsLeftSo, begun_so, first_can, grows_on, left_more, rest_can}
 use Rattle.loop_run.proofs.LeftLemmas.{all_collected}
 use Rattle.loop_run.proofs.collecting.collect.Goals as goal

@@ -1,6 +1,5 @@
 use Rattle.std.proofs.Common.{◌≡◌, ◌++◌, All, length}
-use Rattle.std.specs.Vec.Iter.{into_iter_items, into_iter_len}
-use Rattle.loop_run.specs.Collecting.{CanLeave}
+use Rattle.loop_run.proofs.Names.{CanLeave, into_iter_items, into_iter_len}
 use Rattle.loop_run.proofs.CollectLemmas.{IsLeftSo}
 use Rattle.loop_run.proofs.collecting.collect.Given as goal
 

@@ -1,8 +1,5 @@
 use Rattle.std.proofs.Common.{List, refl, subst, sym, ◌∙◌}
-use Rattle.node_core.specs.Value.{NodeValue}
-use Rattle.loop_run.specs.Ending.{CountsAs}
-use Rattle.loop_run.specs.Finishing.{AreAlike}
-use Rattle.loop_run.specs.Seats.{LoopBook}
+use Rattle.loop_run.proofs.Names.{AreAlike, CountsAs, LoopBook, NodeValue}
 use Rattle.loop_run.proofs.EndsLemmas.{alike_length}
 use Rattle.loop_run.proofs.ListLemmas.{lent_whole}
 use Rattle.loop_run.proofs.ending.finish.Goals as goal

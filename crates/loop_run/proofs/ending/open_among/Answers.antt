@@ -1,9 +1,5 @@
 use Rattle.std.proofs.Common.{ap, sym, ◌∙◌, ◌+◌, ◌*◌, ◌^◌, List, take, arith}
-use Rattle.std.proofs.lemmas.List.{take_all}
-use Rattle.gw_base.specs.declared.packet.PacketId.{PacketId}
-use Rattle.node_core.specs.Value.{NodeValue}
-use Rattle.loop_run.specs.Ending.{open_packets}
-use Rattle.loop_run.specs.Finishing.{open_of}
+use Rattle.loop_run.proofs.Names.{NodeValue, open_of, open_packets, PacketId, take_all}
 use Rattle.loop_run.proofs.OpenLemmas.{nodes_more, up_to_more}
 use Rattle.loop_run.proofs.ending.open_among.Goals as goal
 

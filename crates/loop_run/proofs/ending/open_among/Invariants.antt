@@ -1,6 +1,5 @@
 use Rattle.std.proofs.Common.{◌≡◌, ◌*◌, ◌^◌, take}
-use Rattle.loop_run.specs.Ending.{open_packets}
-use Rattle.loop_run.specs.Finishing.{UpTo, open_of}
+use Rattle.loop_run.proofs.Names.{open_of, open_packets, UpTo}
 use Rattle.loop_run.proofs.ending.open_among.Given as goal
 
 -- those of the nodes in front were found

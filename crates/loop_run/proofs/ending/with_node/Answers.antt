@@ -1,6 +1,5 @@
 use Rattle.std.proofs.Common.{ℕ, ◌+◌, ◌^◌, ◌++◌, List, append_assoc, ap, subst, sym, ◌∙◌, arith}
-use Rattle.gw_base.specs.declared.packet.PacketId.{PacketId}
-use Rattle.loop_run.specs.Finishing.{UpTo, open_at, open_of}
+use Rattle.loop_run.proofs.Names.{open_at, open_of, PacketId, UpTo}
 use Rattle.loop_run.proofs.OpenLemmas.{open_upto, up_to_more, upto_more}
 use Rattle.loop_run.proofs.ending.with_node.Goals as goal
 

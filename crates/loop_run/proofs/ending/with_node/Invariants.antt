@@ -1,6 +1,5 @@
 use Rattle.std.proofs.Common.{◌≡◌, ℕ, ◌+◌, ◌++◌, List}
-use Rattle.gw_base.specs.declared.packet.PacketId.{PacketId}
-use Rattle.loop_run.specs.Finishing.{UpTo, open_of}
+use Rattle.loop_run.proofs.Names.{open_of, PacketId, UpTo}
 use Rattle.loop_run.proofs.OpenLemmas.{open_upto}
 use Rattle.loop_run.proofs.ending.with_node.Given as goal
 

@@ -1,7 +1,5 @@
 use Rattle.std.proofs.Common.{arith}
-use Rattle.loop_run.specs.Addresses.{node_setup}
-use Rattle.loop_run.specs.Looped.{node_made}
-use Rattle.node_run.specs.Running.{node_after}
+use Rattle.loop_run.proofs.Names.{node_after, node_made, node_setup}
 use Rattle.loop_run.proofs.KeptLemmas.{keeps_all, none_open}
 use Rattle.loop_run.proofs.laws.nodes_of_a_loop_keep_all.Goals as goal
 

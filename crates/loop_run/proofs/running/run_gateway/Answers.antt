@@ -1,6 +1,5 @@
 use Rattle.std.proofs.Common.{refl, subst}
-use Rattle.gw_base.specs.declared.address.Addr.{Addr}
-use Rattle.session_run.specs.Running.{AreFiveOf}
+use Rattle.loop_run.proofs.Names.{Addr, AreFiveOf}
 use Rattle.loop_run.proofs.running.run_gateway.Goals as goal
 
 pub returns : goal.returns

@@ -1,6 +1,5 @@
 use Rattle.std.proofs.Common.{◌≡◌, ◌+◌, length, vec_capacity}
-use Rattle.net_link.specs.Making.{Keeps}
-use Rattle.loop_run.specs.Making.{HasMadeSeats}
+use Rattle.loop_run.proofs.Names.{HasMadeSeats, Keeps}
 use Rattle.loop_run.proofs.seating.seat_gateways.Given as goal
 
 -- the gateways in front were made

@@ -1,9 +1,5 @@
 use Rattle.std.proofs.Common.{ap, sym, map, take, ◌∙◌, ◌++◌, ◌∷◌, [], List}
-use Rattle.gateway_book.specs.Book.{value_of}
-use Rattle.loop_run.specs.Ending.{gateway_sum}
-use Rattle.loop_run.specs.Finishing.{shown}
-use Rattle.loop_run.specs.Seats.{LoopBook}
-use Rattle.loop_run.specs.declared.end.GatewaySum.{GatewaySum}
+use Rattle.loop_run.proofs.Names.{gateway_sum, GatewaySum, LoopBook, shown, value_of}
 use Rattle.loop_run.proofs.AlikeLemmas.{alike_set, counted_next}
 use Rattle.loop_run.proofs.sums.gateway_sums.Goals as goal
 

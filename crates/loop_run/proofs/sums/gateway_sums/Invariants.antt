@@ -1,7 +1,5 @@
 use Rattle.std.proofs.Common.{◌≡◌, map, take}
-use Rattle.gateway_book.specs.Book.{value_of}
-use Rattle.loop_run.specs.Ending.{gateway_sum}
-use Rattle.loop_run.specs.Finishing.{AreAlike}
+use Rattle.loop_run.proofs.Names.{AreAlike, gateway_sum, value_of}
 use Rattle.loop_run.proofs.sums.gateway_sums.Given as goal
 
 -- those in front were counted

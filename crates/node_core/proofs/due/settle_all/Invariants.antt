@@ -1,6 +1,5 @@
 use Rattle.std.proofs.Common.{◌≡◌, ◌++◌, take}
-use Rattle.std.specs.List.{flat_map}
-use Rattle.node_core.specs.Sendings.{settling}
+use Rattle.node_core.proofs.Names.{flat_map, settling}
 use Rattle.node_core.proofs.due.settle_all.Given as goal
 
 abbrev pub invariant-loop-copy : goal.invariant-loop-copy

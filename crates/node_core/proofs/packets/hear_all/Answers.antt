@@ -15,7 +15,7 @@ loop-i-preserved c =
     let so_far = c.loop-i.invariant in
     let packet : PacketState = get_or c.loop-i.packets c.loop-i.i c.index-packets-i.result in
     let is : packet ≡ get_or c.loop-i.packets c.loop-i.i packet = ap (get_or c.loop-i.packets c.loop-i.i) c.index-packets-i.is in (
-        search (arith, heard_more),
+      search (arith, heard_more),
       made_step is_resolved hears c.args.packets.now c.loop-i.packets c.loop-i.i packet c.loop-i.made.resolved
           c.hear_one.result.resolved c.or-made.result.resolved below so_far.0 is so_far.1 c.hear_one.ensures.resolved
           (ap (λ (made : Made). made.resolved) c.or-made.ensures),

@@ -1,6 +1,5 @@
 use Rattle.std.proofs.Common.{◌≡◌, ◌++◌, map, take, drop}
-use Rattle.node_core.specs.Hearing.{first_made}
-use Rattle.node_core.specs.Packets.{is_done, is_resolved, packet_hearing, while_open}
+use Rattle.node_core.proofs.Names.{first_made, is_done, is_resolved, packet_hearing, while_open}
 use Rattle.node_core.proofs.packets.hear_all.Given as goal
 
 abbrev pub invariant-loop-i : goal.invariant-loop-i

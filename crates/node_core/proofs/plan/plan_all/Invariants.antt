@@ -1,7 +1,5 @@
 use Rattle.std.proofs.Common.{◌≡◌, ◌++◌, drop}
-use Rattle.node_core.specs.Peers.{AreNumbers, all_drawn}
-use Rattle.node_core.specs.Sendings.{due_for_all}
-use Rattle.node_core.specs.Sound.{planned}
+use Rattle.node_core.proofs.Names.{all_drawn, AreNumbers, due_for_all, planned}
 use Rattle.node_core.proofs.plan.plan_all.Given as goal
 
 abbrev pub invariant-loop-packet : goal.invariant-loop-packet

@@ -1,6 +1,5 @@
 use Rattle.std.proofs.Common.{◌≡◌, drop}
-use Rattle.node_core.specs.Packets.{packet_after_all}
-use Rattle.node_core.specs.Peers.{AreNumbers, all_drawn}
+use Rattle.node_core.proofs.Names.{all_drawn, AreNumbers, packet_after_all}
 use Rattle.node_core.proofs.plan.send_all.Given as goal
 
 abbrev pub invariant-loop-sending : goal.invariant-loop-sending

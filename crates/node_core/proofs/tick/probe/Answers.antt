@@ -1,7 +1,5 @@
 use Rattle.std.proofs.Common.{◌++◌, Bool, get_or, ap, ◌∙◌}
-use Rattle.node_core.specs.declared.peer.Peer.{Peer}
-use Rattle.node_core.specs.Peers.{all_drawn}
-use Rattle.node_core.specs.Sendings.{probe_of}
+use Rattle.node_core.proofs.Names.{all_drawn, Peer, probe_of}
 use Rattle.node_core.proofs.PlanLemmas.{probe_step}
 use Rattle.node_core.proofs.tick.probe.Goals as goal
 

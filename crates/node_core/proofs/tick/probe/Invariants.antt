@@ -1,6 +1,5 @@
 use Rattle.std.proofs.Common.{◌≡◌, ◌++◌, drop}
-use Rattle.node_core.specs.Peers.{AreNumbers, all_drawn}
-use Rattle.node_core.specs.Sendings.{probes, probes_from}
+use Rattle.node_core.proofs.Names.{all_drawn, AreNumbers, probes, probes_from}
 use Rattle.node_core.proofs.tick.probe.Given as goal
 
 abbrev pub invariant-loop-i : goal.invariant-loop-i

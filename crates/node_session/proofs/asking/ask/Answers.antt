@@ -1,6 +1,5 @@
 use Rattle.std.proofs.Common.{arith, inl, refl}
-use Rattle.gateway_book.specs.Turning.{tells_lists}
-use Rattle.turn_cell.specs.Cell.{knowledge}
+use Rattle.node_session.proofs.Names.{knowledge, tells_lists}
 use Rattle.node_session.proofs.AskingLemmas.{learns_asked, learns_at_once}
 use Rattle.node_session.proofs.asking.ask.Goals as goal
 

@@ -1,7 +1,5 @@
 use Rattle.std.proofs.Common.{List, ℕ, ◌∙◌, subst}
-use Rattle.turn_cell.specs.Cell.{knowledge}
-use Rattle.node_session.specs.Asking.{TakesIn}
-use Rattle.node_session.specs.Serving.{caller_of}
+use Rattle.node_session.proofs.Names.{caller_of, knowledge, TakesIn}
 use Rattle.node_session.proofs.ServedLemmas.{own_turn}
 use Rattle.node_session.proofs.serving.take.Goals as goal
 

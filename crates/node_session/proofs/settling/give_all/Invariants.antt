@@ -1,10 +1,5 @@
 use Rattle.std.proofs.Common.{◌≡◌, ◌-◌, ◌≤◌, ◌^◌, false}
-use Rattle.gateway_book.specs.Book.{area_of, value_of}
-use Rattle.gateway_book.specs.Read.{IsUnchanged}
-use Rattle.gateway_book.specs.Turning.{tells_lists}
-use Rattle.gw_base.specs.Facts.{WhereTold}
-use Rattle.file_writer.specs.Writer.{is_broken, settings_in, shelf_of, taken_of}
-use Rattle.node_session.specs.Writing.{IsWriterOf, KeepsFiles}
+use Rattle.node_session.proofs.Names.{area_of, is_broken, IsUnchanged, IsWriterOf, KeepsFiles, settings_in, shelf_of, taken_of, tells_lists, value_of, WhereTold}
 use Rattle.node_session.proofs.settling.give_all.Given as goal
 
 abbrev pub invariant-pieces : goal.invariant-pieces

@@ -1,11 +1,5 @@
 use Rattle.std.proofs.Common.{rules, ◌≡◌, ℕ, Bool, arith, ap, length, subst, ◌∙◌}
-use Rattle.std.proofs.lemmas.Bool.{and_parts, false≢true}
-use Rattle.file_writer.specs.Writer.{taken_of}
-use Rattle.gateway_book.specs.Book.{value_of}
-use Rattle.gateway_book.specs.Turning.{tells_lists}
-use Rattle.gateway_answer.specs.Items.{items_between}
-use Rattle.gw_base.specs.Facts.{WhereTold}
-use Rattle.node_session.specs.Writing.{AreNext, HasTakenOf, IsWriterOf, KeepsFiles}
+use Rattle.node_session.proofs.Names.{and_parts, AreNext, false≢true, HasTakenOf, IsWriterOf, items_between, KeepsFiles, taken_of, tells_lists, value_of, WhereTold}
 use Rattle.node_session.proofs.GivenLemmas.{given_some, next_ones, room_within}
 use Rattle.node_session.proofs.settling.give_some.Goals as goal
 use Rattle.node_session.proofs.settling.give_some.Goals.{After-give}

@@ -1,12 +1,5 @@
 use Rattle.std.proofs.Common.{◌+◌, List, take, arith, refl, rules, sym, subst, ap, ◌∙◌}
-use Rattle.std.proofs.lemmas.List.{take_all}
-use Rattle.gateway_book.specs.Turning.{tells_lists}
-use Rattle.gateway_book.specs.declared.outcome.Outcome.{Outcome}
-use Rattle.job_inbox.specs.declared.job.Job.{Job}
-use Rattle.turn_cell.specs.Cell.{knowledge}
-use Rattle.node_session.specs.Learning.{HasTurnFor}
-use Rattle.node_session.specs.Together.{GoOn}
-use Rattle.node_session.specs.declared.served.Served.{Served}
+use Rattle.node_session.proofs.Names.{GoOn, HasTurnFor, Job, knowledge, Outcome, Served, take_all, tells_lists}
 use Rattle.node_session.proofs.TogetherLemmas.{gone_next, turns_stay}
 use Rattle.node_session.proofs.together.go_on_each.Goals as goal
 

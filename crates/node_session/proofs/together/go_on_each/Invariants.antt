@@ -1,8 +1,6 @@
 use Rattle.std.proofs.Common.{◌≡◌, take}
-use Rattle.std.specs.Prelude.{vec_capacity, vec_len}
-use Rattle.gateway_book.specs.Turning.{tells_lists}
-use Rattle.turn_cell.specs.Cell.{IsPassOf, knowledge}
-use Rattle.node_session.specs.Together.{GoOn, HaveTurnsFor}
+use Rattle.node_session.proofs.Names.{GoOn, HaveTurnsFor, knowledge, tells_lists, vec_capacity, vec_len}
+use Rattle.turn_cell.specs.Cell.{IsPassOf}
 use Rattle.node_session.proofs.together.go_on_each.Given as goal
 
 -- the session went on with the first jobs

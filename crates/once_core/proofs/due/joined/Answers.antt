@@ -1,7 +1,5 @@
 use Rattle.std.proofs.Common.{◌∙◌, ap, sym, [], ◌∷◌, ◌++◌, List, append_assoc, append-nil, rules, map-id}
-use Rattle.std.proofs.lemmas.Iterator.Adapters.{YieldsList-from_vec}
-use Rattle.std.proofs.lemmas.Iterator.Consumers.{YieldsList-end}
-use Rattle.once_core.specs.declared.message.Message.{Message}
+use Rattle.once_core.proofs.Names.{Message, YieldsList-end, YieldsList-from_vec}
 use Rattle.once_core.proofs.due.joined.Goals as goal
 
 pub loop-message-init : goal.loop-message-init

@@ -1,9 +1,6 @@
 use Rattle.std.proofs.Common.{◌∙◌, sym, ap, [], ◌∷◌, ◌++◌, List, if◌then◌else◌, not, nat_le, rules, map-id}
-use Rattle.std.proofs.lemmas.Iterator.Adapters.{YieldsList-from_vec}
-use Rattle.std.proofs.lemmas.Iterator.Consumers.{YieldsList-end}
+use Rattle.once_core.proofs.Names.{Message, Waiting, YieldsList-end, YieldsList-from_vec}
 use Rattle.once_core.proofs.PartingLemmas.{due_more, later_more}
-use Rattle.once_core.specs.declared.message.Message.{Message}
-use Rattle.once_core.specs.declared.message.Waiting.{Waiting}
 use Rattle.once_core.proofs.due.parted.Goals as goal
 
 pub loop-w-preserved : goal.loop-w-preserved

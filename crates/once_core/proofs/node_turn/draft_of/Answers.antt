@@ -1,7 +1,6 @@
 use Rattle.std.proofs.Common.{◌≡◌, ap, subst, ◌∙◌, Option, IfOk, option_and_then}
-use Rattle.gtpp_message.specs.Packet.{PacketForm}
+use Rattle.once_core.proofs.Names.{draft_of_packet, PacketForm}
 use Rattle.once_core.proofs.NodeTurnLemmas.{draft_reading}
-use Rattle.once_core.specs.NodeMoves.{draft_of_packet}
 use Rattle.once_core.proofs.node_turn.draft_of.Goals as goal
 
 pub returns-in-Some : goal.returns-in-Some

@@ -1,7 +1,5 @@
 use Rattle.std.proofs.Common.{ℕ, subst}
-use Rattle.node_core.specs.Reached.{log_of}
-use Rattle.once_core.specs.Followed.{packets_in}
-use Rattle.once_core.specs.Following.{MaySend}
+use Rattle.once_core.proofs.Names.{log_of, MaySend, packets_in}
 use Rattle.once_core.proofs.FollowSentLemmas.{all_known, all_sent}
 use Rattle.once_core.proofs.once_laws.a_node_follows_the_procedure.Goals as goal
 

@@ -1,7 +1,5 @@
 use Rattle.std.proofs.Common.{◌≡◌, [], ◌∷◌}
-use Rattle.node_core.specs.Log.{Began}
-use Rattle.once_core.specs.Beginning.{times_of}
-use Rattle.once_core.specs.Standing.{nodes_kept}
+use Rattle.once_core.proofs.Names.{Began, nodes_kept, times_of}
 use Rattle.once_core.proofs.world.first_nodes.Given as goal
 
 -- the nodes so far

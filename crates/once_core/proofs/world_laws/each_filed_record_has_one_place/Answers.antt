@@ -1,7 +1,6 @@
-use Rattle.gateway_answer.specs.Once.{is_record_of}
+use Rattle.once_core.proofs.Names.{division_of, is_record_of}
 use Rattle.once_core.proofs.FilePlaceLemmas.{one_there, placed_count}
 use Rattle.once_core.proofs.world_laws.each_filed_record_has_one_place.Goals as goal
-use Rattle.file_rotate.specs.Division.{division_of}
 
 pub returns-clause-count : goal.returns-clause-count
 returns-clause-count c = λ settings key index h.

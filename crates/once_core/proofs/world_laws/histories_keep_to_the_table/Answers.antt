@@ -1,18 +1,10 @@
 use Rattle.std.proofs.Common.{◌≡◌, true, List, subst, sym}
-use Rattle.std.proofs.lemmas.Bool.{and_parts}
-use Rattle.gateway_answer.specs.Answered.{room_for}
+use Rattle.once_core.proofs.Names.{AllAdmitted, and_parts, default_size, firm_in, HistoryEntry, moves_on, observed, room_for, ruled_turns, state_of}
 use Rattle.gateway_index.specs.Limits.{within_limits}
-use Rattle.gw_base.specs.History.{state_of}
-use Rattle.gw_base.specs.Observed.{observed}
-use Rattle.gw_base.specs.declared.history.HistoryEntry.{HistoryEntry}
 use Rattle.once_core.proofs.ForwardLemmas.{states_move}
 use Rattle.once_core.proofs.GrowingLemmas.{turns_grow}
 use Rattle.once_core.proofs.TableLemmas.{all_lawful, all_limited, firm_holds, firm_marks_due, lawful_plain, limited_plain, reached_keeps, turns_keep}
 use Rattle.once_core.proofs.world_laws.histories_keep_to_the_table.Goals as goal
-use Rattle.once_core.specs.Admitted.{AllAdmitted, moves_on}
-use Rattle.once_core.specs.Beginning.{default_size}
-use Rattle.once_core.specs.Once.{firm_in}
-use Rattle.once_core.specs.Turn.{ruled_turns}
 
 pub returns-clause-entries : goal.returns-clause-entries
 returns-clause-entries c = λ w place reached.

@@ -1,11 +1,8 @@
 use Rattle.std.proofs.Common.{◌≡◌, List, Some, subst, sym}
-use Rattle.file_writer.specs.Places.{place_in}
-use Rattle.gateway_answer.specs.Items.{items_of}
+use Rattle.once_core.proofs.Names.{firm_in, items_of, place_in, ruled_turns}
 use Rattle.gw_base.specs.declared.item.Item.{Item}
 use Rattle.once_core.proofs.GrowingLemmas.{items_grow, turns_grow}
 use Rattle.once_core.proofs.world_laws.places_stay.Goals as goal
-use Rattle.once_core.specs.Once.{firm_in}
-use Rattle.once_core.specs.Turn.{ruled_turns}
 
 pub returns : goal.returns
 returns c w later place k settings at found =

@@ -1,7 +1,5 @@
 use Rattle.std.proofs.Common.{refl}
-use Rattle.gateway_answer.specs.Answered.{no_caller}
-use Rattle.gateway_book.specs.Book.{open_time_of, size_of}
-use Rattle.replay_gateway.specs.Standing.{header_at}
+use Rattle.replay_gateway.proofs.Names.{header_at, no_caller, open_time_of, size_of}
 use Rattle.replay_gateway.proofs.CallLemmas.{book_stands}
 use Rattle.replay_gateway.proofs.calls.ask.Goals as goal
 

@@ -1,8 +1,5 @@
 use Rattle.std.proofs.Common.{◌+◌, ◌++◌, length, drop, ap, sym, ◌∙◌, arith, append_assoc, append-nil, length-append}
-use Rattle.std.proofs.lemmas.Option.{slice_get_within}
-use Rattle.std.specs.List.{flat_map}
-use Rattle.replay_gateway.specs.Settings.{IsInRange, rules_in_line}
-use Rattle.replay_gateway.specs.Setup.{default_setup}
+use Rattle.replay_gateway.proofs.Names.{default_setup, flat_map, IsInRange, rules_in_line, slice_get_within}
 use Rattle.replay_gateway.proofs.RangeLemmas.{back_in_range}
 use Rattle.replay_gateway.proofs.ListLemmas.{all_at, none_at, rest_at}
 use Rattle.replay_gateway.proofs.RestLemmas.{rules_after}

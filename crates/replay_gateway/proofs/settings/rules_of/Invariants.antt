@@ -1,6 +1,5 @@
 use Rattle.std.proofs.Common.{◌≡◌, ◌≤◌, ◌++◌, ◌-◌, length, drop}
-use Rattle.std.specs.List.{flat_map}
-use Rattle.replay_gateway.specs.Settings.{rules_in_line}
+use Rattle.replay_gateway.proofs.Names.{flat_map, rules_in_line}
 use Rattle.replay_gateway.proofs.settings.rules_of.Given as goal
 
 -- the rules of the lines so far were added, and those of the others have room

@@ -1,10 +1,5 @@
 use Rattle.std.proofs.Common.{refl, ap, subst, ◌∙◌, ◌&&◌, Some}
-use Rattle.area_disk.specs.declared.plan.Outcome3.TheVariants.{New}
-use Rattle.cgf_journal.specs.Trail.{is_closed, stop_stands}
-use Rattle.gateway_book.specs.Comes.{left_by_stop}
-use Rattle.gateway_book.specs.Opened.{StandsFitFor}
-use Rattle.gateway_answer.specs.Value.{BookValue}
-use Rattle.replay_gateway.specs.Standing.{header_at}
+use Rattle.replay_gateway.proofs.Names.{BookValue, header_at, is_closed, left_by_stop, New, StandsFitFor, stop_stands}
 use Rattle.replay_gateway.proofs.OpeningLemmas.{left_kept}
 use Rattle.replay_gateway.proofs.site.area_of.Goals as goal
 

@@ -1,5 +1,4 @@
-use Rattle.replay_gateway.specs.Opening.{begun_gateway}
-use Rattle.replay_gateway.specs.Machine.{first_machine}
+use Rattle.replay_gateway.proofs.Names.{begun_gateway, first_machine}
 use Rattle.replay_gateway.proofs.OpeningLemmas.{firm_stands}
 use Rattle.replay_gateway.proofs.site.opened.Goals as goal
 

@@ -1,7 +1,5 @@
 use Rattle.std.proofs.Common.{refl, ap}
-use Rattle.gateway_book.specs.declared.outcome.Setup.{Setup as BookSetup}
-use Rattle.std.proofs.lemmas.Result.{on_ok_weaker}
-use Rattle.gateway_answer.specs.Value.{history_of}
+use Rattle.replay_gateway.proofs.Names.{BookSetup, history_of, on_ok_weaker}
 use Rattle.replay_gateway.proofs.OpeningLemmas.{never_refused, opened_up}
 use Rattle.replay_gateway.proofs.site.reopened.Goals as goal
 

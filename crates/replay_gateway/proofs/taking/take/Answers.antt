@@ -1,8 +1,5 @@
 use Rattle.std.proofs.Common.{refl}
-use Rattle.gateway_answer.specs.Answered.{no_caller}
-use Rattle.gateway_book.specs.Book.{size_of}
-use Rattle.gateway_answer.specs.Preparing.{prepared_of}
-use Rattle.replay_gateway.specs.Standing.{header_at}
+use Rattle.replay_gateway.proofs.Names.{header_at, no_caller, prepared_of, size_of}
 use Rattle.replay_gateway.proofs.CallLemmas.{book_stands}
 use Rattle.replay_gateway.proofs.taking.take.Goals as goal
 

@@ -1,8 +1,5 @@
 use Rattle.std.proofs.Common.{◌≡◌, ◌∙◌, refl, ap, subst, List, length, length-drop, length-take, drop, take, take_all, arith, rules}
-use Rattle.file_writer.specs.Parts.{HasAdvanced, part_of}
-use Rattle.gateway_answer.specs.Items.{items_of}
-use Rattle.gw_base.specs.declared.item.Item.{Item}
-use Rattle.replay_gateway.specs.Written.{shelf_tells}
+use Rattle.replay_gateway.proofs.Names.{HasAdvanced, Item, items_of, part_of, shelf_tells}
 use Rattle.replay_gateway.proofs.writing.give_all.Goals as goal
 
 pub loop-count-init : goal.loop-count-init

@@ -1,12 +1,6 @@
 use Rattle.std.proofs.Common.{◌≡◌, ℕ, ◌+◌, ◌-◌, ◌<◌, ◌≤◌, ◌^◌, [], length, take, false, Some}
-use Rattle.file_writer.specs.Parts.{HasAdvanced}
-use Rattle.file_writer.specs.Writer.{IsAt, is_broken, settings_in, taken_of}
-use Rattle.gateway_answer.specs.Items.{items_of}
-use Rattle.once_core.specs.Gateway.{Gateway}
-use Rattle.replay_gateway.specs.Setup.{Setup}
-use Rattle.replay_gateway.specs.Standing.{SiteStands}
-use Rattle.replay_gateway.specs.Machine.{Machine}
-use Rattle.replay_gateway.specs.Written.{shelf_tells}
+use Rattle.replay_gateway.proofs.Names.{Gateway, HasAdvanced, is_broken, IsAt, items_of, Machine, settings_in, Setup, shelf_tells, SiteStands}
+use Rattle.file_writer.specs.Writer.{taken_of}
 use Rattle.replay_gateway.proofs.writing.give_all.Given as goal
 
 -- the items of the parts that were given are taken

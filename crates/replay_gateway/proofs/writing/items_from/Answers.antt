@@ -1,8 +1,5 @@
 use Rattle.std.proofs.Common.{◌∙◌, ap, refl, subst, ◌<◌, ◌^◌, drop, length, length-take, arith}
-use Rattle.gateway_book.specs.Book.{value_of}
-use Rattle.gateway_answer.specs.Items.{items_between, items_of}
-use Rattle.gateway_answer.specs.Value.{BookValue}
-use Rattle.replay_gateway.specs.Standing.{header_at}
+use Rattle.replay_gateway.proofs.Names.{BookValue, header_at, items_between, items_of, value_of}
 use Rattle.replay_gateway.proofs.WriterLemmas.{all_fit}
 use Rattle.replay_gateway.proofs.CallLemmas.{few_from, stays_up}
 use Rattle.replay_gateway.proofs.writing.items_from.Goals as goal

@@ -1,9 +1,5 @@
 use Rattle.std.proofs.Common.{sym, subst}
-use Rattle.once_core.specs.Once.{Once, firm_in}
-use Rattle.once_core.specs.Turn.{turns}
-use Rattle.replay_world.specs.Report.{lines_after, turns_from}
-use Rattle.replay_gateway.specs.Setup.{files_in, rules_in}
-use Rattle.replay_world.specs.Value.{begun}
+use Rattle.replay_world.proofs.Names.{begun, files_in, firm_in, lines_after, Once, rules_in, turns, turns_from}
 use Rattle.replay_world.proofs.LineLemmas.{lines_world}
 use Rattle.replay_world.proofs.laws.a_replay_files_each_record_once.Goals as goal
 

@@ -1,6 +1,4 @@
-use Rattle.replay_world.specs.Report.{replayed}
-use Rattle.replay_gateway.specs.Setup.{setup_of}
-use Rattle.replay_world.specs.Value.{replay_of}
+use Rattle.replay_world.proofs.Names.{replay_of, replayed, setup_of}
 use Rattle.replay_world.proofs.HandedLemmas.{all_read, lines_setup}
 use Rattle.replay_world.proofs.laws.what_is_handed_out_is_read.Goals as goal
 

@@ -1,8 +1,5 @@
 use Rattle.std.proofs.Common.{◌≡◌, refl, subst₂, ◌+◌, [], ◌∷◌, length, take, take_all, Some, slice_get, arith, rules, length-append, vec_capacity}
-use Rattle.std.proofs.lemmas.Iterator.Adapters.{YieldsList-from_vec}
-use Rattle.std.proofs.lemmas.Iterator.Consumers.{YieldsList-end, YieldsList-turn}
-use Rattle.std.proofs.lemmas.Option.{slice_get_read}
-use Rattle.replay_world.specs.Played.{EachHandedOut}
+use Rattle.replay_world.proofs.Names.{EachHandedOut, slice_get_read, YieldsList-end, YieldsList-from_vec, YieldsList-turn}
 use Rattle.replay_world.proofs.HandedLemmas.{area_there, handed_lengths, handed_next, room_left}
 use Rattle.replay_world.proofs.StandsLemmas.{each_at, each_lengths}
 use Rattle.replay_world.proofs.replay.hand_out.Goals as goal

@@ -1,9 +1,5 @@
 use Rattle.std.proofs.Common.{◌≤◌, List, length, take, vec_capacity}
-use Rattle.once_core.specs.Gateway.{Gateway}
-use Rattle.replay_world.specs.Played.{EachHandedOut, HaveRoom}
-use Rattle.replay_gateway.specs.Setup.{Setup}
-use Rattle.replay_world.specs.Stands.{EachStands}
-use Rattle.replay_gateway.specs.Machine.{Machine}
+use Rattle.replay_world.proofs.Names.{EachHandedOut, EachStands, Gateway, HaveRoom, Machine, Setup}
 use Rattle.replay_world.proofs.replay.hand_out.Given as goal
 
 -- the gateways so far handed out what they have, and there is room for the others

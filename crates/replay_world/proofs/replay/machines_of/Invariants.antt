@@ -1,8 +1,5 @@
-use Rattle.once_core.specs.Beginning.{first_gateway, times_of}
+use Rattle.replay_world.proofs.Names.{EachStands, first_gateway, first_machine, rules_in, setup_of, times_of}
 use Rattle.replay_gateway.specs.Settings.{AreSet}
-use Rattle.replay_gateway.specs.Setup.{rules_in, setup_of}
-use Rattle.replay_world.specs.Stands.{EachStands}
-use Rattle.replay_gateway.specs.Machine.{first_machine}
 use Rattle.replay_world.proofs.replay.machines_of.Given as goal
 
 -- the gateways so far were opened

@@ -1,8 +1,6 @@
 use Rattle.std.proofs.Common.{◌≡◌, arith, ◌∙◌, ap, ◌++◌, ◌∷◌, []}
 use Rattle.gw_base.specs.declared.address.NodeId.{NodeId}
-use Rattle.node_core.specs.Log.{Began}
-use Rattle.node_core.specs.Value.{node_of}
-use Rattle.once_core.specs.Addresses.{node_ip}
+use Rattle.replay_world.proofs.Names.{Began, node_ip, node_of}
 use Rattle.replay_world.proofs.BeginningLemmas.{nodes_next}
 use Rattle.replay_world.proofs.replay.nodes_of.Goals as goal
 

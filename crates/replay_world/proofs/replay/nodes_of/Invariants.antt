@@ -1,8 +1,5 @@
 use Rattle.std.proofs.Common.{◌≡◌, ℕ, [], ◌∷◌}
-use Rattle.node_core.specs.Log.{Began}
-use Rattle.once_core.specs.Addresses.{addresses_from}
-use Rattle.once_core.specs.Beginning.{times_of}
-use Rattle.replay_world.specs.Stands.{nodes_from}
+use Rattle.replay_world.proofs.Names.{addresses_from, Began, nodes_from, times_of}
 use Rattle.replay_world.proofs.replay.nodes_of.Given as goal
 
 -- the nodes so far run

@@ -1,6 +1,5 @@
 use Rattle.std.proofs.Common.{ap, arith, ◌∙◌}
-use Rattle.std.proofs.lemmas.List.{take_all}
-use Rattle.session_run.specs.Desks.{first_stop}
+use Rattle.session_run.proofs.Names.{first_stop, take_all}
 use Rattle.session_run.proofs.StopLemmas.{next_stop}
 use Rattle.session_run.proofs.desk.first_stop.Goals as goal
 

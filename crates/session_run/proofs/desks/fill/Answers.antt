@@ -1,11 +1,5 @@
 use Rattle.std.proofs.Common.{◌≡◌, List, [], ◌∷◌, ◌++◌, refl, sym, ap, ◌∙◌, append_assoc}
-use Rattle.std.proofs.lemmas.List.{append-nil}
-use Rattle.job_inbox.specs.Inbox.{knowledge}
-use Rattle.job_inbox.specs.Rule.{with_taken}
-use Rattle.job_inbox.specs.declared.hand.Hand.{Hand}
-use Rattle.job_inbox.specs.declared.job.Job.{Job}
-use Rattle.node_session.specs.Batches.{jobs_of}
-use Rattle.session_run.specs.Desks.{with_all_taken}
+use Rattle.session_run.proofs.Names.{append-nil, Hand, Job, jobs_of, knowledge, with_all_taken, with_taken}
 use Rattle.session_run.proofs.TakingLemmas.{later_none, latest_push, popped_none}
 use Rattle.session_run.proofs.desks.fill.Goals as goal
 

@@ -1,9 +1,5 @@
 use Rattle.std.proofs.Common.{◌≡◌, ◌++◌, List}
-use Rattle.job_inbox.specs.Inbox.{IsPassOf, knowledge}
-use Rattle.job_inbox.specs.declared.job.Job.{Job}
-use Rattle.node_session.specs.Batches.{jobs_of, outcomes_of}
-use Rattle.session_run.specs.Desks.{with_all_taken}
-use Rattle.session_run.specs.Latest.{later_of, latest}
+use Rattle.session_run.proofs.Names.{IsPassOf, Job, jobs_of, knowledge, later_of, latest, outcomes_of, with_all_taken}
 use Rattle.session_run.proofs.desks.fill.Given as goal
 
 -- the pass took the jobs that stand behind those in the batch

@@ -1,9 +1,5 @@
 use Rattle.std.proofs.Common.{List, ◌∙◌, sym, ap}
-use Rattle.std.specs.Option.{option_or}
-use Rattle.job_inbox.specs.declared.job.Job.{Job}
-use Rattle.node_session.specs.Batches.{jobs_of, outcomes_of, served_of}
-use Rattle.node_session.specs.Passes.{knowledge_of, session_of}
-use Rattle.session_run.specs.Desks.{first_stop}
+use Rattle.session_run.proofs.Names.{first_stop, Job, jobs_of, knowledge_of, option_or, outcomes_of, served_of, session_of}
 use Rattle.session_run.proofs.DeskLemmas.{worked_on}
 use Rattle.session_run.proofs.StopLemmas.{stops_by}
 use Rattle.session_run.proofs.TakingLemmas.{both_served}

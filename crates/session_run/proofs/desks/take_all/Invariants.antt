@@ -1,6 +1,4 @@
-use Rattle.gateway_book.specs.Turning.{tells_lists}
-use Rattle.session_run.specs.Desks.{IsDeskOf}
-use Rattle.session_run.specs.Taking.{HasTaken, IsTaken}
+use Rattle.session_run.proofs.Names.{HasTaken, IsDeskOf, IsTaken, tells_lists}
 use Rattle.session_run.proofs.desks.take_all.Given as goal
 
 -- what each took stands in its batch

@@ -1,8 +1,5 @@
 use Rattle.std.proofs.Common.{◌∙◌}
-use Rattle.job_inbox.specs.Inbox.{knowledge}
-use Rattle.node_session.specs.Batches.{jobs_of, outcomes_of}
-use Rattle.node_session.specs.Passes.{knowledge_of, session_of}
-use Rattle.node_session.specs.Together.{FirstAreTaken}
+use Rattle.session_run.proofs.Names.{FirstAreTaken, jobs_of, knowledge, knowledge_of, outcomes_of, session_of}
 use Rattle.session_run.proofs.TakingLemmas.{first_taken, latest_more, popped_more, whole_taken}
 use Rattle.session_run.proofs.desks.take_next.Goals as goal
 use Rattle.session_run.proofs.desks.take_next.Goals.{then-has_come, else-has_come}

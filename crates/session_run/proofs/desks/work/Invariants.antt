@@ -1,5 +1,4 @@
-use Rattle.gateway_book.specs.Turning.{tells_lists}
-use Rattle.session_run.specs.Team.{ArePairOf, PairWorksOn}
+use Rattle.session_run.proofs.Names.{ArePairOf, PairWorksOn, tells_lists}
 use Rattle.session_run.proofs.desks.work.Given as goal
 
 abbrev pub invariant-loop : goal.invariant-loop

@@ -1,8 +1,5 @@
-use Rattle.file_writer.specs.declared.writer.Writer.{Writer}
-use Rattle.gateway_book.specs.Turning.{tells_lists}
+use Rattle.session_run.proofs.Names.{Began, HasWritten, tells_lists, Writer}
 use Rattle.node_session.specs.Writing.{IsActorOf, IsWriterOf, knowledge_of, writer_of}
-use Rattle.session_run.specs.Desks.{Began}
-use Rattle.session_run.specs.Filing.{HasWritten}
 use Rattle.session_run.proofs.filing.write_files.Given as goal
 
 abbrev pub invariant-loop : goal.invariant-loop

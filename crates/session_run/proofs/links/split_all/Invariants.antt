@@ -1,6 +1,5 @@
 use Rattle.std.proofs.Common.{◌≡◌, ◌-◌, ◌≤◌, All, vec_capacity, vec_len}
-use Rattle.gw_base.specs.declared.address.Addr.{Addr}
-use Rattle.net_link.specs.Datagrams.{IsNewAt}
+use Rattle.session_run.proofs.Names.{Addr, IsNewAt}
 use Rattle.session_run.proofs.links.split_all.Given as goal
 
 -- all are new

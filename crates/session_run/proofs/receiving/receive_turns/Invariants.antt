@@ -1,7 +1,5 @@
 use Rattle.std.proofs.Common.{◌≡◌, ℕ, None}
-use Rattle.gw_base.specs.declared.address.Addr.{Addr}
-use Rattle.node_session.specs.Receiving.{AreOfEach, passes_of}
-use Rattle.session_run.specs.Reception.{CountsTurns, HasDispatched, link_of}
+use Rattle.session_run.proofs.Names.{Addr, AreOfEach, CountsTurns, HasDispatched, link_of, passes_of}
 use Rattle.session_run.proofs.receiving.receive_turns.Given as goal
 
 abbrev pub invariant-loop-reception : goal.invariant-loop-reception

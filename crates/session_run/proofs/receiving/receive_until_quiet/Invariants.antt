@@ -1,7 +1,5 @@
 use Rattle.std.proofs.Common.{◌≡◌, None}
-use Rattle.gw_base.specs.declared.address.Addr.{Addr}
-use Rattle.node_session.specs.Receiving.{AreOfEach, passes_of}
-use Rattle.session_run.specs.Reception.{HasDispatched, link_of}
+use Rattle.session_run.proofs.Names.{Addr, AreOfEach, HasDispatched, link_of, passes_of}
 use Rattle.session_run.proofs.receiving.receive_until_quiet.Given as goal
 
 abbrev pub invariant-loop : goal.invariant-loop

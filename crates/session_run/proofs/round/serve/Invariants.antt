@@ -1,9 +1,5 @@
 use Rattle.std.proofs.Common.{◌≡◌, None}
-use Rattle.gateway_book.specs.Turning.{tells_lists}
-use Rattle.gw_base.specs.declared.address.Addr.{Addr}
-use Rattle.node_session.specs.Receiving.{AreOfEach, passes_of}
-use Rattle.session_run.specs.Reception.{CountsTurns, HasDispatched, IfTurns, link_of}
-use Rattle.session_run.specs.Team.{IsReady, IsTeamOf, TeamWorksOn}
+use Rattle.session_run.proofs.Names.{Addr, AreOfEach, CountsTurns, HasDispatched, IfTurns, IsReady, IsTeamOf, link_of, passes_of, TeamWorksOn, tells_lists}
 use Rattle.session_run.proofs.round.serve.Given as goal
 
 abbrev pub invariant-loop : goal.invariant-loop

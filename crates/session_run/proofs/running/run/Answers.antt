@@ -1,11 +1,6 @@
 use Rattle.std.proofs.Common.{ap, arith, ◌∙◌}
-use Rattle.gateway_book.specs.Turning.{facts_of, tells_lists}
-use Rattle.net_link.specs.Datagrams.{IsNewAt}
-use Rattle.node_session.specs.Receiving.{hands_of}
-use Rattle.node_session.specs.declared.dispatcher.Dispatcher.{Dispatcher}
-use Rattle.session_run.specs.Ending.{HasEnded}
-use Rattle.session_run.specs.Reception.{link_of}
-use Rattle.session_run.specs.Running.{TakesAtMost}
+use Rattle.session_run.proofs.Names.{Dispatcher, hands_of, HasEnded, IsNewAt, link_of, TakesAtMost, tells_lists}
+use Rattle.gateway_book.specs.Turning.{facts_of}
 use Rattle.session_run.proofs.BegunLemmas.{all_begun, counted, five_of, is_ready, numbered, receiver_new, team_of}
 use Rattle.session_run.proofs.EndLemmas.{are_five, goes_nowhere_until, has_cause, have_served, never_served, new_five, none_have_replied, turns_taken}
 use Rattle.session_run.proofs.RunLemmas.{run_goes_on, run_replies, run_stays, run_writer}
@@ -65,7 +60,7 @@ serve-served-requires-clause-own g c κs within =
     let hall = c.in-Ok.hall in (
       rw c.seat-seats.ensures.reception.0 c.in-Ok.ensures.pushes,
       team_of made.cell hall.inboxes made.passes.items c.seat-seats.ensures.seated made.ensures.passes.0
-      c.in-Ok.ensures.pops,
+          c.in-Ok.ensures.pops,
     )
 
 pub serve-served-requires-clause-writer : goal.serve-served-requires-clause-writer

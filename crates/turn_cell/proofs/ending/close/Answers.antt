@@ -1,7 +1,6 @@
 use Rattle.std.proofs.Common.{◌≡◌, sym, ◌∙◌, subst, Some}
-use mathlib.Core.Option.{some-injective}
+use Rattle.turn_cell.proofs.Names.{Ended, some-injective}
 use Rattle.turn_cell.proofs.Ends.{ends_at}
-use Rattle.turn_cell.specs.Passes.{Ended}
 use Rattle.turn_cell.proofs.ending.close.Goals as goal
 
 pub unreachable-requires : goal.unreachable-requires

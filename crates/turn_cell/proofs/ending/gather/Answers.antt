@@ -1,7 +1,6 @@
 use Rattle.std.proofs.Common.{rules, ap, ◌∙◌, ◌∷◌, ◌++◌}
 use Rattle.turn_cell.proofs.Calls.{is_in, joins_at, one_behind}
-use Rattle.turn_cell.specs.Cell.{known_by}
-use Rattle.turn_cell.specs.Steps.{both}
+use Rattle.turn_cell.proofs.Names.{both, known_by}
 use Rattle.turn_cell.proofs.ending.gather.Goals as goal
 
 pub join_seat-requires : goal.join_seat-requires

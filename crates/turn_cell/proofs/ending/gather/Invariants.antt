@@ -1,6 +1,5 @@
 use Rattle.std.proofs.Common.{◌≡◌, List, ◌++◌}
-use Rattle.turn_cell.specs.Cell.{AreResting, known_by}
-use Rattle.turn_cell.specs.declared.cell.Pass.{Pass}
+use Rattle.turn_cell.proofs.Names.{AreResting, known_by, Pass}
 use Rattle.turn_cell.proofs.ending.gather.Given as goal
 
 abbrev pub invariant-loop-pass : goal.invariant-loop-pass

@@ -1,10 +1,6 @@
 use Rattle.std.proofs.Common.{rules, sym, ap, ◌∙◌, ◌+◌, subst, arith, []}
 use Rattle.turn_cell.proofs.Calls.{new_more, next_first, next_rest, splits_next}
-use Rattle.turn_cell.specs.Cell.{AreNew}
-use Rattle.turn_cell.specs.Knowing.{first_of}
-use Rattle.turn_cell.specs.Rule.{seat}
-use Rattle.turn_cell.specs.Steps.{without_first}
-use Rattle.turn_cell.specs.declared.knowing.Stage.TheVariants.{Resting}
+use Rattle.turn_cell.proofs.Names.{AreNew, first_of, Resting, seat, without_first}
 use Rattle.turn_cell.proofs.making.make.Goals as goal
 
 pub split_seat-pass-requires : goal.split_seat-pass-requires

@@ -1,7 +1,5 @@
 use Rattle.std.proofs.Common.{◌≡◌, ◌-◌}
-use Rattle.std.specs.Prelude.{vec_capacity, vec_len}
-use Rattle.turn_cell.specs.Cell.{AreNew, AreResting}
-use Rattle.turn_cell.specs.Knowing.{newcomers_from}
+use Rattle.turn_cell.proofs.Names.{AreNew, AreResting, newcomers_from, vec_capacity, vec_len}
 use Rattle.turn_cell.proofs.making.make.Given as goal
 
 abbrev pub invariant-loop : goal.invariant-loop

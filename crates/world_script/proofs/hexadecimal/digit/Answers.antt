@@ -1,7 +1,6 @@
 -- The table is held against the definition at each of the 256 octets, by computing.
 use Rattle.std.proofs.Common.{◌≡◌, ℕ, zero, suc, ◌<◌, ◌==◌, Bool, true, ◌&&◌, List, get_or, unwrap_or, refl, arith, inl, inr}
-use Rattle.std.proofs.lemmas.Bool.{and_parts, cases_eq, eqb-true}
-use Rattle.hex.specs.Hex.{hex_digit_value}
+use Rattle.world_script.proofs.Names.{and_parts, cases_eq, eqb-true, hex_digit_value}
 use Rattle.world_script.specs.declared.hexadecimal.TheConstants.{DIGITS}
 use Rattle.world_script.proofs.hexadecimal.digit.Goals as goal
 

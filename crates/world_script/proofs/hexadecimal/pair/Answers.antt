@@ -8,5 +8,10 @@ returns-then-low-lt16 c place = search (arith, both_digits)
 
 pub returns-else-high-lt16 : goal.returns-else-high-lt16
 returns-else-high-lt16 c place =
-    search (arith, else-high-lt16-via-then-high-lt16+else-low-lt16, no_low, else-high-lt16-via-else-high-lt16,
-    no_high)
+    search (
+      arith,
+      else-high-lt16-via-then-high-lt16+else-low-lt16,
+      no_low,
+      else-high-lt16-via-else-high-lt16,
+      no_high,
+    )

@@ -1,6 +1,5 @@
 use Rattle.std.proofs.Common.{◌≡◌, ◌++◌, map, take}
-use Rattle.hex.specs.Hex.{encode_upper}
-use Rattle.world_script.specs.Printing.{words_text}
+use Rattle.world_script.proofs.Names.{encode_upper, words_text}
 use Rattle.world_script.proofs.printing.append_records.Given as goal
 
 abbrev pub invariant-loop-record : goal.invariant-loop-record

@@ -1,6 +1,5 @@
 use Rattle.std.proofs.Common.{◌≡◌, ◌*◌, ◌++◌}
-use Rattle.std.specs.List.{flat_map, range_with_len}
-use Rattle.world_script.specs.Sample.{after_words, block, words_of_block}
+use Rattle.world_script.proofs.Names.{after_words, block, flat_map, range_with_len, words_of_block}
 use Rattle.world_script.proofs.samples.push_blocks.Given as goal
 
 abbrev pub invariant-loop-n : goal.invariant-loop-n

@@ -1,6 +1,5 @@
 use Rattle.std.proofs.Common.{◌≡◌, ◌++◌}
-use Rattle.std.specs.List.{flat_map, range_with_len}
-use Rattle.world_script.specs.Sample.{calm_round}
+use Rattle.world_script.proofs.Names.{calm_round, flat_map, range_with_len}
 use Rattle.world_script.proofs.samples.push_calm_rounds.Given as goal
 
 abbrev pub invariant-loop-n : goal.invariant-loop-n

@@ -1,7 +1,6 @@
 use Rattle.std.proofs.Common.{◌≡◌, ◌++◌, map, filter}
-use Rattle.std.specs.List.{range_with_len}
+use Rattle.world_script.proofs.Names.{range_with_len, runs}
 use Rattle.world_script.specs.declared.line.Line.TheVariants as line
-use Rattle.world_script.specs.Sample.{runs}
 use Rattle.world_script.proofs.samples.push_commits.Given as goal
 
 abbrev pub invariant-loop-gateway : goal.invariant-loop-gateway

@@ -1,6 +1,5 @@
 use Rattle.std.proofs.Common.{◌≡◌, ◌+◌, ◌*◌, ◌++◌}
-use Rattle.std.specs.List.{flat_map, range_with_len}
-use Rattle.world_script.specs.Sample.{packets_from}
+use Rattle.world_script.proofs.Names.{flat_map, packets_from, range_with_len}
 use Rattle.world_script.proofs.samples.push_packets.Given as goal
 
 abbrev pub invariant-loop-node : goal.invariant-loop-node

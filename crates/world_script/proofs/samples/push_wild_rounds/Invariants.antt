@@ -1,6 +1,5 @@
 use Rattle.std.proofs.Common.{◌≡◌, ◌+◌, ◌*◌, ◌++◌}
-use Rattle.std.specs.List.{flat_map, range_with_len}
-use Rattle.world_script.specs.Sample.{after_words, wild_round, word}
+use Rattle.world_script.proofs.Names.{after_words, flat_map, range_with_len, wild_round, word}
 use Rattle.world_script.proofs.samples.push_wild_rounds.Given as goal
 
 abbrev pub invariant-loop-n : goal.invariant-loop-n

@@ -1,6 +1,5 @@
 use Rattle.std.proofs.Common.{◌≡◌, map}
-use Rattle.std.specs.List.{range_with_len}
-use Rattle.world_script.specs.Sample.{record_octets}
+use Rattle.world_script.proofs.Names.{range_with_len, record_octets}
 use Rattle.world_script.proofs.samples.records.Given as goal
 
 abbrev pub invariant-loop-number : goal.invariant-loop-number

@@ -1,10 +1,5 @@
 use Rattle.std.proofs.Common.{◌∙◌, ap, sym, subst, List}
-use Rattle.world_script.specs.Printing.{ReadsBack}
-use Rattle.world_script.specs.Script.{ScriptValue}
-use Rattle.world_script.specs.World.{first_scene, takes_all}
-use Rattle.world_script.specs.declared.extent.Extent.{Extent}
-use Rattle.world_script.specs.declared.kind.ScriptKind.TheVariants.{Replay}
-use Rattle.world_script.specs.declared.line.Line.{Line}
+use Rattle.world_script.proofs.Names.{Extent, first_scene, Line, ReadsBack, Replay, ScriptValue, takes_all}
 use Rattle.world_script.proofs.SampleGrammar.{sample_reads}
 use Rattle.world_script.proofs.SampleLemmas.{sample_parts}
 use Rattle.world_script.proofs.SampleTaken.{sample_taken}

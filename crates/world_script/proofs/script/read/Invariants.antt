@@ -1,6 +1,5 @@
 use Rattle.std.proofs.Common.{◌≡◌, ◌+◌, ◌≤◌, length}
-use Rattle.world_script.specs.Script.{progress_of, script_after, script_in}
-use Rattle.world_script.specs.Text.{raw_lines}
+use Rattle.world_script.proofs.Names.{progress_of, raw_lines, script_after, script_in}
 use Rattle.world_script.proofs.script.read.Given as goal
 
 -- the lines up to the rest were read

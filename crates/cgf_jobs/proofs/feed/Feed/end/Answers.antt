@@ -1,12 +1,5 @@
 use Rattle.std.proofs.Common.{length, refl, ap, ◌∙◌}
-use Rattle.file_writer.specs.Files.{stream_files}
-use Rattle.gateway_book.specs.Calls.{counts_of}
-use Rattle.gateway_answer.specs.Filed.{filed}
-use Rattle.gateway_answer.specs.Items.{items_of}
-use Rattle.gateway_answer.specs.Value.{standing_for}
-use Rattle.replay_gateway.specs.Setup.{Setup, files_in}
-use Rattle.cgf_jobs.specs.Gateway.{GatewayValue, after_close}
-use Rattle.cgf_jobs.specs.Steps.{setup_seen}
+use Rattle.cgf_jobs.proofs.Names.{after_close, counts_of, filed, files_in, GatewayValue, items_of, Setup, setup_seen, standing_for, stream_files}
 use Rattle.cgf_jobs.proofs.FeedLemmas.{end_printed}
 use Rattle.cgf_jobs.proofs.feed.Feed.end.Goals as goal
 

@@ -1,8 +1,5 @@
 use Rattle.std.proofs.Common.{◌<◌, ◌^◌, refl, ap, subst, ◌∙◌, arith, length}
-use Rattle.file_writer.specs.Parts.{part_of}
-use Rattle.gateway_book.specs.Book.{value_of}
-use Rattle.gateway_answer.specs.Items.{items_of}
-use Rattle.cgf_jobs.specs.Gateway.{GatewayValue}
+use Rattle.cgf_jobs.proofs.Names.{GatewayValue, items_of, part_of, value_of}
 use Rattle.cgf_jobs.proofs.gateway.Gateway.items.Goals as goal
 
 pub returns-clause-items : goal.returns-clause-items

@@ -1,11 +1,6 @@
 use Rattle.std.proofs.Common.{refl, ap, ◌∙◌}
-use Rattle.gateway_answer.specs.Answer.{decided}
-use Rattle.gateway_answer.specs.Answered.{act_decided, answer_to}
-use Rattle.gateway_book.specs.Book.{fortune_of, size_of, value_of}
+use Rattle.cgf_jobs.proofs.Names.{act_decided, after_datagram, answer_to, answered, BookValue, decided, fortune_of, GatewayValue, reply_line, size_of, value_of}
 use Rattle.gateway_answer.specs.Preparing.{prepared_of}
-use Rattle.gateway_answer.specs.Value.{BookValue}
-use Rattle.cgf_jobs.specs.FeedReport.{reply_line}
-use Rattle.cgf_jobs.specs.Gateway.{GatewayValue, after_datagram, answered}
 use Rattle.cgf_jobs.proofs.BookLemmas.{recorded_gateway, recorded_whole, taken_all_firm, taken_answers, taken_records}
 use Rattle.cgf_jobs.proofs.gateway.Gateway.take.Goals as goal
 

@@ -1,6 +1,4 @@
-use Rattle.gw_base.specs.declared.held.HeldKey.{HeldKey}
-use Rattle.gw_base.specs.Entry.{act_view}
-use Rattle.gw_base.specs.View.{stays_held}
+use Rattle.cgf_journal.proofs.Names.{act_view, HeldKey, stays_held}
 use Rattle.cgf_journal.proofs.KeptLemmas.{staying_both}
 use Rattle.cgf_journal.proofs.kept.KeptKeys.count_staying.Goals as goal
 

@@ -1,11 +1,5 @@
 use Rattle.std.proofs.Common.{◌≡◌, [], refl, sym, ap, ◌∙◌, arith, rules}
-use Rattle.std.specs.Prelude.{vec_capacity}
-use Rattle.gw_base.specs.Entry.{act_view}
-use Rattle.gw_base.specs.HeldKeys.{held_by}
-use Rattle.gw_base.specs.declared.history.HistoryAct.TheVariants.{Hold}
-use Rattle.gw_base.specs.declared.entry.Act.{Act}
-use Rattle.cgf_journal.specs.Sorted.{count_held}
-use Rattle.cgf_journal.specs.Tally.{held_after}
+use Rattle.cgf_journal.proofs.Names.{Act, act_view, count_held, held_after, held_by, Hold, vec_capacity}
 use Rattle.cgf_journal.proofs.InOrder.{none_up}
 use Rattle.cgf_journal.proofs.KeptLemmas.{keeps_so, ready_held, ready_let_go, held_fits, seen, seen_kept, seen_live}
 use Rattle.cgf_journal.proofs.kept.KeptKeys.note.Goals as goal

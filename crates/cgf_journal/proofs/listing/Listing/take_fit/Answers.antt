@@ -1,8 +1,5 @@
 use Rattle.std.proofs.Common.{◌≡◌, Ok, true, false, List, [], sym, subst, ◌∙◌, ap, arith}
-use Rattle.gw_base.specs.declared.history.HistoryEntry.{HistoryEntry}
-use Rattle.cgf_journal.specs.Fit.{AllFit, AreFit}
-use Rattle.cgf_journal.specs.Format.{entries_in}
-use Rattle.cgf_journal.specs.Judged.{IsJudged}
+use Rattle.cgf_journal.proofs.Names.{AllFit, AreFit, entries_in, HistoryEntry, IsJudged}
 use Rattle.cgf_journal.proofs.Tallies.{entries_in-push}
 use Rattle.cgf_journal.proofs.Listings.{last_content, one_more, too_dear}
 use Rattle.cgf_journal.proofs.listing.Listing.take_fit.Goals as goal

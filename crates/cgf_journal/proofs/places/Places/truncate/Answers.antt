@@ -1,7 +1,6 @@
 use Rattle.std.proofs.Common.{List, take, ap, sym, ◌∙◌}
-use Rattle.std.specs.Prelude.{map}
-use Rattle.std.proofs.lemmas.List.{take-map}
-use Rattle.cgf_journal.specs.Reserved.{Placed, place_of}
+use Rattle.cgf_journal.proofs.Names.{map, Placed, take-map}
+use Rattle.cgf_journal.specs.Reserved.{place_of}
 use Rattle.cgf_journal.specs.declared.places.Spot.{Spot}
 use Rattle.cgf_journal.proofs.places.Places.truncate.Goals as goal
 

@@ -1,7 +1,5 @@
 use Rattle.std.proofs.Common.{◌≡◌, List, length, true, false, ap, ◌∙◌, refl, arith}
-use Rattle.cgf_journal.specs.Merged.{merged, moved_key, moved_keys}
-use Rattle.cgf_journal.specs.declared.key.KeptKey.{KeptKey}
-use Rattle.std.proofs.lemmas.List.{length-map}
+use Rattle.cgf_journal.proofs.Names.{KeptKey, length-map, merged, moved_key, moved_keys}
 use Rattle.cgf_journal.proofs.KeysLemmas.{counted_le}
 use Rattle.cgf_journal.proofs.MergedLemmas.{absorbed_all, absorbed_counted, absorbed_length, absorbed_up, absorbed_up_to, length-merged}
 use Rattle.cgf_journal.proofs.sorted.SortedKeys.absorb.Goals as goal

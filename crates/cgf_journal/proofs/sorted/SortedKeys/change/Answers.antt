@@ -1,10 +1,5 @@
 use Rattle.std.proofs.Common.{◌≡◌, ℕ, ◌+◌, ◌-◌, ◌<◌, ◌≤◌, Bool, List, length, true, false, refl, sym, ap, ◌∙◌, arith}
-use Rattle.std.specs.Prelude.{slice_index_or, slice_set}
-use Rattle.std.proofs.lemmas.List.Elements.{All-set}
-use Rattle.gw_base.specs.declared.held.HeldKey.{HeldKey}
-use Rattle.cgf_journal.specs.Keys.{changed_key, counted_keys, counts, key_of, rank}
-use Rattle.cgf_journal.specs.declared.key.KeptKey.{KeptKey}
-use Rattle.cgf_journal.specs.declared.sorted.SortedKeys.{SortedKeys}
+use Rattle.cgf_journal.proofs.Names.{All-set, changed_key, counted_keys, counts, HeldKey, KeptKey, key_of, rank, slice_index_or, slice_set, SortedKeys}
 use Rattle.cgf_journal.proofs.KeysLemmas.{change_counts, count-changed, firm-changed, one}
 use Rattle.cgf_journal.proofs.Orders.{UpTo, ascending-set}
 use Rattle.cgf_journal.proofs.sorted.SortedKeys.change.Goals as goal

@@ -1,7 +1,5 @@
 use Rattle.std.proofs.Common.{List, length, ap, arith}
-use Rattle.gw_base.specs.Entry.{act_view}
-use Rattle.gw_base.specs.declared.held.HeldKey.{HeldKey}
-use Rattle.cgf_journal.specs.Sorted.{keys_of}
+use Rattle.cgf_journal.proofs.Names.{act_view, HeldKey, keys_of}
 use Rattle.cgf_journal.proofs.Changes.{all_stay, names_none}
 use Rattle.cgf_journal.proofs.sorted.SortedKeys.count_gone.Goals as goal
 

@@ -1,12 +1,5 @@
 use Rattle.std.proofs.Common.{◌≡◌, ℕ, ◌+◌, ◌<◌, ◌≤◌, Bool, List, [], ◌∷◌, ◌++◌, ap, sym, ◌∙◌, length, filter, subst, take, arith, rules}
-use Rattle.std.specs.Prelude.{slice_index_or}
-use Rattle.std.proofs.lemmas.List.{take_more}
-use Rattle.gw_base.specs.declared.held.HeldKey.{HeldKey}
-use Rattle.gw_base.specs.declared.address.NodeId.{NodeId}
-use Rattle.gw_base.specs.declared.history.HistoryAct.TheVariants.{Release, Seal}
-use Rattle.gw_base.specs.View.{stays_held}
-use Rattle.cgf_journal.specs.Sorted.{keys_of}
-use Rattle.cgf_journal.specs.declared.sorted.SortedKeys.{SortedKeys}
+use Rattle.cgf_journal.proofs.Names.{HeldKey, keys_of, NodeId, Release, Seal, slice_index_or, SortedKeys, stays_held, take_more}
 use Rattle.cgf_journal.proofs.Changes.{none_named, AreBelow, none_below, one_below, one_more_gone}
 use Rattle.cgf_journal.proofs.KeysLemmas.{counted_le}
 use Rattle.cgf_journal.proofs.sorted.SortedKeys.count_listed.Goals as goal

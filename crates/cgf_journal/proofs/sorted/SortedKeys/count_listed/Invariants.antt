@@ -1,8 +1,5 @@
 use Rattle.std.proofs.Common.{◌≡◌, ◌+◌, length, filter, take}
-use Rattle.gw_base.specs.declared.held.HeldKey.{HeldKey}
-use Rattle.gw_base.specs.declared.history.HistoryAct.TheVariants.{Release}
-use Rattle.gw_base.specs.View.{stays_held}
-use Rattle.cgf_journal.specs.Sorted.{keys_of}
+use Rattle.cgf_journal.proofs.Names.{HeldKey, keys_of, Release, stays_held}
 use Rattle.cgf_journal.proofs.Changes.{AreBelow}
 use Rattle.cgf_journal.proofs.sorted.SortedKeys.count_listed.Given as goal
 

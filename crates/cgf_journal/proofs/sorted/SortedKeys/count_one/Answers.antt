@@ -1,6 +1,5 @@
 use Rattle.std.proofs.Common.{List, ◌∙◌, ap}
-use Rattle.std.specs.Prelude.{slice_index_or}
-use Rattle.cgf_journal.specs.declared.key.KeptKey.{KeptKey}
+use Rattle.cgf_journal.proofs.Names.{KeptKey, slice_index_or}
 use Rattle.cgf_journal.proofs.Changes.{found_gone, none_gone}
 use Rattle.cgf_journal.proofs.sorted.SortedKeys.count_one.Goals as goal
 

@@ -1,9 +1,5 @@
 use Rattle.std.proofs.Common.{◌&&◌, List, count_by, sym, ap, ◌∙◌}
-use Rattle.gw_base.specs.declared.held.HeldKey.{HeldKey}
-use Rattle.gw_base.specs.Entry.{act_view}
-use Rattle.gw_base.specs.View.{stays_held}
-use Rattle.cgf_journal.specs.Keys.{counts, key_of}
-use Rattle.cgf_journal.specs.declared.key.KeptKey.{KeptKey}
+use Rattle.cgf_journal.proofs.Names.{act_view, counts, HeldKey, KeptKey, key_of, stays_held}
 use Rattle.cgf_journal.proofs.KeptLemmas.{length-staying}
 use Rattle.cgf_journal.proofs.sorted.SortedKeys.count_staying.Goals as goal
 

@@ -1,10 +1,5 @@
 use Rattle.std.proofs.Common.{ℕ, List, filter, take, refl, sym, ap, ◌∙◌, arith}
-use Rattle.std.specs.Prelude.{slice_index_or}
-use Rattle.std.proofs.lemmas.List.{take_more}
-use Rattle.gw_base.specs.declared.held.HeldKey.{HeldKey}
-use Rattle.gw_base.specs.declared.history.HistoryAct.TheVariants.{Release, Seal}
-use Rattle.gw_base.specs.View.{stays_held}
-use Rattle.cgf_journal.specs.Sorted.{live_keys}
+use Rattle.cgf_journal.proofs.Names.{HeldKey, live_keys, Release, Seal, slice_index_or, stays_held, take_more}
 use Rattle.cgf_journal.proofs.Changes.{grows_on, next_named, none_named}
 use Rattle.cgf_journal.proofs.sorted.SortedKeys.free_all.Goals as goal
 

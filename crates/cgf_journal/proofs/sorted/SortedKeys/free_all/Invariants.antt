@@ -1,8 +1,5 @@
 use Rattle.std.proofs.Common.{◌≡◌, filter, take}
-use Rattle.gw_base.specs.declared.held.HeldKey.{HeldKey}
-use Rattle.gw_base.specs.declared.history.HistoryAct.TheVariants.{Release}
-use Rattle.gw_base.specs.View.{stays_held}
-use Rattle.cgf_journal.specs.Sorted.{GrowsBy, live_keys}
+use Rattle.cgf_journal.proofs.Names.{GrowsBy, HeldKey, live_keys, Release, stays_held}
 use Rattle.cgf_journal.proofs.sorted.SortedKeys.free_all.Given as goal
 
 -- the numbers so far are let go

@@ -1,8 +1,6 @@
 use Rattle.std.proofs.Common.{◌∷◌, List, length, take, drop, true, false, refl, sym, ap, ◌∙◌, arith}
 use Rattle.std.proofs.lemmas.List.Edits.{length-insert}
-use Rattle.std.proofs.lemmas.List.Elements.{All-append, All-cons, All-drop, All-take}
-use Rattle.gw_base.specs.declared.held.HeldKey.{HeldKey}
-use Rattle.cgf_journal.specs.declared.key.KeptKey.{KeptKey}
+use Rattle.cgf_journal.proofs.Names.{All-append, All-cons, All-drop, All-take, HeldKey, KeptKey}
 use Rattle.cgf_journal.proofs.Changes.{changed_grows, firm_more, grows_more, length_more, live_after, live_more, new_key}
 use Rattle.cgf_journal.proofs.KeysLemmas.{counted_le}
 use Rattle.cgf_journal.proofs.Orders.{UpTo, ascending-insert}

@@ -1,13 +1,5 @@
 use Rattle.std.proofs.Common.{◌≡◌, Bool, List, [], ◌∷◌, length, filter, map, true, false, refl, sym, ap, ◌∙◌, arith, inl, inr}
-use Rattle.std.proofs.lemmas.Bool.{cases_Bool}
-use Rattle.std.proofs.lemmas.List.{length-map}
-use Rattle.std.proofs.lemmas.List.Elements.{All-filter, All-map}
-use Rattle.std.proofs.lemmas.List.Kept.{AllPairs-filter}
-use Rattle.gw_base.specs.declared.held.HeldKey.{HeldKey}
-use Rattle.cgf_journal.specs.Keys.{counted_keys, counts, key_of, settled_key}
-use Rattle.cgf_journal.specs.Sorted.{firm_keys}
-use Rattle.cgf_journal.specs.declared.key.KeptKey.{KeptKey}
-use Rattle.cgf_journal.specs.declared.sorted.SortedKeys.{SortedKeys}
+use Rattle.cgf_journal.proofs.Names.{All-filter, All-map, AllPairs-filter, cases_Bool, counted_keys, counts, firm_keys, HeldKey, KeptKey, key_of, length-map, settled_key, SortedKeys}
 use Rattle.cgf_journal.proofs.KeysLemmas.{counted-settled}
 use Rattle.cgf_journal.proofs.Orders.{Precedes, UpTo, ascending-map}
 use Rattle.cgf_journal.proofs.sorted.SortedKeys.revert.Goals as goal

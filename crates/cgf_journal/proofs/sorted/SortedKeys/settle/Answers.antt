@@ -1,11 +1,5 @@
 use Rattle.std.proofs.Common.{◌≡◌, ◌+◌, Bool, ℕ, List, length, map, true, false, refl, sym, ap, ◌∙◌, arith, rules}
-use Rattle.std.proofs.lemmas.List.{length-map}
-use Rattle.std.proofs.lemmas.List.Elements.{All-map}
-use Rattle.gw_base.specs.declared.held.HeldKey.{HeldKey}
-use Rattle.cgf_journal.specs.Keys.{counted_keys, settled_key}
-use Rattle.cgf_journal.specs.Sorted.{live_keys}
-use Rattle.cgf_journal.specs.declared.key.KeptKey.{KeptKey}
-use Rattle.cgf_journal.specs.declared.sorted.SortedKeys.{SortedKeys}
+use Rattle.cgf_journal.proofs.Names.{All-map, counted_keys, HeldKey, KeptKey, length-map, live_keys, settled_key, SortedKeys}
 use Rattle.cgf_journal.proofs.KeysLemmas.{counted-settled, firm-next}
 use Rattle.cgf_journal.proofs.Orders.{UpTo, ascending-map}
 use Rattle.cgf_journal.proofs.sorted.SortedKeys.settle.Goals as goal

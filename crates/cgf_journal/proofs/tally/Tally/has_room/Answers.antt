@@ -1,6 +1,5 @@
 use Rattle.std.proofs.Common.{◌+◌, ◌*◌, if◌then◌else◌, nat_le, sym, ◌∙◌}
-use Rattle.gw_base.specs.Entry.{entry_view}
-use Rattle.entry_codec.specs.Room.{capacity_of}
+use Rattle.cgf_journal.proofs.Names.{capacity_of, entry_view}
 use Rattle.cgf_journal.proofs.KeptLemmas.{counted_room, room_for_all}
 use Rattle.cgf_journal.proofs.tally.Tally.has_room.Goals as goal
 

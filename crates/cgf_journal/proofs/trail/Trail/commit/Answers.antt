@@ -1,16 +1,6 @@
 use Rattle.std.proofs.Common.{◌≡◌, ◌≢◌, inl, ℕ, ◌+◌, ◌==◌, Bool, true, false, List, [], length, refl, sym, ◌∙◌, ap, arith, rules}
-use Rattle.std.specs.Prelude.{Err}
-use Rattle.std.proofs.lemmas.Bool.{eqb-false, eqb-true}
-use Rattle.std.proofs.lemmas.List.{nil_from_length}
-use Rattle.gw_base.specs.Buffer.{Buffered}
+use Rattle.cgf_journal.proofs.Names.{begin, Buffered, entries_in, entries_of, entries_of-nil, eqb-false, eqb-true, Err, firm_entries, is_founded, length_of, nil_from_length, Tallies, waiting}
 use Rattle.gate_journal.specs.Journal as journal
-use Rattle.area_disk.specs.MomentLaws.{begin}
-use Rattle.entry_codec.specs.Content.{entries_of}
-use Rattle.entry_codec.specs.Laws.{entries_of-nil}
-use Rattle.cgf_journal.specs.Format.{entries_in}
-use Rattle.cgf_journal.specs.Sound.{is_founded}
-use Rattle.cgf_journal.specs.Tally.{Tallies}
-use Rattle.cgf_journal.specs.Trail.{firm_entries, length_of, waiting}
 use Rattle.cgf_journal.proofs.Coming.{commit_planned}
 use Rattle.cgf_journal.proofs.Tallies.{entries_in-push, still_enough}
 use Rattle.cgf_journal.proofs.Sounds.{fits, settled as settled_sound}

@@ -1,6 +1,5 @@
 use Rattle.gate_journal.specs.Journal as journal
-use Rattle.gate_journal.specs.Spelling.{length-header}
-use Rattle.cgf_journal.specs.Trail.{area_of, header_of}
+use Rattle.cgf_journal.proofs.Names.{area_of, header_of, length-header}
 use Rattle.cgf_journal.proofs.Placing.{entry_lies}
 use Rattle.cgf_journal.proofs.Trails.{entry_is, length_is}
 use Rattle.cgf_journal.proofs.trail.Trail.entry_at.Goals as goal

@@ -1,6 +1,5 @@
 use Rattle.std.proofs.Common.{◌≡◌, ◌∙◌, ap, rules}
-use Rattle.cgf_journal.specs.Tally.{TallyValue, free_beside}
-use Rattle.cgf_journal.specs.Trail.{area_of, entries, free_of, tally}
+use Rattle.cgf_journal.proofs.Names.{area_of, entries, free_beside, free_of, tally, TallyValue}
 use Rattle.cgf_journal.proofs.Tallies.{free_is}
 use Rattle.cgf_journal.proofs.Trails.{tally_is}
 use Rattle.cgf_journal.proofs.trail.Trail.free.Goals as goal

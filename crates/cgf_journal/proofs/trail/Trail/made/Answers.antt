@@ -1,9 +1,5 @@
 use Rattle.std.proofs.Common.{◌≡◌, if◌then◌else◌, length, refl, ◌∙◌, ap, arith}
-use Rattle.gw_base.specs.Buffer.{Buffered}
-use Rattle.entry_codec.specs.Content.{entries_of}
-use Rattle.entry_codec.specs.Laws.{entries_of-nil}
-use Rattle.cgf_journal.specs.Tally.{Tallies}
-use Rattle.cgf_journal.specs.Trail.{firm_entries, waiting}
+use Rattle.cgf_journal.proofs.Names.{Buffered, entries_of, entries_of-nil, firm_entries, Tallies, waiting}
 use Rattle.cgf_journal.proofs.Sounds.{all_batches, all_judged, made}
 use Rattle.cgf_journal.proofs.Tallies.{still_enough}
 use Rattle.cgf_journal.proofs.Trails.{entries_firm, settled}

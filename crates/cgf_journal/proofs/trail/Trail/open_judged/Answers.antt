@@ -1,10 +1,5 @@
 use Rattle.std.proofs.Common.{◌≡◌, inr, ℕ, ⊎_elim, sym, ◌∙◌, ap, subst, arith}
-use Rattle.gate_journal.specs.Moments.{Told}
-use Rattle.gate_journal.specs.Opening.{is_device_fault}
-use Rattle.gate_journal.specs.Planned.{SyncPlanned}
-use Rattle.gate_journal.specs.declared.faults.OpenFault.{OpenFault}
-use Rattle.gate_journal.specs.declared.faults.OpenFault.TheVariants.{Device, NoMemory, NotOurs}
-use Rattle.cgf_journal.specs.Fit.{IsUnfitTo}
+use Rattle.cgf_journal.proofs.Names.{Device, is_device_fault, IsUnfitTo, NoMemory, NotOurs, OpenFault, SyncPlanned, Told}
 use Rattle.cgf_journal.proofs.Opened.{asked, foreign_unlike, later, opens, other_fault, place_is, refuses, not_device, sync_on}
 use Rattle.cgf_journal.proofs.trail.Trail.open_judged.Goals as goal
 

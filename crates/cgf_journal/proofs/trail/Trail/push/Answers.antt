@@ -1,22 +1,7 @@
 use Rattle.std.proofs.Common.{◌≡◌, ℕ, ◌+◌, ◌*◌, ◌-◌, ◌<◌, ◌≤◌, true, false, List, [], ◌∷◌, ◌++◌, length, refl, sym, ◌∙◌, ap, append_assoc, arith, length-append, slice_get}
-use Rattle.std.specs.Prelude.{Err, Ok, OnOk, Result}
-use Rattle.std.proofs.lemmas.Option.{slice_get_within}
-use Rattle.gw_base.specs.Buffer.{Buffered}
-use Rattle.gw_base.specs.Entry.{entry_view}
-use Rattle.gw_base.specs.declared.history.HistoryEntry.{HistoryEntry}
-use Rattle.gw_base.specs.declared.place.Place.{Place}
-use Rattle.gate_journal.specs.Format.{longest_batch}
+use Rattle.cgf_journal.proofs.Names.{area_of, Buffered, capacity_of, cheapest_hold, cost_of, entries_of, entry_length, entry_view, Err, firm_entries, Ghosts, has_room_of, HistoryEntry, is_closed, length_of_spelling, longest_batch, Ok, OnOk, Place, Result, slice_get_within, spelling, Tallies, Trail, waiting}
 use Rattle.gate_journal.specs.Journal as journal
-use Rattle.entry_codec.specs.Content.{entries_of}
-use Rattle.entry_codec.specs.Spelling.{cost_of, entry_length, spelling}
 use Rattle.gw_base.specs.declared.fault.Full.{Full}
-use Rattle.entry_codec.specs.Laws.{length_of_spelling}
-use Rattle.area_disk.specs.declared.area.Area.{Ghosts}
-use Rattle.entry_codec.specs.Room.{capacity_of}
-use Rattle.cgf_journal.specs.Reserved.{cheapest_hold}
-use Rattle.cgf_journal.specs.declared.trail.Trail.{Trail}
-use Rattle.cgf_journal.specs.Tally.{Tallies}
-use Rattle.cgf_journal.specs.Trail.{area_of, firm_entries, has_room_of, is_closed, waiting}
 use Rattle.cgf_journal.proofs.Placing.{get_left}
 use Rattle.cgf_journal.proofs.Tallies.{still_enough}
 use Rattle.cgf_journal.proofs.Sounds.{dear_places, pending-push, pushed}

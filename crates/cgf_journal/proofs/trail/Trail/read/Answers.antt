@@ -1,9 +1,7 @@
 use Rattle.std.proofs.Common.{ℕ, ◌+◌, ◌-◌, List, [], ◌∷◌, length, take, drop, refl, sym, subst, ◌∙◌, ap, arith}
 use Rattle.std.proofs.lemmas.Result.{on_ok_weaker}
-use Rattle.gate_journal.specs.Format.{end_of}
+use Rattle.cgf_journal.proofs.Names.{AreEntries, end_of, one_entry}
 use Rattle.gate_journal.specs.Reading.{IsRead}
-use Rattle.entry_codec.specs.Content.{AreEntries}
-use Rattle.entry_codec.specs.Laws.{one_entry}
 use Rattle.cgf_journal.proofs.Trails.{entry_is, kept, place_ends, place_is, spelling_is}
 use Rattle.cgf_journal.proofs.trail.Trail.read.Goals as goal
 

@@ -1,19 +1,6 @@
 use Rattle.std.proofs.Common.{◌≡◌, ◌⊎◌, inl, inr, ◌+◌, true, false, List, [], ◌∷◌, ◌++◌, length, refl, sym, ◌∙◌, ap, arith, slice_get, rules}
-use Rattle.std.specs.Prelude.{is_err}
-use Rattle.std.proofs.lemmas.Bool.{false_from_ne_true, true_from_ne_false}
-use Rattle.std.proofs.lemmas.List.{length-take-le}
-use Rattle.area_disk.specs.declared.area.Area.{Ghosts}
-use Rattle.gw_base.specs.Buffer.{Buffered}
-use Rattle.gw_base.specs.declared.place.Place.{Place}
+use Rattle.cgf_journal.proofs.Names.{Buffered, entries_in, entries_of, entries_of-nil, false_from_ne_true, firm_entries, Ghosts, is_closed, is_err, is_founded, Journal, length-take-le, Place, Tallies, torn_stands, Trail, true_from_ne_false, waiting}
 use Rattle.gate_journal.specs.Journal as journal
-use Rattle.gate_journal.specs.declared.journal.Journal.{Journal}
-use Rattle.entry_codec.specs.Content.{entries_of}
-use Rattle.entry_codec.specs.Laws.{entries_of-nil}
-use Rattle.cgf_journal.specs.Format.{entries_in}
-use Rattle.cgf_journal.specs.Sound.{is_founded}
-use Rattle.cgf_journal.specs.Tally.{Tallies}
-use Rattle.cgf_journal.specs.Trail.{firm_entries, is_closed, torn_stands, waiting}
-use Rattle.cgf_journal.specs.declared.trail.Trail.{Trail}
 use Rattle.cgf_journal.proofs.Coming.{reopen_failed, reopen_planned}
 use Rattle.cgf_journal.proofs.Tallies.{entries_in-push, still_enough}
 use Rattle.cgf_journal.proofs.Sounds.{dropped, settled as settled_sound}

@@ -1,7 +1,5 @@
 use Rattle.std.proofs.Common.{◌≡◌, ◌∙◌, ap, rules}
-use Rattle.gw_base.specs.Entry.{entry_view}
-use Rattle.cgf_journal.specs.Tally.{TallyValue, has_room_behind}
-use Rattle.cgf_journal.specs.Trail.{area_of, entries, has_room_of, tally}
+use Rattle.cgf_journal.proofs.Names.{area_of, entries, entry_view, has_room_behind, has_room_of, tally, TallyValue}
 use Rattle.cgf_journal.proofs.Tallies.{room_is}
 use Rattle.cgf_journal.proofs.Trails.{tally_is}
 use Rattle.cgf_journal.proofs.trail.Trail.room.Goals as goal

@@ -1,6 +1,5 @@
 use Rattle.std.proofs.Common.{sym, subst, arith, List, ℕ}
-use Rattle.entry_codec.specs.Content.{AreEntries, entries_of}
-use Rattle.cgf_journal.specs.Trail.{waiting}
+use Rattle.cgf_journal.proofs.Names.{AreEntries, entries_of, waiting}
 use Rattle.cgf_journal.proofs.Trails.{firm_spelled, length_firm}
 use Rattle.cgf_journal.proofs.trail.Trail.waiting.Goals as goal
 

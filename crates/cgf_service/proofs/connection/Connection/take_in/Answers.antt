@@ -1,6 +1,5 @@
 use Rattle.std.proofs.Common.{◌++◌, ◌∙◌, ℕ, List, take, refl, subst, arith}
-use Rattle.std.proofs.lemmas.Result.{err_from_is_err_and}
-use Rattle.cgf_service.specs.StreamSteps.{StopsIn}
+use Rattle.cgf_service.proofs.Names.{err_from_is_err_and, StopsIn}
 use Rattle.cgf_jobs.specs.declared.status.Status.TheVariants as status
 use Rattle.cgf_service.proofs.PieceLemmas.{begins_going, goes_all, goes_on, joined, ok_not_err}
 use Rattle.cgf_service.proofs.connection.Connection.take_in.Goals as goal

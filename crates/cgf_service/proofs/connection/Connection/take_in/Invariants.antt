@@ -1,7 +1,5 @@
 use Rattle.std.proofs.Common.{◌≡◌, ◌+◌, ◌-◌, ◌≤◌, ◌++◌, ℕ, List, length, take}
-use Rattle.std.specs.Io.KnownBytes.{Appends}
-use Rattle.gateway_book.specs.declared.book.Book.{Book as ABook}
-use Rattle.cgf_service.specs.StreamSteps.{IsGoingOn, IsSteady}
+use Rattle.cgf_service.proofs.Names.{ABook, Appends, IsGoingOn, IsSteady}
 use Rattle.cgf_service.proofs.connection.Connection.take_in.Given as goal
 
 -- the octets up to this place were taken in, and the messages that end among them were answered

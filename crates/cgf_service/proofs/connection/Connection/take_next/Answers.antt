@@ -1,8 +1,5 @@
 use Rattle.std.proofs.Common.{◌++◌, ◌∙◌, ℕ, List, [], take, refl, sym, subst, append-nil, arith}
-use Rattle.std.proofs.lemmas.Result.{err_from_is_err_and}
-use Rattle.gtpp_stream.specs.Stream.{fault_before}
-use Rattle.cgf_service.specs.StreamSteps.{IsGoingOn, StopsIn}
-use Rattle.cgf_jobs.specs.declared.input_kind.InputKind.{InputKind}
+use Rattle.cgf_service.proofs.Names.{err_from_is_err_and, fault_before, InputKind, IsGoingOn, StopsIn}
 use Rattle.cgf_jobs.specs.declared.status.Status.TheVariants as status
 use Rattle.cgf_service.proofs.PieceLemmas.{all_used, bad_is, goes_more, goes_whole, more_is, pushed, some_used, steady_more, steady_whole, stops_bad, stops_whole, whole_is}
 use Rattle.cgf_service.proofs.InputLemmas.{appends_none}

@@ -1,6 +1,5 @@
 use Rattle.std.proofs.Common.{◌∙◌, sym, ap, arith, string_bytes}
-use Rattle.cgf_service.specs.Serving.{serving_of}
-use Rattle.cgf_jobs.specs.Words.{is_option}
+use Rattle.cgf_service.proofs.Names.{is_option, serving_of}
 use Rattle.cgf_service.proofs.ServingWords.{other_words, seven_words}
 use Rattle.cgf_service.proofs.serving.Serving.of.Goals as goal
 

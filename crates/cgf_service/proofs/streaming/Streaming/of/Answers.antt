@@ -1,6 +1,5 @@
 use Rattle.std.proofs.Common.{◌∙◌, sym, ap, arith, string_bytes}
-use Rattle.cgf_service.specs.Streaming.{streaming_of}
-use Rattle.cgf_jobs.specs.Words.{is_option}
+use Rattle.cgf_service.proofs.Names.{is_option, streaming_of}
 use Rattle.cgf_service.proofs.ServingWords.{seven_words}
 use Rattle.cgf_service.proofs.StreamWords.{other_words}
 use Rattle.cgf_service.proofs.streaming.Streaming.of.Goals as goal

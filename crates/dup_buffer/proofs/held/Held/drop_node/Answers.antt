@@ -24,8 +24,13 @@ invariant_of-self c =
     let late = c.self.inside.late.items in (
       rw (c.drop_copies.ensures.items, c.drop_copies-2.ensures.items) (left_stored c.args.node.0 kept late c.self.invariant.0),
       rw (c.drop_copies.ensures.items, c.drop_copies-2.ensures.items)
-      (omega (arith, left_length c.args.node.0 kept late, ap (λ (l : List HeldCopy). length l)
-          c.drop_copies.ensures.items, ap (λ (l : List HeldCopy). length l) c.drop_copies-2.ensures.items)),
+          (omega (
+            arith,
+            left_length c.args.node.0 kept late,
+            ap (λ (l : List HeldCopy). length l)
+                c.drop_copies.ensures.items,
+            ap (λ (l : List HeldCopy). length l) c.drop_copies-2.ensures.items,
+          )),
       omega (arith, gone c, c.self.invariant.1, c.self.invariant.2),
       omega (arith, gone c, c.self.invariant.1, c.self.invariant.3),
       omega (arith, c.self.invariant.4),

@@ -16,17 +16,22 @@ put_in-requires-clause-none c =
     (rw c.reserve.ensures.items at c.make_place.ensures.same) (no_place _ (rw (← c.self.view_is) at c.requires))
 
 -- one more is held
-held : (c : goal.After-self-1) → IsHeld (record { number = c.args.number; at = c.args.place.at; node = c.args.node.0;
-    length = c.args.place.length; held = true })
+held : (c : goal.After-self-1) → IsHeld (record {
+  number = c.args.number;
+  at = c.args.place.at;
+  node = c.args.node.0;
+  length = c.args.place.length;
+  held = true;
+})
     (all_held c.self.inside.kept.items c.self.inside.late.items) c.make_place.new.kept.items c.put_in.new.copies.items
 held c =
     let none : find (is_copy_of c.args.node.0 c.args.number)
-        (all_held c.self.inside.kept.items c.self.inside.late.items) ≡ None =
-        no_place _ (rw (← c.self.view_is) at c.requires) in
+    (all_held c.self.inside.kept.items c.self.inside.late.items) ≡ None =
+    no_place _ (rw (← c.self.view_is) at c.requires) in
     held_one _ (all_held c.self.inside.kept.items c.self.inside.late.items) c.make_place.new.kept.items
-        c.make_place.new.late.items
+    c.make_place.new.late.items
     c.put_in.new.copies.items (rw c.reserve.ensures.items at c.make_place.ensures.same) none c.self.invariant.0.once
-        refl
+    refl
     c.make_place.ensures.stored c.make_place.ensures.late c.put_in.ensures.order c.put_in.ensures.same
 
 pub invariant_of-self-2 : goal.invariant_of-self-2

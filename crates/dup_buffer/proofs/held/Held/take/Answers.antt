@@ -55,7 +55,7 @@ pub returns-in_err-copy-clause-others : goal.returns-in_err-copy-clause-others
 returns-in_err-copy-clause-others c =
     rw (← c.self.view_is, c.mark.ensures.kept c.in_err-copy.was, c.take_out.ensures.kept c.in_default.is)
     (sym (copies_of-none_less c.args.node.0 c.args.number (copies_of
-        (stored (all_held c.self.inside.kept.items c.self.inside.late.items)))
+    (stored (all_held c.self.inside.kept.items c.self.inside.late.items)))
     (ap (λ (o : Option HeldCopy). option_map place_of o) (none_here c))))
 
 pub returns-in_err-copy-clause-spare : goal.returns-in_err-copy-clause-spare

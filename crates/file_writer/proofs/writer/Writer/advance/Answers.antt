@@ -1,6 +1,5 @@
 use Rattle.std.proofs.Common.{rules, ◌≡◌, List, ◌++◌, length, refl, slice_index_or, arith}
-use Rattle.file_writer.specs.Calls.{Call, calls_of}
-use Rattle.file_writer.specs.Writer.{sealed_in, settings_in}
+use Rattle.file_writer.proofs.Names.{Call, calls_of, sealed_in, settings_in}
 use Rattle.file_writer.proofs.AmongLemmas.{moves_shut}
 use Rattle.file_writer.proofs.FollowingLemmas.{no_result}
 use Rattle.file_writer.proofs.HoldingLemmas.{all_stand}

@@ -1,7 +1,5 @@
 use Rattle.std.proofs.Common.{arith, ◌≡◌, ℕ, ◌<◌, slice_index, ap, sym, ◌∙◌, refl, IsTrue}
-use Rattle.cdr_shelf.specs.Files.{greatest_in}
-use Rattle.file_writer.specs.Streams.{stream_count}
-use Rattle.file_writer.specs.Writer.{settings_in}
+use Rattle.file_writer.proofs.Names.{greatest_in, settings_in, stream_count}
 use Rattle.file_writer.proofs.HoldingLemmas.{holds_found}
 use Rattle.file_writer.proofs.LeavingLemmas.{no_stream, recovered_at, sealed_at, sealed_is}
 use Rattle.file_writer.proofs.writer.Writer.recover_from.Goals as goal

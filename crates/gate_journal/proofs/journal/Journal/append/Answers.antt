@@ -1,8 +1,7 @@
 use Rattle.std.proofs.Common.{inl, refl, ◌∙◌, arith, rules}
-use Rattle.gate_journal.specs.Journal.{batches, torn, stop_stands}
+use Rattle.gate_journal.proofs.Names.{batches, begin, stop_stands, torn}
 use Rattle.gate_journal.proofs.Turns.{other_bool}
 use Rattle.gate_journal.proofs.Kept.{as_before}
-use Rattle.area_disk.specs.MomentLaws.{begin}
 use Rattle.gate_journal.proofs.States.{closed_when_torn, settled, grown, left_or, only_octets, shut_gate, torn_over}
 use Rattle.gate_journal.proofs.journal.Journal.append.Goals as goal
 

@@ -1,12 +1,8 @@
 use Rattle.std.proofs.Common.{◌≡◌, ◌≤◌, ◌+◌, ℕ, List, [], ◌∷◌, ◌++◌, length, refl, sym, ◌∙◌, ap, subst, arith}
-use Rattle.std.specs.Prelude.{Option, IfSome, is_some, unwrap_or}
-use Rattle.gate_journal.specs.Format.{longest_batch}
-use Rattle.gate_journal.specs.Journal.{batches}
+use Rattle.gate_journal.proofs.Names.{batches, batches_below, before_end, IfSome, is_some, longest_batch, next_gate, Option, unwrap_or}
 use Rattle.gate_journal.specs.Reading.{IsBatch}
-use Rattle.gate_journal.specs.State.{batches_below}
 use Rattle.gate_journal.proofs.Kept.{kept_journal}
 use Rattle.gate_journal.proofs.Finding.{content_inside, found_at, if_some, next, there}
-use Rattle.gate_journal.specs.Places.{before_end, next_gate}
 use Rattle.gate_journal.proofs.States.{settled}
 use Rattle.gate_journal.proofs.Turns.{other_bool}
 use Rattle.gate_journal.proofs.journal.Journal.batch.Goals as goal

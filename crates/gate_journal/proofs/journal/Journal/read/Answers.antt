@@ -1,12 +1,6 @@
 use Rattle.std.proofs.Common.{ℕ, List, ◌++◌, length, drop, refl, ◌∙◌, ap, arith}
-use Rattle.gate_journal.specs.Format.{header, spelled}
-use Rattle.gate_journal.specs.Journal.{batches}
-use Rattle.gate_journal.specs.State.{batches_below}
-use Rattle.gate_journal.specs.Places.{part_is, small_among}
+use Rattle.gate_journal.proofs.Names.{batches, batches_below, header, kept_read, length-header, part_is, read_on, small_among, spelled}
 use Rattle.gate_journal.proofs.Kept.{kept_journal}
-use Rattle.area_disk.specs.CourseLaws.{read_on}
-use Rattle.area_disk.specs.MomentLaws.{kept_read}
-use Rattle.gate_journal.specs.Spelling.{length-header}
 use Rattle.gate_journal.proofs.journal.Journal.read.Goals as goal
 
 pub returns-in-Ok-clause-content : goal.returns-in-Ok-clause-content

@@ -1,10 +1,6 @@
 use Rattle.std.proofs.Common.{false, sym, ◌∙◌, ap, arith, rules}
-use Rattle.std.specs.Prelude.{◌&&◌, ◌==◌}
-use Rattle.gate_journal.specs.Format.{open_gate}
-use Rattle.gate_journal.specs.State.{front_after}
-use Rattle.gate_journal.specs.Journal.{batches, torn, torn_stands, stop_stands, closed_by}
+use Rattle.gate_journal.proofs.Names.{batches, closed_by, front_after, open_gate, stop_stands, torn, torn_stands, widen, ◌&&◌, ◌==◌}
 use Rattle.gate_journal.proofs.Turns.{other_bool}
-use Rattle.area_disk.specs.MomentLaws.{widen}
 use Rattle.gate_journal.proofs.States.{settled, ready_of, open_after, length-last, gate_moves, moves_or_stays, keeps_any, kept, reopened_over}
 use Rattle.gate_journal.proofs.journal.Journal.reopen.Goals as goal
 

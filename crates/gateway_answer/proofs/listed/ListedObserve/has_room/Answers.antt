@@ -1,10 +1,6 @@
 use Rattle.std.proofs.Common.{◌≡◌, ◌+◌, nat_le, Bool, List, [], ◌∷◌, ◌++◌, ap, sym, ◌∙◌}
-use Rattle.entry_codec.specs.Room.{capacity_of}
+use Rattle.gateway_answer.proofs.Names.{capacity_of, entry_by, held_keys, HeldKey, no_caller, promised_by, promised_octets}
 use Rattle.gw_base.specs.Entry.{act_view}
-use Rattle.gw_base.specs.HeldKeys.{held_keys, promised_octets}
-use Rattle.gw_base.specs.declared.held.HeldKey.{HeldKey}
-use Rattle.gateway_answer.specs.Answered.{entry_by, no_caller}
-use Rattle.gateway_answer.specs.Steps.{promised_by}
 use Rattle.gateway_answer.proofs.PlainLemmas.{promised_after}
 use Rattle.gateway_answer.proofs.listed.ListedObserve.has_room.Goals as goal
 

@@ -1,12 +1,5 @@
 use Rattle.std.proofs.Common.{false, List, refl, sym, ap, ◌∙◌}
-use Rattle.gw_base.specs.declared.history.HistoryEntry.{HistoryEntry}
-use Rattle.gateway_book.specs.Adding.{room_in}
-use Rattle.gateway_answer.specs.Answer.{decided, node_of}
-use Rattle.gateway_answer.specs.Answered.{answer_to}
-use Rattle.gateway_book.specs.Book.{size_of}
-use Rattle.gateway_answer.specs.Cases.{case_value}
-use Rattle.gateway_book.specs.Followed.{all_entries}
-use Rattle.gateway_index.specs.Index.{observed_by}
+use Rattle.gateway_book.proofs.Names.{all_entries, answer_to, case_value, decided, HistoryEntry, node_of, observed_by, room_in, size_of}
 use Rattle.gateway_book.proofs.CallerLemmas.{done_by}
 use Rattle.gateway_book.proofs.StandingLemmas.{counting_firm, stands_firm}
 use Rattle.gateway_book.proofs.TakingLemmas.{answered_is, done_is, firm_stays, followed_answer, history_is, none_is_lost, recorded_is_fit}

@@ -1,6 +1,5 @@
 use Rattle.std.proofs.Common.{◌∙◌, arith}
-use Rattle.cgf_journal.specs.Trail.{area_of, firm_entries}
-use Rattle.gateway_answer.specs.Value.{started}
+use Rattle.gateway_book.proofs.Names.{area_of, firm_entries, started}
 use Rattle.gateway_book.proofs.StandingLemmas.{stands_begun}
 use Rattle.gateway_book.proofs.book.Book.begin.Goals as goal
 

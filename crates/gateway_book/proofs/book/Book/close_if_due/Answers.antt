@@ -1,13 +1,5 @@
 use Rattle.std.proofs.Common.{◌≡◌, Bool, true, sym, ap, subst, ◌∙◌}
-use Rattle.gw_base.specs.History.{is_close_due}
-use Rattle.gw_base.specs.declared.history.HistoryAct.TheVariants.{Close}
-use Rattle.gateway_book.specs.Book.{IsLeft, size_of, value_of}
-use Rattle.gateway_book.specs.Calls.{marked_at}
-use Rattle.gateway_answer.specs.FitHistoryLaws.{fit_is_within}
-use Rattle.gateway_book.specs.Followed.{all_entries}
-use Rattle.gateway_answer.specs.Marks.{Mark, made_if}
-use Rattle.gateway_answer.specs.Value.{history_of}
-use Rattle.gateway_book.specs.declared.outcome.Marked.{Marked}
+use Rattle.gateway_book.proofs.Names.{all_entries, Close, fit_is_within, history_of, is_close_due, IsLeft, made_if, Mark, Marked, marked_at, size_of, value_of}
 use Rattle.gateway_book.specs.declared.outcome.Marked.TheVariants as marked
 use Rattle.gateway_book.proofs.TakingLemmas.{close_made, history_is}
 use Rattle.gateway_book.proofs.book.Book.close_if_due.Goals as goal

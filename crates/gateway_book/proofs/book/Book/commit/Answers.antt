@@ -1,7 +1,5 @@
 use Rattle.std.proofs.Common.{ap, ◌∙◌}
-use Rattle.std.specs.Prelude.{is_err}
-use Rattle.gateway_book.specs.Book.{fortune_of, value_of}
-use Rattle.gateway_answer.specs.Value.{after_commit}
+use Rattle.gateway_book.proofs.Names.{after_commit, fortune_of, is_err, value_of}
 use Rattle.gateway_book.proofs.Committing.{answer_broken, answer_ok}
 use Rattle.gateway_book.proofs.book.Book.commit.Goals as goal
 

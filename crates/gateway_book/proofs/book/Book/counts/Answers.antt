@@ -1,9 +1,5 @@
 use Rattle.std.proofs.Common.{ap, ◌∙◌}
-use Rattle.cgf_journal.specs.Trail.{firm_entries, is_closed}
-use Rattle.gateway_book.specs.Book.{value_of}
-use Rattle.gateway_book.specs.Followed.{all_entries}
-use Rattle.gateway_answer.specs.Value.{history_of}
-use Rattle.gateway_index.specs.declared.totals.Totals.{Totals}
+use Rattle.gateway_book.proofs.Names.{all_entries, firm_entries, history_of, is_closed, Totals, value_of}
 use Rattle.gateway_book.proofs.Committing.{asked}
 use Rattle.gateway_book.proofs.book.Book.counts.Goals as goal
 

@@ -1,10 +1,5 @@
 use Rattle.std.proofs.Common.{Bool, ap, ◌∙◌}
-use Rattle.cgf_journal.specs.Trail.{firm_entries, is_closed}
-use Rattle.gateway_book.specs.Book.{value_of}
-use Rattle.gateway_book.specs.Followed.{all_entries}
-use Rattle.gateway_index.specs.Index.{observed_by}
-use Rattle.gateway_book.specs.Lookups.{key_seen}
-use Rattle.gateway_answer.specs.Value.{history_of}
+use Rattle.gateway_book.proofs.Names.{all_entries, firm_entries, history_of, is_closed, key_seen, observed_by, value_of}
 use Rattle.gateway_book.proofs.Committing.{asked}
 use Rattle.gateway_book.proofs.book.Book.key.Goals as goal
 

@@ -1,6 +1,5 @@
 use Rattle.std.proofs.Common.{ℕ, refl, ap, ◌∙◌, arith}
-use Rattle.cgf_journal.specs.Trail.{area_of}
-use Rattle.gateway_book.specs.Calls.{length_at}
+use Rattle.gateway_book.proofs.Names.{area_of, length_at}
 use Rattle.gateway_book.proofs.StandingLemmas.{counting_failed, counting_on, stands_all}
 use Rattle.gateway_book.proofs.Causing.{cause_done, cause_failed}
 use Rattle.gateway_book.proofs.Leaving.{crash_fit_open}

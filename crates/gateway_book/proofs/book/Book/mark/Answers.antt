@@ -1,12 +1,5 @@
 use Rattle.std.proofs.Common.{◌≡◌, ℕ, true, false, length, sym, ap, ◌∙◌, Bool}
-use Rattle.gw_base.specs.Entry.{act_view}
-use Rattle.gateway_book.specs.Adding.{entry_of}
-use Rattle.gateway_answer.specs.Answered.{room_for}
-use Rattle.gateway_book.specs.Book.{size_of, value_of}
-use Rattle.gateway_book.specs.Calls.{marked_at}
-use Rattle.gateway_book.specs.Followed.{all_entries}
-use Rattle.gateway_answer.specs.Marks.{Mark, made_if}
-use Rattle.gateway_answer.specs.Value.{BookValue, history_of, recorded}
+use Rattle.gateway_book.proofs.Names.{act_view, all_entries, BookValue, entry_of, history_of, made_if, Mark, marked_at, recorded, room_for, size_of, value_of}
 use Rattle.gateway_book.specs.declared.outcome.Marked.TheVariants as marked
 use Rattle.gateway_book.proofs.TakingLemmas.{mark_may_come, put_is_recorded, room_of_mark, room_of_open, history_is}
 use Rattle.gateway_book.proofs.book.Book.mark.Goals as goal

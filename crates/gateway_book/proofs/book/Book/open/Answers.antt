@@ -1,9 +1,5 @@
 use Rattle.std.proofs.Common.{◌≡◌, ◌⊎◌, ⊎_elim, [], refl, sym, ap, ◌∙◌}
-use Rattle.area_disk.specs.Disk.{counted}
-use Rattle.gate_journal.specs.Format.{Starts, header}
-use Rattle.gate_journal.specs.Moments.{Leaves}
-use Rattle.cgf_journal.specs.Format.{StandsFor}
-use Rattle.gateway_book.specs.Faults.{book_fault}
+use Rattle.gateway_book.proofs.Names.{book_fault, counted, header, Leaves, StandsFor, Starts}
 use Rattle.gateway_book.proofs.Openings.{opened_as_planned, refused_as_planned, device_is, foreign_is, found_fit, not_ours_is, ok_is, on_area, value_is}
 use Rattle.gateway_book.proofs.book.Book.open.Goals as goal
 

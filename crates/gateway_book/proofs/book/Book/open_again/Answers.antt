@@ -1,7 +1,5 @@
 use Rattle.std.proofs.Common.{◌≡◌, ℕ, Bool, Ok, true, false, refl, ap, ◌∙◌, arith}
-use Rattle.cgf_journal.specs.Outcomes.{TornDropped, TornStand}
-use Rattle.cgf_journal.specs.Trail.{area_of}
-use Rattle.gateway_book.specs.Calls.{length_at}
+use Rattle.gateway_book.proofs.Names.{area_of, length_at, TornDropped, TornStand}
 use Rattle.gateway_book.proofs.StandingLemmas.{followed_again, counting_failed, counting_on, stands_again}
 use Rattle.gateway_book.proofs.Causing.{cause_done, cause_failed, closed_length, not_fewer}
 use Rattle.gateway_book.proofs.Leaving.{crash_fit}

@@ -1,16 +1,8 @@
 use Rattle.std.proofs.Common.{Bool, ap, ◌∙◌, slice_get}
 use Rattle.std.specs.List.{filter_map}
-use Rattle.std.specs.Option.{option_map}
-use Rattle.gw_base.specs.declared.address.Addr.{Addr}
-use Rattle.gw_base.specs.declared.address.NodeId.{NodeId}
+use Rattle.gateway_book.proofs.Names.{Addr, all_entries, firm_entries, history_of, is_closed, NodeId, Observed, observed_by, option_map, side_of, value_of}
 use Rattle.gw_base.specs.declared.history.Opening.{Opening}
-use Rattle.gw_base.specs.Observed.{Observed}
-use Rattle.cgf_journal.specs.Trail.{firm_entries, is_closed}
-use Rattle.gateway_book.specs.Book.{value_of}
-use Rattle.gateway_book.specs.Followed.{all_entries}
-use Rattle.gateway_index.specs.Index.{observed_by, side_of}
 use Rattle.gateway_index.specs.Paths.{paths_in}
-use Rattle.gateway_answer.specs.Value.{history_of}
 use Rattle.gateway_book.proofs.Committing.{asked}
 use Rattle.gateway_book.proofs.book.Book.path.Goals as goal
 

@@ -1,10 +1,5 @@
 use Rattle.std.proofs.Common.{sym, ap, ◌∙◌}
-use Rattle.gateway_answer.specs.Answer.{Decided, Says, decided}
-use Rattle.gateway_answer.specs.Answered.{answer_to}
-use Rattle.gateway_book.specs.Book.{size_of, value_of}
-use Rattle.gateway_book.specs.Calls.{outcome_at}
-use Rattle.gateway_answer.specs.Cases.{case_value}
-use Rattle.gateway_answer.specs.Value.{history_of}
+use Rattle.gateway_book.proofs.Names.{answer_to, case_value, Decided, decided, history_of, outcome_at, Says, size_of, value_of}
 use Rattle.gateway_book.proofs.TakingLemmas.{left_answer, left_value}
 use Rattle.gateway_book.proofs.book.Book.respond.Goals as goal
 

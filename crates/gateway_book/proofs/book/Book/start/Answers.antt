@@ -1,11 +1,5 @@
 use Rattle.std.proofs.Common.{false, if◌then◌else◌, refl, sym, ap, ◌∙◌, arith}
-use Rattle.entry_codec.specs.Room.{has_room}
-use Rattle.gw_base.specs.declared.history.HistoryAct.TheVariants.{Start}
-use Rattle.gw_base.specs.declared.history.HistoryEntry.{HistoryEntry}
-use Rattle.cgf_journal.specs.Trail.{area_of, firm_entries}
-use Rattle.gateway_book.specs.Book.{value_of}
-use Rattle.gateway_book.specs.Followed.{all_entries}
-use Rattle.gateway_index.specs.declared.totals.Totals.{Totals}
+use Rattle.gateway_book.proofs.Names.{all_entries, area_of, firm_entries, has_room, HistoryEntry, Start, Totals, value_of}
 use Rattle.gateway_book.proofs.Openings.{start_added, start_is_fit, start_left_out}
 use Rattle.gateway_book.proofs.StandingLemmas.{counting_firm, stands_firm}
 use Rattle.gateway_book.proofs.TakingLemmas.{followed_added}

@@ -1,20 +1,6 @@
 use Rattle.std.proofs.Common.{◌≡◌, Bool, false, if◌then◌else◌, List, sym, ap, subst, ◌∙◌}
-use Rattle.std.specs.Prelude.{is_err}
-use Rattle.std.proofs.lemmas.Bool.{false≢true}
-use Rattle.cgf_journal.specs.Trail.{is_closed, torn_stands}
+use Rattle.gateway_book.proofs.Names.{act_decided, all_entries, answer_to, BookValue, case_value, decided, failure_answer, false≢true, fit_is_within, fortune_of, Given, given_at, HasStorage, history_of, HistoryEntry, is_closed, is_err, IsAnswered, IsFailure, Left, left_by, Outcome, prepared_of, PreparedValue, readied, recorded_if, reopening_of, size_of, taken, torn_stands, value_of}
 use Rattle.entry_codec.specs.Room.{IsWithin}
-use Rattle.gw_base.specs.declared.history.HistoryEntry.{HistoryEntry}
-use Rattle.gateway_answer.specs.Answer.{Given, decided, failure_answer}
-use Rattle.gateway_answer.specs.Answered.{act_decided, answer_to}
-use Rattle.gateway_book.specs.Book.{fortune_of, reopening_of, size_of, value_of}
-use Rattle.gateway_book.specs.Calls.{Left, given_at, left_by, taken}
-use Rattle.gateway_book.specs.Caller.{HasStorage, IsAnswered, IsFailure}
-use Rattle.gateway_answer.specs.Cases.{case_value}
-use Rattle.gateway_answer.specs.FitHistoryLaws.{fit_is_within}
-use Rattle.gateway_book.specs.Followed.{all_entries}
-use Rattle.gateway_answer.specs.Preparing.{PreparedValue, prepared_of}
-use Rattle.gateway_answer.specs.Value.{BookValue, history_of, readied, recorded_if}
-use Rattle.gateway_book.specs.declared.outcome.Outcome.{Outcome}
 use Rattle.gateway_book.proofs.CallerLemmas.{has_storage, running_is_sound}
 use Rattle.gateway_book.proofs.Causing.{cause_then}
 use Rattle.gateway_book.proofs.TakingLemmas.{history_is}

@@ -1,10 +1,5 @@
 use Rattle.std.proofs.Common.{◌≡◌, Bool, false, sym, ap, ◌∙◌}
-use Rattle.std.specs.Prelude.{is_err}
-use Rattle.cgf_journal.specs.Trail.{is_closed, torn_stands}
-use Rattle.gateway_book.specs.Book.{fortune_of, open_time_of, reopening_of, size_of, value_of}
-use Rattle.gateway_book.specs.Calls.{Left}
-use Rattle.gateway_answer.specs.Value.{readied}
-use Rattle.gateway_book.specs.declared.outcome.Marked.{Marked}
+use Rattle.gateway_book.proofs.Names.{fortune_of, is_closed, is_err, Left, Marked, open_time_of, readied, reopening_of, size_of, torn_stands, value_of}
 use Rattle.gateway_book.proofs.Causing.{cause_then}
 use Rattle.gateway_book.proofs.TakingLemmas.{tick_of_ready}
 use Rattle.gateway_book.proofs.book.Book.tick.Goals as goal

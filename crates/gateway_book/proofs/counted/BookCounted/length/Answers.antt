@@ -1,11 +1,5 @@
 use Rattle.std.proofs.Common.{◌≤◌, Bool, true, false, [], ◌++◌, if◌then◌else◌, refl, sym, ◌∙◌, arith}
-use Rattle.std.proofs.lemmas.List.{append-nil}
-use Rattle.std.proofs.lemmas.Bool.{and_parts}
-use Rattle.cgf_journal.specs.Trail.{firm_length}
-use Rattle.gw_base.specs.Owes.{Begins}
-use Rattle.gateway_book.specs.Book.{value_of}
-use Rattle.gateway_book.specs.Calls.{length_at}
-use Rattle.gateway_answer.specs.Value.{BookValue, history_of}
+use Rattle.gateway_book.proofs.Names.{and_parts, append-nil, Begins, BookValue, firm_length, history_of, length_at, value_of}
 use Rattle.gateway_book.proofs.StandingLemmas.{at_most}
 use Rattle.gateway_book.proofs.counted.BookCounted.length.Goals as goal
 

@@ -1,14 +1,5 @@
 use Rattle.std.proofs.Common.{◌≡◌, ◌+◌, true, false, [], ◌∷◌, ◌++◌, nat_le, sym, ◌∙◌, arith, rules}
-use Rattle.std.proofs.lemmas.Bool.{and_parts, leb-true}
-use Rattle.entry_codec.specs.Room.{capacity_of, costs_of}
-use Rattle.entry_codec.specs.Spelling.{cost_of}
-use Rattle.gw_base.specs.Entry.{act_view, entry_view}
-use Rattle.gw_base.specs.HeldKeys.{promised_octets}
-use Rattle.gateway_index.specs.Index.{observed_by, side_of}
-use Rattle.gateway_index.specs.WindowLaws.{fits_with_any}
-use Rattle.gateway_answer.specs.Fit.{is_act_fit, is_packet_fit}
-use Rattle.gateway_book.specs.Judging.{promised_of}
-use Rattle.gateway_book.specs.declared.judge.FitJudge.{FitJudge}
+use Rattle.gateway_book.proofs.Names.{act_view, and_parts, capacity_of, cost_of, costs_of, entry_view, FitJudge, fits_with_any, is_act_fit, is_packet_fit, leb-true, observed_by, promised_octets, promised_of, side_of}
 use Rattle.gateway_book.proofs.JudgeLemmas.{is_fit, judged, no_room, refused}
 use Rattle.gateway_book.proofs.judge.FitJudgeJudge.take.Goals as goal
 

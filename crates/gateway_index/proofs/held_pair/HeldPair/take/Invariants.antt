@@ -1,6 +1,5 @@
 use Rattle.std.proofs.Common.{take}
-use Rattle.gateway_index.specs.HeldPairs.{IsHeldStep}
-use Rattle.gateway_index.specs.Sides.{without_copies}
+use Rattle.gateway_index.proofs.Names.{IsHeldStep, without_copies}
 use Rattle.gateway_index.proofs.held_pair.HeldPair.take.Given as goal
 
 -- the numbers so far are taken out

@@ -1,6 +1,5 @@
 use Rattle.std.proofs.Common.{true}
-use Rattle.gw_base.specs.Entry.{entry_view}
-use Rattle.gateway_index.specs.Limits.{half}
+use Rattle.gateway_index.proofs.Names.{entry_view, half}
 use Rattle.gateway_index.proofs.IndexLemmas.{follows_after, follows_same}
 use Rattle.gateway_index.proofs.index.Index.note.Goals as goal
 

@@ -1,6 +1,5 @@
 use Rattle.std.proofs.Common.{ℕ, ◌+◌, ◌-◌, ◌^◌, min, refl, ap, ◌∙◌}
-use Rattle.gateway_index.specs.Index.{side_of}
-use Rattle.gateway_index.specs.declared.totals.Totals.{Totals}
+use Rattle.gateway_index.proofs.Names.{side_of, Totals}
 use Rattle.gateway_index.proofs.HeldStates.{both_told, opened_held}
 use Rattle.gateway_index.proofs.IndexLemmas.{place_left, stepped}
 use Rattle.gateway_index.proofs.index.Index.open.Goals as goal

@@ -1,9 +1,5 @@
 use Rattle.std.proofs.Common.{ℕ, List, drop, sym, ap, ◌∙◌, arith, slice_get}
-use Rattle.std.specs.List.{filter_map}
-use Rattle.std.proofs.lemmas.List.{drop_all}
-use Rattle.gw_base.specs.declared.address.NodeId.{NodeId}
-use Rattle.gateway_index.specs.Index.{side_of}
-use Rattle.gateway_index.specs.Paths.{path_in}
+use Rattle.gateway_index.proofs.Names.{drop_all, filter_map, NodeId, path_in, side_of}
 use Rattle.gateway_index.proofs.IndexLemmas.{counted, first, passed}
 use Rattle.gateway_index.proofs.index.Index.path.Goals as goal
 

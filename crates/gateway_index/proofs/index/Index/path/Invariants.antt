@@ -1,7 +1,5 @@
 use Rattle.std.proofs.Common.{◌≡◌, drop, slice_get}
-use Rattle.std.specs.List.{filter_map}
-use Rattle.gateway_index.specs.Index.{side_of}
-use Rattle.gateway_index.specs.Paths.{path_in, paths_in}
+use Rattle.gateway_index.proofs.Names.{filter_map, path_in, paths_in, side_of}
 use Rattle.gateway_index.proofs.index.Index.path.Given as goal
 
 -- the path that is asked for is so far among those of the nodes that are left

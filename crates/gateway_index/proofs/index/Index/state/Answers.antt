@@ -1,7 +1,5 @@
 use Rattle.std.proofs.Common.{Bool, sym, ap, ◌∙◌, if◌then◌else◌}
-use Rattle.gw_base.specs.declared.key_state.KeyState.TheVariants.{Held}
-use Rattle.gateway_index.specs.Index.{observed_by, side_of}
-use Rattle.gateway_index.specs.NodeSides.{nodes_in}
+use Rattle.gateway_index.proofs.Names.{Held, nodes_in, observed_by, side_of}
 use Rattle.gateway_index.proofs.Tellings.{held_state}
 use Rattle.gateway_index.proofs.index.Index.state.Goals as goal
 

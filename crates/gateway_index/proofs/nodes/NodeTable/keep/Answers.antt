@@ -1,7 +1,5 @@
 use Rattle.std.proofs.Common.{◌≡◌, List, sym, ap, subst, ◌∙◌, arith, length, map}
-use Rattle.gateway_index.specs.Nodes.{kept_slots, settled_slot}
-use Rattle.gateway_index.specs.WindowPairs.{AreBeside}
-use Rattle.gateway_index.specs.declared.nodes.Slot.{Slot}
+use Rattle.gateway_index.proofs.Names.{AreBeside, kept_slots, settled_slot, Slot}
 use Rattle.gateway_index.proofs.NodeLemmas.{settled_beside, settled_nodes}
 use Rattle.gateway_index.proofs.SlotLemmas.{all_same, count_still, settled, settled_length, settled_slots, settled_still}
 use Rattle.gateway_index.proofs.nodes.NodeTable.keep.Goals as goal

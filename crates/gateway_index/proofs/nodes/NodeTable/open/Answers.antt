@@ -1,7 +1,5 @@
 use Rattle.std.proofs.Common.{List, Some, length, refl, ap, arith, true≢false, sym, ◌≡◌}
-use Rattle.std.proofs.lemmas.List.{length-map}
-use Rattle.gateway_index.specs.Nodes.{reopened}
-use Rattle.gateway_index.specs.declared.nodes.Slot.{Slot}
+use Rattle.gateway_index.proofs.Names.{length-map, reopened, Slot}
 use Rattle.gateway_index.proofs.NodeLemmas.{learnt_are_slots, learnt_beside, learnt_inside, may_room, opened_step}
 use Rattle.gateway_index.proofs.SlotLemmas.{slots_reopened}
 use Rattle.gateway_index.proofs.nodes.NodeTable.open.Goals as goal

@@ -1,6 +1,5 @@
 use Rattle.std.proofs.Common.{List, ap, refl, ◌∙◌, arith}
-use Rattle.gateway_index.specs.Nodes.{place_in}
-use Rattle.gateway_index.specs.declared.nodes.Slot.{Slot}
+use Rattle.gateway_index.proofs.Names.{place_in, Slot}
 use Rattle.gateway_index.proofs.NodeLemmas.{beside_step, listed_none, listed_step}
 use Rattle.gateway_index.proofs.nodes.NodeTable.set_within.Goals as goal
 

@@ -1,7 +1,5 @@
 use Rattle.std.proofs.Common.{sym, ◌∙◌}
-use Rattle.seq_window.specs.Stored.{seen_of}
-use Rattle.gateway_index.specs.Limits.{half}
-use Rattle.gateway_index.specs.WindowPairs.{seen_in}
+use Rattle.gateway_index.proofs.Names.{half, seen_in, seen_of}
 use Rattle.gateway_index.proofs.PairLemmas.{held_stepped, may_set_held, other_stayed}
 use Rattle.gateway_index.proofs.window_pair.WindowPair.set_held.Goals as goal
 

@@ -1,7 +1,5 @@
 use Rattle.std.proofs.Common.{take}
-use Rattle.seq_window.specs.Seen.{with_states}
-use Rattle.gateway_index.specs.Limits.{half}
-use Rattle.gateway_index.specs.WindowPairs.{IsPairStep}
+use Rattle.gateway_index.proofs.Names.{half, IsPairStep, with_states}
 use Rattle.gateway_index.proofs.window_pair.WindowPair.set_within.Given as goal
 
 -- the numbers so far have their states

@@ -1,8 +1,6 @@
 use Rattle.std.proofs.Common.{◌≡◌, List, length, refl, ap, ◌∙◌, arith}
-use Rattle.std.proofs.lemmas.List.{with_items_is}
+use Rattle.node_core.proofs.Names.{Peer, peers_anew, with_items_is}
 use Rattle.std.specs.Vec.{with_items}
-use Rattle.node_core.specs.declared.peer.Peer.{Peer}
-use Rattle.node_core.specs.Value.{peers_anew}
 use Rattle.node_core.proofs.NodeLemmas.{length-anew, numbers_renewed}
 use Rattle.node_core.proofs.node.Node.forget.Goals as goal
 

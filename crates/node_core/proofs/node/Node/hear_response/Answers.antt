@@ -1,12 +1,5 @@
 use Rattle.std.proofs.Common.{◌≡◌, ℕ, Bool, ◌==◌, ◌&&◌, if◌then◌else◌, Some, None, Option, List, map, length, ap, ◌∙◌}
-use Rattle.gw_base.specs.Nearest.{nearest}
-use Rattle.node_core.specs.declared.copy.PacketCopy.{PacketCopy}
-use Rattle.node_core.specs.Hearing.{id_of, made_by}
-use Rattle.node_core.specs.Log.{Responds, packets_hearing}
-use Rattle.node_core.specs.Moving.{appointing, is_refusal, next_place}
-use Rattle.node_core.specs.Packets.{is_done, is_resolved}
-use Rattle.node_core.specs.Peers.{last_number}
-use Rattle.node_core.specs.Value.{NodeValue, befallen}
+use Rattle.node_core.proofs.Names.{appointing, befallen, id_of, is_done, is_refusal, is_resolved, last_number, made_by, nearest, next_place, NodeValue, PacketCopy, packets_hearing, Responds}
 use Rattle.node_core.proofs.node.Node.hear_response.Goals as goal
 
 pub returns-clause-heeds : goal.returns-clause-heeds

@@ -1,12 +1,5 @@
 use Rattle.std.proofs.Common.{◌≡◌, ℕ, Bool, refl, Some, List, map, ap, ◌∙◌}
-use Rattle.gw_base.specs.Nearest.{nearest}
-use Rattle.node_core.specs.declared.copy.PacketCopy.{PacketCopy}
-use Rattle.node_core.specs.declared.peer.Peer.{Peer}
-use Rattle.node_core.specs.Hearing.{first_made}
-use Rattle.node_core.specs.NodeFields.{value_of_node}
-use Rattle.node_core.specs.Packets.{PacketState, is_done, is_resolved, packet_hearing, while_open}
-use Rattle.node_core.specs.Peers.{last_number}
-use Rattle.node_core.specs.Value.{NodeValue}
+use Rattle.node_core.proofs.Names.{first_made, is_done, is_resolved, last_number, nearest, NodeValue, packet_hearing, PacketCopy, PacketState, Peer, value_of_node, while_open}
 use Rattle.node_core.proofs.NodeLemmas.{sound_on, while_open-number}
 use Rattle.node_core.proofs.node.Node.learn.Goals as goal
 

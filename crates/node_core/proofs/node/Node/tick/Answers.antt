@@ -1,12 +1,6 @@
 use Rattle.std.proofs.Common.{◌≡◌, suc, ◌-◌, ◌<◌, min, List, map, length, sym, ap, ◌∙◌, arith}
 use Rattle.std.specs.Prelude.{IfSome}
-use Rattle.node_core.specs.declared.sending.Sending.{Sending}
-use Rattle.node_core.specs.Moving.{moved_at_tick, quiet_by}
-use Rattle.node_core.specs.NodeFields.{value_of_node}
-use Rattle.node_core.specs.Packets.{packet_after_all, while_open}
-use Rattle.node_core.specs.Peers.{all_drawn}
-use Rattle.node_core.specs.Ticks.{due_by, tick_entries}
-use Rattle.node_core.specs.Value.{NodeValue, befallen, most_quiet}
+use Rattle.node_core.proofs.Names.{all_drawn, befallen, due_by, most_quiet, moved_at_tick, NodeValue, packet_after_all, quiet_by, Sending, tick_entries, value_of_node, while_open}
 use Rattle.node_core.proofs.SettledLemmas.{length-replaced, replaced_is}
 use Rattle.node_core.proofs.NodeLemmas.{after_all-number, sound_on, while_open-number}
 use Rattle.node_core.proofs.PlanLemmas.{length-all_drawn, tick_result, within_by}
@@ -48,7 +42,7 @@ returns-clause-node c =
     omega (arith, c.min-self-inside.ensures, c.quiet_by.ensures) in
     let peers : c.in_ok-plan.plan.peers.items ≡ all_drawn sendings inside.gateways.items = search arith in
     let packets : c.replace.new.self.packets ≡ map (while_open (packet_after_all sendings)) inside.packets.packets =
-        cc (replaced c) in
+    cc (replaced c) in
     tick_result node c.moved_at_tick-moved.result c.favourite_by-favourite.result c.is_alive.result c.min-self-inside.result
     c.in_ok-plan.plan.peers.items c.replace.new.self.packets moved c.favourite_by-favourite.ensures c.is_alive.ensures quiet peers packets
     ∙ ap (λ (v : NodeValue). befallen (tick_entries v) v) c.self.view_is

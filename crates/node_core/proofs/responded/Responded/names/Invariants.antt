@@ -1,6 +1,5 @@
 use Rattle.std.proofs.Common.{◌≡◌, Some, map, drop}
-use Rattle.gw_base.specs.Nearest.{nearest}
-use Rattle.node_core.specs.Copies.{names}
+use Rattle.node_core.proofs.Names.{names, nearest}
 use Rattle.node_core.proofs.responded.Responded.names.Given as goal
 
 abbrev pub invariant-loop-k : goal.invariant-loop-k

@@ -1,11 +1,5 @@
 use Rattle.std.proofs.Common.{◌≤◌, Err, arith, rules, ap, sym, ◌∙◌, refl, subst}
-use Rattle.area_disk.specs.Disk.{Rose}
-use Rattle.file_writer.specs.Writer.{shelf_of, taken_of}
-use Rattle.file_writer.specs.declared.writer.Writer.{Writer}
-use Rattle.gateway_book.specs.Turning.{tells_lists}
-use Rattle.gw_base.specs.Facts.{WhereTold}
-use Rattle.gw_base.specs.Owes.{Begins}
-use Rattle.node_session.specs.Writing.{AreNext, HoldsFilesOf, IsWriterOf, KeepsFiles, KeepsListing, knowledge_of, writer_of}
+use Rattle.node_session.proofs.Names.{AreNext, Begins, HoldsFilesOf, IsWriterOf, KeepsFiles, KeepsListing, knowledge_of, Rose, shelf_of, taken_of, tells_lists, WhereTold, Writer, writer_of}
 use Rattle.node_session.proofs.GivenLemmas.{failed_in, keeps_one, known_grows, later_by, listed_count, listed_in, listed_next, listed_room, listed_writer}
 use Rattle.node_session.proofs.actor.FileActor.step.Goals as goal
 use Rattle.node_session.proofs.actor.FileActor.step.Goals.{After-give, After-list}

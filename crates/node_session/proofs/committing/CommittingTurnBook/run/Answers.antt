@@ -1,9 +1,5 @@
 use Rattle.std.proofs.Common.{None, [], subst, inl, inr, arith}
-use Rattle.cgf_journal.specs.Trail.{firm_length}
-use Rattle.gateway_book.specs.Book.{fortune_of, value_of}
-use Rattle.gateway_book.specs.Turning.{drops_of, facts_of, tells_lists}
-use Rattle.gateway_book.specs.declared.outcome.Settled.{Settled}
-use Rattle.node_session.specs.Turns.{IsToldAt}
+use Rattle.node_session.proofs.Names.{drops_of, facts_of, firm_length, fortune_of, IsToldAt, Settled, tells_lists, value_of}
 use Rattle.node_session.proofs.SettledLemmas.{has_asked, has_committed, told_at, unchanged}
 use Rattle.node_session.proofs.committing.CommittingTurnBook.run.Goals as goal
 

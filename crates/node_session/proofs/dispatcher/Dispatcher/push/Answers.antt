@@ -1,8 +1,5 @@
 use Rattle.std.proofs.Common.{List, arith, ap, subst, sym, ◌∙◌}
-use Rattle.std.proofs.lemmas.Result.{MatchResult-weaker, on_err_weaker, on_ok_weaker}
-use Rattle.std.specs.List.{insert}
-use Rattle.job_inbox.specs.declared.inbox.InboxPass.{InboxPass}
-use Rattle.node_session.specs.Receiving.{AreOfEach}
+use Rattle.node_session.proofs.Names.{AreOfEach, InboxPass, insert, MatchResult-weaker, on_err_weaker, on_ok_weaker}
 use Rattle.node_session.proofs.PushedLemmas.{as_many, full_at, kept, pass_at, pushed, still_own}
 use Rattle.node_session.proofs.dispatcher.Dispatcher.push.Goals as goal
 

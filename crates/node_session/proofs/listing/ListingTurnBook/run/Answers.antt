@@ -1,8 +1,5 @@
 use Rattle.std.proofs.Common.{None, [], refl, ap}
-use Rattle.std.proofs.lemmas.Bool.{and_parts}
-use Rattle.gateway_book.specs.Book.{fortune_of, value_of}
-use Rattle.gateway_book.specs.Turning.{drops_of}
-use Rattle.gateway_answer.specs.Value.{BookValue}
+use Rattle.node_session.proofs.Names.{and_parts, BookValue, drops_of, fortune_of, value_of}
 use Rattle.node_session.proofs.listing.ListingTurnBook.run.Goals as goal
 
 pub returns-clause-owes : goal.returns-clause-owes

@@ -1,7 +1,5 @@
 use Rattle.std.proofs.Common.{List, ℕ, ◌∙◌, subst}
-use Rattle.gateway_book.specs.Turning.{facts_of, tells_lists}
-use Rattle.node_session.specs.Serving.{caller_of}
-use Rattle.node_session.specs.Turns.{HasTaken}
+use Rattle.node_session.proofs.Names.{caller_of, facts_of, HasTaken, tells_lists}
 use Rattle.node_session.proofs.taking.TakingEachTurnsBookJob.run.Goals as goal
 
 pub returns-clause-does : goal.returns-clause-does

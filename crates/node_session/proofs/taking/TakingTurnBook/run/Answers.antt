@@ -1,7 +1,4 @@
-use Rattle.gateway_book.specs.Book.{fortune_of, size_of, value_of}
-use Rattle.gateway_answer.specs.Preparing.{prepared_of}
-use Rattle.gateway_book.specs.Turning.{drops_of}
-use Rattle.gateway_answer.specs.Value.{readied}
+use Rattle.node_session.proofs.Names.{drops_of, fortune_of, prepared_of, readied, size_of, value_of}
 use Rattle.node_session.proofs.TakenLemmas.{added_now, has_taken}
 use Rattle.node_session.proofs.taking.TakingTurnBook.run.Goals as goal
 

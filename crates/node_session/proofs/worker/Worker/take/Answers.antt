@@ -1,8 +1,5 @@
 use Rattle.std.proofs.Common.{arith, subst, sym, ap, ◌∙◌}
-use Rattle.turn_cell.specs.Cell.{knowledge}
-use Rattle.gateway_book.specs.Turning.{tells_lists}
-use Rattle.node_session.specs.Passes.{known_by}
-use Rattle.node_session.specs.Together.{HaveTurnsFor}
+use Rattle.node_session.proofs.Names.{HaveTurnsFor, knowledge, known_by, tells_lists}
 use Rattle.node_session.proofs.ServedLemmas.{own_number}
 use Rattle.node_session.proofs.TogetherLemmas.{taken_on}
 use Rattle.node_session.proofs.worker.Worker.take.Goals as goal

@@ -1,8 +1,7 @@
 use Rattle.std.proofs.Common.{ap, sym, subst, ◌∙◌, arith, length-take}
 use Rattle.once_core.proofs.GatewayTurnLemmas.{are_left, cuts}
 use Rattle.once_core.proofs.HistoryKeptLemmas.{kept_take}
-use Rattle.once_core.specs.Gateway.{Gateway, cut}
-use Rattle.once_core.specs.HistoryKept.{AllKept}
+use Rattle.once_core.proofs.Names.{AllKept, cut, Gateway}
 use Rattle.once_core.proofs.gateway.KeptGateway.cut.Goals as goal
 
 pub invariant_of-self : goal.invariant_of-self

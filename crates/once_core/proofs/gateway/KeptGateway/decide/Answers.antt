@@ -1,12 +1,8 @@
 use Rattle.std.proofs.Common.{◌≡◌, sym, subst, ◌∙◌, IfOk}
-use Rattle.gateway_answer.specs.Answer.{Decided, decided, node_of}
-use Rattle.gateway_answer.specs.Answered.{answer, room_for}
-use Rattle.gateway_answer.specs.Plain.{answer_view}
-use Rattle.gateway_answer.specs.Preparing.{prepared_of}
-use Rattle.gw_base.specs.Observed.{observed}
+use Rattle.once_core.proofs.Names.{AllKept, answer, answer_view, Decided, decided, observed, prepared_of, room_for}
+use Rattle.gateway_answer.specs.Answer.{node_of}
 use Rattle.once_core.proofs.GatewayTurnLemmas.{decided_at, stored}
 use Rattle.once_core.proofs.HistoryKeptLemmas.{answers_keep, kept_by, kept_is_bounded, near_node}
-use Rattle.once_core.specs.HistoryKept.{AllKept}
 use Rattle.once_core.proofs.gateway.KeptGateway.decide.Goals as goal
 
 pub answer-requires : goal.answer-requires

@@ -1,8 +1,6 @@
 use Rattle.std.proofs.Common.{ap, sym, ◌∙◌, List}
-use Rattle.gw_base.specs.declared.history.HistoryEntry.{HistoryEntry}
+use Rattle.once_core.proofs.Names.{Gateway, HistoryEntry, is_expired}
 use Rattle.once_core.proofs.GatewayTurnLemmas.{delivers, ok_maps, stored}
-use Rattle.once_core.specs.Expired.{is_expired}
-use Rattle.once_core.specs.Gateway.{Gateway}
 use Rattle.once_core.proofs.gateway.KeptGateway.deliver.Goals as goal
 
 pub returns : goal.returns

@@ -1,7 +1,6 @@
 use Rattle.std.proofs.Common.{ap, ◌∙◌, arith}
-use Rattle.gateway_answer.specs.Value.{history_of, standing_for}
+use Rattle.once_core.proofs.Names.{Gateway, history_of, standing_for}
 use Rattle.once_core.proofs.GatewayTurnLemmas.{all_firm, ok_maps, opens}
-use Rattle.once_core.specs.Gateway.{Gateway}
 use Rattle.once_core.proofs.gateway.KeptGateway.open.Goals as goal
 
 pub returns : goal.returns

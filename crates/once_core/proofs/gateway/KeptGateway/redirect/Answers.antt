@@ -1,10 +1,6 @@
 use Rattle.std.proofs.Common.{◌++◌, ap, ◌∙◌, List}
-use Rattle.gw_base.specs.Known.{known_nodes}
-use Rattle.gw_base.specs.declared.address.NodeId.{NodeId}
-use Rattle.gw_base.specs.declared.history.HistoryEntry.{HistoryEntry}
+use Rattle.once_core.proofs.Names.{Gateway, HistoryEntry, known_nodes, NodeId, redirected_kept}
 use Rattle.once_core.proofs.RedirectLemmas.{all_of, redirects_end, redirects_more}
-use Rattle.once_core.specs.Gateway.{Gateway}
-use Rattle.once_core.specs.Redirecting.{redirected_kept}
 use Rattle.once_core.proofs.gateway.KeptGateway.redirect.Goals as goal
 use Rattle.once_core.proofs.GatewayTurnLemmas.{stored}
 

@@ -1,11 +1,6 @@
 use Rattle.std.proofs.Common.{◌++◌, ◌<◌, ap, sym, subst, ◌∙◌, List}
-use Rattle.gw_base.specs.Starts.{start_of}
-use Rattle.gw_base.specs.declared.history.HistoryEntry.{HistoryEntry}
+use Rattle.once_core.proofs.Names.{AllKept, Gateway, HistoryEntry, Message, redirection, start_of}
 use Rattle.once_core.proofs.RedirectLemmas.{redirects_one}
-use Rattle.once_core.specs.Gateway.{Gateway}
-use Rattle.once_core.specs.HistoryKept.{AllKept}
-use Rattle.once_core.specs.Redirecting.{redirection}
-use Rattle.once_core.specs.declared.message.Message.{Message}
 use Rattle.once_core.proofs.gateway.KeptGateway.redirect_one.Goals as goal
 use Rattle.once_core.proofs.GatewayTurnLemmas.{stored}
 

@@ -1,9 +1,7 @@
 use Rattle.std.proofs.Common.{◌≡◌, ◌+◌, ◌-◌, ◌≤◌, None, [], ◌∷◌, ap, sym, ◌∙◌, refl, length, arith, rules}
 use Rattle.once_core.proofs.ArmLemmas.{turn_stays}
 use Rattle.once_core.proofs.StepLemmas.{step_played, step_refused, step_spent}
-use Rattle.once_core.specs.Beginning.{default_rules}
-use Rattle.once_core.specs.Standing.{WorldKept}
-use Rattle.once_core.specs.Turn.{calm, ruled, turn}
+use Rattle.once_core.proofs.Names.{calm, default_rules, ruled, turn, WorldKept}
 use Rattle.once_core.proofs.world.World.step.Goals as goal
 
 pub returns-in-Some-clause-gives : goal.returns-in-Some-clause-gives

@@ -1,7 +1,5 @@
 use Rattle.std.proofs.Common.{◌∙◌, refl}
-use Rattle.std.proofs.lemmas.Result.{IfOk-weaker}
-use Rattle.file_writer.specs.Writer.{settings_in}
-use Rattle.gateway_answer.specs.Items.{items_of}
+use Rattle.replay_gateway.proofs.Names.{IfOk-weaker, items_of, settings_in}
 use Rattle.replay_gateway.proofs.FileLemmas.{numbers_fit}
 use Rattle.replay_gateway.proofs.WriterLemmas.{asks_all, begun_all, broken_anew, by_settings}
 use Rattle.replay_gateway.proofs.files.Files.begin.Goals as goal

@@ -1,6 +1,5 @@
 use Rattle.std.proofs.Common.{refl}
-use Rattle.file_writer.specs.Writer.{shelf_of}
-use Rattle.replay_gateway.specs.Written.{shelf_tells}
+use Rattle.replay_gateway.proofs.Names.{shelf_of, shelf_tells}
 use Rattle.replay_gateway.proofs.WriterLemmas.{kept_holds, rests}
 use Rattle.replay_gateway.proofs.files.Files.end.Goals as goal
 

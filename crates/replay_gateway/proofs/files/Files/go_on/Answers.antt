@@ -1,6 +1,5 @@
 use Rattle.std.proofs.Common.{◌∙◌, refl, sym, take, arith, ap, ◌<◌, ◌^◌, length, length-drop}
-use Rattle.std.proofs.lemmas.Result.{IfOk-weaker}
-use Rattle.file_writer.specs.Writer.{settings_in}
+use Rattle.replay_gateway.proofs.Names.{IfOk-weaker, settings_in}
 use Rattle.replay_gateway.proofs.FileLemmas.{numbers_fit}
 use Rattle.replay_gateway.proofs.WriterLemmas.{broken_behind, by_settings, gone_on}
 use Rattle.replay_gateway.proofs.files.Files.go_on.Goals as goal

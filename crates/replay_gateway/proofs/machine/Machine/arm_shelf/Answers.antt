@@ -1,6 +1,5 @@
 use Rattle.std.proofs.Common.{refl}
-use Rattle.gateway_answer.specs.Items.{items_of}
-use Rattle.replay_gateway.specs.Setup.{files_in}
+use Rattle.replay_gateway.proofs.Names.{files_in, items_of}
 use Rattle.replay_gateway.proofs.CallLemmas.{files_set}
 use Rattle.replay_gateway.proofs.machine.Machine.arm_shelf.Goals as goal
 

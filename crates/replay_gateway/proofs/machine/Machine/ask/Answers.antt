@@ -1,7 +1,4 @@
-use Rattle.std.proofs.lemmas.Result.{IfOk-weaker}
-use Rattle.gateway_book.specs.Up.{fortune_by}
-use Rattle.replay_gateway.specs.Asking.{asked_by, asked_value}
-use Rattle.replay_gateway.specs.Device.{sequel_on}
+use Rattle.replay_gateway.proofs.Names.{asked_by, asked_value, fortune_by, IfOk-weaker, sequel_on}
 use Rattle.replay_gateway.proofs.GoesLemmas.{asked_is, goes_as_armed}
 use Rattle.replay_gateway.proofs.machine.Machine.ask.Goals as goal
 

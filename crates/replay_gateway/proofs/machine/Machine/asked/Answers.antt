@@ -1,7 +1,5 @@
 use Rattle.std.proofs.Common.{refl}
-use Rattle.gateway_book.specs.Up.{fortune_by}
-use Rattle.replay_gateway.specs.Asking.{asked_by, asked_value}
-use Rattle.replay_gateway.specs.Device.{sequel_on}
+use Rattle.replay_gateway.proofs.Names.{asked_by, asked_value, fortune_by, sequel_on}
 use Rattle.replay_gateway.proofs.GoesLemmas.{asked_grows, asked_keeps}
 use Rattle.replay_gateway.proofs.CallLemmas.{is_called}
 use Rattle.replay_gateway.proofs.machine.Machine.asked.Goals as goal

@@ -1,6 +1,5 @@
 use Rattle.std.proofs.Common.{◌≡◌, refl, Some}
-use Rattle.replay_gateway.specs.Standing.{header_at}
-use Rattle.replay_gateway.specs.declared.site.Site.TheVariants.{Up}
+use Rattle.replay_gateway.proofs.Names.{header_at, Up}
 use Rattle.replay_gateway.proofs.machine.Machine.cut.Goals as goal
 
 pub returns-clause-down : goal.returns-clause-down

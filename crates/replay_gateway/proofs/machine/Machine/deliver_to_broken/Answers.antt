@@ -1,8 +1,4 @@
-use Rattle.std.proofs.lemmas.Result.{IfOk-weaker}
-use Rattle.gateway_book.specs.Comes.{AsksReopening}
-use Rattle.once_core.specs.Gateway.{committing}
-use Rattle.replay_gateway.specs.Device.{machine_with, sequel_on}
-use Rattle.replay_gateway.specs.Moves.{moved_by}
+use Rattle.replay_gateway.proofs.Names.{AsksReopening, committing, IfOk-weaker, machine_with, moved_by, sequel_on}
 use Rattle.replay_gateway.proofs.DeliveredLemmas.{met_there, opening_moved, runs_there, taken_there}
 use Rattle.replay_gateway.proofs.machine.Machine.deliver_to_broken.Goals as goal
 

@@ -1,6 +1,5 @@
 use Rattle.std.proofs.Common.{◌≡◌, ◌∙◌, sym}
-use Rattle.area_disk.specs.Armed.Armed.{Nothing}
-use Rattle.replay_gateway.specs.Machine.{unarmed}
+use Rattle.replay_gateway.proofs.Names.{Nothing, unarmed}
 use Rattle.replay_gateway.proofs.OpeningLemmas.{down_tells}
 use Rattle.replay_gateway.proofs.machine.Machine.disarm.Goals as goal
 

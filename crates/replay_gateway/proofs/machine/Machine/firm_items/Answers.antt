@@ -1,6 +1,5 @@
 use Rattle.std.proofs.Common.{ap, ℕ, ◌<◌, List, arith, drop, length, length-drop, length-take}
-use Rattle.std.proofs.lemmas.Result.{IfOk-weaker}
-use Rattle.gw_base.specs.declared.item.Item.{Item}
+use Rattle.replay_gateway.proofs.Names.{IfOk-weaker, Item}
 use Rattle.replay_gateway.specs.Parts.{IsPart}
 use Rattle.replay_gateway.proofs.CallLemmas.{are_all}
 use Rattle.replay_gateway.proofs.machine.Machine.firm_items.Goals as goal

@@ -1,11 +1,5 @@
 use Rattle.std.proofs.Common.{◌≡◌, ◌∙◌, refl, sym, arith}
-use Rattle.gateway_book.specs.declared.outcome.Setup.{Setup as BookSetup}
-use Rattle.area_disk.specs.Plan.{schedule_of}
-use Rattle.file_writer.specs.Writer.{settings_in}
-use Rattle.gateway_answer.specs.Items.{items_of}
-use Rattle.once_core.specs.Addresses.{gateway_address}
-use Rattle.once_core.specs.Beginning.{first_gateway}
-use Rattle.replay_gateway.specs.Setup.{files_in, rules_in}
+use Rattle.replay_gateway.proofs.Names.{BookSetup, files_in, first_gateway, gateway_address, items_of, rules_in, schedule_of, settings_in}
 use Rattle.replay_gateway.proofs.WriterLemmas.{made_stands, rests}
 use Rattle.replay_gateway.proofs.machine.Machine.new.Goals as goal
 

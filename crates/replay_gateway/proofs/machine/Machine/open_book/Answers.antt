@@ -1,6 +1,5 @@
 use Rattle.std.proofs.Common.{◌≡◌, refl, Some}
-use Rattle.std.proofs.lemmas.Result.{on_ok_weaker}
-use Rattle.replay_gateway.specs.declared.site.Site.TheVariants.{Down}
+use Rattle.replay_gateway.proofs.Names.{Down, on_ok_weaker}
 use Rattle.replay_gateway.proofs.machine.Machine.open_book.Goals as goal
 
 pub returns : goal.returns

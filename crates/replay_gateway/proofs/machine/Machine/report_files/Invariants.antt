@@ -1,8 +1,5 @@
 use Rattle.std.proofs.Common.{◌≡◌, ◌++◌}
-use Rattle.once_core.specs.Gateway.{Gateway}
-use Rattle.replay_gateway.specs.Setup.{Setup}
-use Rattle.replay_gateway.specs.Standing.{MachineStands}
-use Rattle.replay_gateway.specs.Machine.{Machine}
+use Rattle.replay_gateway.proofs.Names.{Gateway, Machine, MachineStands, Setup}
 use Rattle.replay_gateway.proofs.ReportLemmas.{lines_below}
 use Rattle.replay_gateway.proofs.machine.Machine.report_files.Given as goal
 

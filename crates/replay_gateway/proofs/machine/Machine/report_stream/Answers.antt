@@ -1,8 +1,5 @@
 use Rattle.std.proofs.Common.{◌≡◌, ◌∙◌, sym, ap, append-nil, arith}
-use Rattle.cdr_shelf.specs.Files.{in_stream}
-use Rattle.gateway_answer.specs.Items.{items_of}
-use Rattle.replay_gateway.specs.Setup.{files_in}
-use Rattle.replay_gateway.specs.Written.{shelf_tells}
+use Rattle.replay_gateway.proofs.Names.{files_in, in_stream, items_of, shelf_tells}
 use Rattle.replay_gateway.proofs.FileLemmas.{all_files, first_are, first_files, line_more, lines_all}
 use Rattle.replay_gateway.proofs.machine.Machine.report_stream.Goals as goal
 

@@ -1,12 +1,5 @@
 use Rattle.std.proofs.Common.{◌≡◌, ◌++◌, ◌-◌, ◌<◌, take}
-use Rattle.std.specs.List.{flat_map}
-use Rattle.file_writer.specs.Streams.{stream_count}
-use Rattle.gateway_answer.specs.Items.{items_of}
-use Rattle.once_core.specs.Gateway.{Gateway}
-use Rattle.replay_gateway.specs.GatewayReport.{file_line}
-use Rattle.replay_gateway.specs.Setup.{Setup, files_in}
-use Rattle.replay_gateway.specs.Standing.{MachineStands}
-use Rattle.replay_gateway.specs.Machine.{Machine}
+use Rattle.replay_gateway.proofs.Names.{file_line, files_in, flat_map, Gateway, items_of, Machine, MachineStands, Setup, stream_count}
 use Rattle.replay_gateway.proofs.FileLemmas.{first_files}
 use Rattle.replay_gateway.proofs.machine.Machine.report_stream.Given as goal
 

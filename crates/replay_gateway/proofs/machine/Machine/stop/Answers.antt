@@ -1,9 +1,5 @@
 use Rattle.std.proofs.Common.{◌≡◌, ◌∙◌, sym, refl, Some, true≢false}
-use Rattle.area_disk.specs.declared.plan.Outcome3.TheVariants.{Old}
-use Rattle.gateway_answer.specs.Items.{items_of}
-use Rattle.replay_gateway.specs.Setup.{files_in}
-use Rattle.replay_gateway.specs.Standing.{header_at}
-use Rattle.replay_gateway.specs.declared.site.Site.TheVariants.{Up}
+use Rattle.replay_gateway.proofs.Names.{files_in, header_at, items_of, Old, Up}
 use Rattle.replay_gateway.proofs.OpeningLemmas.{stopped_area}
 use Rattle.replay_gateway.proofs.CallLemmas.{stopped}
 use Rattle.replay_gateway.proofs.machine.Machine.stop.Goals as goal

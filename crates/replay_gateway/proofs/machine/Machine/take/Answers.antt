@@ -1,8 +1,5 @@
 use Rattle.std.proofs.Common.{◌∙◌, refl, sym}
-use Rattle.std.proofs.lemmas.Result.{IfOk-weaker}
-use Rattle.gateway_book.specs.Comes.{asked_to_ready}
-use Rattle.replay_gateway.specs.Called.{taken_of}
-use Rattle.replay_gateway.specs.Device.{sequel_on}
+use Rattle.replay_gateway.proofs.Names.{asked_to_ready, IfOk-weaker, sequel_on, taken_of}
 use Rattle.replay_gateway.proofs.AnsweredLemmas.{taken_answered, taken_dropped}
 use Rattle.replay_gateway.proofs.machine.Machine.take.Goals as goal
 

@@ -1,7 +1,6 @@
 use Rattle.std.proofs.Common.{refl}
 use Rattle.once_core.specs.Gateway.{opened}
-use Rattle.replay_gateway.specs.Setup.{rules_in}
-use Rattle.replay_gateway.specs.Machine.{first_machine}
+use Rattle.replay_gateway.proofs.Names.{first_machine, rules_in}
 use Rattle.replay_gateway.proofs.ReportLemmas.{opened_still, site_opened, tallied_down}
 use Rattle.replay_gateway.proofs.machine.Machine.tally_down.Goals as goal
 

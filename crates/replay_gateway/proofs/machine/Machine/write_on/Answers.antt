@@ -1,7 +1,5 @@
 use Rattle.std.proofs.Common.{◌∙◌, refl, ap}
-use Rattle.std.proofs.lemmas.Result.{IfOk-weaker}
-use Rattle.gateway_answer.specs.Items.{items_of}
-use Rattle.replay_gateway.specs.Setup.{files_in}
+use Rattle.replay_gateway.proofs.Names.{files_in, IfOk-weaker, items_of}
 use Rattle.replay_gateway.specs.declared.machine.Machine as real
 use Rattle.replay_gateway.proofs.CallLemmas.{site_set, writes_files}
 use Rattle.replay_gateway.proofs.machine.Machine.write_on.Goals as goal

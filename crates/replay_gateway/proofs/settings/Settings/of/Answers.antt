@@ -1,7 +1,5 @@
 use Rattle.std.proofs.Common.{◌≡◌, refl, ap, sym, ◌∙◌, arith}
-use Rattle.std.proofs.lemmas.Option.{slice_get_within}
-use Rattle.replay_gateway.specs.Settings.{IsInRange}
-use Rattle.replay_gateway.specs.Setup.{after_setting, after_settings, default_setup, setup_of}
+use Rattle.replay_gateway.proofs.Names.{after_setting, after_settings, default_setup, IsInRange, setup_of, slice_get_within}
 use Rattle.replay_gateway.proofs.RangeLemmas.{back_in_range}
 use Rattle.replay_gateway.proofs.ListLemmas.{all_at, none_at, rest_at}
 use Rattle.replay_gateway.proofs.settings.Settings.of.Goals as goal

@@ -1,6 +1,5 @@
 use Rattle.std.proofs.Common.{◌≡◌, ◌≤◌, ◌-◌, length, drop}
-use Rattle.replay_gateway.specs.Settings.{AreSet, AreSound}
-use Rattle.replay_gateway.specs.Setup.{Setup, after_settings, setup_of}
+use Rattle.replay_gateway.proofs.Names.{after_settings, AreSet, AreSound, Setup, setup_of}
 use Rattle.replay_gateway.proofs.settings.Settings.of.Given as goal
 
 -- the lines so far were set, and the others are to be

@@ -1,7 +1,6 @@
 use Rattle.std.proofs.Common.{[], ◌∷◌}
 use Rattle.once_core.specs.declared.event.Event.TheVariants as event
-use Rattle.replay_world.specs.Lines.{after_steps}
-use Rattle.replay_world.specs.Steps.{Plays}
+use Rattle.replay_world.proofs.Names.{after_steps, Plays}
 use Rattle.replay_world.proofs.SettleLemmas.{close_calm, commit_calm, settles_one, settles_then}
 use Rattle.replay_world.proofs.replay.Replay.commit_and_close.Goals as goal
 

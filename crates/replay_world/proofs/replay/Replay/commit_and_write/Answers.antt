@@ -1,7 +1,6 @@
 use Rattle.std.proofs.Common.{refl, true, [], ◌∷◌, ◌-◌}
 use Rattle.once_core.specs.declared.event.Event.TheVariants as event
-use Rattle.replay_world.specs.Lines.{after_steps}
-use Rattle.replay_world.specs.Steps.{Plays, Writes}
+use Rattle.replay_world.proofs.Names.{after_steps, Plays, Writes}
 use Rattle.replay_world.proofs.SettleLemmas.{commit_calm, settles_behind, settles_one, settles_then, write_calm}
 use Rattle.replay_world.proofs.replay.Replay.commit_and_write.Goals as goal
 

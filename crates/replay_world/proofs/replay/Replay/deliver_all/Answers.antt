@@ -1,7 +1,5 @@
 use Rattle.std.proofs.Common.{◌≡◌, ◌+◌, [], ◌∷◌, drop, map, drop_of_length-le, arith}
-use Rattle.std.specs.Prelude.{slice_index_or}
-use Rattle.std.proofs.lemmas.List.{get_or_default}
-use Rattle.replay_world.specs.Lines.{after_steps, delivers}
+use Rattle.replay_world.proofs.Names.{after_steps, delivers, get_or_default, slice_index_or}
 use Rattle.replay_world.proofs.DeliverLemmas.{flow_left, may_come_then}
 use Rattle.replay_world.proofs.StepsLemmas.{does_one, so_far_all, so_far_ends, so_far_more, so_far_none}
 use Rattle.replay_world.proofs.replay.Replay.deliver_all.Goals as goal

@@ -1,8 +1,5 @@
 use Rattle.std.proofs.Common.{drop, map}
-use Rattle.replay_world.specs.Lines.{delivers}
-use Rattle.replay_world.specs.Receiving.{WereSent}
-use Rattle.replay_world.specs.Stands.{Stands}
-use Rattle.replay_world.specs.Value.{ReplayValue}
+use Rattle.replay_world.proofs.Names.{delivers, ReplayValue, Stands, WereSent}
 use Rattle.replay_world.proofs.StepsLemmas.{SoFar}
 use Rattle.replay_world.proofs.replay.Replay.deliver_all.Given as goal
 

@@ -1,9 +1,5 @@
 use Rattle.std.proofs.Common.{◌≡◌, refl, subst, ap, set, ◌+◌, ◌-◌, Some, None, slice_get, arith}
-use Rattle.std.proofs.lemmas.Option.{slice_get_past}
-use Rattle.std.proofs.lemmas.Result.{IfOk-weaker}
-use Rattle.replay_gateway.specs.Standing.{MachineStands}
-use Rattle.replay_gateway.specs.Taking.{IsDelivered}
-use Rattle.replay_world.specs.Sending.{passed}
+use Rattle.replay_world.proofs.Names.{IfOk-weaker, IsDelivered, MachineStands, passed, slice_get_past}
 use Rattle.replay_world.proofs.DeliverLemmas.{arrived, arrived_nowhere, message_here}
 use Rattle.replay_world.proofs.GatewayEventLemmas.{called_stands, machine_at, machines_count}
 use Rattle.replay_world.proofs.RefusalLemmas.{read_at}

@@ -1,11 +1,6 @@
 use Rattle.std.proofs.Common.{◌≡◌, ◌∙◌, refl, sym, ap, ◌-◌, ◌<◌, true, false, length, Some, None, slice_get, arith, set}
-use Rattle.std.proofs.lemmas.Option.{slice_get_past, slice_get_read}
-use Rattle.std.proofs.lemmas.Result.{on_ok_weaker}
-use Rattle.once_core.specs.Expired.{is_expired_at_node}
-use Rattle.once_core.specs.declared.message.Message.{Message}
+use Rattle.replay_world.proofs.Names.{gateway_address, is_expired_at_node, Message, on_ok_weaker, passed, slice_get_past, slice_get_read}
 use Rattle.replay_gateway.specs.Ends.{ends_kept}
-use Rattle.replay_world.specs.Sending.{passed}
-use Rattle.once_core.specs.Addresses.{gateway_address}
 use Rattle.replay_gateway.specs.declared.messages.Ends.{Ends}
 use Rattle.replay_world.proofs.NodeEventLemmas.{message_is, at_world, counter_there, down_told, expired_told, hears}
 use Rattle.replay_world.proofs.RefusalLemmas.{no_node_runs, node_at, node_runs, read_at}

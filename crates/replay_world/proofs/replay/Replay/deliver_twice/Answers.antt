@@ -1,6 +1,5 @@
 use Rattle.std.proofs.Common.{[], ◌∷◌}
-use Rattle.std.proofs.lemmas.Result.{IfOk-weaker}
-use Rattle.replay_world.specs.Lines.{after_steps, delivers}
+use Rattle.replay_world.proofs.Names.{after_steps, delivers, IfOk-weaker}
 use Rattle.replay_world.proofs.DeliverLemmas.{may_come_again}
 use Rattle.replay_world.proofs.StepsLemmas.{does_ended, does_one, does_then}
 use Rattle.replay_world.proofs.replay.Replay.deliver_twice.Goals as goal

@@ -1,7 +1,5 @@
 use Rattle.std.proofs.Common.{◌≡◌, ◌∙◌, refl, ◌+◌, ◌-◌, ◌<◌, [], ◌∷◌, length, true, arith, subst}
-use Rattle.std.specs.List.{range_with_len}
-use Rattle.replay_world.specs.Lines.{after_steps}
-use Rattle.replay_world.specs.Steps.{Disarms}
+use Rattle.replay_world.proofs.Names.{after_steps, Disarms, range_with_len}
 use Rattle.replay_world.proofs.GatewayEventLemmas.{machines_count}
 use Rattle.replay_world.proofs.SettleLemmas.{disarms, disarms_next}
 use Rattle.replay_world.proofs.StepsLemmas.{SoFar, does_one, so_far_does, so_far_more, so_far_none}

@@ -1,7 +1,5 @@
 use Rattle.std.proofs.Common.{◌≡◌, ◌+◌, ◌-◌, [], length}
-use Rattle.std.specs.List.{range_with_len}
-use Rattle.replay_world.specs.Stands.{Stands}
-use Rattle.replay_world.specs.Value.{ReplayValue}
+use Rattle.replay_world.proofs.Names.{range_with_len, ReplayValue, Stands}
 use Rattle.replay_world.proofs.SettleLemmas.{disarms}
 use Rattle.replay_world.proofs.StepsLemmas.{SoFar}
 use Rattle.replay_world.proofs.replay.Replay.disarm_all.Given as goal

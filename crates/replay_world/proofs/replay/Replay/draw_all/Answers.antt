@@ -1,7 +1,5 @@
 use Rattle.std.proofs.Common.{◌≡◌, ◌+◌, ◌%◌, [], drop, drop_of_length-le, arith}
-use Rattle.std.specs.Prelude.{slice_index_or}
-use Rattle.std.proofs.lemmas.List.{get_or_default}
-use Rattle.replay_world.specs.Lines.{after_steps, lot_steps, mixed_steps}
+use Rattle.replay_world.proofs.Names.{after_steps, get_or_default, lot_steps, mixed_steps, slice_index_or}
 use Rattle.replay_world.proofs.DeliverLemmas.{may_come_then, mix_left}
 use Rattle.replay_world.proofs.StepsLemmas.{so_far_all, so_far_ends, so_far_more, so_far_none}
 use Rattle.replay_world.proofs.replay.Replay.draw_all.Goals as goal

@@ -1,8 +1,5 @@
 use Rattle.std.proofs.Common.{drop}
-use Rattle.replay_world.specs.Lines.{mixed_steps}
-use Rattle.replay_world.specs.Receiving.{WereSent}
-use Rattle.replay_world.specs.Stands.{Stands}
-use Rattle.replay_world.specs.Value.{ReplayValue}
+use Rattle.replay_world.proofs.Names.{mixed_steps, ReplayValue, Stands, WereSent}
 use Rattle.replay_world.proofs.StepsLemmas.{SoFar}
 use Rattle.replay_world.proofs.replay.Replay.draw_all.Given as goal
 

@@ -1,9 +1,6 @@
 use Rattle.std.proofs.Common.{◌∙◌, refl, sym, ap, ◌++◌, ◌-◌, append-nil, subst}
-use Rattle.std.proofs.lemmas.Result.{on_ok_weaker}
-use Rattle.replay_world.specs.Notices.{ShelfFaulted, Stopped, notice_line}
-use Rattle.replay_world.specs.Steps.{Tells, after_step}
-use Rattle.replay_world.specs.Does.{Makes}
-use Rattle.replay_world.specs.Sending.{steps_behind}
+use Rattle.replay_world.proofs.Names.{after_step, Makes, notice_line, on_ok_weaker, ShelfFaulted, steps_behind, Tells}
+use Rattle.replay_world.specs.Notices.{Stopped}
 use Rattle.replay_world.proofs.NodeSubmitLemmas.{does_behind, does_tell, one_step}
 use Rattle.replay_world.proofs.StepsLemmas.{makes_one, makes_then}
 use Rattle.replay_world.proofs.replay.Replay.end_write.Goals as goal

@@ -1,7 +1,5 @@
 use Rattle.std.proofs.Common.{◌≡◌, ◌∙◌, subst, map}
-use Rattle.std.proofs.lemmas.Result.{on_ok_weaker}
-use Rattle.replay_world.specs.Does.{Makes}
-use Rattle.replay_world.specs.Lines.{delivers}
+use Rattle.replay_world.proofs.Names.{delivers, Makes, on_ok_weaker}
 use Rattle.replay_world.proofs.DeliverLemmas.{waiting_sent}
 use Rattle.replay_world.proofs.replay.Replay.flow.Goals as goal
 

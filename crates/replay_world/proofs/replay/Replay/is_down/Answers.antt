@@ -1,7 +1,5 @@
 use Rattle.std.proofs.Common.{◌≡◌, ◌-◌, length, None, slice_get, arith, sym, ap, true}
-use Rattle.std.proofs.lemmas.Option.{slice_get_past}
-use Rattle.std.specs.Option.{option_map_or}
-use Rattle.once_core.specs.Gateway.{Gateway}
+use Rattle.replay_world.proofs.Names.{Gateway, option_map_or, slice_get_past}
 use Rattle.replay_world.proofs.RefusalLemmas.{gateway_down, gateways_count, read_in}
 use Rattle.replay_world.proofs.replay.Replay.is_down.Goals as goal
 

@@ -1,8 +1,5 @@
 use Rattle.std.proofs.Common.{◌≡◌, ◌∙◌, subst}
-use Rattle.std.proofs.lemmas.Result.{on_ok_weaker}
-use Rattle.replay_world.specs.Does.{Makes}
-use Rattle.replay_world.specs.Lines.{mixed_steps}
-use Rattle.world_script.specs.Sample.{seeded}
+use Rattle.replay_world.proofs.Names.{Makes, mixed_steps, on_ok_weaker, seeded}
 use Rattle.replay_world.proofs.DeliverLemmas.{waiting_sent, is_seeded}
 use Rattle.replay_world.proofs.replay.Replay.mix.Goals as goal
 

@@ -1,8 +1,5 @@
 use Rattle.std.proofs.Common.{◌≡◌, ◌∙◌, sym, ap, [], ◌∷◌, rules}
-use Rattle.node_core.specs.Log.{Began}
-use Rattle.once_core.specs.Beginning.{times_of}
-use Rattle.replay_gateway.specs.Setup.{rules_in, setup_of}
-use Rattle.replay_world.specs.Stands.{nodes_from}
+use Rattle.replay_world.proofs.Names.{Began, nodes_from, rules_in, setup_of, times_of}
 use Rattle.replay_world.proofs.BeginningLemmas.{begun_stands}
 use Rattle.replay_world.proofs.replay.Replay.new.Goals as goal
 

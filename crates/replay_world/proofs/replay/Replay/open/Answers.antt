@@ -1,8 +1,5 @@
 use Rattle.std.proofs.Common.{refl, ◌-◌, arith}
-use Rattle.std.proofs.lemmas.Result.{on_ok_weaker}
-use Rattle.once_core.specs.Gateway.{opened, still}
-use Rattle.replay_gateway.specs.Setup.{rules_in}
-use Rattle.replay_gateway.specs.Standing.{MachineStands}
+use Rattle.replay_world.proofs.Names.{MachineStands, on_ok_weaker, opened, rules_in, still}
 use Rattle.once_core.specs.declared.event.Event.TheVariants as event
 use Rattle.replay_world.proofs.GatewayEventLemmas.{called_stands, machine_at}
 use Rattle.replay_world.proofs.QuietLemmas.{does_quietly, down_there, is_there_down, machines_stay, no_machine_down, plays, told_sent}

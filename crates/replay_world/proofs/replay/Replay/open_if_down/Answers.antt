@@ -1,6 +1,5 @@
 use Rattle.std.proofs.Common.{◌≡◌, ◌∙◌, sym, ap, ◌+◌, arith}
-use Rattle.std.proofs.lemmas.Result.{on_ok_weaker}
-use Rattle.once_core.specs.Turn.{is_down_in}
+use Rattle.replay_world.proofs.Names.{is_down_in, on_ok_weaker}
 use Rattle.replay_world.proofs.SettleLemmas.{gateway_there, may_open, settles_opened, settles_running}
 use Rattle.replay_world.proofs.replay.Replay.open_if_down.Goals as goal
 

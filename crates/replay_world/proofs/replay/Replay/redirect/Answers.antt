@@ -1,13 +1,7 @@
 use Rattle.std.proofs.Common.{refl, ◌-◌, ◌<◌, length, arith, sym, subst}
-use Rattle.std.proofs.lemmas.List.Elements.{All-weaker}
-use Rattle.std.proofs.lemmas.Result.{on_ok_weaker}
+use Rattle.replay_world.proofs.Names.{All-weaker, HasMoved, history_of, MachineStands, node_at, on_ok_weaker, redirected}
 use Rattle.gateway_answer.specs.Told.{paths_of}
-use Rattle.gateway_answer.specs.Value.{history_of}
-use Rattle.once_core.specs.Addresses.{node_at}
 use Rattle.replay_gateway.specs.Redirecting.{KnowsNear}
-use Rattle.once_core.specs.Answers.{redirected}
-use Rattle.replay_gateway.specs.Moves.{HasMoved}
-use Rattle.replay_gateway.specs.Standing.{MachineStands}
 use Rattle.replay_world.proofs.GatewayEventLemmas.{called_stands, machine_at, no_machine, runs_there}
 use Rattle.replay_world.proofs.QuietLemmas.{does_redirect, runs_to_redirect}
 use Rattle.replay_world.proofs.RefusalLemmas.{read_at}

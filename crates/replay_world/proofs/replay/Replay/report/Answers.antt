@@ -1,7 +1,5 @@
 use Rattle.std.proofs.Common.{◌≡◌, ◌∙◌, ◌++◌, sym}
-use Rattle.replay_world.specs.Report.{report_of}
-use Rattle.replay_world.specs.Stands.{Stands}
-use Rattle.replay_world.specs.declared.replay.Replay.{Replay}
+use Rattle.replay_world.proofs.Names.{Replay, report_of, Stands}
 use Rattle.replay_world.proofs.RunLemmas.{failed_by, not_refused, ran_so, stays_failed, still_so}
 use Rattle.replay_world.proofs.replay.Replay.report.Goals as goal
 

@@ -1,8 +1,5 @@
 use Rattle.std.proofs.Common.{◌≡◌, ◌∙◌, refl, ◌+◌, length, Some, slice_get, length-set, arith, sym, ap, subst, ◌++◌}
-use Rattle.std.proofs.lemmas.Option.{slice_get_read}
-use Rattle.std.proofs.lemmas.Result.{on_ok_weaker}
-use Rattle.replay_gateway.specs.GatewayReport.{gateway_text}
-use Rattle.replay_gateway.specs.Standing.{MachineStands}
+use Rattle.replay_world.proofs.Names.{gateway_text, MachineStands, on_ok_weaker, slice_get_read}
 use Rattle.replay_world.proofs.SummaryLemmas.{lines_there, small_place, stands_same}
 use Rattle.replay_world.proofs.GatewayEventLemmas.{machines_count}
 use Rattle.replay_world.proofs.RefusalLemmas.{gateway_at}

@@ -1,8 +1,5 @@
 use Rattle.std.proofs.Common.{◌≡◌, ◌++◌, length}
-use Rattle.std.specs.List.{flat_map, range_with_len}
-use Rattle.replay_world.specs.Report.{gateway_lines}
-use Rattle.replay_world.specs.Stands.{Stands}
-use Rattle.replay_world.specs.Value.{ReplayValue}
+use Rattle.replay_world.proofs.Names.{flat_map, gateway_lines, range_with_len, ReplayValue, Stands}
 use Rattle.replay_world.proofs.replay.Replay.report_gateways.Given as goal
 
 -- the gateways so far were reported

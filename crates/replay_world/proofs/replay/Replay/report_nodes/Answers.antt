@@ -1,7 +1,5 @@
 use Rattle.std.proofs.Common.{◌≡◌, ◌∙◌, refl, sym, ap, ◌<◌, ◌++◌, length, Some, slice_get, append-nil, arith}
-use Rattle.std.proofs.lemmas.Option.{slice_get_read}
-use Rattle.node_core.specs.Counting.{counts_of}
-use Rattle.replay_world.specs.Report.{node_text}
+use Rattle.replay_world.proofs.Names.{counts_of, node_text, slice_get_read}
 use Rattle.replay_world.proofs.SummaryLemmas.{all_nodes, lines_next, node_there}
 use Rattle.replay_world.proofs.RefusalLemmas.{node_at, nodes_count}
 use Rattle.replay_world.proofs.replay.Replay.report_nodes.Goals as goal

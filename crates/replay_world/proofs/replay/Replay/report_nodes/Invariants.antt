@@ -1,7 +1,5 @@
 use Rattle.std.proofs.Common.{◌≡◌, ◌++◌}
-use Rattle.std.specs.List.{flat_map, range_with_len}
-use Rattle.replay_world.specs.Stands.{Stands}
-use Rattle.replay_world.specs.Value.{ReplayValue}
+use Rattle.replay_world.proofs.Names.{flat_map, range_with_len, ReplayValue, Stands}
 use Rattle.replay_world.proofs.SummaryLemmas.{node_lines}
 use Rattle.replay_world.proofs.replay.Replay.report_nodes.Given as goal
 

@@ -1,6 +1,5 @@
 use Rattle.std.proofs.Common.{◌∙◌, sym}
-use Rattle.replay_world.specs.Does.{LineRan}
-use Rattle.replay_world.specs.declared.replay.Replay.{Replay}
+use Rattle.replay_world.proofs.Names.{LineRan, Replay}
 use Rattle.replay_world.proofs.RunLemmas.{failed_by, never_stands, not_failed, not_refused, ran_so, refused_so, same_kind, stays_failed, still_so}
 use Rattle.replay_world.proofs.replay.Replay.run_line.Goals as goal
 

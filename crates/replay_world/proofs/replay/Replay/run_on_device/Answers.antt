@@ -1,7 +1,5 @@
 use Rattle.std.proofs.Common.{◌∙◌, refl, sym, ◌-◌, ◌<◌, [], rules}
-use Rattle.area_disk.specs.Armed.Armed.{Stop}
-use Rattle.replay_world.specs.Does.{is_on_device}
-use Rattle.replay_world.specs.Lines.{outcome_in}
+use Rattle.replay_world.proofs.Names.{is_on_device, outcome_in, Stop}
 use Rattle.replay_world.proofs.RunLemmas.{arms_stop, gateway_place, line_does, such_line}
 use Rattle.replay_world.proofs.replay.Replay.run_on_device.Goals as goal
 

@@ -1,6 +1,5 @@
 use Rattle.std.proofs.Common.{rules, map-id}
-use Rattle.std.proofs.lemmas.Iterator.Adapters.{YieldsList-from_vec}
-use Rattle.std.proofs.lemmas.Iterator.Consumers.{YieldsList-end}
+use Rattle.replay_world.proofs.Names.{YieldsList-end, YieldsList-from_vec}
 use Rattle.replay_world.proofs.StepsLemmas.{sent_both, sent_none}
 use Rattle.replay_world.proofs.replay.Replay.send_all.Goals as goal
 

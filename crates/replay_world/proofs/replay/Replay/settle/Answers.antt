@@ -1,7 +1,5 @@
 use Rattle.std.proofs.Common.{◌∙◌, sym}
-use Rattle.replay_world.specs.Does.{Makes}
-use Rattle.replay_world.specs.Lines.{settle_steps}
-use Rattle.replay_world.specs.declared.replay.Replay.{Replay}
+use Rattle.replay_world.proofs.Names.{Makes, Replay, settle_steps}
 use Rattle.replay_world.proofs.RunLemmas.{failed_by, not_refused, ran_so, stays_failed, still_so}
 use Rattle.replay_world.proofs.replay.Replay.settle.Goals as goal
 

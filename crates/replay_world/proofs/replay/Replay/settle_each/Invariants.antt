@@ -1,6 +1,4 @@
-use Rattle.replay_world.specs.Settling.{AreUnarmed}
-use Rattle.replay_world.specs.Stands.{Stands}
-use Rattle.replay_world.specs.Value.{ReplayValue}
+use Rattle.replay_world.proofs.Names.{AreUnarmed, ReplayValue, Stands}
 use Rattle.replay_world.proofs.SettleLemmas.{SettledTo}
 use Rattle.replay_world.proofs.replay.Replay.settle_each.Given as goal
 

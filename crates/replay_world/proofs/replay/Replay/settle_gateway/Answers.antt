@@ -1,9 +1,6 @@
 use Rattle.std.proofs.Common.{[], ◌∷◌}
-use Rattle.std.proofs.lemmas.Result.{on_ok_weaker}
+use Rattle.replay_world.proofs.Names.{after_steps, on_ok_weaker, opening_steps, Plays}
 use Rattle.once_core.specs.declared.event.Event.TheVariants as event
-use Rattle.replay_world.specs.Lines.{after_steps}
-use Rattle.replay_world.specs.Settling.{opening_steps}
-use Rattle.replay_world.specs.Steps.{Plays}
 use Rattle.replay_world.proofs.SettleLemmas.{settles_behind, settles_then}
 use Rattle.replay_world.proofs.replay.Replay.settle_gateway.Goals as goal
 

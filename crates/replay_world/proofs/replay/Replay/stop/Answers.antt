@@ -1,6 +1,5 @@
 use Rattle.std.proofs.Common.{refl, ◌-◌, arith}
-use Rattle.once_core.specs.Gateway.{cut, still}
-use Rattle.replay_gateway.specs.Machine.{disarmed}
+use Rattle.replay_world.proofs.Names.{cut, disarmed, still}
 use Rattle.once_core.specs.declared.event.Event.TheVariants as event
 use Rattle.replay_world.proofs.GatewayEventLemmas.{called_stands, machine_at, no_machine, runs_there}
 use Rattle.replay_world.proofs.QuietLemmas.{changed, does_quietly, plays, told_sent}

@@ -1,8 +1,5 @@
 use Rattle.std.proofs.Common.{refl, sym, subst, true}
-use Rattle.std.proofs.lemmas.Result.{on_ok_weaker}
-use Rattle.replay_world.specs.Notices.{draft_fault_name, Refused}
-use Rattle.replay_world.specs.Does.{DoesAll}
-use Rattle.replay_world.specs.Lines.{submit_steps}
+use Rattle.replay_world.proofs.Names.{DoesAll, draft_fault_name, on_ok_weaker, Refused, submit_steps}
 use Rattle.replay_world.proofs.NodeSubmitLemmas.{does_tell, draft_read, one_step}
 use Rattle.replay_world.proofs.RefusalLemmas.{reason_there, reason_told}
 use Rattle.replay_world.proofs.replay.Replay.submit.Goals as goal

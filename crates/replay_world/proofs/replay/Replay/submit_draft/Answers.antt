@@ -1,10 +1,6 @@
 use Rattle.std.proofs.Common.{◌≡◌, ◌∙◌, refl, sym, ap, ◌<◌, false, ◌++◌, length, arith}
-use Rattle.node_core.specs.Drafts.{is_without_records}
-use Rattle.node_core.specs.Reached.{most_submissions}
-use Rattle.std.proofs.lemmas.Bool.{le-ltb, lt-ltb}
-use Rattle.std.proofs.lemmas.Result.{on_ok_weaker}
+use Rattle.replay_world.proofs.Names.{is_without_records, le-ltb, lt-ltb, most_submissions, notice_line, on_ok_weaker, submit_fault_name, Took}
 use Rattle.gw_base.specs.declared.packet.PacketId.{PacketId}
-use Rattle.replay_world.specs.Notices.{Took, notice_line, submit_fault_name}
 use Rattle.replay_world.proofs.NodeEventLemmas.{no_node_beyond}
 use Rattle.replay_world.proofs.NodeSubmitLemmas.{emptied, full, refused, submitted, node_running}
 use Rattle.replay_world.proofs.RefusalLemmas.{reason_there, reason_told, read_at}

@@ -1,7 +1,5 @@
 use Rattle.std.proofs.Common.{◌≡◌, ◌*◌, length, take}
-use Rattle.replay_world.specs.Stands.{Stands}
-use Rattle.replay_world.specs.Summary.{AreGatewaySums, gateway_sums}
-use Rattle.replay_world.specs.Value.{ReplayValue}
+use Rattle.replay_world.proofs.Names.{AreGatewaySums, gateway_sums, ReplayValue, Stands}
 use Rattle.replay_world.proofs.replay.Replay.sum_gateways.Given as goal
 
 -- the gateways so far were counted

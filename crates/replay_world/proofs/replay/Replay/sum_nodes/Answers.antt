@@ -1,8 +1,6 @@
 use Rattle.std.proofs.Common.{◌≡◌, ◌∙◌, ◌*◌, refl, ap, length, take, take_all, Some, slice_get, arith}
 use Rattle.std.proofs.lemmas.List.FromFn.{length-enumerate_from}
-use Rattle.std.specs.List.{enumerate_from}
-use Rattle.std.proofs.lemmas.Option.{slice_get_read}
-use Rattle.node_core.specs.Counting.{counts_of}
+use Rattle.replay_world.proofs.Names.{counts_of, enumerate_from, slice_get_read}
 use Rattle.replay_world.proofs.RefusalLemmas.{node_at, nodes_count}
 use Rattle.replay_world.proofs.SummaryLemmas.{nodes_few, nodes_more, nodes_next}
 use Rattle.replay_world.proofs.replay.Replay.sum_nodes.Goals as goal

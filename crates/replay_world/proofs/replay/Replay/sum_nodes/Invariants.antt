@@ -1,8 +1,5 @@
 use Rattle.std.proofs.Common.{◌≡◌, ◌*◌, length, take}
-use Rattle.std.specs.List.{enumerate_from}
-use Rattle.replay_world.specs.Stands.{Stands}
-use Rattle.replay_world.specs.Summary.{AreNodeSums, node_sums}
-use Rattle.replay_world.specs.Value.{ReplayValue}
+use Rattle.replay_world.proofs.Names.{AreNodeSums, enumerate_from, node_sums, ReplayValue, Stands}
 use Rattle.replay_world.proofs.replay.Replay.sum_nodes.Given as goal
 
 -- the nodes so far were counted

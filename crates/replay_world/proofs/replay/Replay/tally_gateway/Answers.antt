@@ -1,8 +1,5 @@
 use Rattle.std.proofs.Common.{◌≡◌, refl, ◌+◌, length, Some, slice_get, length-set, arith, sym, subst}
-use Rattle.std.proofs.lemmas.Option.{slice_get_read}
-use Rattle.std.proofs.lemmas.Result.{IfOk-weaker}
-use Rattle.replay_gateway.specs.Standing.{MachineStands}
-use Rattle.replay_world.specs.Summary.{TalliesIf}
+use Rattle.replay_world.proofs.Names.{IfOk-weaker, MachineStands, slice_get_read, TalliesIf}
 use Rattle.replay_world.proofs.SummaryLemmas.{stands_same}
 use Rattle.replay_world.proofs.RefusalLemmas.{gateway_at}
 use Rattle.replay_world.proofs.replay.Replay.tally_gateway.Goals as goal

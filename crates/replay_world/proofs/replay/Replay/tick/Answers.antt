@@ -1,8 +1,5 @@
 use Rattle.std.proofs.Common.{◌≡◌, ◌∙◌, refl, ap, ◌<◌, length, map, arith, set}
-use Rattle.std.proofs.lemmas.Option.{get_or_from_slice_get, slice_get_read}
-use Rattle.std.proofs.lemmas.Result.{on_ok_weaker}
-use Rattle.node_core.specs.Value.{NodeValue}
-use Rattle.once_core.specs.NodeMoves.{message_kept}
+use Rattle.replay_world.proofs.Names.{get_or_from_slice_get, message_kept, NodeValue, on_ok_weaker, slice_get_read}
 use Rattle.replay_world.proofs.NodeEventLemmas.{no_node_beyond}
 use Rattle.replay_world.proofs.NodeSubmitLemmas.{node_running, ticked}
 use Rattle.replay_world.proofs.RefusalLemmas.{read_at}

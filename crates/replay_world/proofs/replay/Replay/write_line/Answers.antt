@@ -1,8 +1,5 @@
 use Rattle.std.proofs.Common.{refl, ◌-◌, sym, subst}
-use Rattle.std.proofs.lemmas.Result.{on_ok_weaker}
-use Rattle.replay_world.specs.Steps.{Writes, after_step}
-use Rattle.replay_world.specs.Sending.{steps_behind}
-use Rattle.replay_world.specs.Does.{Makes}
+use Rattle.replay_world.proofs.Names.{after_step, Makes, on_ok_weaker, steps_behind, Writes}
 use Rattle.replay_world.proofs.NodeSubmitLemmas.{does_behind, one_step}
 use Rattle.replay_world.proofs.StepsLemmas.{makes_then}
 use Rattle.replay_world.proofs.replay.Replay.write_line.Goals as goal

@@ -1,6 +1,5 @@
 use Rattle.std.proofs.Common.{rules, ap, ◌∙◌, ◌∷◌, Some}
-use mathlib.Core.Option.{none}
-use Rattle.atomic_table.specs.Table.{rest, step}
+use Rattle.turn_cell.proofs.Names.{none, rest, step}
 use Rattle.turn_cell.proofs.Calls.{settled_is, settles_at}
 use Rattle.turn_cell.proofs.cell.TurnCell.settle.Goals as goal
 

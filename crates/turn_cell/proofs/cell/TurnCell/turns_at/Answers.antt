@@ -1,9 +1,6 @@
 use Rattle.std.proofs.Common.{◌<◌, ◌+◌, [], length, take, arith, refl, rules, sym, subst, ap, ◌∙◌}
-use Rattle.std.proofs.lemmas.List.{take_all}
+use Rattle.turn_cell.proofs.Names.{begun, Knowledge, known_at, made_by, take_all, TookMore}
 use Rattle.turn_cell.proofs.Each.{own_on, took_behind, took_none}
-use Rattle.turn_cell.specs.Cell.{begun, known_at, made_by}
-use Rattle.turn_cell.specs.Passes.{TookMore}
-use Rattle.turn_cell.specs.declared.knowing.Knowledge.{Knowledge}
 use Rattle.turn_cell.proofs.cell.TurnCell.turns_at.Goals as goal
 
 pub loop-item-init : goal.loop-item-init

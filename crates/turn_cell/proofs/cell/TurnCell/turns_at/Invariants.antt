@@ -1,8 +1,5 @@
 use Rattle.std.proofs.Common.{◌≡◌, ◌+◌, take}
-use Rattle.std.specs.Prelude.{vec_capacity, vec_len}
-use Rattle.turn_cell.specs.Cell.{begun, known_at, made_by}
-use Rattle.turn_cell.specs.Passes.{IsOwnSession, TookMore}
-use Rattle.turn_cell.specs.Taking.{HasCome}
+use Rattle.turn_cell.proofs.Names.{begun, HasCome, IsOwnSession, known_at, made_by, TookMore, vec_capacity, vec_len}
 use Rattle.turn_cell.proofs.cell.TurnCell.turns_at.Given as goal
 
 -- the turns of the first items were taken

@@ -1,10 +1,7 @@
 use Rattle.std.proofs.Common.{◌≡◌, ◌+◌, ◌≤◌, Some, false, sym, rules, arith}
 use denote.Enum.Bare.{same_true}
-use Rattle.world_script.specs.Saying.{one_datagram}
-use Rattle.world_script.specs.Script.{most_text}
-use Rattle.world_script.specs.Text.{lent_line, line_content, line_size}
+use Rattle.world_script.proofs.Names.{Feed, lent_line, line_content, line_size, most_text, one_datagram}
 use Rattle.world_script.specs.contracts.kind.ScriptKind.{the_type}
-use Rattle.world_script.specs.declared.kind.ScriptKind.TheVariants.{Feed}
 use Rattle.world_script.proofs.ScriptLemmas.{is_read}
 use Rattle.world_script.proofs.progress.Progress.read.Goals as goal
 
