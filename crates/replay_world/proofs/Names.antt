@@ -76,7 +76,8 @@ pub use Rattle.std.proofs.lemmas.List.Elements.{All-append, All-filter, All-set,
 pub use Rattle.std.proofs.lemmas.List.Sums.{sum_by-append, sum_by-cons}
 pub use Rattle.std.proofs.lemmas.Option.{get_or_from_slice_get, slice_get-get_or, slice_get-map, slice_get_past, slice_get_read, slice_get_within}
 pub use Rattle.std.proofs.lemmas.Result.{IfOk-weaker, on_ok_weaker}
-pub use Rattle.std.specs.List.{AllByRecursion, enumerate_from, flat_map, IsDistinct, list_all, list_any, range_with_len}
+pub use Rattle.std.specs.List.{AllByRecursion, enumerate_from, flat_map, list_all, list_any, range_with_len}
+unfoldable pub use Rattle.std.specs.List.{IsDistinct}
 pub use Rattle.std.specs.Option.{option_map_or, option_or}
 pub use Rattle.std.specs.Prelude.{nat_le, nat_lt, slice_get, slice_index_or, slice_set}
 unfoldable pub use Rattle.world_script.specs.Sample.{seeded}
