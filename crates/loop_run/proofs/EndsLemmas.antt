@@ -117,7 +117,7 @@ module _ (setup : LoopSetup) (links links' : LinksState) (old new : List LoopBoo
   same_verdict = cc (alike_by (λ (v : BookValue). history_of v) old new alike)
 
   pub alike_counts : (how : LoopEnd) → CountsAs setup old nodes how → CountsAs setup new nodes how
-  alike_counts (end.Fine node_sums gateway_sums) (none, fine, sums) = (
+  alike_counts (end.Fine node_counts gateway_sums) (none, fine, sums) = (
     none,
     same_verdict ∙ fine,
     (
@@ -137,12 +137,12 @@ module _ (setup : LoopSetup) (old mid new : LinksState) (keeps : Keeps old mid) 
   out alike nodes = rw nodes (alike_looped _ old new _ _ _ alike (looped_from _ old mid new keeps has.hands))
 
   pub ends_finished : (how : LoopEnd) → Finishes setup collected.looped now how → EndsAs setup old new now how
-  ends_finished (end.Fine node_sums gateway_sums) (counts, alike, nodes) = (
+  ends_finished (end.Fine node_counts gateway_sums) (counts, alike, nodes) = (
     out alike nodes,
     subst
-        (λ (l : List NodeValue). CountsAs setup now.books.items l (end.Fine node_sums gateway_sums)) (sym nodes)
+        (λ (l : List NodeValue). CountsAs setup now.books.items l (end.Fine node_counts gateway_sums)) (sym nodes)
         (alike_counts setup mid new collected.looped.books.items now.books.items collected.looped.nodes.items alike
-        (end.Fine node_sums gateway_sums) counts),
+        (end.Fine node_counts gateway_sums) counts),
   )
   ends_finished (end.Wrong packet places wanted) (counts, alike, nodes) = (
     out alike nodes,

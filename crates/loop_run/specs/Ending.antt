@@ -25,15 +25,10 @@ use Rattle.loop_run.specs.Looped.{IsLooped}
 use Rattle.loop_run.specs.declared.end.GatewaySum.{GatewaySum}
 use Rattle.loop_run.specs.declared.end.LoopEnd.{LoopEnd}
 use Rattle.loop_run.specs.declared.end.LoopEnd.TheVariants as end
-use Rattle.loop_run.specs.declared.end.NodeSum.{NodeSum}
 use Rattle.loop_run.specs.declared.looped.Looped.{Looped}
 use Rattle.loop_run.specs.declared.setup.LoopSetup.{LoopSetup}
 
 -- What is counted.
-
-abbrev pub node_sum : NodeValue → NodeSum
-node_sum node =
-    let c = counts_of node in record { packets = c.packets; resolved = c.resolved; done = c.done }
 
 abbrev pub gateway_sum : BookValue → GatewaySum
 gateway_sum book = let h = history_of book in record {
@@ -81,7 +76,7 @@ AreAllFirm books = All (λ book. value_of book ≡ standing_for (value_of book).
 module _ (books : List (Book QuietArea quiet_area)) (nodes : List NodeValue) where
   -- these are the sums of all nodes and gateways, in their order
   abbrev pub SumsAs : LoopEnd → Type 0
-  SumsAs (end.Fine node_sums gateway_sums) = (node_sums.items ≡ map node_sum nodes)
+  SumsAs (end.Fine node_counts gateway_sums) = (node_counts.items ≡ map counts_of nodes)
       × (gateway_sums.items ≡ map (λ book. gateway_sum (value_of book)) books)
   SumsAs (end.Wrong packet places wanted) = ⊥
   SumsAs (end.Unfinished turns packet count) = ⊥
@@ -99,8 +94,8 @@ module _ (setup : LoopSetup) (books : List (Book QuietArea quiet_area)) (nodes :
 
   -- Packets that aren't done decide first, then the audit.
   abbrev pub CountsAs : LoopEnd → Type 0
-  CountsAs (end.Fine node_sums gateway_sums) = (still_open ≡ []) × (verdict books nodes ≡ audited.Fine)
-      × SumsAs books nodes (end.Fine node_sums gateway_sums)
+  CountsAs (end.Fine node_counts gateway_sums) = (still_open ≡ []) × (verdict books nodes ≡ audited.Fine)
+      × SumsAs books nodes (end.Fine node_counts gateway_sums)
   CountsAs (end.Wrong packet places wanted) =
       (still_open ≡ []) × (verdict books nodes ≡ audited.Wrong packet places wanted)
   CountsAs (end.Unfinished turns packet count) = (turns ≡ setup.turns)
@@ -120,8 +115,8 @@ module _ (setup : LoopSetup) (links links' : LinksState) (looped : Looped) where
   -- What is handed out decides the end, and a node with a packet that isn't done took all its turns. A link that
   -- failed, and want of memory, end a loop that hands out nothing.
   abbrev pub EndsAs : LoopEnd → Type 0
-  EndsAs (end.Fine node_sums gateway_sums) = HandsOut
-      × CountsAs setup looped.books.items looped.nodes.items (end.Fine node_sums gateway_sums)
+  EndsAs (end.Fine node_counts gateway_sums) = HandsOut
+      × CountsAs setup looped.books.items looped.nodes.items (end.Fine node_counts gateway_sums)
   EndsAs (end.Wrong packet places wanted) = HandsOut
       × CountsAs setup looped.books.items looped.nodes.items (end.Wrong packet places wanted)
   EndsAs (end.Unfinished turns packet count) = HandsOut

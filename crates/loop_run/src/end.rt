@@ -1,12 +1,5 @@
 use gw_base::PacketId;
-
-/// What a node counts over a loop: how many packets were submitted to it, became resolved and became done.
-#[derive(Clone, Copy, Debug, PartialEq, Eq)]
-pub struct NodeSum {
-    pub packets: u64,
-    pub resolved: u64,
-    pub done: u64,
-}
+use node_core::NodeCounts;
 
 /// What a gateway counts: its entries, the records that they file, the copies that it holds, and those of earlier
 /// epochs that were neither released nor cancelled.
@@ -23,7 +16,7 @@ pub struct GatewaySum {
 pub enum LoopEnd {
     /// All packets are done, and each stands once.
     Fine {
-        nodes: Vec<NodeSum>,
+        nodes: Vec<NodeCounts>,
         gateways: Vec<GatewaySum>,
     },
     /// All packets are done, and this is the first, by node and number, that doesn't stand once: so many of its copies

@@ -1,10 +1,11 @@
 // What nodes and gateways count.
 ghost use Rattle.std.specs.Prelude.{◌≡◌, IfOk, map};
 ghost use Rattle.gateway_book.specs.Book.{value_of};
-ghost use Rattle.loop_run.specs.Ending.{AreAllFirm, gateway_sum, node_sum};
+ghost use Rattle.loop_run.specs.Ending.{AreAllFirm, gateway_sum};
 ghost use Rattle.loop_run.specs.Finishing.{AreAlike, shown};
+ghost use Rattle.node_core.specs.Counting.{counts_of};
 
-use crate::end::{GatewaySum, NodeSum};
+use crate::end::GatewaySum;
 use area_disk::QuietArea;
 use gateway_answer::laws::a_history_filed_its_parts;
 use gateway_book::{Book, Counts, ItemsFault, count_records};
@@ -13,29 +14,14 @@ use node_core::{Node, NodeCounts};
 use std::alloc::Global;
 
 /// What each node counts.
-pub(crate) fn node_sums(alloc: Global, nodes: &[Node]) -> Result<Vec<NodeSum>, NoMemory>
-    ensures { IfOk result (λ sums. sums.items ≡ map node_sum nodes.now) }
+pub(crate) fn node_counts(alloc: Global, nodes: &[Node]) -> Result<Vec<NodeCounts>, NoMemory>
+    ensures { IfOk result (λ counts. counts.items ≡ map counts_of nodes.now) }
 {
-    let mut sums = Vec::with_capacity(alloc, nodes.len())?;
+    let mut counts = Vec::with_capacity(alloc, nodes.len())?;
     for node in nodes {
-        sums.push(sum_of(node))?;
+        counts.push(node.counts())?;
     }
-    Ok(sums)
-}
-
-fn sum_of(node: &Node) -> NodeSum
-    ensures { result ≡ node_sum node.now }
-{
-    let NodeCounts {
-        packets,
-        resolved,
-        done,
-    } = node.counts();
-    NodeSum {
-        packets,
-        resolved,
-        done,
-    }
+    Ok(counts)
 }
 
 /// What each gateway counts.

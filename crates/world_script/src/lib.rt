@@ -19,7 +19,6 @@ mod kind;
 pub mod laws;
 mod line;
 mod mode;
-mod numbers;
 mod printing;
 mod progress;
 mod records;
