@@ -28,7 +28,6 @@ mod saying;
 mod script;
 mod text;
 mod values;
-mod words;
 
 pub use fault::{InputFault, InputKind};
 pub use kind::ScriptKind;
