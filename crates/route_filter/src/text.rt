@@ -2,37 +2,43 @@ ghost use Rattle.std.specs.Prelude.{◌≡◌, ◌+◌, ◌++◌, [], length, ma
 ghost use Rattle.route_filter.specs.Words.{cut_at, cut_parts, has_decimal_form, number_up_to, octets_in, octets_of, with_digit, with_word, words_of};
 
 use gw_base::NoMemory;
+use memchr::memchr;
 use std::alloc::Global;
 
-/// What stands before the first octet that is the separator, and what follows it.
-#[tactic(auto, using(crate::proofs::Cuts::step_cut, crate::proofs::Cuts::found_parts))]
+/// What stands before the first octet that is the separator, and what follows it. It is made for long texts, too.
 pub fn cut(octets: &[u8], separator: u8) -> Option<(&[u8], &[u8])>
     ensures parts { option_map cut_parts result ≡ cut_at separator octets.now }
     ensures whole { IfSome result (λ parts. length parts.0.now + 1 + length parts.1.now ≡ length octets.now) }
 {
-    for (place, octet) in octets.iter().enumerate() {
-        if *octet == separator {
-            let (before, _) = octets.split_at(place);
-            let (_, after) = octets.split_at(place + 1);
-            return Some((before, after));
-        }
-    }
-    None
+    let Some(place) = memchr(separator, octets) else {
+        return None;
+    };
+    let (before, _) = octets.split_at(place);
+    let (_, after) = octets.split_at(place + 1);
+    Some((before, after))
 }
 
 /// The words of a line, which spaces separate.
-#[tactic(auto, using(crate::proofs::Cuts::step_words, crate::proofs::Cuts::words_none))]
 pub fn words(alloc: Global, line: &[u8]) -> Result<Vec<&[u8]>, NoMemory>
     ensures { IfOk result (λ words. map (λ word. word.now) words.items ≡ words_of line.now) }
 {
     let mut words = Vec::new(alloc);
+    split_words(&mut words, line)?;
+    Ok(words)
+}
+
+/// Puts the words of a line, which spaces separate, in the place of those before.
+#[tactic(auto, using(crate::proofs::Cuts::step_words, crate::proofs::Cuts::words_none))]
+pub fn split_words<'a>(words: &mut Vec<&'a [u8]>, line: &'a [u8]) -> Result<(), NoMemory>
+    ensures { OnOk result (map (λ word. word.now) words.new.items ≡ words_of line.now) }
+{
+    words.clear();
     let mut rest = line;
     while let Some((word, later)) = cut(rest, b' ') {
-        push_word(&mut words, word)?;
+        push_word(words, word)?;
         rest = later;
     }
-    push_word(&mut words, rest)?;
-    Ok(words)
+    push_word(words, rest)
 }
 
 /// Appends a word, if it isn't empty.

@@ -3,7 +3,7 @@ pub use Rattle.gw_base.specs.declared.address.Addr.{Addr}
 pub use Rattle.hex.specs.Hex.{decode_of, encode_upper, hex_digit_value, IsBytes, pair_value, upper_digits, value_at, ◌>>=◌}
 unfoldable pub use Rattle.hex.specs.Hex.{decode_pairs, encode_with}
 pub use Rattle.rand_pcg.specs.Lcg.{Lcg}
-pub use Rattle.route_filter.specs.Words.{at_most, cut_at, decoded, has_decimal_form, is_decimal, is_empty, number_up_to, octets_in, octets_of, with_word, words_of}
+pub use Rattle.route_filter.specs.Words.{at_most, cut_at, decoded, has_decimal_form, is_decimal, is_empty, number_up_to, octets_in, octets_of, words_of}
 pub use Rattle.std.proofs.Math.Bool.{and-true, or-false, or-true}
 pub use Rattle.std.proofs.Math.Seq.{drop-cons}
 pub use Rattle.std.proofs.lemmas.Bool.{and_from, and_parts, cases_Bool, cases_eq, cases_lt, cond_both, eqb-true, false_from_ne_true, le-leb, le-ltb, leb-true, lt-leb, ltb-false, ne_eqb, not-true, or_from, or_parts}

@@ -27,7 +27,6 @@ mod saying;
 mod script;
 mod text;
 mod values;
-mod words;
 
 pub use fault::{InputFault, InputKind};
 pub use kind::ScriptKind;
