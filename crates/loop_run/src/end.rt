@@ -1,15 +1,6 @@
+use gateway_book::Tally;
 use gw_base::PacketId;
 use node_core::NodeCounts;
-
-/// What a gateway counts: its entries, the records that they file, the copies that it holds, and those of earlier
-/// epochs that were neither released nor cancelled.
-#[derive(Clone, Copy)]
-pub struct GatewaySum {
-    pub entries: u64,
-    pub records: u64,
-    pub held: u64,
-    pub stranded: u64,
-}
 
 /// How a loop ended.
 #[derive(Drop)]
@@ -17,7 +8,7 @@ pub enum LoopEnd {
     /// All packets are done, and each stands once.
     Fine {
         nodes: Vec<NodeCounts>,
-        gateways: Vec<GatewaySum>,
+        gateways: Vec<Tally>,
     },
     /// All packets are done, and this is the first, by node and number, that doesn't stand once: so many of its copies
     /// stand, and so many may.

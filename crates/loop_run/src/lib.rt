@@ -26,7 +26,8 @@ mod seating;
 mod setup;
 mod sums;
 
-pub use end::{GatewaySum, LoopEnd};
+pub use end::LoopEnd;
+pub use gateway_book::Tally;
 pub use laws::nodes_of_a_loop_keep_all;
 pub use loop_audit::{Audited, audit};
 pub use looped::Looped;
