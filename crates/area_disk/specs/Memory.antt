@@ -9,7 +9,7 @@ use Rattle.area_disk.specs.Outside.{same_refl, same_everywhere, same_filled, fil
 use Rattle.area_disk.specs.Past.{Change, Past, all_room, image_after, IsOutcome, LeftSince, moment_of, moments_of, most_calls, most_octets, told_of, noted, stop_change, room_for_calls, room_for_octets}
 use Rattle.area_disk.specs.PastLaws.{past_counts_now, past_only_now, past_same_size, Began, Begins, Goes, Keeps, goes_noted, goes_same, noted_begins, noted_stays}
 use Rattle.area_disk.specs.Hull.{low_of_least, low_of-push, high_of-push}
-use Rattle.area_disk.specs.Record.{Moments, Room, Step, Takes, StaysTold, BeganAnew, GoesOn, nothing, stopped_at, stopped, write_of, sync_of}
+use Rattle.area_disk.specs.Record.{Moments, Room, Step, Takes, Elapses, StaysTold, BeganAnew, GoesOn, nothing, stopped_at, stopped, write_of, sync_of}
 use Rattle.std.specs.Prelude.{Result, Ok, Err, IsErr}
 use Rattle.area_disk.specs.declared.disk.Disk.{Disk}
 use Rattle.area_disk.specs.declared.memory.MemoryArea.{MemoryArea}
@@ -84,11 +84,21 @@ moments_in disk = moments_of (room_of disk) disk.past
 abbrev pub DiskGoes : Step → Disk → Disk → Type 0
 DiskGoes step old new = GoesOn all_room step (moments_in old) (moments_in new) (DiskMayLeave new)
 
+-- time goes on as that of the past does
+elapsed : (old new : Disk) → Goes old.past new.past → Elapses (moments_in old) (moments_in new) (DiskMayLeave new)
+elapsed old new goes = record {
+  later = goes.later;
+  told_later = goes.told_later;
+  nothing_else = λ t octets told le left.
+      ⊎_elim (λ past. inl past) (λ out. inr (now_outcome new octets out)) (goes.nothing_else t octets told le left);
+  keeps = goes.keeps;
+}
+
 -- one change is one step of time
 module _ (old new : Disk) (change : Change) (step : Step) (is : new.past ≡ noted change old.past)
     (counted : 1 ≤ step.calls) (short : length change.octets ≤ step.octets) where
-  time : Goes old.past new.past
-  time = subst (λ (q : Past). Goes old.past q) (sym is) (goes_noted change old.past)
+  goes : Goes old.past new.past
+  goes = subst (λ (q : Past). Goes old.past q) (sym is) (goes_noted change old.past)
 
   stays : Keeps (length change.octets) old.past new.past → StaysTold step (moments_in old) (moments_in new)
   stays keeps = record { told = keeps.0; calls = omega (arith, keeps.1, counted); octets = omega (arith, keeps.2, short) }
@@ -106,12 +116,7 @@ module _ (old new : Disk) (change : Change) (step : Step) (is : new.past ≡ not
 
   pub goes_noted_on : step.low ≤ low_of new.unsynced.items → high_of new.unsynced.items ≤ step.high → DiskGoes step old new
   goes_noted_on low high = record {
-    time = record {
-      later = time.later;
-      told_later = time.told_later;
-      nothing_else = λ t octets told le left. ⊎_elim (λ past. inl past) (λ out. inr (now_outcome new octets out)) (time.nothing_else t octets told le left);
-      keeps = time.keeps;
-    };
+    time = elapsed old new goes;
     noted = record {
       stays = λ takes. stays (has_room takes);
       anew = λ takes below. ⊎_elim (λ keeps. inl (stays keeps))
@@ -127,19 +132,14 @@ module _ (old new : Disk) (change : Change) (step : Step) (is : new.past ≡ not
 pub goes_same_on : (old new : Disk) (step : Step) → new ≡ old → step.low ≤ low_of old.unsynced.items → high_of old.unsynced.items ≤ step.high → DiskGoes step old new
 goes_same_on old new step is low high =
     let past_is : new.past ≡ old.past = ap (λ (d : Disk). d.past) is in
-    let time = subst (λ (q : Past). Goes old.past q) (sym past_is) (goes_same old.past) in
+    let goes = subst (λ (q : Past). Goes old.past q) (sym past_is) (goes_same old.past) in
     let stays : StaysTold step (moments_in old) (moments_in new) = record {
       told = ap told_of past_is;
       calls = omega (arith, ap room_for_calls past_is);
       octets = omega (arith, ap room_for_octets past_is);
     } in
     record {
-      time = record {
-        later = time.later;
-        told_later = time.told_later;
-        nothing_else = λ t octets told le left. ⊎_elim (λ past. inl past) (λ out. inr (now_outcome new octets out)) (time.nothing_else t octets told le left);
-        keeps = time.keeps;
-      };
+      time = elapsed old new goes;
       noted = record {
         stays = λ takes. stays;
         anew = λ takes below. inl stays;

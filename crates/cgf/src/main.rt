@@ -24,8 +24,8 @@ use cgf_edge::{
     Trouble, WriterSink, accept,
 };
 use cgf_top::{
-    Ended, NodeTurn, ServePlaces, Status, StreamPlaces, Watch, run_watched, serve_places,
-    stream_places, tcp_address,
+    Ended, NodeTurn, Status, StreamPlaces, Watch, run_watched, serve_places, stream_places,
+    tcp_address,
 };
 use gw_base::{Sink, Source};
 use net_link::UdpLinks;
@@ -91,10 +91,16 @@ fn run<R: Threads + Wait + Clock + Sync>(threads: &R, rt: &HostRuntime, words: &
         (result ≡ Status.Words) ⊎ (result ≡ Status.Memory) }
 {
     if let Some(places) = serve_places(words) {
-        return run_served(threads, rt, words, places);
+        let places = StreamPlaces {
+            length: places.length,
+            area: places.area,
+            folder: places.folder,
+            file: STANDARD_INPUT,
+        };
+        return run_placed(threads, rt, words, places);
     }
     if let Some(places) = stream_places(words) {
-        return run_streamed(threads, rt, words, places);
+        return run_placed(threads, rt, words, places);
     }
     let Ok(area) = QuietArea::new(rt.alloc(), UNUSED) else {
         return Status::Memory;
@@ -118,10 +124,10 @@ fn second(words: &[String]) -> Option<&str> {
     }
 }
 
-/// Answers a stream with a real area and a real shelf. The stream is a file, the standard input, or the one connection
-/// that is accepted at an address. Where the area or the shelf failed, one line on the standard error says which, and
-/// with what.
-fn run_streamed<R: Threads + Wait + Clock + Sync>(
+/// Serves, or answers a stream, with a real area and a real shelf. What is read is a file, the standard input, or the one
+/// connection that is accepted at an address. Where the area or the shelf failed, one line on the standard error says
+/// which, and with what.
+fn run_placed<R: Threads + Wait + Clock + Sync>(
     threads: &R,
     rt: &HostRuntime,
     words: &[String],
@@ -155,29 +161,6 @@ fn run_streamed<R: Threads + Wait + Clock + Sync>(
         None if places.file == STANDARD_INPUT => run_with(threads, rt, words, None, area, shelf),
         None => run_with(threads, rt, words, Some(places.file), area, shelf),
     };
-    tell(rt, "area", places.area, ended.area.trouble());
-    tell(rt, "folder", places.folder, ended.shelf.trouble());
-    ended.status
-}
-
-/// Serves with a real area and a real shelf. Where one of them failed, one line on the standard error says which, and with
-/// what.
-fn run_served<R: Threads + Wait + Clock + Sync>(
-    threads: &R,
-    rt: &HostRuntime,
-    words: &[String],
-    places: ServePlaces<'_>,
-) -> Status
-    requires long { fewest_octets ≤ places.length }
-    requires short { places.length ≤ most_octets }
-    ensures words { result ≡ Status.Words → (command_of (map string_bytes words.now) ≡ None)
-        × (is_over_files (map string_bytes words.now) ≡ true) }
-{
-    let Ok(shelf) = FolderShelf::new(rt.alloc(), rt, places.folder) else {
-        return Status::Memory;
-    };
-    let area = FileArea::new(rt.alloc(), rt, places.area, places.length);
-    let ended = run_with(threads, rt, words, None, area, shelf);
     tell(rt, "area", places.area, ended.area.trouble());
     tell(rt, "folder", places.folder, ended.shelf.trouble());
     ended.status

@@ -7,7 +7,7 @@ ghost use Rattle.cgf_jobs.specs.FeedReport.{lines_size, octets_line};
 ghost use Rattle.cgf_jobs.specs.Steps.{outcome_line};
 
 use cdr_shelf::{FileName, QuietShelf, Shelf};
-use gateway_book::{Counts, Outcome};
+use gateway_book::{Outcome, Tally};
 use gw_base::{NoMemory, Octets};
 use std::alloc::Global;
 
@@ -140,24 +140,12 @@ fn print_name(alloc: Global, printed: &mut Vec<u8>, name: FileName) -> Result<()
     Ok(())
 }
 
-/// Appends the line of a gateway's counts, with so many filed records. The only gateway is the first.
-pub fn print_counts(
-    alloc: Global,
-    printed: &mut Vec<u8>,
-    counts: Counts,
-    records: usize,
-) -> Result<(), NoMemory>
-    ensures { OnOk result (printed.new.items ≡
-        printed.old.items ++ counts_text 0 counts.entries records counts.held counts.stranded) }
+/// Appends the line of a gateway's counts. The only gateway is the first.
+pub fn print_counts(alloc: Global, printed: &mut Vec<u8>, tally: Tally) -> Result<(), NoMemory>
+    ensures { OnOk result (printed.new.items ≡ printed.old.items ++ counts_text 0 tally) }
 {
-    let Counts {
-        entries,
-        held,
-        stranded,
-        ..
-    } = counts;
     let mut line = Octets::from_vec(Vec::new(alloc));
-    replay_gateway::print_counts(alloc, &mut line, 0, entries, records, held, stranded)?;
+    replay_gateway::print_counts(alloc, &mut line, 0, tally)?;
     printed.extend_from_slice(line.octets())?;
     Ok(())
 }

@@ -43,7 +43,6 @@ pub use Rattle.gate_journal.specs.declared.faults.OpenFault.TheVariants.{Device,
 pub use Rattle.gate_journal.specs.declared.journal.Front.{Front}
 pub use Rattle.gate_journal.specs.declared.journal.Front.TheVariants.{Draft, Founded, Founding}
 pub use Rattle.gate_journal.specs.declared.journal.Journal.{Journal}
-pub use Rattle.gw_base.specs.Buffer.{Buffered}
 pub use Rattle.gw_base.specs.Entry.{act_view, entry_view}
 pub use Rattle.gw_base.specs.HeldKeys.{held_by, held_keys, promised_octets}
 pub use Rattle.gw_base.specs.History.{due_after, is_close_due}
@@ -57,10 +56,10 @@ pub use Rattle.gw_base.specs.declared.history.HistoryEntry.{HistoryEntry}
 pub use Rattle.gw_base.specs.declared.place.Place.{Place}
 pub use Rattle.std.proofs.lemmas.Bool.{and_parts, and_right, both_ways, cases_Bool, cases_eq, cases_lt, cases_order, cond_both, eq-eqb, eqb-false, eqb-true, false_from_ne_true, le-leb, le-ltb, leb-true, lt-leb, lt-ltb, ltb-false, ltb-true, ne_eqb, not-false, true_from_ne_false, true≢false}
 pub use Rattle.std.proofs.lemmas.Grind.{flat_map-append}
-pub use Rattle.std.proofs.lemmas.List.{append-nil, drop-append-le, drop_all, drop_at, get_or-map, get_or-set_other, get_or-set_same, get_or_default, length-append, length-drop, length-map, length-set, length-take, length-take-le, nil_from_length, take-append-drop, take-append-le, take-map, take_all, take_at, take_more}
+pub use Rattle.std.proofs.lemmas.List.{append-nil, drop-append-le, drop_all, drop_at, get_or-map, get_or-set_other, get_or-set_same, get_or_default, length-append, length-drop, length-map, length-set, length-take, length-take-le, nil_from_length, take-append-drop, take-append-le, take_all, take_at, take_more}
 pub use Rattle.std.proofs.lemmas.List.Elements.{All-append, All-cons, All-drop, All-filter, All-head, All-map, All-nil, All-push, All-set, All-tail, All-take, All-weaker}
 pub use Rattle.std.proofs.lemmas.List.Kept.{AllPairs-cons, AllPairs-filter}
 pub use Rattle.std.proofs.lemmas.List.Sorted.{IsPartitionedBy-ltb, IsPartitionPoint-from_clause}
 pub use Rattle.std.proofs.lemmas.List.Sums.{count_by-le-length, length-filter}
 pub use Rattle.std.proofs.lemmas.Option.{get_or_from_slice_get, slice_get_within, some_pair_parts}
-pub use Rattle.std.specs.Prelude.{All, Err, IfErr, IfOk, if◌then◌else◌, is_err, IsTrue, map, Ok, OnErr, OnOk, Option, Result, slice_get, slice_index_or, slice_set, Some, vec_capacity, ⊤, ◌||◌}
+pub use Rattle.std.specs.Prelude.{All, Err, IfErr, IfOk, if◌then◌else◌, is_err, IsTrue, Ok, OnErr, OnOk, Option, Result, slice_get, slice_index_or, slice_set, Some, vec_capacity, ⊤, ◌||◌}

@@ -1,9 +1,9 @@
 -- What comes of an opening by the plan of the calls of the area.
-use Rattle.std.specs.Prelude.{◌≡◌, Bool, true, false, List, ℕ, IfOk, Result, Ok, Err}
+use Rattle.std.specs.Prelude.{◌≡◌, Bool, true, false, List, ℕ, IfOk, Result}
 use Rattle.area_disk.specs.declared.area.Area.{Ghosts}
 use Rattle.gate_journal.specs.Format.{Starts}
 use Rattle.gate_journal.specs.Moments.{Told}
-use Rattle.gate_journal.specs.Opening.{after_look, is_device}
+use Rattle.gate_journal.specs.Opening.{after_look, failed_by, is_device}
 use Rattle.gate_journal.specs.OpenPlanned.{IsCalm}
 use Rattle.gate_journal.specs.Planned.{Course, SyncPlanned, after_append, after_put, append_fails, course_of, ending_of, with_reads}
 use Rattle.gate_journal.specs.declared.faults.OpenFault.{OpenFault}
@@ -19,8 +19,7 @@ is_memory_fault NoMemory = true
 
 -- there was too little memory
 abbrev pub is_memory : {T A : Type 0} → Result T (OpenFault × A) → Bool
-is_memory (Ok trail) = false
-is_memory (Err fault) = is_memory_fault fault.0
+is_memory = failed_by is_memory_fault
 
 -- The device didn't fail, and where a trail was opened this is the plan then.
 pub record MadeBy {A : Type 0} (tells : Ghosts A) (result : Result (Trail A tells) (OpenFault × A)) (course : Course) : Type 0 where

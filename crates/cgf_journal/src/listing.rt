@@ -50,6 +50,21 @@ fn lengthen_numbers(numbers: &mut Vec<u64>, length: usize) -> Result<(), NoMemor
     Ok(())
 }
 
+// Room for the content of a batch, and for the numbers that an entry of it may name.
+fn room_for<'c>(
+    content: &'c mut Vec<u8>,
+    numbers: &mut Vec<u64>,
+    count: u32,
+) -> Result<&'c mut [u8], NoMemory>
+    ensures content { IfOk result (λ content. length content.now ≡ count) }
+    ensures numbers { OnOk result (count ≤ 8 * vec_len numbers.new) }
+{
+    let count = count as usize;
+    lengthen(content, count)?;
+    lengthen_numbers(numbers, count)?;
+    Ok(&mut content[..count])
+}
+
 /// What an opening has taken in.
 #[derive(Drop)]
 pub(crate) struct Listing {
@@ -158,13 +173,9 @@ fn take_next<A: Area, J: Judge>(
     let Some((place, length)) = found else {
         return Err(OpenFault::NotOurs { at: gate });
     };
-    let Ok(()) = lengthen(content, length as usize) else {
+    let Ok(content) = room_for(content, &mut listing.numbers, length) else {
         return Err(OpenFault::NoMemory);
     };
-    let Ok(()) = lengthen_numbers(&mut listing.numbers, length as usize) else {
-        return Err(OpenFault::NoMemory);
-    };
-    let content = &mut content[..length as usize];
     let Ok(()) = journal.read(place, content) else {
         return Err(OpenFault::Device);
     };
@@ -240,13 +251,9 @@ fn take_before<A: Area, J: Judge>(
     let Some((place, length)) = found else {
         return Err(OpenFault::NotOurs { at: gate });
     };
-    let Ok(()) = lengthen(content, length as usize) else {
+    let Ok(content) = room_for(content, &mut listing.numbers, length) else {
         return Err(OpenFault::NoMemory);
     };
-    let Ok(()) = lengthen_numbers(&mut listing.numbers, length as usize) else {
-        return Err(OpenFault::NoMemory);
-    };
-    let content = &mut content[..length as usize];
     let Ok(()) = read_before(area, place, content) else {
         return Err(OpenFault::Device);
     };

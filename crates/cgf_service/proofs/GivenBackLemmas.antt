@@ -1,5 +1,5 @@
 -- What is told of an address once links of it were given back.
-use Rattle.std.proofs.Common.{◌≡◌, ◌≢◌, ◌⊎◌, ⊎_elim, inl, inr, ℕ, ◌-◌, ◌≤◌, ◌^◌, List, [], ◌∷◌, ◌++◌, Option, None, Some, refl, sym, ap, ◌∙◌, arith}
+use Rattle.std.proofs.Common.{◌≡◌, ◌≢◌, ⊎_elim, inl, inr, ℕ, ◌-◌, ◌≤◌, ◌^◌, List, [], ◌∷◌, ◌++◌, Option, None, Some, refl, sym, ap, ◌∙◌, arith}
 use Rattle.cgf_service.proofs.Names.{added, All, All-append, All-head, All-nil, All-tail, All-weaker, cases_eq, Contains-append_right, Datagram, Facts, GoesOnUntil, GrowsBy, HistoryEntry, IfSome, IsCalledFor, IsEmpty, IsHeard, IsReply, placed, received_with, sent_by, sent_with, turns_with}
 use Rattle.gw_base.specs.Faults.{Rose}
 use Rattle.net_link.specs.Datagrams.{joined}

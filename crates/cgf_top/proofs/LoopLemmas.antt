@@ -5,31 +5,32 @@ use Rattle.std.specs.Io.KnownBytes.{Appends}
 use Rattle.area_disk.specs.contracts.quiet.QuietAreaArea.TheImpl.{ghosts as quiet_area}
 use Rattle.area_disk.specs.declared.quiet.QuietArea.{QuietArea}
 use Rattle.gateway_book.specs.Book.{value_of}
+use Rattle.gateway_book.specs.Calls.{tally_of}
 use Rattle.gateway_book.specs.declared.book.Book.{Book}
+use Rattle.gateway_book.specs.declared.outcome.Tally.{Tally}
 use Rattle.gw_base.specs.Written.{AppendsFront}
 use Rattle.gw_base.specs.Faults.{Rose}
-use Rattle.loop_run.specs.Ending.{EndsAs, gateway_sum, node_sum}
-use Rattle.loop_run.specs.declared.end.GatewaySum.{GatewaySum}
+use Rattle.loop_run.specs.Ending.{EndsAs}
 use Rattle.loop_run.specs.declared.end.LoopEnd.{LoopEnd}
 use Rattle.loop_run.specs.declared.end.LoopEnd.TheVariants as end
-use Rattle.loop_run.specs.declared.end.NodeSum.{NodeSum}
 use Rattle.loop_run.specs.declared.looped.Looped.{Looped}
 use Rattle.loop_run.specs.declared.setup.LoopSetup.{LoopSetup}
 use Rattle.net_link.specs.Making.{LinksState}
 use Rattle.node_core.specs.Counting.{counts_of}
 use Rattle.node_core.specs.Value.{NodeValue}
-use Rattle.replay_gateway.specs.GatewayReport.{counts_line}
+use Rattle.node_core.specs.declared.counts.NodeCounts.{NodeCounts}
+use Rattle.replay_gateway.specs.GatewayReport.{counts_line, counts_text}
 use Rattle.replay_world.specs.Report.{node_text}
 use Rattle.cgf_jobs.specs.Ending.{HasCause}
 use Rattle.cgf_jobs.specs.Job.{Job}
 use Rattle.cgf_top.specs.LoopEnds.{IsCalmEnd, IsFine, IsLoopEnd, Loops, loop_report}
-use Rattle.cgf_top.specs.LoopSteps.{WritesEnd, WritesLoop, WritesSums, gateway_sum_text, lines_from, node_sum_text, sums_text}
+use Rattle.cgf_top.specs.LoopSteps.{WritesEnd, WritesLoop, WritesSums, lines_from, sums_text}
 use Rattle.cgf_jobs.specs.declared.status.Status.{Status}
 use Rattle.cgf_jobs.specs.declared.status.Status.TheVariants as status
 
 -- What the sums say is what the nodes and the books count.
 
-node_lines : (at : ℕ) (nodes : List NodeValue) → lines_from node_sum_text at (map node_sum nodes)
+node_lines : (at : ℕ) (nodes : List NodeValue) → lines_from node_text at (map counts_of nodes)
     ≡ lines_from (λ place node. node_text place (counts_of node)) at nodes
 node_lines at [] = refl
 node_lines at (node ∷ nodes) = ap (λ (rest : List ℕ). node_text at (counts_of node) ++ rest) (node_lines (at + 1) nodes)
@@ -38,15 +39,15 @@ abbrev LoopBook : Type 0
 LoopBook = Book QuietArea quiet_area
 
 gateway_lines : (at : ℕ) (books : List LoopBook)
-    → lines_from gateway_sum_text at (map (λ (book : LoopBook). gateway_sum (value_of book)) books)
+    → lines_from counts_text at (map (λ (book : LoopBook). tally_of (value_of book)) books)
     ≡ lines_from (λ place book. counts_line place (value_of book)) at books
 gateway_lines at [] = refl
 gateway_lines at (book ∷ books) =
     ap (λ (rest : List ℕ). counts_line at (value_of book) ++ rest) (gateway_lines (at + 1) books)
 
-pub sums_are : (nodes : List NodeSum) (gateways : List GatewaySum) (looped : Looped)
-    → nodes ≡ map node_sum looped.nodes.items
-    → gateways ≡ map (λ (book : LoopBook). gateway_sum (value_of book)) looped.books.items
+pub sums_are : (nodes : List NodeCounts) (gateways : List Tally) (looped : Looped)
+    → nodes ≡ map counts_of looped.nodes.items
+    → gateways ≡ map (λ (book : LoopBook). tally_of (value_of book)) looped.books.items
     → sums_text nodes gateways ≡ loop_report looped
 sums_are nodes gateways looped of_nodes of_books =
     (λ i. sums_text (of_nodes i) (of_books i))
@@ -104,7 +105,7 @@ module _ (setup : LoopSetup) (links links' : LinksState) (before after : Option 
   abbrev Writes : Status → Type 0
   Writes ended = WritesLoop setup links links' before after faults faults' ended looped
 
-  wrote_sums : (ended : Status) (nodes : List NodeSum) (gateways : List GatewaySum)
+  wrote_sums : (ended : Status) (nodes : List NodeCounts) (gateways : List Tally)
       → IsFine setup links links' looped → sums_text nodes gateways ≡ loop_report looped
       → WritesSums nodes gateways before after faults faults' ended → Writes ended
   wrote_sums ended nodes gateways fine says (inl done) =
@@ -116,9 +117,9 @@ module _ (setup : LoopSetup) (links links' : LinksState) (before after : Option 
 
   pub wrote_end : (how : LoopEnd) (ended : Status) → EndsAs setup links links' looped how
       → WritesEnd before after faults faults' how ended → Writes ended
-  wrote_end (end.Fine node_sums gateway_sums) ended (hands, counts) wrote =
-      wrote_sums ended node_sums.items gateway_sums.items (hands, counts.0, counts.1)
-      (sums_are node_sums.items gateway_sums.items looped counts.2.0 counts.2.1) wrote
+  wrote_end (end.Fine node_counts tallies) ended (hands, counts) wrote =
+      wrote_sums ended node_counts.items tallies.items (hands, counts.0, counts.1)
+      (sums_are node_counts.items tallies.items looped counts.2.0 counts.2.1) wrote
   wrote_end (end.Wrong packet places wanted) ended (hands, counts) wrote =
       subst Writes (sym wrote.0) (hands, counts.0, counts.1, wrote.1)
   wrote_end (end.Unfinished turns packet count) ended (hands, counts, taken) wrote =

@@ -2,38 +2,31 @@
 use Rattle.std.specs.Prelude.{◌≡◌, ◌⊎◌, ℕ, List, [], ◌∷◌, ◌++◌, Option, Some, codes, length, slice_get}
 use Rattle.std.specs.Io.KnownBytes.{Appends}
 use Rattle.std.specs.List.{enumerate_from, flat_map}
+use Rattle.gateway_book.specs.declared.outcome.Tally.{Tally}
 use Rattle.gw_base.specs.Faults.{Rose}
 use Rattle.gw_base.specs.Written.{AppendsFront}
 use Rattle.loop_audit.specs.declared.audited.Audited.TheVariants as audited
 use Rattle.loop_run.specs.Ending.{HandsNone, HandsOut, HasTakenAll, still_open, verdict}
-use Rattle.loop_run.specs.declared.end.GatewaySum.{GatewaySum}
 use Rattle.loop_run.specs.declared.end.LoopEnd.{LoopEnd}
 use Rattle.loop_run.specs.declared.end.LoopEnd.TheVariants as end
-use Rattle.loop_run.specs.declared.end.NodeSum.{NodeSum}
 use Rattle.loop_run.specs.declared.looped.Looped.{Looped}
 use Rattle.loop_run.specs.declared.setup.LoopSetup.{LoopSetup}
 use Rattle.net_link.specs.Making.{LinksState}
+use Rattle.node_core.specs.declared.counts.NodeCounts.{NodeCounts}
 use Rattle.replay_gateway.specs.GatewayReport.{counts_text}
 use Rattle.replay_world.specs.Report.{node_text}
 use Rattle.cgf_top.specs.LoopEnds.{IsFine, loop_report}
 use Rattle.cgf_jobs.specs.declared.status.Status.{Status}
 use Rattle.cgf_jobs.specs.declared.status.Status.TheVariants as status
 
--- the line of what a node counts, and of what a gateway counts, by their places
-abbrev pub node_sum_text : ℕ → NodeSum → List ℕ
-node_sum_text place sum = node_text place (record { packets = sum.packets; resolved = sum.resolved; done = sum.done })
-
-abbrev pub gateway_sum_text : ℕ → GatewaySum → List ℕ
-gateway_sum_text place sum = counts_text place sum.entries sum.records sum.held sum.stranded
-
 -- the lines of a list, by their places from this on
 abbrev pub lines_from : {A : Type 0} → (ℕ → A → List ℕ) → ℕ → List A → List ℕ
 lines_from line at all = flat_map (λ one. line one.0 one.1) (enumerate_from at all)
 
 -- all lines, and that the audit is fine
-abbrev pub sums_text : List NodeSum → List GatewaySum → List ℕ
+abbrev pub sums_text : List NodeCounts → List Tally → List ℕ
 sums_text nodes gateways =
-    lines_from node_sum_text 0 nodes ++ lines_from gateway_sum_text 0 gateways ++ codes "audit fine" ++ 10 ∷ []
+    lines_from node_text 0 nodes ++ lines_from counts_text 0 gateways ++ codes "audit fine" ++ 10 ∷ []
 
 -- a text is written, or a front of it, and then the sink has failed; or there is no memory for it
 abbrev pub WritesText : List ℕ → Option (List ℕ) → Option (List ℕ) → ℕ → ℕ → Status → Type 0
@@ -42,7 +35,7 @@ WritesText text before after faults faults' ended =
     ⊎ (((ended ≡ status.Write) × AppendsFront before after text × Rose faults faults')
     ⊎ ((ended ≡ status.Memory) × (faults' ≡ faults)))
 
-abbrev pub WritesSums : List NodeSum → List GatewaySum → Option (List ℕ) → Option (List ℕ) → ℕ → ℕ → Status → Type 0
+abbrev pub WritesSums : List NodeCounts → List Tally → Option (List ℕ) → Option (List ℕ) → ℕ → ℕ → Status → Type 0
 WritesSums nodes gateways = WritesText (sums_text nodes gateways)
 
 -- What is written of an end, and the status that tells it.

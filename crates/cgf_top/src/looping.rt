@@ -2,16 +2,17 @@
 ghost use Rattle.std.specs.Prelude.{◌≡◌, ◌+◌, ◌<◌, ◌^◌, ◌++◌, ◌∷◌, [], false, IfOk, IfSome, OnOk, map, string_bytes};
 ghost use Rattle.gw_base.specs.declared.address.Addr.{Addr};
 ghost use Rattle.loop_run.specs.Addresses.{IsLoop};
-ghost use Rattle.cgf_top.specs.LoopSteps.{WritesEnd, WritesLoop, WritesSums, gateway_sum_text, lines_from, node_sum_text, sums_text};
+ghost use Rattle.cgf_top.specs.LoopSteps.{WritesEnd, WritesLoop, WritesSums, lines_from, sums_text};
 ghost use Rattle.cgf_top.specs.Looping.{looping_by, looping_of};
 ghost use Rattle.cgf_jobs.specs.Run.{may_have_written};
+ghost use Rattle.replay_gateway.specs.GatewayReport.{counts_text};
+ghost use Rattle.replay_world.specs.Report.{node_text};
 
 use crate::watch::LoopWatch;
 use cgf_jobs::{Status, Watch, write_all};
 use gw_base::{NoMemory, Octets, Sink};
-use loop_run::{GatewaySum, LoopEnd, LoopSetup, Looped, NodeSum, run_loop_watched};
+use loop_run::{LoopEnd, LoopSetup, Looped, NodeCounts, Tally, run_loop_watched};
 use net_link::Links;
-use node_core::NodeCounts;
 use replay_gateway::print_counts;
 use replay_world::print_node;
 use std::alloc::Global;
@@ -132,8 +133,8 @@ fn write_end<K: Sink>(alloc: Global, sink: &mut K, end: LoopEnd) -> Status
 fn write_sums<K: Sink>(
     alloc: Global,
     sink: &mut K,
-    nodes: &[NodeSum],
-    gateways: &[GatewaySum],
+    nodes: &[NodeCounts],
+    gateways: &[Tally],
 ) -> Status
     ensures wrote { WritesSums nodes.now gateways.now (K.written sink.old) (K.written sink.new) (K.faults sink.old)
         (K.faults sink.new) result }
@@ -149,7 +150,7 @@ fn write_sums<K: Sink>(
 }
 
 /// The lines of what nodes and gateways count, and that the audit is fine.
-fn sums_text(alloc: Global, nodes: &[NodeSum], gateways: &[GatewaySum]) -> Result<Octets, NoMemory>
+fn sums_text(alloc: Global, nodes: &[NodeCounts], gateways: &[Tally]) -> Result<Octets, NoMemory>
     ensures { IfOk result (λ text. text ≡ sums_text nodes.now gateways.now) }
 {
     let mut text = Octets::from_vec(Vec::new(alloc));
@@ -160,58 +161,21 @@ fn sums_text(alloc: Global, nodes: &[NodeSum], gateways: &[GatewaySum]) -> Resul
 }
 
 /// Appends the lines of what nodes count.
-fn print_nodes(alloc: Global, text: &mut Octets, nodes: &[NodeSum]) -> Result<(), NoMemory>
-    ensures { OnOk result (text.new ≡ text.old ++ lines_from node_sum_text 0 nodes.now) }
+fn print_nodes(alloc: Global, text: &mut Octets, nodes: &[NodeCounts]) -> Result<(), NoMemory>
+    ensures { OnOk result (text.new ≡ text.old ++ lines_from node_text 0 nodes.now) }
 {
     for at in 0..nodes.len() {
-        print_node_sum(alloc, text, at, nodes[at])?;
+        print_node(alloc, text, at, nodes[at])?;
     }
     Ok(())
 }
 
 /// Appends the lines of what gateways count.
-fn print_gateways(alloc: Global, text: &mut Octets, gateways: &[GatewaySum]) -> Result<(), NoMemory>
-    ensures { OnOk result (text.new ≡ text.old ++ lines_from gateway_sum_text 0 gateways.now) }
+fn print_gateways(alloc: Global, text: &mut Octets, gateways: &[Tally]) -> Result<(), NoMemory>
+    ensures { OnOk result (text.new ≡ text.old ++ lines_from counts_text 0 gateways.now) }
 {
     for at in 0..gateways.len() {
-        print_gateway_sum(alloc, text, at, gateways[at])?;
+        print_counts(alloc, text, at, gateways[at])?;
     }
     Ok(())
-}
-
-/// Appends the line of what the node in this place counts, from 0.
-fn print_node_sum(alloc: Global, text: &mut Octets, at: usize, sum: NodeSum) -> Result<(), NoMemory>
-    requires { at + 1 < 2 ^ 64 }
-    ensures { OnOk result (text.new ≡ text.old ++ node_sum_text at sum) }
-{
-    let NodeSum {
-        packets,
-        resolved,
-        done,
-    } = sum;
-    let counts = NodeCounts {
-        packets,
-        resolved,
-        done,
-    };
-    print_node(alloc, text, at, counts)
-}
-
-/// Appends the line of what the gateway in this place counts, from 0.
-fn print_gateway_sum(
-    alloc: Global,
-    text: &mut Octets,
-    at: usize,
-    sum: GatewaySum,
-) -> Result<(), NoMemory>
-    requires { at + 1 < 2 ^ 64 }
-    ensures { OnOk result (text.new ≡ text.old ++ gateway_sum_text at sum) }
-{
-    let GatewaySum {
-        entries,
-        records,
-        held,
-        stranded,
-    } = sum;
-    print_counts(alloc, text, at, entries, records as usize, held, stranded)
 }

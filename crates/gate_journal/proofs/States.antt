@@ -81,8 +81,8 @@ module _ {A : Type 0} (g : Ghosts A) (laws : AreaLaws g) (j : Journal A g) where
       → (is_torn ≡ true → gate + torn_length + 6 ≤ g.size j.area) → (front ≡ Founding → is_torn ≡ false)
       → (Told g → IsReady front is_torn → Only (g.octets new) (g.may_leave new))
       → IsOver new buffer gate torn_length is_torn front some
-  over new size buffer gate torn_length is_torn front some one two three four five six seven eight nine =
-      search (rules, listed_below, head_long)
+  over new size buffer gate torn_length is_torn front some small leaves low high torn_size torn_held torn_fits whole
+      durable = search (rules, listed_below, head_long)
 
   -- a call after which a crash leaves no more than before
   pub kept : (new : A) → g.size new ≡ g.size j.area → Within (g.may_leave j.area) (g.may_leave new)

@@ -32,10 +32,14 @@ is_device_fault Device = true
 is_device_fault (NotOurs at) = false
 is_device_fault NoMemory = false
 
+-- it failed by a fault of this kind
+abbrev pub failed_by : {F T A : Type 0} → (F → Bool) → Result T (F × A) → Bool
+failed_by is_kind (Ok value) = false
+failed_by is_kind (Err fault) = is_kind fault.0
+
 -- it failed by the device
 abbrev pub is_device : {T A : Type 0} → Result T (OpenFault × A) → Bool
-is_device (Ok journal) = false
-is_device (Err fault) = is_device_fault fault.0
+is_device = failed_by is_device_fault
 
 module _ {A : Type 0} (tells : Ghosts A) (area : A) where
   -- The header that an area of this size has with this address and generation.

@@ -77,7 +77,7 @@ place_of_new o x new = first (has_place o) (is_fresh (o.state x)) (is_in_range x
     first false b c d e = e
 
 -- the state of a number that gets its first one
-fresh_of_new : (o : Observed) (x : ℕ) → is_new o x ≡ true → o.state x ≡ Fresh
+pub fresh_of_new : (o : Observed) (x : ℕ) → is_new o x ≡ true → o.state x ≡ Fresh
 fresh_of_new o x new = is (o.state x) (second (has_place o) (is_fresh (o.state x)) (is_in_range x) (is_in_window o.top x) new)
   where
     second : (a b c d : Bool) → (a && b && c && d) ≡ true → b ≡ true

@@ -9,7 +9,7 @@ use Rattle.gtpp_message.specs.Packet.{PacketForm, packet_of}
 use Rattle.gw_base.specs.EntryLaws.{present_state_is, state_of-append}
 use Rattle.gw_base.specs.History.{epoch_entries, epoch_of, last_naming, present_state, state_by, state_of}
 use Rattle.gw_base.specs.Lists.{once}
-use Rattle.gw_base.specs.Observed.{Observed, observed}
+use Rattle.gw_base.specs.Observed.{observed}
 use Rattle.gw_base.specs.View.{state_after}
 use Rattle.gw_base.specs.declared.address.NodeId.{NodeId}
 use Rattle.gw_base.specs.declared.history.HistoryAct.{HistoryAct}
@@ -21,10 +21,10 @@ use Rattle.gw_base.specs.declared.key_state.KeyState.TheVariants.{Fresh, Filed, 
 use Rattle.transfer_cmd.specs.Lists.{is_held}
 use Rattle.gateway_answer.specs.Filed.{filed, filed_by, filed_by_act, filed_record, filed_under, held_packet, present_key, records_from, records_if, released_by, released_records}
 use Rattle.gateway_answer.specs.FiledLaws.{along-append}
-use Rattle.gateway_answer.specs.Fit.{are_distinct, is_act_fit, is_fresh, is_in_window, is_list_fit, is_new, is_packet_fit}
+use Rattle.gateway_answer.specs.Fit.{are_distinct, is_act_fit, is_list_fit, is_new, is_packet_fit}
 use Rattle.gateway_answer.specs.FitHistory.{AllFit}
-use Rattle.gateway_answer.specs.FitHistoryLaws.{by_fit}
-use Rattle.gateway_index.specs.Limits.{has_place, is_in_range, may_hold}
+use Rattle.gateway_answer.specs.FitHistoryLaws.{by_fit, fresh_of_new}
+use Rattle.gateway_index.specs.Limits.{may_hold}
 use Rattle.gateway_answer.specs.ListFitLaws.{distinct_once}
 use Rattle.gateway_answer.specs.Once.{is_record_of, same_key, times_filed}
 use Rattle.gateway_answer.specs.declared.filing.FiledRecord.{FiledRecord}
@@ -60,14 +60,6 @@ most_once Held = omega arith
 most_once Released = omega arith
 most_once Cancelled = omega arith
 
-none_if_fresh : (s : KeyState) → is_fresh s ≡ true → filed_yet s ≡ 0
-none_if_fresh Fresh e = refl
-none_if_fresh Filed e = absurd (false≢true e)
-none_if_fresh Sealed e = absurd (false≢true e)
-none_if_fresh Held e = absurd (false≢true e)
-none_if_fresh Released e = absurd (false≢true e)
-none_if_fresh Cancelled e = absurd (false≢true e)
-
 none_if_held : (s : KeyState) → is_held s ≡ true → filed_yet s ≡ 0
 none_if_held Fresh e = absurd (false≢true e)
 none_if_held Filed e = absurd (false≢true e)
@@ -75,14 +67,6 @@ none_if_held Sealed e = absurd (false≢true e)
 none_if_held Held e = refl
 none_if_held Released e = absurd (false≢true e)
 none_if_held Cancelled e = absurd (false≢true e)
-
-fresh_of_new : (o : Observed) (x : ℕ) → is_new o x ≡ true → is_fresh (o.state x) ≡ true
-fresh_of_new o x new = second (has_place o) (is_fresh (o.state x)) (is_in_range x) (is_in_window o.top x) new
-  where
-    second : (a b c d : Bool) → (a && b && c && d) ≡ true → b ≡ true
-    second true true c d e = refl
-    second true false c d e = e
-    second false b c d e = absurd (false≢true e)
 
 first_of_three : (a b c : Bool) → (a && b && c) ≡ true → a ≡ true
 first_of_three true b c e = refl
@@ -236,8 +220,7 @@ module _ (key : PacketKey) (index : ℕ) where
   none_of_new : (h : List HistoryEntry) (n : NodeId) (x : ℕ) → is_new (observed h n) x ≡ true → named h n (x == key.number) ≡ true → filed_yet (state_of key h) ≡ 0
   none_of_new h n x new e =
       let at = state_here h n (x == key.number) e in
-      none_if_fresh (state_of key h)
-      (ap is_fresh at.1 ∙ ap (λ (m : ℕ). is_fresh (present_state n.0 m h)) (sym (eqb-true x key.number at.0)) ∙ fresh_of_new (observed h n) x new)
+      ap filed_yet (at.1 ∙ ap (λ (m : ℕ). present_state n.0 m h) (sym (eqb-true x key.number at.0)) ∙ fresh_of_new (observed h n) x new)
 
   all_held : (h : List HistoryEntry) (n : NodeId) (xs : List ℕ) → is_list_fit (observed h n) xs ≡ true → list_all (λ y. is_held (present_state n.0 y h)) xs ≡ true
   all_held h n [] fit = refl

@@ -69,13 +69,20 @@ framed (read.Message number message) = received number message
 abbrev pub prepared_of : List ℕ → PreparedValue
 prepared_of octets = framed (role_reading Gateway octets)
 
+-- the body of a request is so
+abbrev pub OfRequest : (TransferValue → Type 0) → PreparedValue → Type 0
+OfRequest P (Drop why) = Unit {0}
+OfRequest P (OtherVersion number) = Unit {0}
+OfRequest P (Refused cause number) = Unit {0}
+OfRequest P (Path event) = Unit {0}
+OfRequest P (Request number body) = P body
+
 -- the packet that a request sends says what its value says, and its records are what their format says
+abbrev pub IsWholeTransfer : TransferValue → Type 0
+IsWholeTransfer body = IsSendableTransfer body × (sends_values body ≡ true)
+
 abbrev pub IsWhole : PreparedValue → Type 0
-IsWhole (Drop why) = Unit {0}
-IsWhole (OtherVersion number) = Unit {0}
-IsWhole (Refused cause number) = Unit {0}
-IsWhole (Path event) = Unit {0}
-IsWhole (Request number body) = IsSendableTransfer body × (sends_values body ≡ true)
+IsWhole prepared = OfRequest IsWholeTransfer prepared
 
 -- the packet or the list of a request is no longer than the payload of a message may be
 abbrev pub IsShortTransfer : TransferValue → Type 0
@@ -85,8 +92,4 @@ IsShortTransfer (Cancel numbers) = length numbers ≤ 32767
 IsShortTransfer (Release numbers) = length numbers ≤ 32767
 
 abbrev pub IsShort : PreparedValue → Type 0
-IsShort (Drop why) = Unit {0}
-IsShort (OtherVersion number) = Unit {0}
-IsShort (Refused cause number) = Unit {0}
-IsShort (Path event) = Unit {0}
-IsShort (Request number body) = IsShortTransfer body
+IsShort prepared = OfRequest IsShortTransfer prepared

@@ -10,6 +10,7 @@ use Rattle.gw_base.specs.declared.address.Addr.{Addr}
 use Rattle.gw_base.specs.declared.history.Caller.{Caller}
 use Rattle.gateway_answer.specs.Answer.{Decided, Given, Says, Silent, decided, failure_answer}
 use Rattle.gateway_answer.specs.Answered.{act_decided, answer_to}
+use Rattle.gateway_answer.specs.Filed.{filed}
 use Rattle.gateway_answer.specs.Marks.{Mark, NotDue, NoRoom, Makes, close_mark, tick_mark}
 use Rattle.gateway_answer.specs.Preparing.{PreparedValue}
 use Rattle.gateway_answer.specs.Value.{BookValue, Fortune, after_commit, history_of, readied, recorded, recorded_if}
@@ -21,6 +22,7 @@ use Rattle.gateway_book.specs.declared.outcome.Outcome.TheVariants as outcome
 use Rattle.gateway_book.specs.declared.outcome.Settled.{Settled}
 use Rattle.gateway_book.specs.declared.outcome.Settled.TheVariants as settled
 use Rattle.gateway_book.specs.declared.outcome.Counts.{Counts}
+use Rattle.gateway_book.specs.declared.outcome.Tally.{Tally}
 
 -- A datagram is taken.
 
@@ -122,4 +124,25 @@ counts_of v size = record {
   held = (copies_of (history_of v)).held;
   stranded = (copies_of (history_of v)).stranded;
   free = capacity_of size - (costs_of (history_of v) + promised_octets (history_of v));
+}
+
+-- What is reported of a gateway.
+
+-- by what its book counts, and how many records were filed
+abbrev pub tally_by : Counts → ℕ → Tally
+tally_by counts records = record {
+  entries = counts.entries;
+  records = records;
+  held = counts.held;
+  stranded = counts.stranded;
+}
+
+-- of its book: the entries, the records that the firm ones filed, the copies that are held, and those of earlier epochs
+-- that were neither released nor cancelled
+abbrev pub tally_of : BookValue → Tally
+tally_of v = let h = history_of v in record {
+  entries = length h;
+  records = length (filed v.firm);
+  held = (copies_of h).held;
+  stranded = (copies_of h).stranded;
 }

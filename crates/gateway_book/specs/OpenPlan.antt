@@ -1,11 +1,12 @@
 -- What comes of the opening of a book by the plan of the calls of the area.
-use Rattle.std.specs.Prelude.{◌≡◌, ℕ, Bool, true, false, List, IfOk, Result, Ok, Err}
+use Rattle.std.specs.Prelude.{◌≡◌, ℕ, Bool, true, false, List, IfOk, Result}
 use Rattle.area_disk.specs.Armed.{Armed, IsArmed, calls_under}
 use Rattle.area_disk.specs.Armed.Came.{Ran}
 use Rattle.area_disk.specs.Course.{IsTied}
 use Rattle.area_disk.specs.declared.area.Area.{Ghosts}
 use Rattle.gate_journal.specs.Format.{Starts}
 use Rattle.gate_journal.specs.Moments.{Told}
+use Rattle.gate_journal.specs.Opening.{failed_by}
 use Rattle.gate_journal.specs.Planned.{SyncPlanned}
 use Rattle.gateway_book.specs.Comes.{plan_of}
 use Rattle.gateway_book.specs.Opened.{OnArea}
@@ -25,12 +26,10 @@ is_memory_fault NoMemory = true
 
 -- the device failed, or there was too little memory
 abbrev pub is_device : {T A : Type 0} → Result T (BookFault × A) → Bool
-is_device (Ok book) = false
-is_device (Err fault) = is_device_fault fault.0
+is_device = failed_by is_device_fault
 
 abbrev pub is_memory : {T A : Type 0} → Result T (BookFault × A) → Bool
-is_memory (Ok book) = false
-is_memory (Err fault) = is_memory_fault fault.0
+is_memory = failed_by is_memory_fault
 
 module _ {A : Type 0} {tells : Ghosts A} (area : A) (result : Result (Book A tells) (BookFault × A)) where
   -- The device didn't fail, and where a book was opened this is armed for the calls to come.

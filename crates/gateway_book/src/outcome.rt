@@ -1,3 +1,6 @@
+ghost use Rattle.std.specs.Prelude.{◌≡◌};
+ghost use Rattle.gateway_book.specs.Calls.{tally_by};
+
 use gtpp_message::Why;
 use gw_base::Short;
 
@@ -110,4 +113,31 @@ pub struct Counts {
     pub stranded: u64,
     /// The octets of the journal that costs and promises leave.
     pub free: u64,
+}
+
+/// What is reported of a gateway.
+#[derive(Clone, Copy)]
+pub struct Tally {
+    /// The entries of its history.
+    pub entries: u64,
+    /// The records that its firm entries have filed.
+    pub records: usize,
+    /// The copies that are held in present epochs.
+    pub held: u64,
+    /// Those of earlier epochs that were neither released nor cancelled.
+    pub stranded: u64,
+}
+
+impl Counts {
+    /// What is reported of a gateway that counts this, and whose firm entries have filed so many records.
+    pub fn tally(self, records: usize) -> Tally
+        ensures { result ≡ tally_by self records }
+    {
+        Tally {
+            entries: self.entries,
+            records,
+            held: self.held,
+            stranded: self.stranded,
+        }
+    }
 }

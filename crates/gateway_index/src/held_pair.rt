@@ -1,5 +1,5 @@
 // The copies that are held, on the firm side and on the live side.
-ghost use Rattle.std.specs.Prelude.{◌≡◌, ◌<◌, Bool, true, false, if◌then◌else◌, [], ◌∷◌, ◌++◌, None, is_some, IfOk, ◌⊎◌, ◌≤◌, ◌&&◌, ◌==◌, not, vec_len, vec_capacity, length};
+ghost use Rattle.std.specs.Prelude.{◌≡◌, ◌<◌, Bool, true, false, if◌then◌else◌, None, is_some, IfOk, ◌&&◌, ◌==◌, not, vec_len};
 ghost use Rattle.std.proofs.Props.{props};
 ghost use Rattle.dup_buffer.specs.Copies.{most_copies, no_copies, with_copy, without_copy, without_node};
 ghost use Rattle.dup_buffer.specs.Stored.{copies_of};
@@ -8,15 +8,13 @@ ghost use Rattle.gateway_index.specs.HeldRoom.{HasRoom};
 ghost use Rattle.gateway_index.specs.Sides.{no_place, without_copies};
 
 use crate::limits::MOST_COPIES;
+use crate::noting::{MOST_NOTED, note};
 use dup_buffer::{Held, HoldFault};
 use gw_base::{Absolute, NoMemory, NodeId, Place};
 use std::alloc::Global;
 
 /// Where a copy lies isn't kept here: the items that are told find it by its entry.
 const NO_PLACE: Place = Place { at: 0, length: 0 };
-
-/// How many steps a pair notes at most. Behind more of them all copies are copied.
-const MOST_NOTED: usize = 64;
 
 /// A copy was held on the live side, or taken out, or all of a node were.
 #[derive(Clone, Copy)]
@@ -88,18 +86,6 @@ fn follow(held: &mut Held, given: &[CopyStep])
         step_one(held, *step);
         left = later;
     }
-}
-
-// Notes a step behind those that are noted, where there is room for it, and tells whether there is more than is noted.
-fn note(given: &mut Vec<CopyStep>, changed: bool, step: CopyStep) -> bool
-    ensures noted { result ≡ false → (changed ≡ false) × (given.new.items ≡ given.old.items ++ step ∷ []) }
-    ensures full { result ≡ true → (changed ≡ true) ⊎ (vec_capacity given.old ≤ length given.old.items) }
-{
-    if given.len() >= given.capacity() {
-        return true;
-    }
-    given.push_reserved(step);
-    changed
 }
 
 // Holds on one side what the other one holds.

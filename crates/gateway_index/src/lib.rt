@@ -15,6 +15,7 @@ mod index;
 pub mod laws;
 mod limits;
 mod nodes;
+mod noting;
 mod paths;
 mod totals;
 mod window_pair;

@@ -1,20 +1,18 @@
 // The windows of a node's request numbers, on the firm side and on the live side.
-ghost use Rattle.std.specs.Prelude.{◌≡◌, ◌≤◌, ◌+◌, ◌<◌, ◌^◌, ℕ, Bool, true, false, if◌then◌else◌, [], ◌∷◌, ◌++◌, IfOk, IfSome, ◌⊎◌, ◌&&◌, ◌==◌, not, vec_len, vec_capacity, length};
+ghost use Rattle.std.specs.Prelude.{◌≡◌, ◌≤◌, ◌+◌, ◌<◌, ◌^◌, ℕ, Bool, true, false, if◌then◌else◌, [], ◌∷◌, IfOk, IfSome, ◌&&◌, ◌==◌, not, vec_len};
 ghost use Rattle.std.proofs.Props.{props};
 ghost use Rattle.seq_window.specs.Seen.{nothing_seen, with_state, with_states};
 ghost use Rattle.seq_window.specs.Stored.{seen_of};
 ghost use Rattle.gateway_index.specs.Limits.{half};
 ghost use Rattle.gateway_index.specs.GivenStates.{MaySetEach, MaySetEach-prop, with_each};
 
+use crate::noting::{MOST_NOTED, note};
 use gw_base::{Absolute, KeyState, NoMemory};
 use seq_window::Window;
 use std::alloc::Global;
 
 /// A window that reaches `half` below the greatest number.
 type NumberWindow = Window<32_768>;
-
-/// How many steps a pair notes at most. Behind more of them a whole window is copied.
-const MOST_NOTED: usize = 64;
 
 /// A number of the live side was given this state.
 #[derive(Clone, Copy)]
@@ -48,18 +46,6 @@ fn follow(window: &mut NumberWindow, given: &[StateGiven])
         window.set(step.number, step.state);
         left = later;
     }
-}
-
-// Notes a step behind those that are noted, where there is room for it, and tells whether there is more than is noted.
-fn note(given: &mut Vec<StateGiven>, changed: bool, step: StateGiven) -> bool
-    ensures noted { result ≡ false → (changed ≡ false) × (given.new.items ≡ given.old.items ++ step ∷ []) }
-    ensures full { result ≡ true → (changed ≡ true) ⊎ (vec_capacity given.old ≤ length given.old.items) }
-{
-    if given.len() >= given.capacity() {
-        return true;
-    }
-    given.push_reserved(step);
-    changed
 }
 
 // Makes both windows what one of them is. Where not more has changed than these steps, they are enough.

@@ -3,37 +3,47 @@ use Rattle.std.proofs.Common.{◌≡◌, ◌≢◌, ℕ, zero, suc, ◌-◌, ◌
 use Rattle.std.proofs.lemmas.Bool.{eqb-false}
 use Rattle.std.proofs.Math.Dec.{eqb-suc-zero}
 use Rattle.std.proofs.lemmas.Option.{same_Some}
+use Rattle.std.specs.Option.{option_map_or}
 use Rattle.gtpp_header.specs.Header.{two_octets}
-use Rattle.gtpp_message.specs.Packet.{IsPacket, PacketForm, packet_of, PacketValue, Empty, Full, full_packet, is_empty_packet, nth_record, packet_in, packet_reading, record_at, records_at, records_in, stated_form}
+use Rattle.gtpp_message.specs.Packet.{IsPacket, PacketForm, behind, packet_of, PacketValue, Empty, Full, full_packet, is_empty_packet, nth_record, packet_in, packet_reading, record_at, records_at, records_in, stated_form}
 
 some_one_more : (r : List ℕ) (more : Option (List (List ℕ))) → is_some more ≡ is_some (option_map (λ records. r ∷ records) more)
 some_one_more r None = refl
 some_one_more r (Some records) = refl
 
 -- the rest begins with a record
-pub step_records : (count : ℕ) (octets r rest : List ℕ) → 0 < count → record_at octets ≡ Some (r, rest) →
-    is_some (records_at (count - 1) rest) ≡ is_some (records_at count octets)
-step_records zero octets r rest some e = absurd (omega arith)
-step_records (suc count) octets r rest some e =
-    let same : suc count - 1 ≡ count = omega arith in rw same (rw e (some_one_more r (records_at count rest)))
+pub one_behind : (count : ℕ) (octets r rest : List ℕ) → 0 < count → record_at octets ≡ Some (r, rest) →
+    behind (count - 1) rest ≡ behind count octets
+one_behind zero octets r rest some e = absurd (omega arith)
+one_behind (suc count) octets r rest some e = let same : suc count - 1 ≡ count = omega arith in rw same (rw e refl)
 
 -- the rest begins with no record
-pub no_record : (count : ℕ) (octets : List ℕ) → 0 < count → record_at octets ≡ None → is_some (records_at count octets) ≡ false
-no_record zero octets some e = absurd (omega arith)
-no_record (suc count) octets some e = rw e refl
+pub none_behind : (count : ℕ) (octets : List ℕ) → 0 < count → record_at octets ≡ None → behind count octets ≡ None
+none_behind zero octets some e = absurd (omega arith)
+none_behind (suc count) octets some e = rw e refl
 
 -- nothing but the end is no record
-pub records_end : (octets : List ℕ) → is_some (records_at 0 octets) ≡ (length octets == 0)
+records_end : (octets : List ℕ) → is_some (records_at 0 octets) ≡ (length octets == 0)
 records_end [] = refl
 records_end (octet ∷ octets) = sym (eqb-suc-zero (length octets))
 
-pub step_nth : (k : ℕ) (octets r rest : List ℕ) → 0 < k → record_at octets ≡ Some (r, rest) → nth_record (k - 1) rest ≡ nth_record k octets
-step_nth zero octets r rest some e = absurd (omega arith)
-step_nth (suc k) octets r rest some e = let same : suc k - 1 ≡ k = omega arith in rw same (rw e refl)
+-- so many records are all where nothing follows them
+pub are_records : (count : ℕ) (octets : List ℕ) →
+    is_some (records_at count octets) ≡ option_map_or (λ rest. length rest == 0) (behind count octets) false
+are_records zero octets = records_end octets
+are_records (suc count) octets =
+    elim (record_at octets) as (λ found. is_some (option_and_then (λ (parts : List ℕ × List ℕ). option_map (λ records. parts.0 ∷ records) (records_at count parts.1)) found)
+    ≡ option_map_or (λ rest. length rest == 0) (option_and_then (λ (parts : List ℕ × List ℕ). behind count parts.1) found) false)
+    [ None ↦ refl | Some parts ↦ sym (some_one_more parts.0 (records_at count parts.1)) ∙ are_records count parts.1 ]
 
-pub no_nth : (k : ℕ) (octets : List ℕ) → record_at octets ≡ None → nth_record k octets ≡ None
-no_nth zero octets e = rw e refl
-no_nth (suc k) octets e = rw e refl
+-- the k-th record stands behind k others
+pub nth_behind_k : (k : ℕ) (octets : List ℕ) →
+    nth_record k octets ≡ option_and_then (λ rest. option_map (λ (parts : List ℕ × List ℕ). parts.0) (record_at rest)) (behind k octets)
+nth_behind_k zero octets = refl
+nth_behind_k (suc k) octets =
+    elim (record_at octets) as (λ found. option_and_then (λ (parts : List ℕ × List ℕ). nth_record k parts.1) found
+    ≡ option_and_then (λ rest. option_map (λ (parts : List ℕ × List ℕ). parts.0) (record_at rest)) (option_and_then (λ (parts : List ℕ × List ℕ). behind k parts.1) found))
+    [ None ↦ refl | Some parts ↦ nth_behind_k k parts.1 ]
 
 some_inside : (more : Option (List (List ℕ))) (r : List ℕ) → is_some (option_map (λ records. r ∷ records) more) ≡ true → is_some more ≡ true
 some_inside None r e = cc

@@ -15,6 +15,11 @@ record_at (high ∷ low ∷ rest) =
     if nat_lt (length rest) (two_octets high low) then None else Some (take (two_octets high low) rest, drop (two_octets high low) rest)
 record_at _ = None
 
+-- what follows so many records
+abbrev pub behind : ℕ → List ℕ → Option (List ℕ)
+behind zero octets = Some octets
+behind (suc count) octets = option_and_then (λ parts. behind count parts.1) (record_at octets)
+
 -- so many records, with nothing behind the last
 abbrev pub records_at : ℕ → List ℕ → Option (List (List ℕ))
 records_at zero [] = Some []

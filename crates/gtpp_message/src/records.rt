@@ -2,7 +2,7 @@
 //! (3GPP TS 32.295, clause 6.2.4.5).
 
 ghost use Rattle.std.specs.Prelude.{◌≡◌, ◌<◌, [], ◌∷◌, IfSome, MatchOption, is_some, length, option_map, true};
-ghost use Rattle.gtpp_message.specs.Packet.{lent_parts, nth_record, record_at, records_at, records_in};
+ghost use Rattle.gtpp_message.specs.Packet.{behind, lent_parts, nth_record, record_at, records_at, records_in};
 ghost use Rattle.gtpp_message.specs.Values.{lent};
 
 use byteorder::{BigEndian, ByteOrder};
@@ -58,20 +58,29 @@ impl<'a> Records<'a> {
 }
 
 /// Whether the octets are so many records, with nothing behind the last.
-#[tactic(auto, using(crate::proofs::PacketLemmas::step_records, crate::proofs::PacketLemmas::no_record, crate::proofs::PacketLemmas::records_end))]
+#[tactic(auto, using(crate::proofs::PacketLemmas::are_records))]
 pub fn are_records(count: u8, octets: &[u8]) -> bool
     ensures { result ≡ is_some (records_at count octets.now) }
+{
+    match behind(count, octets) {
+        Some(rest) => rest.is_empty(),
+        None => false,
+    }
+}
+
+/// What follows so many records; `None` where there are fewer.
+#[tactic(auto, using(crate::proofs::PacketLemmas::one_behind, crate::proofs::PacketLemmas::none_behind))]
+fn behind(count: u8, octets: &[u8]) -> Option<&[u8]>
+    ensures { lent result ≡ behind count octets.now }
 {
     let mut rest = octets;
     let mut left = count;
     while left > 0 {
-        let Some((_, behind)) = first_record(rest) else {
-            return false;
-        };
+        let (_, later) = first_record(rest)?;
         left -= 1;
-        rest = behind;
+        rest = later;
     }
-    rest.is_empty()
+    Some(rest)
 }
 
 /// The record at the front, behind its length in two octets, and what follows it.
@@ -90,20 +99,11 @@ fn first_record(octets: &[u8]) -> Option<(&[u8], &[u8])>
 }
 
 /// The k-th of the records that stand one after the other, counted from 0.
-#[tactic(auto, using(crate::proofs::PacketLemmas::step_nth, crate::proofs::PacketLemmas::no_nth))]
+#[tactic(auto, using(crate::proofs::PacketLemmas::nth_behind_k))]
 pub fn nth_record(k: u8, octets: &[u8]) -> Option<&[u8]>
     ensures part { lent result ≡ nth_record k octets.now }
     ensures short { IfSome result (λ part. length part.now < 65536) }
 {
-    let mut rest = octets;
-    let mut left = k;
-    while left > 0 {
-        let Some((_, behind)) = first_record(rest) else {
-            return None;
-        };
-        left -= 1;
-        rest = behind;
-    }
-    let (record, _) = first_record(rest)?;
+    let (record, _) = first_record(behind(k, octets)?)?;
     Some(record)
 }

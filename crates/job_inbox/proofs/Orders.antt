@@ -1,18 +1,17 @@
 -- Each move on an inbox keeps its rule.
-use Rattle.std.proofs.Common.{◌≡◌, ◌≢◌, ◌⊎◌, ⊎_elim, inl, inr, ℕ, zero, suc, ◌+◌, ◌<◌, ◌≤◌, List, [], ◌∷◌, ◌++◌, All, length, set, sum_by, take, drop, refl, sym, ap, ◌∙◌, subst, append_assoc, length-append, length-drop, length-take, arith}
+use Rattle.std.proofs.Common.{◌≡◌, ⊎_elim, inl, inr, ℕ, zero, suc, ◌+◌, ◌<◌, ◌≤◌, List, [], ◌∷◌, ◌++◌, All, length, set, sum_by, take, drop, refl, sym, ap, ◌∙◌, subst, append_assoc, length-append, length-drop, length-take, arith}
 use mathlib.Core.Option.{some, some-injective, some-ne-none}
 use lib.ListN.{get_elem?, replicate}
 use Rattle.std.proofs.lemmas.List.{length-replicate}
 use Rattle.std.proofs.lemmas.List.Elements.{All-append, All-cons, All-drop, All-head, All-nil, All-replicate, All-take, All-weaker}
 use Rattle.std.proofs.lemmas.List.Sums.{sum_by-append, sum_by-cons, sum_by-take-drop, sum_by_push}
-use Rattle.turn_cell.specs.Placed.{IsSublist}
 use Rattle.crossbeam_queue.proofs.Lists.{at_set}
 use Rattle.crossbeam_queue.specs.Fifo.{Forks, Learns, Merges, Pops, Pushes}
 use Rattle.job_inbox.specs.declared.hand.Hand.{Hand}
 use Rattle.job_inbox.specs.declared.hand.Hands.{Hands}
 use Rattle.job_inbox.specs.declared.job.Job.{Job}
 use Rattle.job_inbox.specs.Hands.{Shows, ShowsFirst, StandsIn, weight_put, weight_taken}
-use Rattle.job_inbox.specs.Rule.{AreInOrder, Begun, Ends, Knows, Rule, begun, both, bystander, count, first_alone, first_of, hand, hands_of, idle, over, unbegun, with_first, with_put, with_taken, without_first}
+use Rattle.job_inbox.specs.Rule.{AreInOrder, Begun, Ends, Knows, Rule, begun, both, bystander, count, first_alone, first_of, hands_of, idle, over, unbegun, with_first, with_put, with_taken, without_first}
 use Rattle.job_inbox.proofs.Sublists.{sub_append, sub_more}
 use Rattle.job_inbox.proofs.Totals.{Each, all_hands, each_of_all, each_set, each_snoc, length_of_all, sum_of_all, total_ge, total_only, total_set}
 

@@ -1,5 +1,5 @@
 -- What stands in a list in its order, as the list goes on.
-use Rattle.std.proofs.Common.{◌≡◌, ◌⊎◌, ⊎_elim, inl, inr, List, [], ◌∷◌, ◌++◌, refl, subst, sym}
+use Rattle.std.proofs.Common.{◌≡◌, ⊎_elim, inl, inr, List, [], ◌∷◌, ◌++◌, refl, subst, sym}
 use Rattle.turn_cell.specs.Placed.{IsSublist}
 
 module _ {A : Type 0} where

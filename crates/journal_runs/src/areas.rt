@@ -6,6 +6,8 @@
 //! - `crash OUTCOME`: stops it between two calls, and revives it.
 //! - `device sync`: what comes of a sync. `device calls`, `device stopped`: what it says. `device revive` revives it.
 
+ghost use Rattle.std.specs.Prelude.{◌+◌, ◌≤◌, OnOk};
+
 use crate::plans::{no_plan, outcome_of};
 use crate::words::{MOST, bad, first_word, number, octets};
 use area_disk::{Area, Drill, Failed, MemoryArea};
@@ -24,44 +26,38 @@ pub(crate) fn begin(
     print!(rt; "{length} octets")
 }
 
-/// Writes octets for which there is room.
-fn write_at<A: Area>(area: &mut A, at: u64, octets: &[u8]) -> io::Result<Result<(), Failed>> {
+/// Refuses octets that there aren't.
+fn bound<A: Area>(area: &A, at: u64, count: usize) -> io::Result<()>
+    ensures { OnOk result (at + count ≤ A.size area.now) }
+{
     let length = area.length();
     if at > length {
         return Err(bad());
     }
-    if octets.len() as u64 > length - at {
+    if count as u64 > length - at {
         return Err(bad());
     }
+    Ok(())
+}
+
+/// Writes octets for which there is room.
+fn write_at<A: Area>(area: &mut A, at: u64, octets: &[u8]) -> io::Result<Result<(), Failed>> {
+    bound(area, at, octets.len())?;
     Ok(area.write_at(at, octets))
 }
 
-pub(crate) fn write(
-    rt: &HostRuntime,
-    area: &mut Option<MemoryArea>,
-    words: &str,
-) -> io::Result<()> {
+pub(crate) fn write(rt: &HostRuntime, area: &mut MemoryArea, words: &str) -> io::Result<()> {
     let (at, word) = first_word(words);
     let at = number(at, MOST)?;
     let octets = octets(rt.alloc(), word)?;
-    let Some(area) = area else {
-        return Err(bad());
-    };
     print!(rt; "{:?}", write_at(area, at, &octets)?)
 }
 
-pub(crate) fn again(
-    rt: &HostRuntime,
-    area: &mut Option<MemoryArea>,
-    words: &str,
-) -> io::Result<()> {
+pub(crate) fn again(rt: &HostRuntime, area: &mut MemoryArea, words: &str) -> io::Result<()> {
     let (count, words) = first_word(words);
     let (at, word) = first_word(words);
     let at = number(at, MOST)?;
     let octets = octets(rt.alloc(), word)?;
-    let Some(area) = area else {
-        return Err(bad());
-    };
     let mut last = Ok(());
     for _ in 0..number(count, MOST)? {
         last = write_at(area, at, &octets)?;
@@ -71,46 +67,27 @@ pub(crate) fn again(
 
 /// Reads octets that there are.
 fn read_at<A: Area>(area: &mut A, at: u64, into: &mut [u8]) -> io::Result<Result<(), Failed>> {
-    let length = area.length();
-    if at > length {
-        return Err(bad());
-    }
-    if into.len() as u64 > length - at {
-        return Err(bad());
-    }
+    bound(area, at, into.len())?;
     Ok(area.read_at(at, into))
 }
 
-pub(crate) fn read(rt: &HostRuntime, area: &mut Option<MemoryArea>, words: &str) -> io::Result<()> {
+pub(crate) fn read(rt: &HostRuntime, area: &mut MemoryArea, words: &str) -> io::Result<()> {
     let (at, count) = first_word(words);
     let at = number(at, MOST)?;
     let count = number(count, MOST)? as usize;
     let mut into = vec![in rt.alloc(); 0; count]?;
-    let Some(area) = area else {
-        return Err(bad());
-    };
     let answer = read_at(area, at, &mut into)?;
     print!(rt; "{answer:?}, {into:?}")
 }
 
-pub(crate) fn crash(
-    rt: &HostRuntime,
-    area: &mut Option<MemoryArea>,
-    words: &str,
-) -> io::Result<()> {
+pub(crate) fn crash(rt: &HostRuntime, area: &mut MemoryArea, words: &str) -> io::Result<()> {
     let outcome = outcome_of(words)?;
-    let Some(area) = area else {
-        return Err(bad());
-    };
     area.stop(outcome);
     area.revive();
     print!(rt; "revived")
 }
 
-pub(crate) fn tell(rt: &HostRuntime, area: &mut Option<MemoryArea>, word: &str) -> io::Result<()> {
-    let Some(area) = area else {
-        return Err(bad());
-    };
+pub(crate) fn tell(rt: &HostRuntime, area: &mut MemoryArea, word: &str) -> io::Result<()> {
     match word {
         "sync" => print!(rt; "{:?}", area.sync()),
         "calls" => print!(rt; "{}", area.calls()),

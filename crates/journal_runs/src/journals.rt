@@ -74,13 +74,10 @@ pub(crate) fn draft(rt: &HostRuntime, scene: &mut Scene, words: &str) -> io::Res
 
 pub(crate) fn append(
     rt: &HostRuntime,
-    journal: &mut Option<Journal<MemoryArea>>,
+    journal: &mut Journal<MemoryArea>,
     words: &str,
 ) -> io::Result<()> {
     let batch = octets(rt.alloc(), words)?;
-    let Some(journal) = journal else {
-        return Err(bad());
-    };
     if batch.len() > LONGEST_BATCH {
         return Err(bad());
     }
@@ -108,21 +105,15 @@ fn first_pair<A: Area>(journal: &mut Journal<A>) -> io::Result<(u64, [u8; 2])> {
     }
 }
 
-pub(crate) fn batch(rt: &HostRuntime, journal: &mut Option<Journal<MemoryArea>>) -> io::Result<()> {
-    let Some(journal) = journal else {
-        return Err(bad());
-    };
+pub(crate) fn batch(rt: &HostRuntime, journal: &mut Journal<MemoryArea>) -> io::Result<()> {
     print!(rt; "{:?}", first_pair(journal)?)
 }
 
 pub(crate) fn tell(
     rt: &HostRuntime,
-    journal: &mut Option<Journal<MemoryArea>>,
+    journal: &mut Journal<MemoryArea>,
     word: &str,
 ) -> io::Result<()> {
-    let Some(journal) = journal else {
-        return Err(bad());
-    };
     match word {
         "end" => print!(rt; "{}", journal.end()),
         "calls" => print!(rt; "{}", journal.calls()),

@@ -15,7 +15,7 @@ mod trails;
 mod words;
 
 use crate::scene::Scene;
-use crate::words::{bad, first_word};
+use crate::words::{bad, first_word, there};
 use std::io;
 
 /// What stands in front of the name of each group.
@@ -56,16 +56,16 @@ fn answer(rt: &HostRuntime, scene: &mut Scene, line: &str) -> io::Result<()> {
     let (form, words) = first_word(line);
     match form {
         "area" => areas::begin(rt, &mut scene.area, words),
-        "write" => areas::write(rt, &mut scene.area, words),
-        "again" => areas::again(rt, &mut scene.area, words),
-        "read" => areas::read(rt, &mut scene.area, words),
-        "crash" => areas::crash(rt, &mut scene.area, words),
-        "device" => areas::tell(rt, &mut scene.area, words),
+        "write" => areas::write(rt, there(&mut scene.area)?, words),
+        "again" => areas::again(rt, there(&mut scene.area)?, words),
+        "read" => areas::read(rt, there(&mut scene.area)?, words),
+        "crash" => areas::crash(rt, there(&mut scene.area)?, words),
+        "device" => areas::tell(rt, there(&mut scene.area)?, words),
         "open" => journals::open(rt, scene),
         "draft" => journals::draft(rt, scene, words),
-        "append" => journals::append(rt, &mut scene.journal, words),
-        "batch" => journals::batch(rt, &mut scene.journal),
-        "journal" => journals::tell(rt, &mut scene.journal, words),
+        "append" => journals::append(rt, there(&mut scene.journal)?, words),
+        "batch" => journals::batch(rt, there(&mut scene.journal)?),
+        "journal" => journals::tell(rt, there(&mut scene.journal)?, words),
         _ => answer_further(rt, scene, form, words),
     }
 }
@@ -76,18 +76,18 @@ fn answer_further(rt: &HostRuntime, scene: &mut Scene, form: &str, words: &str) 
         "arm" => scene.arm(rt, words),
         "close" => scene.close(rt),
         "open-trail" => trails::open(rt, scene, words),
-        "push" => trails::push(rt, &mut scene.trail, words),
-        "commit" => trails::commit(rt, &mut scene.trail),
-        "entry" => trails::entry(rt, &mut scene.trail, words),
-        "place" => trails::place(rt, &mut scene.trail, words),
-        "trail" => trails::tell(rt, &mut scene.trail, words),
+        "push" => trails::push(rt, there(&mut scene.trail)?, words),
+        "commit" => trails::commit(rt, there(&mut scene.trail)?),
+        "entry" => trails::entry(rt, there(&mut scene.trail)?, words),
+        "place" => trails::place(rt, there(&mut scene.trail)?, words),
+        "trail" => trails::tell(rt, there(&mut scene.trail)?, words),
         "shelf" => shelves::begin(rt, &mut scene.shelf),
-        "files" => shelves::write_files(rt, &mut scene.shelf),
-        "begin" => shelves::begin_file(rt, &mut scene.shelf),
+        "files" => shelves::write_files(rt, there(&mut scene.shelf)?),
+        "begin" => shelves::begin_file(rt, there(&mut scene.shelf)?),
         "halves" => shelves::halves(rt, &mut scene.shelf),
-        "file" => shelves::file(rt, &scene.shelf, words),
-        "sealed" => shelves::sealed(rt, &mut scene.shelf, words),
-        "bench" => shelves::tell(rt, &mut scene.shelf, words),
+        "file" => shelves::file(rt, there(&mut scene.shelf)?, words),
+        "sealed" => shelves::sealed(rt, there(&mut scene.shelf)?, words),
+        "bench" => shelves::tell(rt, there(&mut scene.shelf)?, words),
         "quiet" => shelves::quiet(rt),
         _ => Err(bad()),
     }

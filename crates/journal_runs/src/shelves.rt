@@ -69,17 +69,11 @@ fn write_missing(shelf: &mut MemoryShelf) -> Result<(), ShelfStop> {
     Ok(())
 }
 
-pub(crate) fn write_files(rt: &HostRuntime, shelf: &mut Option<MemoryShelf>) -> io::Result<()> {
-    match shelf {
-        Some(shelf) => print!(rt; "{:?}", write_missing(shelf)),
-        None => Err(bad()),
-    }
+pub(crate) fn write_files(rt: &HostRuntime, shelf: &mut MemoryShelf) -> io::Result<()> {
+    print!(rt; "{:?}", write_missing(shelf))
 }
 
-pub(crate) fn begin_file(rt: &HostRuntime, shelf: &mut Option<MemoryShelf>) -> io::Result<()> {
-    let Some(shelf) = shelf else {
-        return Err(bad());
-    };
+pub(crate) fn begin_file(rt: &HostRuntime, shelf: &mut MemoryShelf) -> io::Result<()> {
     let None = shelf.file(FIRST) else {
         return Err(bad());
     };
@@ -111,36 +105,19 @@ pub(crate) fn halves(rt: &HostRuntime, shelf: &mut Option<MemoryShelf>) -> io::R
     print!(rt; "sealed")
 }
 
-pub(crate) fn file(rt: &HostRuntime, shelf: &Option<MemoryShelf>, words: &str) -> io::Result<()> {
+pub(crate) fn file(rt: &HostRuntime, shelf: &mut MemoryShelf, words: &str) -> io::Result<()> {
     let (stream, sequence) = first_word(words);
     let stream = number(stream, 255)? as u8;
     let sequence = number(sequence, 4_294_967_295)? as u32;
-    match shelf {
-        Some(shelf) => print!(rt; "{:?}", shelf.file(FileName { stream, sequence })),
-        None => Err(bad()),
-    }
+    print!(rt; "{:?}", shelf.file(FileName { stream, sequence }))
 }
 
-pub(crate) fn sealed(
-    rt: &HostRuntime,
-    shelf: &mut Option<MemoryShelf>,
-    words: &str,
-) -> io::Result<()> {
+pub(crate) fn sealed(rt: &HostRuntime, shelf: &mut MemoryShelf, words: &str) -> io::Result<()> {
     let stream = number(words, 255)? as u8;
-    match shelf {
-        Some(shelf) => print!(rt; "{:?}", shelf.sealed(stream)),
-        None => Err(bad()),
-    }
+    print!(rt; "{:?}", shelf.sealed(stream))
 }
 
-pub(crate) fn tell(
-    rt: &HostRuntime,
-    shelf: &mut Option<MemoryShelf>,
-    word: &str,
-) -> io::Result<()> {
-    let Some(shelf) = shelf else {
-        return Err(bad());
-    };
+pub(crate) fn tell(rt: &HostRuntime, shelf: &mut MemoryShelf, word: &str) -> io::Result<()> {
     match word {
         "calls" => print!(rt; "{}", shelf.calls()),
         "stopped" => print!(rt; "{}", shelf.stopped()),

@@ -132,18 +132,7 @@ pub(crate) fn open(rt: &HostRuntime, scene: &mut Scene, words: &str) -> io::Resu
     }
 }
 
-pub(crate) fn push(
-    rt: &HostRuntime,
-    trail: &mut Option<Trail<MemoryArea>>,
-    words: &str,
-) -> io::Result<()> {
-    match trail {
-        Some(trail) => push_act(rt, trail, words),
-        None => Err(bad()),
-    }
-}
-
-fn push_act(rt: &HostRuntime, trail: &mut Trail<MemoryArea>, word: &str) -> io::Result<()> {
+pub(crate) fn push(rt: &HostRuntime, trail: &mut Trail<MemoryArea>, word: &str) -> io::Result<()> {
     match word {
         "start" => push_entry(rt, trail, Act::Start),
         "path" => push_entry(rt, trail, path()),
@@ -181,10 +170,7 @@ fn push_entry(rt: &HostRuntime, trail: &mut Trail<MemoryArea>, act: Act<'_>) -> 
     print!(rt; "{:?}", trail.push(&entry))
 }
 
-pub(crate) fn commit(rt: &HostRuntime, trail: &mut Option<Trail<MemoryArea>>) -> io::Result<()> {
-    let Some(trail) = trail else {
-        return Err(bad());
-    };
+pub(crate) fn commit(rt: &HostRuntime, trail: &mut Trail<MemoryArea>) -> io::Result<()> {
     if trail.is_closed() {
         return Err(bad());
     }
@@ -209,13 +195,10 @@ fn octets_of<A: Area>(alloc: Global, trail: &mut Trail<A>, k: u64) -> io::Result
 
 pub(crate) fn entry(
     rt: &HostRuntime,
-    trail: &mut Option<Trail<MemoryArea>>,
+    trail: &mut Trail<MemoryArea>,
     words: &str,
 ) -> io::Result<()> {
     let k = number(words, MOST)?;
-    let Some(trail) = trail else {
-        return Err(bad());
-    };
     let octets = octets_of(rt.alloc(), trail, k)?;
     if octets.len() > MOST_OCTETS {
         return Err(bad());
@@ -226,27 +209,17 @@ pub(crate) fn entry(
 
 pub(crate) fn place(
     rt: &HostRuntime,
-    trail: &mut Option<Trail<MemoryArea>>,
+    trail: &mut Trail<MemoryArea>,
     words: &str,
 ) -> io::Result<()> {
     let k = number(words, MOST)?;
-    let Some(trail) = trail else {
-        return Err(bad());
-    };
     if k >= trail.length() {
         return Err(bad());
     }
     print!(rt; "{}", trail.entry_at(k).length)
 }
 
-pub(crate) fn tell(
-    rt: &HostRuntime,
-    trail: &mut Option<Trail<MemoryArea>>,
-    word: &str,
-) -> io::Result<()> {
-    let Some(trail) = trail else {
-        return Err(bad());
-    };
+pub(crate) fn tell(rt: &HostRuntime, trail: &mut Trail<MemoryArea>, word: &str) -> io::Result<()> {
     match word {
         "free" => print!(rt; "{}", trail.free()),
         "length" => print!(rt; "{}", trail.length()),

@@ -17,6 +17,14 @@ pub(crate) fn bad() -> Error {
     Error::from(ErrorKind::InvalidData)
 }
 
+/// What a line acts on, where there is one.
+pub(crate) fn there<T: Drop>(one: &mut Option<T>) -> io::Result<&mut T> {
+    match one {
+        Some(one) => Ok(one),
+        None => Err(bad()),
+    }
+}
+
 /// The first word of a text, and the text behind the space after it.
 pub(crate) fn first_word(text: &str) -> (&str, &str) {
     text.split_once(' ').unwrap_or((text, ""))

@@ -3,6 +3,8 @@ pub use Rattle.gate_journal.specs.Format.{Starts}
 unfoldable pub use Rattle.gate_journal.specs.Format.{header, spelled}
 pub use Rattle.gateway_answer.specs.Value.{after_commit, BookValue, Fortune, history_of, opened, standing_for}
 pub use Rattle.gateway_book.specs.Book.{fortune_of, header_of, reopening_of, size_of, Stays, value_of}
+pub use Rattle.gateway_book.specs.Calls.{tally_of}
+pub use Rattle.gateway_book.specs.declared.outcome.Tally.{Tally}
 pub use Rattle.gw_base.specs.Faults.{Rose}
 pub use Rattle.gw_base.specs.Owes.{Begins}
 pub use Rattle.gw_base.specs.declared.address.Addr.{Addr}
@@ -11,13 +13,12 @@ pub use Rattle.gw_base.specs.declared.packet.PacketId.{PacketId}
 pub use Rattle.loop_audit.specs.Standing.{KeepsAll}
 pub use Rattle.loop_run.specs.Addresses.{first_gateway_ip, first_node_ip, gateway_at, gateways_of, IsLoop, node_at, node_setup, port_number}
 pub use Rattle.loop_run.specs.Collecting.{CanLeave, first_at, GivesOnly, GrewAt, HasCollected, Leaves, LeavesGateway, LeavesNode, second_at, StillAt, stop_of_node}
-pub use Rattle.loop_run.specs.Ending.{CountsAs, EndsAs, gateway_sum, HasTakenAll, is_done, open_numbers, open_packets, packets_open, turns_of, verdict}
+pub use Rattle.loop_run.specs.Ending.{CountsAs, EndsAs, HasTakenAll, is_done, open_numbers, open_packets, packets_open, turns_of, verdict}
 pub use Rattle.loop_run.specs.Finishing.{AreAlike, Finishes, open_at, open_of, shown, UpTo}
 pub use Rattle.loop_run.specs.Looped.{area_length, CarriedAt, IsLoopBook, IsLooped, IsLoopNode, node_made}
 pub use Rattle.loop_run.specs.Making.{AreKnown, FailsToMake, GrowsOn, HasMadeGateway, HasMadeNode, HasMadeSeats, MakesOn, MakesSeats}
 pub use Rattle.loop_run.specs.Seats.{AllRan, AllSit, begun, HasCommitted, HasRunAt, HasServedAt, IsBegun, IsCommitted, IsGatewayAt, LoopBook, LoopGateway, RanAt, SitsAt, work_of}
 pub use Rattle.loop_run.specs.declared.collecting.Collected.{Collected}
-pub use Rattle.loop_run.specs.declared.end.GatewaySum.{GatewaySum}
 pub use Rattle.loop_run.specs.declared.looped.Looped.{Looped}
 pub use Rattle.loop_run.specs.declared.seat.Seat.{Seat}
 pub use Rattle.loop_run.specs.declared.setup.LoopSetup.{LoopSetup}

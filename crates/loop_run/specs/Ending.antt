@@ -3,12 +3,11 @@ use Rattle.std.specs.Prelude.{◌≡◌, ℕ, ◌+◌, ◌<◌, not, Bool, true,
 use Rattle.std.specs.List.{flat_map, range_with_len}
 use Rattle.area_disk.specs.contracts.quiet.QuietAreaArea.TheImpl.{ghosts as quiet_area}
 use Rattle.area_disk.specs.declared.quiet.QuietArea.{QuietArea}
-use Rattle.gateway_answer.specs.Filed.{filed}
 use Rattle.gateway_book.specs.Book.{value_of}
-use Rattle.gateway_answer.specs.Value.{BookValue, history_of, standing_for}
+use Rattle.gateway_book.specs.Calls.{tally_of}
+use Rattle.gateway_answer.specs.Value.{standing_for}
 use Rattle.gateway_book.specs.declared.book.Book.{Book}
 use Rattle.gw_base.specs.Faults.{Rose}
-use Rattle.gw_base.specs.History.{copies_of}
 use Rattle.gw_base.specs.declared.packet.PacketId.{PacketId}
 use Rattle.loop_audit.specs.Audit.{audit_of, id_of}
 use Rattle.loop_audit.specs.Standing.{histories_of}
@@ -22,26 +21,10 @@ use Rattle.node_core.specs.declared.counts.Phase.TheVariants as phase
 use Rattle.node_core.specs.declared.port.Port.TheVariants.{First, Second}
 use Rattle.loop_run.specs.Addresses.{node_at}
 use Rattle.loop_run.specs.Looped.{IsLooped}
-use Rattle.loop_run.specs.declared.end.GatewaySum.{GatewaySum}
 use Rattle.loop_run.specs.declared.end.LoopEnd.{LoopEnd}
 use Rattle.loop_run.specs.declared.end.LoopEnd.TheVariants as end
-use Rattle.loop_run.specs.declared.end.NodeSum.{NodeSum}
 use Rattle.loop_run.specs.declared.looped.Looped.{Looped}
 use Rattle.loop_run.specs.declared.setup.LoopSetup.{LoopSetup}
-
--- What is counted.
-
-abbrev pub node_sum : NodeValue → NodeSum
-node_sum node =
-    let c = counts_of node in record { packets = c.packets; resolved = c.resolved; done = c.done }
-
-abbrev pub gateway_sum : BookValue → GatewaySum
-gateway_sum book = let h = history_of book in record {
-  entries = length h;
-  records = length (filed book.firm);
-  held = (copies_of h).held;
-  stranded = (copies_of h).stranded;
-}
 
 -- Packets that aren't done, those too that their node hasn't submitted yet.
 
@@ -79,10 +62,10 @@ abbrev pub AreAllFirm : List (Book QuietArea quiet_area) → Type 0
 AreAllFirm books = All (λ book. value_of book ≡ standing_for (value_of book).firm) books
 
 module _ (books : List (Book QuietArea quiet_area)) (nodes : List NodeValue) where
-  -- these are the sums of all nodes and gateways, in their order
+  -- these are the counts of all nodes and gateways, in their order
   abbrev pub SumsAs : LoopEnd → Type 0
-  SumsAs (end.Fine node_sums gateway_sums) = (node_sums.items ≡ map node_sum nodes)
-      × (gateway_sums.items ≡ map (λ book. gateway_sum (value_of book)) books)
+  SumsAs (end.Fine node_counts tallies) = (node_counts.items ≡ map counts_of nodes)
+      × (tallies.items ≡ map (λ book. tally_of (value_of book)) books)
   SumsAs (end.Wrong packet places wanted) = ⊥
   SumsAs (end.Unfinished turns packet count) = ⊥
   SumsAs end.Link = ⊥
@@ -99,8 +82,8 @@ module _ (setup : LoopSetup) (books : List (Book QuietArea quiet_area)) (nodes :
 
   -- Packets that aren't done decide first, then the audit.
   abbrev pub CountsAs : LoopEnd → Type 0
-  CountsAs (end.Fine node_sums gateway_sums) = (still_open ≡ []) × (verdict books nodes ≡ audited.Fine)
-      × SumsAs books nodes (end.Fine node_sums gateway_sums)
+  CountsAs (end.Fine node_counts tallies) = (still_open ≡ []) × (verdict books nodes ≡ audited.Fine)
+      × SumsAs books nodes (end.Fine node_counts tallies)
   CountsAs (end.Wrong packet places wanted) =
       (still_open ≡ []) × (verdict books nodes ≡ audited.Wrong packet places wanted)
   CountsAs (end.Unfinished turns packet count) = (turns ≡ setup.turns)
@@ -120,8 +103,8 @@ module _ (setup : LoopSetup) (links links' : LinksState) (looped : Looped) where
   -- What is handed out decides the end, and a node with a packet that isn't done took all its turns. A link that
   -- failed, and want of memory, end a loop that hands out nothing.
   abbrev pub EndsAs : LoopEnd → Type 0
-  EndsAs (end.Fine node_sums gateway_sums) = HandsOut
-      × CountsAs setup looped.books.items looped.nodes.items (end.Fine node_sums gateway_sums)
+  EndsAs (end.Fine node_counts tallies) = HandsOut
+      × CountsAs setup looped.books.items looped.nodes.items (end.Fine node_counts tallies)
   EndsAs (end.Wrong packet places wanted) = HandsOut
       × CountsAs setup looped.books.items looped.nodes.items (end.Wrong packet places wanted)
   EndsAs (end.Unfinished turns packet count) = HandsOut

@@ -1,30 +1,14 @@
+use gateway_book::Tally;
 use gw_base::PacketId;
-
-/// What a node counts over a loop: how many packets were submitted to it, became resolved and became done.
-#[derive(Clone, Copy, Debug, PartialEq, Eq)]
-pub struct NodeSum {
-    pub packets: u64,
-    pub resolved: u64,
-    pub done: u64,
-}
-
-/// What a gateway counts: its entries, the records that they file, the copies that it holds, and those of earlier
-/// epochs that were neither released nor cancelled.
-#[derive(Clone, Copy)]
-pub struct GatewaySum {
-    pub entries: u64,
-    pub records: u64,
-    pub held: u64,
-    pub stranded: u64,
-}
+use node_core::NodeCounts;
 
 /// How a loop ended.
 #[derive(Drop)]
 pub enum LoopEnd {
     /// All packets are done, and each stands once.
     Fine {
-        nodes: Vec<NodeSum>,
-        gateways: Vec<GatewaySum>,
+        nodes: Vec<NodeCounts>,
+        gateways: Vec<Tally>,
     },
     /// All packets are done, and this is the first, by node and number, that doesn't stand once: so many of its copies
     /// stand, and so many may.

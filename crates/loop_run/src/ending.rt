@@ -10,7 +10,7 @@ ghost use Rattle.loop_run.specs.Finishing.{AreAlike, Finishes, UpTo, open_at, op
 use crate::end::LoopEnd;
 use crate::looped::Looped;
 use crate::setup::LoopSetup;
-use crate::sums::{gateway_sums, node_sums};
+use crate::sums::{gateway_tallies, node_counts};
 use area_disk::QuietArea;
 use gateway_book::Book;
 use gw_base::{NoMemory, PacketId};
@@ -172,10 +172,10 @@ fn fine(alloc: Global, books: &mut [Book<QuietArea>], nodes: &[Node]) -> LoopEnd
     ensures ends { SumsAs books.old nodes.now result }
     ensures same { AreAlike books.old books.new }
 {
-    let Ok(nodes) = node_sums(alloc, nodes) else {
+    let Ok(nodes) = node_counts(alloc, nodes) else {
         return LoopEnd::NoMemory;
     };
-    match gateway_sums(alloc, books) {
+    match gateway_tallies(alloc, books) {
         Ok(gateways) => LoopEnd::Fine { nodes, gateways },
         Err(NoMemory) => LoopEnd::NoMemory,
     }

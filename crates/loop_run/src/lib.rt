@@ -26,10 +26,12 @@ mod seating;
 mod setup;
 mod sums;
 
-pub use end::{GatewaySum, LoopEnd, NodeSum};
+pub use end::LoopEnd;
+pub use gateway_book::Tally;
 pub use laws::nodes_of_a_loop_keep_all;
 pub use loop_audit::{Audited, audit};
 pub use looped::Looped;
 pub use looping::{run_loop, run_loop_watched};
+pub use node_core::NodeCounts;
 pub use node_run::NodeWatch;
 pub use setup::LoopSetup;

@@ -1,82 +1,57 @@
 // What nodes and gateways count.
 ghost use Rattle.std.specs.Prelude.{◌≡◌, IfOk, map};
 ghost use Rattle.gateway_book.specs.Book.{value_of};
-ghost use Rattle.loop_run.specs.Ending.{AreAllFirm, gateway_sum, node_sum};
+ghost use Rattle.gateway_book.specs.Calls.{tally_of};
+ghost use Rattle.loop_run.specs.Ending.{AreAllFirm};
 ghost use Rattle.loop_run.specs.Finishing.{AreAlike, shown};
+ghost use Rattle.node_core.specs.Counting.{counts_of};
 
-use crate::end::{GatewaySum, NodeSum};
 use area_disk::QuietArea;
 use gateway_answer::laws::a_history_filed_its_parts;
-use gateway_book::{Book, Counts, ItemsFault, count_records};
+use gateway_book::{Book, ItemsFault, Tally, count_records};
 use gw_base::NoMemory;
 use node_core::{Node, NodeCounts};
 use std::alloc::Global;
 
 /// What each node counts.
-pub(crate) fn node_sums(alloc: Global, nodes: &[Node]) -> Result<Vec<NodeSum>, NoMemory>
-    ensures { IfOk result (λ sums. sums.items ≡ map node_sum nodes.now) }
+pub(crate) fn node_counts(alloc: Global, nodes: &[Node]) -> Result<Vec<NodeCounts>, NoMemory>
+    ensures { IfOk result (λ counts. counts.items ≡ map counts_of nodes.now) }
 {
-    let mut sums = Vec::with_capacity(alloc, nodes.len())?;
+    let mut counts = Vec::with_capacity(alloc, nodes.len())?;
     for node in nodes {
-        sums.push(sum_of(node))?;
+        counts.push(node.counts())?;
     }
-    Ok(sums)
-}
-
-fn sum_of(node: &Node) -> NodeSum
-    ensures { result ≡ node_sum node.now }
-{
-    let NodeCounts {
-        packets,
-        resolved,
-        done,
-    } = node.counts();
-    NodeSum {
-        packets,
-        resolved,
-        done,
-    }
+    Ok(counts)
 }
 
 /// What each gateway counts.
-pub(crate) fn gateway_sums(
+pub(crate) fn gateway_tallies(
     alloc: Global,
     books: &mut [Book<QuietArea>],
-) -> Result<Vec<GatewaySum>, NoMemory>
+) -> Result<Vec<Tally>, NoMemory>
     requires { AreAllFirm books.old }
-    ensures sums { IfOk result (λ sums. sums.items ≡ map (λ book. gateway_sum (value_of book)) books.old) }
+    ensures tallies { IfOk result (λ tallies. tallies.items ≡ map (λ book. tally_of (value_of book)) books.old) }
     ensures same { AreAlike books.old books.new }
 {
-    let mut sums = Vec::with_capacity(alloc, books.len())?;
+    let mut tallies = Vec::with_capacity(alloc, books.len())?;
     for place in 0..books.len() {
-        let sum = gateway_sum(alloc, &mut books[place])?;
-        sums.push(sum)?;
+        let tally = gateway_tally(alloc, &mut books[place])?;
+        tallies.push(tally)?;
     }
-    Ok(sums)
+    Ok(tallies)
 }
 
-fn gateway_sum(alloc: Global, book: &mut Book<QuietArea>) -> Result<GatewaySum, NoMemory>
-    ensures sum { IfOk result (λ sum. sum ≡ gateway_sum (value_of book.old)) }
+fn gateway_tally(alloc: Global, book: &mut Book<QuietArea>) -> Result<Tally, NoMemory>
+    ensures tally { IfOk result (λ tally. tally ≡ tally_of (value_of book.old)) }
     ensures same { shown book.new ≡ shown book.old }
 {
     a_history_filed_its_parts();
-    let Counts {
-        entries,
-        firm: _,
-        held,
-        stranded,
-        free: _,
-    } = book.counts();
+    let counts = book.counts();
     let records = match count_records(alloc, book) {
         Ok(records) => records,
         Err(ItemsFault::NoMemory) => return Err(NoMemory),
         // The area never fails.
         Err(ItemsFault::Device) => unreachable!(),
     };
-    Ok(GatewaySum {
-        entries,
-        records: records as u64,
-        held,
-        stranded,
-    })
+    Ok(counts.tally(records))
 }

@@ -3,7 +3,7 @@
 ghost use Rattle.loop_run.specs.Addresses.{IsLoop};
 
 use gw_base::{NodeId, PacketId};
-use loop_run::{LoopEnd, LoopSetup, Looped, NodeSum, run_loop};
+use loop_run::{LoopEnd, LoopSetup, Looped, NodeCounts, run_loop};
 use net_link::UdpLinks;
 use std::alloc::Global;
 use std::net::Net;
@@ -65,7 +65,7 @@ fn is_fine(rt: &impl Abort, end: &LoopEnd) {
     let LoopEnd::Fine { nodes, gateways } = end else {
         panic!(rt; "not fine");
     };
-    let all = NodeSum {
+    let all = NodeCounts {
         packets: 50,
         resolved: 50,
         done: 50,

@@ -1,7 +1,7 @@
 -- What was sent for the copies of a packet: a release for the choice alone, where the first copy is sealed; and while
 -- the first copy waits, nothing, or a release among it. Each move and each response leaves it so.
-use Rattle.std.proofs.Common.{◌≡◌, ◌≢◌, ◌⊎◌, inl, inr, ℕ, ◌==◌, Bool, true, false, if◌then◌else◌, List, [], ◌∷◌, ◌++◌, map, Option, Some, None, option_map, refl, sym, ap, subst, ◌∙◌, arith}
-use Rattle.node_core.proofs.Names.{AllByRecursion, Cancel, cases_Bool, chosen, Command, command_hearing, commanded, Contains, copy_hearing, eqb-true, eqb_tells, false≢true, Filed, find, find-append, first_told, Held, IfSome, is_chosen, is_held, is_release, list_any, list_any-append, names, nat_tests, ne_eqb, new_copy, next_number, option_map_or, option_or, or_from, or_left, Order, PacketCopy, Peer, Port, Release, Sealed, told_if, Verdict, with_command}
+use Rattle.std.proofs.Common.{◌≡◌, ◌≢◌, ◌⊎◌, inl, inr, ℕ, ◌==◌, Bool, true, false, if◌then◌else◌, List, [], ◌∷◌, map, Option, Some, None, option_map, refl, sym, ap, subst, ◌∙◌, arith}
+use Rattle.node_core.proofs.Names.{AllByRecursion, Cancel, cases_Bool, chosen, Command, commanded, Contains, copy_hearing, eqb-true, eqb_tells, false≢true, Filed, find, find-append, first_told, Held, IfSome, is_chosen, is_held, is_release, list_any, list_any-append, nat_tests, ne_eqb, next_number, option_map_or, option_or, or_from, or_left, Order, PacketCopy, Peer, Port, Release, Sealed, Verdict}
 use Rattle.node_core.proofs.CaseLemmas.{either_commanded, either_hears, else_fails, mapped_passes, any_map, contains_more, each_contains, each_in, each_map, each_push, each_weaker, find_is, find_map, find_mapped, find_none, find_only, in_cons, in_map, in_none, none_passes, passes_in}
 use Rattle.node_core.proofs.Moves.{Commanding, CommandsOne, Copying, IsMove, IsRight, MayCancel, Move, are_none, command_with, copies_moved, find_at, is_waiting, waiting}
 

@@ -60,13 +60,13 @@ pub sent_here : (number : ℕ) (state : PacketState) (packets : List PacketState
 sent_here number state packets same (send.Probe gateway path) own = tt
 sent_here number state packets same (send.Test packet gateway drawn) own = search (arith, in_head)
 sent_here number state packets same _ own =
-    (record { state = state; kept = in_head state packets; packet_is = same ∙ own.0; at = own.1 }, own.2)
+    (record { state = state; kept = in_head state packets; number_is = same ∙ own.0; holds = own.1 }, own.2)
 
 pub sent_later : (state : PacketState) (packets : List PacketState) (sending : Sending) → IsSent packets sending → IsSent (state ∷ packets) sending
 sent_later state packets (send.Probe gateway path) is = tt
 sent_later state packets (send.Test packet gateway drawn) is = search (arith, contains_more)
 sent_later state packets _ is =
-    (record { state = is.0.state; kept = contains_more packets state is.0.state is.0.kept; packet_is = is.0.packet_is; at = is.0.at }, is.1)
+    (record { state = is.0.state; kept = contains_more packets state is.0.state is.0.kept; number_is = is.0.number_is; holds = is.0.holds }, is.1)
 
 -- a sending leaves the copies and the numbers, or makes a move
 pub data Step : List Peer → List PacketCopy → List Peer → List PacketCopy → Type 0 where

@@ -99,21 +99,21 @@ all_requests_sent setup calls some running =
 
 -- the copy that is sent has a number below the next one, and so has its release or cancel
 module _ (peers : List Peer) (packets : List PacketState) (kept : AllKept peers packets) where
-  of_below : {packet gateway number : ℕ} → (of : HasCopyOf packets packet gateway number) → IsBelow peers of.at.copy
+  of_below : {packet gateway number : ℕ} → (of : HasCopyOf packets packet gateway number) → IsBelow peers of.holds.copy
   of_below of =
       let its = each_contains (λ (p : PacketState). IsKept peers p.copies) packets of.state kept of.kept in
-      each_contains (IsBelow peers) of.state.copies of.at.copy its.below of.at.among
+      each_contains (IsBelow peers) of.state.copies of.holds.copy its.below of.holds.among
 
   between : (before : List Peer) (sending : Sending) → DrawsNext before sending → IsSent packets sending → DrawsBetween before peers sending
   between before (send.Data packet gateway number is_plain is_new) draws sent =
-      let below : IsBelow peers sent.0.at.copy = of_below sent.0 in
-      λ new. (draws new, omega (arith, below.number, sent.0.at.number_is, ap (next_number peers) sent.0.at.gateway_is))
+      let below : IsBelow peers sent.0.holds.copy = of_below sent.0 in
+      λ new. (draws new, omega (arith, below.number, sent.0.holds.number_is, ap (next_number peers) sent.0.holds.gateway_is))
   between before (send.Command packet gateway named number order is_new) draws sent =
-      let copy : PacketCopy = sent.0.at.copy in
+      let copy : PacketCopy = sent.0.holds.copy in
       let its : IfSome (Some sent.1.command) (IsBetween copy.number (next_number peers copy.gateway)) =
       subst (λ (o : Option Command). IfSome o (IsBetween copy.number (next_number peers copy.gateway))) sent.1.sent
       (of_below sent.0).command in
-      λ new. (draws new, omega (arith, its.1, sent.1.number_is, ap (next_number peers) sent.0.at.gateway_is))
+      λ new. (draws new, omega (arith, its.1, sent.1.number_is, ap (next_number peers) sent.0.holds.gateway_is))
   between before _ draws sent = tt
 
 pub all_draw_between : (setup : NodeSetup) (calls : List NodeCall) → 1 ≤ length setup.gateways → (reached setup calls).is_running ≡ true →

@@ -7,11 +7,11 @@ pub use Rattle.node_core.specs.Copies.{command_hearing, copy_hearing, copy_heari
 pub use Rattle.node_core.specs.Growing.{CommandGrows, CopyGrows, Extends, is_within_start, PacketGrows}
 pub use Rattle.node_core.specs.Hearing.{Dropped, entries_from, first_made, heard_entries, id_of, made_by, path_octets, saying_entries, Says, Taken, taken, taken_entries}
 pub use Rattle.node_core.specs.Log.{Appointed, Began, counter_of, done_among, favourite, Halted, has_entries, Heard, LogEntry, NodeSetup, packets_hearing, packets_of, Path, paths_hearing, paths_of, peers_of, Redirects, resolved_among, Responds, restarted, Saying, Submitted, submitted, Ticked}
-pub use Rattle.node_core.specs.Moving.{another, appointing, favourite_by, is_refusal, is_silent, moved_at_tick, moved_by, next_place, place_at, quiet_by, redirected, waits_at}
+pub use Rattle.node_core.specs.Moving.{appointing, favourite_by, is_refusal, moved_at_tick, moved_by, next_place, place_at, quiet_by, redirected, waits_at}
 pub use Rattle.node_core.specs.Nearness.{all_numbers_of, all_unsettled_at, ComesSoon, HasCopy, HasOpenCopy, IsCopyOrBase}
 pub use Rattle.node_core.specs.NodeFields.{IsSound, value_of_node}
 pub use Rattle.node_core.specs.Packets.{chosen, commanded, copies_after, is_done, is_of, is_resolved, packet_after, packet_after_all, packet_hearing, PacketState, while_open, with_command}
-pub use Rattle.node_core.specs.Peers.{all_drawn, AreNumbers, at_place, drawn, end_of_numbers, has_ip, last_number, next_number, number_drawn, peer_anew, place_of}
+pub use Rattle.node_core.specs.Peers.{all_drawn, AreNumbers, at_place, drawn, end_of_numbers, last_number, next_number, number_drawn, peer_anew, place_of}
 pub use Rattle.node_core.specs.Reached.{call_entries, entries_halted, entries_running, Halt, Hear, log_of, most_submissions, NodeCall, reached, Start, Submit, submit_entries, Tick}
 pub use Rattle.node_core.specs.Sendings.{again, asking, command_by, command_of, command_unless, copy_to, due_by_copies, due_by_verdict, due_for, due_for_all, probe_of, probes, probes_from, releasing, repeating, settling, settling_beside, settling_by, test_of}
 pub use Rattle.node_core.specs.Sent.{HasCopyAt, HasCopyOf, IsCommandOf, IsSent}
@@ -40,5 +40,5 @@ pub use Rattle.std.proofs.lemmas.List.Folds.{Any-from_list_any, find-append, lis
 pub use Rattle.std.proofs.lemmas.List.Sums.{sum_by-cons}
 pub use Rattle.std.proofs.lemmas.Option.{IfSome_then}
 pub use Rattle.std.specs.List.{All, AllByRecursion, AllPairs, Contains, count_by, filter, find, flat_map, list_any}
-pub use Rattle.std.specs.Option.{IfSome, option_and_then, option_map_or, option_or, option_to_list}
+pub use Rattle.std.specs.Option.{IfSome, option_map_or, option_or, option_to_list}
 pub use Rattle.std.specs.Prelude.{option_map, slice_get}

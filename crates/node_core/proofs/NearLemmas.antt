@@ -1,7 +1,6 @@
 -- The numbers of open packets stay near the next one.
-use Rattle.std.proofs.Common.{◌≡◌, ℕ, zero, suc, min, ◌+◌, ◌-◌, ◌<◌, ◌≤◌, not, nat_le, Bool, true, false, if◌then◌else◌, List, [], ◌∷◌, ◌++◌, length, map, Option, Some, None, refl, sym, subst, ◌∙◌, arith, inl, inr}
-use Rattle.node_core.proofs.Names.{AllByRecursion, cases_Bool, commanded, copy_hearing, eqb_tells, flat_map, HasOpenCopy, is_done, least, leb-false, nat_tests, new_copy, next_number, NodeCall, NodeSetup, numbers_at, numbers_out, oldest_number, open_among, option_or, out_at, packet_hearing, PacketCopy, PacketState, Peer, Port, reached, sum_by-cons, unsettled_at, while_open}
-use Rattle.node_core.specs.declared.fault.SubmitFault.TheVariants.{NumbersOut}
+use Rattle.std.proofs.Common.{◌≡◌, ℕ, zero, suc, min, ◌+◌, ◌-◌, ◌<◌, ◌≤◌, not, Bool, true, false, if◌then◌else◌, List, [], ◌∷◌, ◌++◌, length, map, Option, None, refl, sym, subst, ◌∙◌, arith, inl, inr}
+use Rattle.node_core.proofs.Names.{AllByRecursion, cases_Bool, commanded, copy_hearing, eqb_tells, HasOpenCopy, is_done, least, leb-false, nat_tests, new_copy, next_number, NodeCall, NodeSetup, numbers_at, numbers_out, oldest_number, open_among, option_or, out_at, packet_hearing, PacketCopy, PacketState, Peer, Port, reached, sum_by-cons, unsettled_at, while_open}
 use Rattle.node_core.proofs.CaseLemmas.{commanded_puts, either_hears, either_open, each_contains, each_map, each_push, each_weaker}
 use Rattle.node_core.proofs.KeptLemmas.{AllKept}
 use Rattle.node_core.proofs.Moves.{Commanding, Copying, Move, One, are_none, beyond, command_with, copies_moved, here, length_moved, peers_moved, place}

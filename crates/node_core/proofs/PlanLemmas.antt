@@ -1,7 +1,7 @@
 -- A tick, step by step: what is due for the packets, and the Node Alive Requests, from a place on: what is there, and
 -- then from the next place on.
-use Rattle.std.proofs.Common.{◌≡◌, ℕ, suc, ◌+◌, ◌<◌, min, Bool, List, [], ◌∷◌, ◌++◌, length, map, drop, get_or, Option, Some, None, refl, sym, ap, ◌∙◌, append_assoc, add-one, arith}
-use Rattle.node_core.proofs.Names.{all_drawn, appointing, at_drop_all, at_drop_more, befallen, drawn, due_by, due_for, due_for_all, due_now, favourite_by, is_alive, most_quiet, moved_at_tick, nat_tests, NodeValue, numbers_out, option_or, out_at, packet_after, packet_after_all, PacketState, PathsOfNode, Peer, planned, probe_of, probes, probes_from, quiet_by, Sending, tick_entries, Ticked, while_open}
+use Rattle.std.proofs.Common.{◌≡◌, ℕ, suc, ◌+◌, ◌<◌, min, Bool, List, [], ◌∷◌, ◌++◌, length, map, drop, get_or, Option, None, refl, sym, ap, ◌∙◌, append_assoc, add-one, arith}
+use Rattle.node_core.proofs.Names.{all_drawn, at_drop_all, at_drop_more, befallen, drawn, due_by, due_for, due_for_all, favourite_by, is_alive, most_quiet, moved_at_tick, nat_tests, NodeValue, numbers_out, option_or, out_at, packet_after, packet_after_all, PacketState, PathsOfNode, Peer, planned, probe_of, probes, probes_from, quiet_by, Sending, tick_entries, while_open}
 use Rattle.std.specs.Prelude.{IfSome}
 use Rattle.node_core.proofs.NodeLemmas.{all_drawn_keeps, length-anew}
 

@@ -1,11 +1,9 @@
 -- What holds of a node without packets, and stays through each move, submission and response, holds of every node that any
 -- calls make.
-use Rattle.std.proofs.Common.{◌≡◌, ℕ, suc, ◌+◌, ◌*◌, ◌%◌, ◌<◌, ◌≤◌, ◌==◌, ◌&&◌, Bool, false, if◌then◌else◌, nat_le, nat_lt, List, [], ◌∷◌, ◌++◌, length, map, Option, Some, None, inl, refl, ap, ◌∙◌, arith, length-append}
-use Rattle.node_core.proofs.Names.{Addr, all_drawn, AllByRecursion, another, Appointed, appointing, AreNumbered, befallen, Began, call_entries, cond_both, Dropped, due, due_now, entries_from, entries_halted, entries_running, favourite, Halt, Halted, has_ip, Hear, Heard, IfSome, is_alive, is_refusal, is_silent, IsSent, leb-false, length-map, log_of, LogEntry, logged, ltb-true, most_submissions, moved_at_tick, moved_by, nat_tests, next_number, next_place, node_of, NodeCall, NodeSetup, NodeValue, numbers_out, open_among, option_and_then, packet_after_all, packet_hearing, PacketForm, packets_of, PacketState, Peer, peer_anew, peers_of, place_at, place_of, Port, reached, redirected, Redirects, refusal, Responds, Saying, Says, Sending, Start, Submit, submit_entries, Submitted, submitted, Taken, taken, taken_entries, Tick, tick_entries, Ticked, while_open}
+use Rattle.std.proofs.Common.{◌≡◌, ℕ, suc, ◌+◌, ◌*◌, ◌<◌, ◌≤◌, nat_lt, List, [], ◌∷◌, ◌++◌, length, map, Option, Some, None, refl, arith, length-append}
+use Rattle.node_core.proofs.Names.{Addr, all_drawn, AllByRecursion, Appointed, appointing, AreNumbered, befallen, Began, call_entries, cond_both, Dropped, due, due_now, entries_from, entries_halted, entries_running, favourite, Halt, Halted, Hear, Heard, IfSome, IsSent, leb-false, length-map, log_of, LogEntry, logged, ltb-true, most_submissions, moved_at_tick, moved_by, nat_tests, next_number, next_place, node_of, NodeCall, NodeSetup, NodeValue, numbers_out, open_among, packet_after_all, packet_hearing, PacketForm, packets_of, PacketState, Peer, peer_anew, peers_of, place_at, place_of, Port, reached, redirected, refusal, Responds, Saying, Says, Sending, Start, Submit, submit_entries, Submitted, submitted, Taken, taken, taken_entries, Tick, tick_entries, Ticked, while_open}
 use Rattle.std.proofs.lemmas.List.Quantifiers.{position-Some}
-use Rattle.byteorder.specs.Endian.{big_number}
 use Rattle.node_core.specs.declared.fault.SubmitFault.{SubmitFault}
-use Rattle.node_core.specs.Drafts.{is_without_records}
 use Rattle.node_core.proofs.CaseLemmas.{either_open, if_or, each_map, each_push}
 use Rattle.node_core.proofs.KeptLemmas.{AllKept, GoOn, IsKept, all_kept_after, all_kept_moved, kept_hearing}
 use Rattle.node_core.proofs.Moves.{Move, Moves, One, onward, peers_moved, still}

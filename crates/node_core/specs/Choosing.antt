@@ -1,9 +1,9 @@
 -- What a release rests on: the first copy of the packet is sealed, and the copy that is released is the chosen one.
-use Rattle.std.specs.Prelude.{◌≡◌, ℕ, true, All, Contains, List, ◌∷◌, Some}
+use Rattle.std.specs.Prelude.{◌≡◌, ℕ, true, All, List, ◌∷◌, Some}
 use Rattle.node_core.specs.declared.copy.PacketCopy.{PacketCopy}
 use Rattle.node_core.specs.declared.copy.Verdict.TheVariants.{Sealed}
 use Rattle.node_core.specs.Copies.{is_chosen}
-use Rattle.node_core.specs.Packets.{PacketState, chosen}
+use Rattle.node_core.specs.Packets.{HasPacketWith, PacketState, chosen}
 
 -- the packet's first copy is sealed, and the chosen duplicate is the one at this gateway with this number
 pub record IsChoice (copies : List PacketCopy) (gateway number : ℕ) : Type 0 where
@@ -17,11 +17,8 @@ pub record IsChoice (copies : List PacketCopy) (gateway number : ℕ) : Type 0 w
   pub number_is : copy.number ≡ number
 
 -- one of these packets has this number, and the copy is its choice
-pub record IsChoiceOf (packets : List PacketState) (packet gateway number : ℕ) : Type 0 where
-  pub state : PacketState
-  pub kept : Contains packets state
-  pub number_is : state.number ≡ packet
-  pub choice : IsChoice state.copies gateway number
+abbrev pub IsChoiceOf : List PacketState → (packet gateway number : ℕ) → Type 0
+IsChoiceOf packets packet gateway number = HasPacketWith packets packet (λ copies. IsChoice copies gateway number)
 
 -- each copy for which a release was sent is the choice of its packet; so there is at most one
 abbrev pub ReleasesChoice : PacketState → Type 0

@@ -1,5 +1,5 @@
 -- A packet as its node follows it, and how far the node has come with it.
-use Rattle.std.specs.Prelude.{ℕ, Bool, false, ◌&&◌, ◌||◌, ◌==◌, if◌then◌else◌, List, [], ◌∷◌, ◌++◌, map, Option, Some}
+use Rattle.std.specs.Prelude.{◌≡◌, ℕ, Bool, false, ◌&&◌, ◌||◌, ◌==◌, if◌then◌else◌, Contains, List, [], ◌∷◌, ◌++◌, map, Option, Some}
 use Rattle.std.specs.List.{find, list_all, list_any}
 use Rattle.std.specs.Option.{option_or}
 use Rattle.node_core.specs.declared.copy.Command.{Command}
@@ -74,3 +74,10 @@ packet_hearing port gateway cause numbers packet =
 -- what happens to an open packet; one that is done stays as it is
 abbrev pub while_open : (PacketState → PacketState) → PacketState → PacketState
 while_open f packet = if is_done packet.copies then packet else f packet
+
+-- the packet with this number is one of these, and its copies are so
+pub record HasPacketWith (packets : List PacketState) (packet : ℕ) (P : List PacketCopy → Type 0) : Type 0 where
+  pub state : PacketState
+  pub kept : Contains packets state
+  pub number_is : state.number ≡ packet
+  pub holds : P state.copies

@@ -5,7 +5,7 @@ use Rattle.node_core.specs.declared.copy.Order.{Order}
 use Rattle.node_core.specs.declared.copy.PacketCopy.{PacketCopy}
 use Rattle.node_core.specs.declared.sending.Sending.{Sending}
 use Rattle.node_core.specs.declared.sending.Sending.TheVariants as send
-use Rattle.node_core.specs.Packets.{PacketState}
+use Rattle.node_core.specs.Packets.{HasPacketWith, PacketState}
 
 -- one of these copies is at this gateway with this number
 pub record HasCopyAt (copies : List PacketCopy) (gateway number : ℕ) : Type 0 where
@@ -15,11 +15,8 @@ pub record HasCopyAt (copies : List PacketCopy) (gateway number : ℕ) : Type 0 
   pub number_is : copy.number ≡ number
 
 -- the packet with this number is one of these, and has such a copy
-pub record HasCopyOf (packets : List PacketState) (packet gateway number : ℕ) : Type 0 where
-  pub state : PacketState
-  pub kept : Contains packets state
-  pub packet_is : state.number ≡ packet
-  pub at : HasCopyAt state.copies gateway number
+abbrev pub HasCopyOf : List PacketState → (packet gateway number : ℕ) → Type 0
+HasCopyOf packets packet gateway number = HasPacketWith packets packet (λ copies. HasCopyAt copies gateway number)
 
 -- what was sent for a copy is this release or cancel, with this number
 pub record IsCommandOf (copy : PacketCopy) (order : Order) (number : ℕ) : Type 0 where
@@ -33,7 +30,7 @@ pub record IsCommandOf (copy : PacketCopy) (order : Order) (number : ℕ) : Type
 abbrev pub IsSent : List PacketState → Sending → Type 0
 IsSent packets (send.Probe gateway number) = Unit {0}
 IsSent packets (send.Data packet gateway number is_plain is_new) =
-    (of : HasCopyOf packets packet gateway number) × (of.at.copy.is_plain ≡ is_plain)
+    (of : HasCopyOf packets packet gateway number) × (of.holds.copy.is_plain ≡ is_plain)
 IsSent packets (send.Test packet gateway number) = HasCopyOf packets packet gateway number
 IsSent packets (send.Command packet gateway named number order is_new) =
-    (of : HasCopyOf packets packet gateway named) × IsCommandOf of.at.copy order number
+    (of : HasCopyOf packets packet gateway named) × IsCommandOf of.holds.copy order number

@@ -24,17 +24,17 @@ module _ (node start : ℕ) (values : ℕ → List ℕ) (packets : List PacketSt
   copy_of packet gateway number of = record {
     packet = of.state;
     kept = of.kept;
-    copy = of.at.copy;
-    among = of.at.among;
-    gateway_is = of.at.gateway_is;
-    number_is = of.at.number_is;
+    copy = of.holds.copy;
+    among = of.holds.among;
+    gateway_is = of.holds.gateway_is;
+    number_is = of.holds.number_is;
   }
 
   one_sent : (sending : Sending) → IsSent packets sending → (letter : Letter) → Contains (asked_by node start values sending) letter → MaySendNow letter
   one_sent (send.Probe gateway number) is letter there = in_none letter there
   one_sent (send.Data packet gateway number is_plain is_new) is letter there =
       subst MaySendNow (in_one (letter_of node start gateway First number (Asks (Sends is_plain (values packet)))) letter there)
-      (refl, (refl, record { at = copy_of packet gateway number is.0; plain = is.1; packet = ap values is.0.packet_is }))
+      (refl, (refl, record { at = copy_of packet gateway number is.0; plain = is.1; packet = ap values is.0.number_is }))
   one_sent (send.Test packet gateway number) is letter there =
       subst MaySendNow (in_one (letter_of node start gateway Second number (Asks Tests)) letter there) (refl, (refl, copy_of packet gateway number is))
   one_sent (send.Command packet gateway named number order is_new) is letter there =

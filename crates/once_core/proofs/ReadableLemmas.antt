@@ -1,5 +1,5 @@
 -- The records of a history's items are such as the files are read with.
-use Rattle.std.proofs.Common.{◌≡◌, ℕ, zero, suc, ◌+◌, ◌-◌, ◌^◌, ◌<◌, ◌≤◌, ◌≢◌, ◌==◌, ◌/◌, ◌%◌, nat_lt, All, List, [], ◌∷◌, ◌++◌, length, length-append, length-take, map, drop, filter, Option, Some, None, option_map, refl, sym, subst, arith, ℤ, Contains, not, ⊎_elim}
+use Rattle.std.proofs.Common.{◌≡◌, ℕ, zero, suc, ◌+◌, ◌^◌, ◌<◌, ◌≤◌, ◌≢◌, ◌==◌, ◌/◌, ◌%◌, nat_lt, All, List, [], ◌∷◌, ◌++◌, length, length-append, length-take, map, drop, filter, Option, Some, None, option_map, refl, sym, subst, arith, ℤ, Contains, not, ⊎_elim}
 use Rattle.once_core.proofs.Names.{All-append, All-cons, All-contains, All-drop, All-filter, All-head, All-nil, All-push, All-same, All-tail, All-weaker, along, AreLimits, closed_first, closed_of, ClosureReason, divided_from, Division, ends_before, extension_of, filed_under, FiledRecord, FilePlace, held_packet, HistoryAct, HistoryEntry, IsCdrKind, items_by, items_by_act, items_of, kind_of, last_naming, last_or, last_stream, Limits, map-append, names, nat_tests, NodeId, once, option_and_then_some, packet_of, packet_of_hold, PacketForm, PacketKey, part_of, placed, present_entries, present_key, record_at, records_at, records_from, records_if, release_of, released_by, released_records, Rule, same_Some, Settings, stream_count, stream_item, stream_items, streams_of}
 use Rattle.cdr_file.specs.CdrFile.{FileSettings}
 use Rattle.cdr_file.specs.Timestamp.{stamp_of}

@@ -96,9 +96,9 @@ module _ (setup : NodeSetup) (calls : List NodeCall) where
           let is : is_of state.number s ≡ true =
           ap (λ (p : PacketState). is_of p.number s) goes ∙ ap (λ (n : ℕ). is_of n s) (all_keep (due node_now) was.state) ∙ was.of in
           let e = ever behind in
-          let same = one_packet (length e.before) (packets_of behind) (forms_of behind) of.state state e.numbered of.kept kept (of.packet_is ∙ own state.number is) in
+          let same = one_packet (length e.before) (packets_of behind) (forms_of behind) of.state state e.numbered of.kept kept (of.number_is ∙ own state.number is) in
           let open_yet = ap (λ (p : PacketState). is_done p.copies) (same ∙ goes) ∙ stays_open (due node_now) was.state was.open_yet in
-          search (of.kept, open_yet, of.at.among, of.at.gateway_is, of.at.number_is)
+          search (of.kept, open_yet, of.holds.among, of.holds.gateway_is, of.holds.number_is)
 
       open_in_range : (gateway number : ℕ) → HasOpenCopy (packets_of behind) gateway number → gateway < length (peers_of setup.gateways behind)
       open_in_range gateway number is =

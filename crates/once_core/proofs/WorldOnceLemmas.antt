@@ -1,6 +1,6 @@
 -- Each world is made by happenings, and so it files each record once, and what its messages tell is certain.
 use Rattle.once_core.proofs.LifeWorlds.{values_in, reached_made, reached_lives}
-use Rattle.std.proofs.Common.{◌≡◌, ℕ, ◌-◌, ◌≤◌, ◌==◌, List, [], ◌∷◌, length, filter, map, Option, Some, None, Contains, slice_get, refl, sym, ap, subst, ◌∙◌, arith, eq-eqb, ◌⊎◌, true, false, ⊎_elim}
+use Rattle.std.proofs.Common.{◌≡◌, ℕ, ◌-◌, ◌≤◌, ◌==◌, List, [], ◌∷◌, length, filter, map, Option, Some, None, Contains, slice_get, refl, sym, ap, subst, ◌∙◌, arith, eq-eqb, true, false, ⊎_elim}
 use Rattle.once_core.proofs.Names.{All-contains, all_followed, ALREADY_FULFILLED, and_parts, Answers, AnswersACopy, asking, Asks, cases_lt, Command, Deed, deeds_of, epoch_with, eq-eqb, eqb-true, filed, FiledRecord, firm_in, first_node_ip, first_world, Followed, Follows, forms_ever, Gateway, GivenRecord, HistoryEntry, is_chosen, is_release, is_spoken, is_telling, IsAnswerFor, IsFiledAs, IsFiledFor, IsFiledUnder, IsFollowed, IsMade, IsOfCopy, IsOnce, IsReached, IsState, key_in, KeyState, kind_of, kind_within, Letter, letter_of, log_at, log_of, LogEntry, MeanCopies, Meaning, meaning_of, Message, NamesChoice, nat_tests, node_ip, node_setup, Once, option_map_or, Orders, PacketCopy, PacketKey, packets_in, PacketState, Post, post_of, records_within, Request, RisesBy, ruled, ruled_turns, RuledTurn, Rules, same_key, SceneHolds, Sends, Sent, Shows, StartsRise, TellStates, Turn, turn, turns, uses_by_copies, value_octets, values_of, WasSubmitted, World, world_of}
 use Rattle.once_core.proofs.ApartLemmas.{key_of, one_place}
 use Rattle.once_core.proofs.EpochLemmas.{start_is_one}

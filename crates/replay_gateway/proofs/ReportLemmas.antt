@@ -1,13 +1,15 @@
 -- What is reported of a gateway: its files and its counts.
-use Rattle.std.proofs.Common.{◌≡◌, ◌∙◌, sym, ap, append_assoc, ℕ, ◌+◌, ◌-◌, ◌/◌, ◌%◌, List, [], ◌∷◌, ◌++◌, arith, suc, Bool, true, false, if◌then◌else◌, take, Option, append-nil, refl, zero, take_all}
+use Rattle.std.proofs.Common.{◌≡◌, ◌∙◌, sym, ap, append_assoc, ℕ, ◌+◌, ◌-◌, ◌/◌, ◌%◌, List, [], ◌∷◌, ◌++◌, arith, suc, Bool, true, false, if◌then◌else◌, take, Option, append-nil, refl, zero, take_all, length}
 use Rattle.replay_gateway.proofs.Names.{book_of, closed_of, counts_line, counts_text, digits, file_line, files_below, files_in, Filing, first_machine, flat_map, Gateway, gateway_report, gateway_text, history_of, HistoryAct, HistoryEntry, IsAllWritten, IsOpenedForCounts, Item, items_of, Machine, no_caller, recorded, room_for, rules_in, sealed_below, sealed_lines, Settings, Setup, Site, SiteIsOpened, SiteStands, standing_for, Start, stream_count, stream_files}
 use Rattle.std.proofs.lemmas.List.Concat.{flat_map-append}
+use Rattle.gateway_answer.specs.Filed.{filed}
 use Rattle.gw_base.specs.History.{copies_of, fate_of, with_entry}
 use Rattle.once_core.specs.Gateway.{opened as reopened}
+use Rattle.gateway_book.specs.Calls.{tally_by, tally_of}
 use Rattle.gateway_book.specs.declared.outcome.Counts as told
-use Rattle.replay_gateway.specs.Tally.{IsTallied, Tells}
+use Rattle.gateway_book.specs.declared.outcome.Tally.{Tally}
+use Rattle.replay_gateway.specs.Tally.{Tells}
 use Rattle.replay_gateway.specs.declared.machine.Machine as real
-use Rattle.replay_gateway.specs.declared.gateway_report.Tally.{Tally}
 use Rattle.replay_gateway.proofs.OpeningLemmas.{firm_again, site_later}
 use Rattle.replay_gateway.proofs.WriterLemmas.{files_count}
 
@@ -59,36 +61,28 @@ started_by b h = grind (arith, append-nil, copies_start)
 
 -- What is counted.
 
--- so many entries and records, with the copies that a book counts
-abbrev pub tally_of : ℕ → ℕ → told.Counts → Tally
-tally_of entries records k =
-    record { entries = entries; records = records; held = k.held; stranded = k.stranded }
-
 module _ (setup : Setup) (place : ℕ) (g : Gateway) (m : Machine) where
   -- of one that is up
   pub tallied_up : {n : _} {k : told.Counts} → g.is_down ≡ false → Tells g.book setup.size n k →
-      IsTallied g (tally_of k.entries n k)
+      tally_by k n ≡ tally_of (book_of g)
   tallied_up runs tells =
-      rw (ap (λ b. if b then standing_for (history_of g.book) else g.book) runs) (record {
-        entries = cc tells.counts;
-        records = tells.records;
-        held = cc tells.counts;
-        stranded = cc tells.counts;
-      })
+      (λ i. tally_by (tells.counts i) (tells.records i))
+      ∙ ap (λ b. tally_of (if b then standing_for (history_of g.book) else g.book)) (sym runs)
 
   -- of one that is down
-  pub tallied_down : {n : _} {k : told.Counts} → g.is_down ≡ true →
-      Tells (reopened (rules_in setup) g).book setup.size n k → IsTallied g (tally_of k.firm n k)
-  tallied_down down tells =
+  pub tallied_down : {n : ℕ} {k : told.Counts} → g.is_down ≡ true →
+      Tells (reopened (rules_in setup) g).book setup.size n k →
+      record { entries = k.firm; records = n; held = k.held; stranded = k.stranded } ≡ tally_of (book_of g)
+  tallied_down {n} {k} down tells =
       let h = history_of g.book in
       let firm = firm_again setup place g m in
       let copies = started_by (room_for (history_of (standing_for h)) setup.size Start) h in
-      rw (ap (λ b. if b then standing_for h else g.book) down) (record {
-        entries = cc (tells.counts, append-nil h);
-        records = cc tells.records;
-        held = cc tells.counts;
-        stranded = cc tells.counts;
-      })
+      let entries : k.firm ≡ length (history_of (standing_for h)) = cc (tells.counts, append-nil h) in
+      let records : n ≡ length (filed (standing_for h).firm) = cc tells.records in
+      let held : k.held ≡ (copies_of (history_of (standing_for h))).held = cc tells.counts in
+      let stranded : k.stranded ≡ (copies_of (history_of (standing_for h))).stranded = cc tells.counts in
+      (λ i. record { entries = entries i; records = records i; held = held i; stranded = stranded i })
+      ∙ ap (λ b. tally_of (if b then standing_for h else g.book)) (sym down)
 
   pub site_opened : (s : Option Site) → SiteIsOpened setup place g s →
       SiteStands setup place (reopened (rules_in setup) g) first_machine s
@@ -101,9 +95,9 @@ module _ (setup : Setup) (place : ℕ) (g : Gateway) (m : Machine) where
       record { site = grind arith; rest = site_later before new is_opened.rest rest }
 
   -- the lines of its files, and then of its counts
-  pub reported : (tally : Tally) (before : List ℕ) {middle after : _} → IsTallied g tally →
+  pub reported : (tally : Tally) (before : List ℕ) {middle after : _} → tally ≡ tally_of (book_of g) →
       middle ≡ before ++ sealed_lines setup place g m →
-      after ≡ middle ++ counts_text place tally.entries tally.records tally.held tally.stranded →
+      after ≡ middle ++ counts_text place tally →
       after ≡ before ++ gateway_text setup place g m
   reported tally before is files counts =
       cc (append_assoc before (sealed_lines setup place g m) (counts_line place (book_of g)))

@@ -1,15 +1,15 @@
 -- What is reported of a gateway: its sealed files and its counts.
-use Rattle.std.specs.Prelude.{ℕ, zero, suc, ◌/◌, ◌%◌, ◌+◌, if◌then◌else◌, List, [], ◌∷◌, ◌++◌, length, take, codes}
+use Rattle.std.specs.Prelude.{ℕ, zero, suc, ◌/◌, ◌%◌, ◌+◌, if◌then◌else◌, List, [], ◌∷◌, ◌++◌, take, codes}
 use Rattle.std.specs.Fmt.{decimal}
 use Rattle.std.specs.List.{flat_map}
 use Rattle.cdr_shelf.specs.Files.{SealedFile}
 use Rattle.cdr_shelf.specs.declared.file_name.FileName.{FileName}
 use Rattle.file_writer.specs.Files.{files_of, stream_files}
 use Rattle.file_writer.specs.Streams.{Settings, stream_count}
-use Rattle.gateway_answer.specs.Filed.{filed}
 use Rattle.gateway_answer.specs.Items.{items_of}
 use Rattle.gateway_answer.specs.Value.{BookValue, history_of, standing_for}
-use Rattle.gw_base.specs.History.{copies_of}
+use Rattle.gateway_book.specs.Calls.{tally_of}
+use Rattle.gateway_book.specs.declared.outcome.Tally.{Tally}
 use Rattle.gw_base.specs.declared.item.Item.{Item}
 use Rattle.hex.specs.Hex.{encode_upper}
 use Rattle.once_core.specs.Gateway.{Gateway}
@@ -42,17 +42,14 @@ file_lines setup place items = flat_map (file_line place) (files_of (files_in se
 abbrev pub book_of : Gateway → BookValue
 book_of g = if g.is_down then standing_for (history_of g.book) else g.book
 
-abbrev pub counts_text : ℕ → ℕ → ℕ → ℕ → ℕ → List ℕ
-counts_text place entries records held stranded =
-    codes "gateway " ++ decimal (suc place) ++ codes " entries " ++ decimal entries ++ codes " records "
-    ++ decimal records ++ codes " held " ++ decimal held ++ codes " stranded " ++ decimal stranded ++ 10 ∷ []
+abbrev pub counts_text : ℕ → Tally → List ℕ
+counts_text place tally =
+    codes "gateway " ++ decimal (suc place) ++ codes " entries " ++ decimal tally.entries ++ codes " records "
+    ++ decimal tally.records ++ codes " held " ++ decimal tally.held ++ codes " stranded " ++ decimal tally.stranded
+    ++ 10 ∷ []
 
--- the entries, the records that the firm ones file, the copies that are held, and those of earlier epochs that were
--- neither released nor cancelled
 abbrev pub counts_line : ℕ → BookValue → List ℕ
-counts_line place book =
-    let h = history_of book in
-    counts_text place (length h) (length (filed book.firm)) (copies_of h).held (copies_of h).stranded
+counts_line place book = counts_text place (tally_of book)
 
 -- What is reported of the gateway in a place: the files that these items close, and what this book counts. A feed
 -- reports its gateway as the first of a network, too.

@@ -126,12 +126,8 @@ impl Machine {
             record self.old { site = self.new.site; waiting = self.new.waiting; files = self.new.files } }
     {
         what_a_gateway_leaves::<MemoryArea>();
-        let book = match self.site.take() {
-            Some(Site::Up(book)) => book,
-            other => {
-                self.site = other;
-                return;
-            }
+        let Some(book) = self.take_book() else {
+            return;
         };
         self.leave(alloc, book.into_area());
     }

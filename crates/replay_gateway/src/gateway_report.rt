@@ -3,37 +3,24 @@ ghost use Rattle.std.specs.Prelude.{◌≡◌, ◌+◌, ◌<◌, ◌^◌, ◌++�
 ghost use Rattle.std.specs.List.{flat_map};
 ghost use Rattle.file_writer.specs.Files.{stream_files};
 ghost use Rattle.file_writer.specs.Streams.{stream_count};
-ghost use Rattle.gateway_book.specs.Calls.{counts_of};
+ghost use Rattle.gateway_book.specs.Calls.{counts_of, tally_of};
 ghost use Rattle.gateway_answer.specs.Items.{items_of};
 ghost use Rattle.once_core.specs.Gateway.{Gateway};
-ghost use Rattle.replay_gateway.specs.GatewayReport.{counts_text, digits, file_line, file_name, gateway_text, sealed_lines};
+ghost use Rattle.replay_gateway.specs.GatewayReport.{book_of, counts_text, digits, file_line, file_name, gateway_text, sealed_lines};
 ghost use Rattle.replay_gateway.specs.Machine.{Machine as MachineValue};
 ghost use Rattle.replay_gateway.specs.Setup.{Setup, files_in};
 ghost use Rattle.replay_gateway.specs.Standing.{MachineStands, SiteStands};
-ghost use Rattle.replay_gateway.specs.Tally.{IsTallied, Tells};
+ghost use Rattle.replay_gateway.specs.Tally.{Tells};
 
 use crate::machine::Machine;
 use crate::site::Site;
 use cdr_shelf::FileName;
-use gateway_book::{Counts, record_count};
+use gateway_book::{Counts, Tally, record_count};
 use gw_base::{NoMemory, Octets};
 use std::alloc::Global;
 
 /// How many streams a gateway has.
 const STREAMS: u8 = 16;
-
-/// What a gateway counts.
-#[derive(Clone, Copy)]
-pub struct Tally {
-    /// The entries of its history.
-    pub entries: u64,
-    /// The records that its firm entries file.
-    pub records: usize,
-    /// The copies that are held in present epochs.
-    pub held: u64,
-    /// Those of earlier epochs that were neither released nor cancelled.
-    pub stranded: u64,
-}
 
 impl Machine {
     /// Appends the lines of a gateway, which is in this place: of its sealed files, and of its counts. One that is down
@@ -46,15 +33,7 @@ impl Machine {
     {
         self.report_files(alloc, place, out)?;
         let tally = self.tally(alloc)?;
-        print_counts(
-            alloc,
-            out,
-            usize::from(place),
-            tally.entries,
-            tally.records,
-            tally.held,
-            tally.stranded,
-        )
+        print_counts(alloc, out, usize::from(place), tally)
     }
 
     /// What it counts. One that is down is opened for this, and its area is left as it was. `NoMemory`: there was no
@@ -62,26 +41,21 @@ impl Machine {
     pub fn tally(&mut self, alloc: Global) -> Result<Tally, NoMemory>
         ensures { (setup : Setup) (place : ℕ) (g : Gateway) (m : MachineValue) →
             MachineStands setup place g m self.old →
-            IfOk result (λ tally. IsTallied g tally × MachineStands setup place g m self.new) }
+            IfOk result (λ tally. (tally ≡ tally_of (book_of g)) × MachineStands setup place g m self.new) }
     {
         if self.is_down() {
             return self.tally_down(alloc);
         }
         let told = self.tell(alloc)?;
         let (records, counts) = told;
-        Ok(Tally {
-            entries: counts.entries,
-            records,
-            held: counts.held,
-            stranded: counts.stranded,
-        })
+        Ok(counts.tally(records))
     }
 
     // The same of one that is down. The Start of the opening isn't firm, and doesn't count.
     fn tally_down(&mut self, alloc: Global) -> Result<Tally, NoMemory>
         ensures { (setup : Setup) (place : ℕ) (g : Gateway) (m : MachineValue) →
             MachineStands setup place g m self.old → g.is_down ≡ true →
-            IfOk result (λ tally. IsTallied g tally × MachineStands setup place g m self.new) }
+            IfOk result (λ tally. (tally ≡ tally_of (book_of g)) × MachineStands setup place g m self.new) }
     {
         self.open_book(alloc)?;
         let told = self.tell(alloc)?;
@@ -210,14 +184,17 @@ pub fn print_counts(
     alloc: Global,
     out: &mut Octets,
     place: usize,
-    entries: u64,
-    records: usize,
-    held: u64,
-    stranded: u64,
+    tally: Tally,
 ) -> Result<(), NoMemory>
     requires { place + 1 < 2 ^ 64 }
-    ensures { OnOk result (out.new ≡ out.old ++ counts_text place entries records held stranded) }
+    ensures { OnOk result (out.new ≡ out.old ++ counts_text place tally) }
 {
+    let Tally {
+        entries,
+        records,
+        held,
+        stranded,
+    } = tally;
     let number = place + 1;
     let line = format!(in alloc;
         "gateway {number} entries {entries} records {records} held {held} stranded {stranded}\n"

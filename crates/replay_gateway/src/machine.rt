@@ -1,5 +1,5 @@
 // A gateway as it runs: its book on an area, the writer of its files on a shelf, and the answers that wait.
-ghost use Rattle.std.specs.Prelude.{◌≡◌, ◌≤◌, ℕ, [], IfOk, List, MatchOption, Ok, OnOk, false, true};
+ghost use Rattle.std.specs.Prelude.{◌≡◌, ◌≤◌, ℕ, [], IfOk, List, MatchOption, None, Ok, OnOk, Some, false, true};
 ghost use Rattle.area_disk.specs.Armed.{Armed};
 ghost use Rattle.file_writer.specs.Streams.{Settings as FileSettings};
 ghost use Rattle.gateway_book.specs.Up.{HoldsHistory};
@@ -7,7 +7,7 @@ ghost use Rattle.gw_base.specs.declared.item.Item.{Item};
 ghost use Rattle.gw_base.specs.declared.history.HistoryEntry.{HistoryEntry};
 ghost use Rattle.once_core.specs.Beginning.{first_gateway};
 ghost use Rattle.once_core.specs.Gateway.{Gateway, cut, opened};
-ghost use Rattle.replay_gateway.specs.Called.{SiteIsDown};
+ghost use Rattle.replay_gateway.specs.Called.{SiteIsDown, book_in};
 ghost use Rattle.replay_gateway.specs.Opening.{ArmsAs, IsOpenedForCounts};
 ghost use Rattle.replay_gateway.specs.HandedOut.{IsHandedOut};
 ghost use Rattle.replay_gateway.specs.Settings.{AreSet, AreSound};
@@ -15,6 +15,7 @@ ghost use Rattle.replay_gateway.specs.Setup.{Setup as SetupValue, rules_in};
 ghost use Rattle.replay_gateway.specs.Standing.{MachineStands, area_tells, header_at};
 ghost use Rattle.replay_gateway.specs.Machine.{Filing, Machine as MachineValue, disarmed, ended, first_machine, shelf_armed, unarmed};
 ghost use Rattle.replay_gateway.specs.Written.{FilesStand};
+ghost use Rattle.replay_gateway.specs.declared.site.Site.TheVariants.{Up};
 
 use crate::fallen::Fallen;
 use crate::files::Files;
@@ -27,8 +28,8 @@ use area_disk::{Drill, MemoryArea, Outcome3, Plan};
 use cdr_shelf::MemoryShelf;
 use file_writer::Writer;
 use gateway_answer::laws::filed_records_stay;
-use gateway_book::Setup;
 use gateway_book::laws::what_a_gateway_leaves;
+use gateway_book::{Book, Setup};
 use gw_base::NoMemory;
 use once_core::{Message, Waiting, gateway_address};
 use route_filter::Rules;
@@ -166,12 +167,8 @@ impl Machine {
             MachineStands setup place g m self.old → g.is_down ≡ true → self.new ≡ self.old }
     {
         what_a_gateway_leaves::<MemoryArea>();
-        let book = match self.site.take() {
-            Some(Site::Up(book)) => book,
-            other => {
-                self.site = other;
-                return;
-            }
+        let Some(book) = self.take_book() else {
+            return;
         };
         let mut area = book.into_area();
         area.stop(Outcome3::Old);
@@ -244,15 +241,25 @@ impl Machine {
             IsOpenedForCounts setup place g before self.old →
             MachineStands setup place g m self.new }
     {
-        let book = match self.site.take() {
-            Some(Site::Up(book)) => book,
-            other => {
-                self.site = other;
-                return;
-            }
+        let Some(book) = self.take_book() else {
+            return;
         };
         let area = book.into_area();
         self.site = Some(Site::Down(Fallen { area }));
+    }
+
+    // Takes out the book of one that is up. One that is down is left as it is.
+    pub(crate) fn take_book(&mut self) -> Option<Book<MemoryArea>>
+        ensures { MatchOption result ((book_in self.old.site ≡ None) × (self.new ≡ self.old))
+            (λ book. (self.old.site ≡ Some (Up book)) × (self.new ≡ record self.old { site = None })) }
+    {
+        match self.site.take() {
+            Some(Site::Up(book)) => Some(book),
+            other => {
+                self.site = other;
+                None
+            }
+        }
     }
 
     /// Its area and its shelf, as they are.

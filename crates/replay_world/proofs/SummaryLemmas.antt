@@ -2,7 +2,7 @@
 use Rattle.std.proofs.Common.{◌≡◌, ◌∙◌, refl, ap, ℕ, zero, suc, ◌+◌, ◌-◌, ◌*◌, ◌<◌, ◌^◌, List, [], ◌∷◌, ◌++◌, take, sum_by, Option, Some, None, slice_get, arith, sym, ◌%◌, ◌≤◌, length, set, append_assoc, append-nil, length-set}
 use Rattle.replay_world.proofs.Names.{AreGatewaySums, AreNodeSums, counts_at, counts_of, enumerate_from, filed_of, flat_map, flat_map-append, Gateway, gateway_lines, gateway_sums, gateway_text, held_of, LogEntry, MachineStands, node_line, node_sums, node_text, node_value, option_map_or, range_with_len, Replay, ReplayValue, report_of, Stands, stranded_of, sum_by-append, sum_by-cons, TalliesIf}
 use Rattle.node_core.specs.declared.counts.NodeCounts.{NodeCounts}
-use Rattle.replay_gateway.specs.declared.gateway_report.Tally.{Tally}
+use Rattle.gateway_book.specs.declared.outcome.Tally.{Tally}
 use Rattle.replay_world.specs.declared.summary.GatewaySums.{GatewaySums}
 use Rattle.replay_world.specs.declared.summary.NodeSums.{NodeSums}
 use Rattle.replay_world.proofs.NodeEventLemmas.{set_same}
@@ -38,11 +38,11 @@ module _ (gs : List Gateway) (k : ℕ) (tally : Tally) (sums more : GatewaySums)
       by (Some g) is told =
           let next : suc k ≡ k + 1 = omega arith in
           let records : sums.records + tally.records ≡ sum_by filed_of (take (suc k) gs) =
-          cc (told.records, sum_next filed_of gs k is) in
+          cc (told, sum_next filed_of gs k is) in
           let held : sums.held + tally.held ≡ sum_by held_of (take (suc k) gs) =
-          cc (told.held, sum_next held_of gs k is) in
+          cc (told, sum_next held_of gs k is) in
           let stranded : sums.stranded + tally.stranded ≡ sum_by stranded_of (take (suc k) gs) =
-          cc (told.stranded, sum_next stranded_of gs k is) in
+          cc (told, sum_next stranded_of gs k is) in
           added ∙ (λ i. record { records = records i; held = held i; stranded = stranded i })
           ∙ ap (λ n. gateway_sums (take n gs)) next
 

@@ -1,19 +1,16 @@
 -- What all gateways and all nodes of a replay count together.
-use Rattle.std.specs.Prelude.{ℕ, ◌≤◌, List, [], ◌∷◌, ◌++◌, length, sum_by, slice_get, Option, Some, None, codes}
+use Rattle.std.specs.Prelude.{◌≡◌, ℕ, ◌≤◌, List, [], ◌∷◌, ◌++◌, length, sum_by, slice_get, Option, Some, None, codes}
 use Rattle.std.specs.Fmt.{decimal}
 use Rattle.std.specs.List.{enumerate_from}
-use Rattle.gateway_answer.specs.Filed.{filed}
-use Rattle.gateway_answer.specs.Value.{history_of}
-use Rattle.gw_base.specs.History.{copies_of}
+use Rattle.gateway_book.specs.Calls.{tally_of}
+use Rattle.gateway_book.specs.declared.outcome.Tally.{Tally}
 use Rattle.node_core.specs.Counting.{counts_of}
 use Rattle.node_core.specs.Log.{LogEntry}
 use Rattle.node_core.specs.declared.counts.NodeCounts.{NodeCounts}
 use Rattle.once_core.specs.Gateway.{Gateway}
 use Rattle.once_core.specs.World.{node_value}
 use Rattle.replay_gateway.specs.GatewayReport.{book_of}
-use Rattle.replay_gateway.specs.Tally.{IsTallied}
 use Rattle.replay_world.specs.Value.{ReplayValue}
-use Rattle.replay_gateway.specs.declared.gateway_report.Tally.{Tally}
 use Rattle.replay_world.specs.declared.summary.GatewaySums.{GatewaySums}
 use Rattle.replay_world.specs.declared.summary.NodeSums.{NodeSums}
 use Rattle.replay_world.specs.declared.summary.Summary.{Summary}
@@ -21,13 +18,13 @@ use Rattle.replay_world.specs.declared.summary.Summary.{Summary}
 -- Gateways: of one that is down its book is meant as it would be opened, but for its Start.
 
 abbrev pub filed_of : Gateway → ℕ
-filed_of g = length (filed (book_of g).firm)
+filed_of g = (tally_of (book_of g)).records
 
 abbrev pub held_of : Gateway → ℕ
-held_of g = (copies_of (history_of (book_of g))).held
+held_of g = (tally_of (book_of g)).held
 
 abbrev pub stranded_of : Gateway → ℕ
-stranded_of g = (copies_of (history_of (book_of g))).stranded
+stranded_of g = (tally_of (book_of g)).stranded
 
 abbrev pub gateway_sums : List Gateway → GatewaySums
 gateway_sums gs = record {
@@ -45,7 +42,7 @@ pub record AreGatewaySums (most : ℕ) (sums : GatewaySums) : Type 0 where
 -- the gateway in this place counts this
 abbrev pub TalliesIf : Option Gateway → Tally → Type 0
 TalliesIf None tally = ⊥
-TalliesIf (Some g) tally = IsTallied g tally
+TalliesIf (Some g) tally = tally ≡ tally_of (book_of g)
 
 abbrev pub TalliesAt : ReplayValue → ℕ → Tally → Type 0
 TalliesAt v place tally = TalliesIf (slice_get v.world.gateways place) tally

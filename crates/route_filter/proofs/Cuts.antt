@@ -1,50 +1,37 @@
 -- Lemmas on texts that are cut at a separator, and on words of octets.
-use Rattle.std.proofs.Common.{◌≡◌, ℕ, suc, ◌+◌, ◌<◌, Bool, true, false, ◌==◌, if◌then◌else◌, not, filter, List, [], ◌∷◌, ◌++◌, length, take, drop, get_or, map, Option, Some, None, option_map, option_and_then, refl, ap, sym, ◌∙◌, arith, append_assoc, append-nil, subst, is_some, unwrap_or}
-use Rattle.std.proofs.Math.Seq.{drop-cons, take-suc}
+use Rattle.std.proofs.Common.{◌≡◌, ℕ, suc, ◌+◌, ◌<◌, ◌≤◌, Bool, true, false, ◌==◌, if◌then◌else◌, not, filter, List, [], ◌∷◌, ◌++◌, length, take, drop, drop-cons, get_or, slice_index, map, Option, Some, None, option_map, option_and_then, refl, ap, sym, ◌∙◌, arith, append_assoc, subst, is_some, unwrap_or, zero}
+use Rattle.std.proofs.lemmas.Bool.{false_from_ne_true}
 use Rattle.std.specs.List.{onto_first, slice_split}
 use Rattle.std.specs.Borrow.{Bor}
 use Rattle.route_filter.specs.Words.{cut_at, is_empty, octets_in, octets_of, with_word, words_of}
 
--- octets in front of what stands before the separator
-abbrev pub in_front : List ℕ → Option (List ℕ × List ℕ) → Option (List ℕ × List ℕ)
-in_front front parts = option_map (λ p. (front ++ p.0, p.1)) parts
+-- the octet at this place is the separator, and none before it
+cut_there : (separator : ℕ) (xs : List ℕ) (k : ℕ) → k < length xs →
+    ((j : ℕ) → 0 ≤ j → j < k → (slice_index xs j == separator) ≡ true → ⊥) → (slice_index xs k == separator) ≡ true →
+    cut_at separator xs ≡ Some (take k xs, drop (k + 1) xs)
+cut_there separator [] k h before is = absurd (omega arith)
+cut_there separator (x ∷ xs) zero h before is = rw is refl
+cut_there separator (x ∷ xs) (suc k) h before is =
+    let other : (x == separator) ≡ false = false_from_ne_true (x == separator) (before 0 (omega arith) (omega arith)) in
+    let later = cut_there separator xs k (omega arith) (λ j low high. before (suc j) (omega arith) (omega arith)) is in
+    let here : suc k + 1 ≡ suc (k + 1) = omega arith in
+    rw (here, other) (ap (option_map (λ parts. (x ∷ parts.0, parts.1))) later)
 
-one_in_front : (front : List ℕ) (x : ℕ) (parts : Option (List ℕ × List ℕ)) →
-    in_front front (option_map (λ p. (x ∷ p.0, p.1)) parts) ≡ in_front (front ++ x ∷ []) parts
-one_in_front front x None = refl
-one_in_front front x (Some p) = ap (λ xs. Some (xs, p.1)) (sym (append_assoc front (x ∷ []) p.0))
+-- the first place of the separator is known
+pub cut_found : (separator : ℕ) (xs : List ℕ) (k : ℕ) (before later : List ℕ) → k < length xs →
+    ((j : ℕ) → 0 ≤ j → j < k → (slice_index xs j == separator) ≡ true → ⊥) → (slice_index xs k == separator) ≡ true →
+    before ≡ take k xs → later ≡ drop (k + 1) xs → Some (before, later) ≡ cut_at separator xs
+cut_found separator xs k before later h none is first second =
+    rw first (rw second (sym (cut_there separator xs k h none is)))
 
-not_here : (separator x : ℕ) (front rest : List ℕ) → (x == separator) ≡ false →
-    in_front front (cut_at separator (x ∷ rest)) ≡ in_front (front ++ x ∷ []) (cut_at separator rest)
-not_here separator x front rest e = rw e (one_in_front front x (cut_at separator rest))
-
--- the octet at this place is none, so the search goes on after it
-pub step_cut : (separator : ℕ) (xs : List ℕ) (i : ℕ) → i < length xs → (get_or xs i 0 == separator) ≡ false →
-    cut_at separator xs ≡ in_front (take i xs) (cut_at separator (drop i xs)) →
-    cut_at separator xs ≡ in_front (take (i + 1) xs) (cut_at separator (drop (i + 1) xs))
-step_cut separator xs i h ne e =
-    let next : i + 1 ≡ suc i = omega arith in
-    rw next (e ∙ ap (λ r. in_front (take i xs) (cut_at separator r)) (drop-cons xs i 0 h)
-    ∙ not_here separator (get_or xs i 0) (take i xs) (drop (suc i) xs) ne
-    ∙ ap (λ f. in_front f (cut_at separator (drop (suc i) xs))) (sym (take-suc xs i 0 h)))
-
-here : (separator x : ℕ) (front rest : List ℕ) → (x == separator) ≡ true → in_front front (cut_at separator (x ∷ rest)) ≡ Some (front ++ [], rest)
-here separator x front rest e = rw e refl
-
--- the octet at this place is the separator
-pub found_cut : (separator : ℕ) (xs : List ℕ) (i : ℕ) → i < length xs → (get_or xs i 0 == separator) ≡ true →
-    cut_at separator xs ≡ in_front (take i xs) (cut_at separator (drop i xs)) →
-    cut_at separator xs ≡ Some (take i xs ++ [], drop (i + 1) xs)
-found_cut separator xs i h is e =
-    let next : i + 1 ≡ suc i = omega arith in
-    rw next (e ∙ ap (λ r. in_front (take i xs) (cut_at separator r)) (drop-cons xs i 0 h)
-    ∙ here separator (get_or xs i 0) (take i xs) (drop (suc i) xs) is)
-
-pub found_parts : (separator : ℕ) (xs : List ℕ) (i : ℕ) (before later : List ℕ) → i < length xs → (get_or xs i 0 == separator) ≡ true →
-    cut_at separator xs ≡ in_front (take i xs) (cut_at separator (drop i xs)) →
-    before ≡ take i xs → later ≡ drop (i + 1) xs → Some (before, later) ≡ cut_at separator xs
-found_parts separator xs i before later h is e first second =
-    rw first (rw second (sym (found_cut separator xs i h is e ∙ ap (λ f. Some (f, drop (i + 1) xs)) (append-nil (take i xs)))))
+-- it stands nowhere
+pub cut_missing : (separator : ℕ) (xs : List ℕ) → ((j : ℕ) → 0 ≤ j → j < length xs → (slice_index xs j == separator) ≡ true → ⊥) →
+    cut_at separator xs ≡ None
+cut_missing separator [] nowhere = refl
+cut_missing separator (x ∷ xs) nowhere =
+    let other : (x == separator) ≡ false = false_from_ne_true (x == separator) (nowhere 0 (omega arith) (omega arith)) in
+    let later = cut_missing separator xs (λ j low high. nowhere (suc j) (omega arith) (omega arith)) in
+    rw other (ap (option_map (λ parts. (x ∷ parts.0, parts.1))) later)
 
 -- Words.
 

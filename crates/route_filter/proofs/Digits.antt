@@ -1,59 +1,64 @@
--- Lemmas on words of decimal digits.
-use Rattle.std.proofs.Common.{◌≡◌, ℕ, ◌<◌, ◌^◌, Bool, true, false, ◌&&◌, ◌==◌, List, [], ◌∷◌, length, Result, Ok, Err, refl, arith}
+-- Lemmas on words of decimal digits, which are read a digit at a time.
+use Rattle.std.proofs.Common.{◌≡◌, ℕ, suc, ◌+◌, ◌*◌, ◌<◌, ◌≤◌, nat_le, Bool, true, false, if◌then◌else◌, List, [], ◌∷◌, length, drop, get_or, Option, Some, None, ap, sym, ◌∙◌, arith}
 use Rattle.std.specs.Char.{is_ascii_digit, digit_value}
-use Rattle.std.specs.Int.{IsInRange}
 use Rattle.std.specs.List.{list_all}
-use Rattle.std.specs.Option.{SomeIff}
-use Rattle.std.specs.Str.{IsUtf8}
-use Rattle.std.specs.Str.Parse.{AllDigits, ParsesUnsigned, digits_value, without_leading_plus}
-use Rattle.std.specs.Result.{result_ok}
-use Rattle.std.proofs.lemmas.Str.{IsUtf8-from_ascii, digit_value_digit}
-use Rattle.std.proofs.lemmas.Str.Parse.{digit_from_value}
-use Rattle.std.proofs.lemmas.Fmt.{IsAscii-from_digits}
-use Rattle.route_filter.specs.Words.{has_decimal_form, is_decimal}
+use Rattle.std.specs.Str.Parse.{digits_value_after}
+use Rattle.std.proofs.Math.Seq.{drop-cons}
+use Rattle.std.proofs.lemmas.Bool.Decides.{nat_tests}
+use Rattle.std.proofs.lemmas.List.{at_drop_all}
+use Rattle.route_filter.specs.Words.{at_most, has_decimal_form, number_up_to, with_digit, ◌>>=◌}
 
-first_true : (a b : Bool) → (a && b) ≡ true → a ≡ true
-first_true true b e = refl
-first_true false b e = e
+-- the number that the digits that are left say behind those of `n`, where it is at most `most`
+abbrev pub number_after : ℕ → ℕ → List ℕ → Option ℕ
+number_after most n rest = if list_all is_ascii_digit rest then at_most most (digits_value_after 10 n rest) else None
 
-second_true : (a b : Bool) → (a && b) ≡ true → b ≡ true
-second_true true b e = e
-second_true false b e = cc
+grows : (n : ℕ) (ds : List ℕ) → n ≤ digits_value_after 10 n ds
+grows n [] = omega arith
+grows n (d ∷ ds) = let later = grows (n * 10 + digit_value d) ds in omega arith
 
-in_range : (c : ℕ) → is_ascii_digit c ≡ true → IsInRange 48 57 c
-in_range c e = (grind (arith, e), grind (arith, e))
+above : (most n : ℕ) → most < n → at_most most n ≡ None
+above most n h = grind (arith, nat_tests)
 
-below_ten : (c : ℕ) → is_ascii_digit c ≡ true → digit_value c < 10
-below_ten c e = let h = in_range c e in omega (arith, digit_value_digit c h, h.0, h.1)
+too_large : (b : Bool) (most n : ℕ) → most < n → (if b then at_most most n else None) ≡ None
+too_large b most n h = grind (arith, above)
 
-all_digits : (cs : List ℕ) → list_all is_ascii_digit cs ≡ true → AllDigits 10 cs
-all_digits [] e = tt
-all_digits (c ∷ cs) e = (
-  below_ten c (first_true (is_ascii_digit c) (list_all is_ascii_digit cs) e),
-  all_digits cs (second_true (is_ascii_digit c) (list_all is_ascii_digit cs) e),
-)
+-- a number so large isn't followed by any that is small enough
+beyond : (most n : ℕ) (rest : List ℕ) → most < n → number_after most n rest ≡ None
+beyond most n rest h = search (arith, too_large, grows)
 
-digits_of : (word : List ℕ) → is_decimal word ≡ true → AllDigits 10 word
-digits_of word e = all_digits word (second_true (has_decimal_form word) (list_all is_ascii_digit word) e)
+one_more : (most n : ℕ) (rest : List ℕ) (small : Bool) → nat_le n 18446744073709551615 ≡ small →
+    most ≤ 18446744073709551615 →
+    number_after most n rest ≡ ((if small then Some n else None) >>= (λ v. number_after most v rest))
+one_more most n rest small e h = grind (arith, nat_tests, beyond)
 
--- digits are a text
-pub is_text : (word : List ℕ) → is_decimal word ≡ true → IsUtf8 word
-is_text word e = IsUtf8-from_ascii word (IsAscii-from_digits word (digits_of word e))
+-- a digit more, or none that is small enough
+pub one_digit : (most n d : ℕ) (rest : List ℕ) → most ≤ 18446744073709551615 →
+    number_after most n (d ∷ rest) ≡ (with_digit n d >>= (λ v. number_after most v rest))
+one_digit most n d rest h = grind (arith, nat_tests, one_more)
 
-no_plus : (c : ℕ) → digit_value c < 10 → (c == 43) ≡ false
-no_plus c h = let within = digit_from_value c h in grind (arith, within.0)
+-- the digit at this place is taken
+pub taken : (most n next : ℕ) (word : List ℕ) (i : ℕ) → most ≤ 18446744073709551615 → i < length word →
+    Some next ≡ with_digit n (get_or word i 0) →
+    number_after most n (drop i word) ≡ number_after most next (drop (i + 1) word)
+taken most n next word i h within e =
+    let here : i + 1 ≡ suc i = omega arith in
+    rw here (ap (number_after most n) (drop-cons word i 0 within)
+    ∙ one_digit most n (get_or word i 0) (drop (suc i) word) h
+    ∙ ap (λ o. o >>= (λ v. number_after most v (drop (suc i) word))) (sym e))
 
-plain : (word : List ℕ) → is_decimal word ≡ true → without_leading_plus word ≡ word
-plain [] e = refl
-plain (c ∷ cs) e = rw (no_plus c (digits_of (c ∷ cs) e).0) refl
+-- it isn't
+pub refused : (most n : ℕ) (word : List ℕ) (i : ℕ) → most ≤ 18446744073709551615 → i < length word →
+    None ≡ with_digit n (get_or word i 0) →
+    number_after most n (drop i word) ≡ None
+refused most n word i h within e = search (arith, drop-cons, one_digit)
 
-numeral : (word : List ℕ) → is_decimal word ≡ true → 0 < length word
-numeral [] e = cc
-numeral (c ∷ cs) e = omega arith
+pub from_form : (most : ℕ) (word : List ℕ) → has_decimal_form word ≡ true →
+    number_up_to most word ≡ number_after most 0 word
+from_form most word e = rw e
 
--- what `parse` makes of digits
-pub parsed : {E : Type 0} (word : List ℕ) (r : Result ℕ E) → is_decimal word ≡ true → ParsesUnsigned 64 10 word r →
-    SomeIff (result_ok r) (digits_value 10 word < 2 ^ 64) (digits_value 10 word)
-parsed word (Ok n) e h = let read = rw (plain word e) at h in (read.0.1, read.1)
-parsed word (Err fault) e h =
-    let not_read = rw (plain word e) at h in λ small. not_read ((numeral word e, digits_of word e), small)
+pub no_form : (most : ℕ) (word : List ℕ) → has_decimal_form word ≡ false → number_up_to most word ≡ None
+no_form most word e = rw e
+
+-- no digit is left
+pub ended : (most n : ℕ) (word : List ℕ) (i : ℕ) → length word ≤ i → number_after most n (drop i word) ≡ at_most most n
+ended most n word i h = at_drop_all (number_after most n) word i h

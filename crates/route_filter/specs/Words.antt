@@ -1,8 +1,8 @@
 -- The words of a line, and the numbers and octets that words say.
-use Rattle.std.specs.Prelude.{ℕ, Bool, true, false, not, ◌==◌, ◌&&◌, nat_le, if◌then◌else◌, List, [], ◌∷◌, ◌++◌, filter, Option, Some, None, option_map, option_and_then, Result, Ok, Err}
+use Rattle.std.specs.Prelude.{ℕ, ◌+◌, ◌*◌, Bool, true, false, not, ◌==◌, ◌&&◌, nat_le, if◌then◌else◌, List, [], ◌∷◌, ◌++◌, filter, Option, Some, None, option_map, option_and_then, Result, Ok, Err}
 use Rattle.std.specs.Borrow.{Bor}
 use Rattle.std.specs.List.{list_all, slice_split}
-use Rattle.std.specs.Char.{is_ascii_digit}
+use Rattle.std.specs.Char.{is_ascii_digit, digit_value}
 use Rattle.std.specs.Str.Parse.{digits_value}
 use Rattle.hex.specs.Hex.{decode_of}
 use Rattle.hex.specs.declared.error.FromHexError.{FromHexError}
@@ -49,6 +49,11 @@ is_decimal word = has_decimal_form word && list_all is_ascii_digit word
 -- a number, where it is at most `most`
 abbrev pub at_most : ℕ → ℕ → Option ℕ
 at_most most n = if nat_le n most then Some n else None
+
+-- the number that a digit makes behind others, where 64 bits hold it
+abbrev pub with_digit : ℕ → ℕ → Option ℕ
+with_digit value octet =
+    if is_ascii_digit octet then at_most 18446744073709551615 (value * 10 + digit_value octet) else None
 
 -- the number that a word says in decimal, where it is at most `most`
 abbrev pub number_up_to : ℕ → List ℕ → Option ℕ

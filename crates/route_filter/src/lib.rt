@@ -15,4 +15,4 @@ mod text;
 
 pub use rule::Rule;
 pub use rules::{RuleFault, Rules};
-pub use text::{cut, decoded, number, octets, words};
+pub use text::{cut, decoded, number, octets, split_words, words};

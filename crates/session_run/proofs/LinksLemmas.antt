@@ -1,5 +1,5 @@
 -- Links of one address that are made, and given back, one after the other, the last first.
-use Rattle.std.proofs.Common.{◌≡◌, ◌≢◌, inl, inr, ◌+◌, List, [], ◌∷◌, ◌++◌, length, Option, None, Some, Ok, refl, arith, length-append, ⊎_elim, ℕ, ◌<◌, ◌≤◌, sym, ap, ◌∙◌, append_assoc}
+use Rattle.std.proofs.Common.{◌≡◌, ◌≢◌, inl, inr, List, [], ◌∷◌, ◌++◌, length, Option, None, Some, Ok, refl, arith, length-append, ⊎_elim, ℕ, ◌<◌, ◌≤◌, sym, ap, ◌∙◌, append_assoc}
 use Rattle.session_run.proofs.Names.{added, Addr, All, All-contains, All-head, All-push, All-tail, All-weaker, AnyOf, append-nil, AreNewAt, cases_eq, Contains-append_right, Datagram, GivesBack, HasFailed, HasMade, IfSome, IsIdleAt, IsNewAt, joined, LinkState, received_with, Rose, sent_with, Stop}
 use Rattle.net_link.specs.Making.{LinksState, Makes, RoseBy, TakesBack}
 use Rattle.net_link.specs.declared.link.Link as paths

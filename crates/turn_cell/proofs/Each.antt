@@ -1,6 +1,6 @@
 -- Several turns, one behind the other.
 use Rattle.std.proofs.Common.{◌≡◌, ℕ, ◌+◌, ◌<◌, Bool, List, [], ◌∷◌, ◌++◌, length, take, Option, None, Some, refl, sym, ap, ◌∙◌, subst, append_assoc}
-use Rattle.turn_cell.proofs.Names.{append-nil, Facts, HistoryEntry, IsOwnSession, Knowledge, slice_index_or, take_all, take_more, TookEach, TookFor, TookMore}
+use Rattle.turn_cell.proofs.Names.{append-nil, Facts, HistoryEntry, IsOwnSession, Knowledge, slice_index_or, take_more, TookEach, TookFor, TookMore}
 
 -- the session that turns name is that of the pass still
 pub own_on : (session : Option ℕ) (before after : Knowledge) → after.number ≡ before.number → IsOwnSession session before → IsOwnSession session after

@@ -1,6 +1,6 @@
 -- What is known of a cell at first, and of one whose passes are all in one seat.
 use Rattle.std.proofs.Common.{◌≡◌, ◌≢◌, inl, inr, ⊎_elim, ℕ, zero, suc, ◌+◌, ◌<◌, ◌≤◌, Bool, List, [], ◌∷◌, length, refl, sym, ap, ◌∙◌, subst, arith, Option, Some}
-use Rattle.turn_cell.proofs.Names.{All, All-cons, All-nil, All-weaker, append-nil, AreSound, Course, dite, Ended, Facts, facts_of, Final, Fits, Follows, get_elem?, HasIt, HasNumber, HistoryEntry, IsAway, IsHome, IsKept, IsLegal, joined, KeptTurn, Knowledge, newcomer, newcomers, newcomers_from, none, opening, Owns, Resting, Rule, seat, Seated, SeatView, Seen, some, Stands, ℕ_discrete}
+use Rattle.turn_cell.proofs.Names.{All, All-cons, All-nil, All-weaker, append-nil, AreSound, Course, dite, Ended, Facts, facts_of, Final, Fits, Follows, get_elem?, HasIt, HasNumber, HistoryEntry, IsAway, IsHome, IsKept, IsLegal, joined, KeptTurn, Knowledge, newcomer, newcomers, newcomers_from, opening, Owns, Resting, Rule, seat, Seated, SeatView, Seen, some, Stands, ℕ_discrete}
 use mathlib.Core.Option as maybe
 use Rattle.turn_cell.proofs.Lists.{begins_more, begins_self, begins_then}
 use Rattle.turn_cell.proofs.Seats.{only_one, passes_at, passes_at_two, same_one}

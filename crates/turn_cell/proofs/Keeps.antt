@@ -1,6 +1,6 @@
 -- Each step on the words keeps the rule, and tells what it says.
 use Rattle.std.proofs.Common.{◌≡◌, ◌≢◌, inl, inr, ⊎_elim, ℕ, ◌+◌, ◌<◌, ◌==◌, eqb, Bool, true, false, List, [], ◌∷◌, ◌++◌, get_or, set, if◌then◌else◌, refl, sym, ap, ◌∙◌, subst, arith, Option, Some, None, eq-eqb, ne_eqb}
-use Rattle.turn_cell.proofs.Names.{Adds, after_turn, All, All-cons, All-head, All-nil, All-weaker, Allows, AreSound, at_set, Begins, called, Course, Did, dite, drew, either, Facts, facts_of, get_elem?, gives, HasIt, HasTicket, HistoryEntry, Holding, IsAway, IsHome, IsKept, IsLegal, IsOwnSession, IsPlaced, keeps, Knowledge, left, looked, none, Owes, Owns, Resting, Rule, Runs, Saw, seat, SeatView, set_here, settled, some, some-injective, some-ne-none, Standing, standing, Stands, State, step, stepped, takes, Waiting, WhereTold, ℕ_discrete}
+use Rattle.turn_cell.proofs.Names.{Adds, after_turn, All, All-cons, All-head, All-nil, All-weaker, Allows, AreSound, at_set, Begins, called, Course, Did, dite, drew, either, Facts, facts_of, get_elem?, gives, HasIt, HasTicket, HistoryEntry, Holding, IsAway, IsHome, IsKept, IsLegal, IsOwnSession, IsPlaced, keeps, Knowledge, left, looked, none, Owes, Owns, Resting, Rule, Runs, Saw, seat, SeatView, set_here, settled, some, Standing, standing, Stands, State, step, stepped, takes, Waiting, WhereTold, ℕ_discrete}
 use mathlib.Core.Option as maybe
 use Rattle.turn_cell.proofs.Courses.{Brings, holds_served, reseat, same_state, stage_on, stays_somewhere}
 use Rattle.turn_cell.proofs.Lists.{Entries}

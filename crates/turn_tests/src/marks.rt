@@ -9,38 +9,16 @@ use gw_base::{Caller, Moment};
 use std::sync::Wait;
 use turn_cell::{Pass, Turn, TurnCell};
 
-// Records a Tick where one is due.
+// Records a Tick or a Close, where one is due.
 #[derive(Drop)]
-struct Ticking {
+struct Marking {
+    closes: bool,
     who: Caller,
     now: Moment,
 }
 
-impl<A: Area> Turn<Book<A>> for Ticking {
-    ghost use Rattle.std.specs.Prelude.{Some};
-    ghost use Rattle.gateway_book.specs.Caller.{IsMarkTold};
-
-    type Answer = Marked;
-
-    ghost session = { λ turn. Some turn.who.session };
-
-    ghost does = { λ turn found left answer drops added. IsMarkTold left answer };
-
-    fn run(self, value: &mut Book<A>) -> Marked {
-        a_turn_owes::<A>();
-        value.tick(self.now, self.who)
-    }
-}
-
-// Records a Close where one is due.
-#[derive(Drop)]
-struct Closing {
-    who: Caller,
-    now: Moment,
-}
-
-impl<A: Area> Turn<Book<A>> for Closing {
-    ghost use Rattle.std.specs.Prelude.{◌≢◌, Some};
+impl<A: Area> Turn<Book<A>> for Marking {
+    ghost use Rattle.std.specs.Prelude.{◌≡◌, ◌≢◌, Some, true};
     ghost use Rattle.gateway_book.specs.Caller.{IsMarkTold};
     ghost use Rattle.gateway_book.specs.declared.outcome.Marked.TheVariants.{NoRoom};
 
@@ -48,19 +26,25 @@ impl<A: Area> Turn<Book<A>> for Closing {
 
     ghost session = { λ turn. Some turn.who.session };
 
-    ghost does = { λ turn found left answer drops added. IsMarkTold left answer × (answer ≢ NoRoom) };
+    ghost does = { λ turn found left answer drops added.
+        IsMarkTold left answer × (turn.closes ≡ true → answer ≢ NoRoom) };
 
     fn run(self, value: &mut Book<A>) -> Marked {
         a_turn_owes::<A>();
-        value.close(self.now, self.who)
+        if self.closes {
+            value.close(self.now, self.who)
+        } else {
+            value.tick(self.now, self.who)
+        }
     }
 }
 
-// Records a Tick.
-fn tick<R: Wait>(
+// Records a Tick or a Close.
+fn mark_once<R: Wait>(
     rt: &R,
     cell: &TurnCell<Book<MemoryArea>>,
     pass: Pass,
+    closes: bool,
     who: Caller,
     now: Moment,
 ) -> (Marked, Pass)
@@ -69,23 +53,7 @@ fn tick<R: Wait>(
     ensures own { IsPassOf cell.now result.1 }
     ensures same { (knowledge result.1).number ≡ (knowledge pass).number }
 {
-    cell.with(rt, pass, Ticking { who, now })
-}
-
-// Records a Close.
-fn close<R: Wait>(
-    rt: &R,
-    cell: &TurnCell<Book<MemoryArea>>,
-    pass: Pass,
-    who: Caller,
-    now: Moment,
-) -> (Marked, Pass)
-    requires own { IsPassOf cell.now pass }
-    requires session { who.session ≡ (knowledge pass).number }
-    ensures own { IsPassOf cell.now result.1 }
-    ensures same { (knowledge result.1).number ≡ (knowledge pass).number }
-{
-    cell.with(rt, pass, Closing { who, now })
+    cell.with(rt, pass, Marking { closes, who, now })
 }
 
 /// What became of a Tick, of a Close, and of another Close.
@@ -109,12 +77,12 @@ pub(crate) fn mark<R: Wait>(
     ensures { IsPassOf cell.now result.1 }
 {
     let who = Caller { session, serial: 0 };
-    let (tick, pass) = tick(rt, cell, pass, who, now);
-    let (first, pass) = close(rt, cell, pass, who, now);
-    let (another, pass) = close(rt, cell, pass, who, now);
+    let (tick, pass) = mark_once(rt, cell, pass, false, who, now);
+    let (close, pass) = mark_once(rt, cell, pass, true, who, now);
+    let (another, pass) = mark_once(rt, cell, pass, true, who, now);
     let marks = Marks {
         tick,
-        close: first,
+        close,
         another,
     };
     (marks, pass)

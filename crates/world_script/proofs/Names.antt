@@ -3,7 +3,7 @@ pub use Rattle.gw_base.specs.declared.address.Addr.{Addr}
 pub use Rattle.hex.specs.Hex.{decode_of, encode_upper, hex_digit_value, IsBytes, pair_value, upper_digits, value_at, ◌>>=◌}
 unfoldable pub use Rattle.hex.specs.Hex.{decode_pairs, encode_with}
 pub use Rattle.rand_pcg.specs.Lcg.{Lcg}
-pub use Rattle.route_filter.specs.Words.{at_most, cut_at, decoded, has_decimal_form, is_decimal, is_empty, number_up_to, octets_in, octets_of, with_word, words_of}
+pub use Rattle.route_filter.specs.Words.{at_most, cut_at, decoded, has_decimal_form, is_decimal, is_empty, number_up_to, octets_in, octets_of, words_of}
 pub use Rattle.std.proofs.Math.Bool.{and-true, or-false, or-true}
 pub use Rattle.std.proofs.Math.Seq.{drop-cons}
 pub use Rattle.std.proofs.lemmas.Bool.{and_from, and_parts, cases_Bool, cases_eq, cases_lt, cond_both, eqb-true, false_from_ne_true, le-leb, le-ltb, leb-true, lt-leb, ltb-false, ne_eqb, not-true, or_from, or_parts}
@@ -27,7 +27,7 @@ unfoldable pub use Rattle.world_script.specs.Sample.{after_words, block, opening
 pub use Rattle.world_script.specs.Saying.{arm_on, arm_said, behind_in, call_of, datagram_said, fail_on, fail_said, in_said, last_moment, limit_on, limit_said, offset_said, one_between, one_datagram, one_gateway, one_number, packet_said, read_or, read_then, redirect_on, redirect_said, redirect_to, rule_said, ruled, said_as, said_by, submit_said, word_said}
 pub use Rattle.world_script.specs.Script.{contented, ended_by, is_action_line, is_end_line, is_rule_line, is_setting_line, keyed, most_text, onward, progress_of, reading_of, Refusal, script_after, script_in, ScriptValue, worded}
 pub use Rattle.world_script.specs.Text.{is_blank, is_printable, lent_line, line_content, line_size, onto_line, raw_lines, RawLine}
-pub use Rattle.world_script.specs.Values.{address_of, ip_of, mode_of, number_between, number_of, offset_of, records_of, signed, two_digits, two_octets, version_of, with_digit}
+pub use Rattle.world_script.specs.Values.{address_of, ip_of, mode_of, number_between, number_of, offset_of, records_of, signed, two_digits, two_octets, version_of}
 pub use Rattle.world_script.specs.World.{after_line, are_settings_first, first_scene, has_gateway, has_node, has_running, is_stopped, Scene, takes, takes_all}
 pub use Rattle.world_script.specs.declared.extent.Extent.{Extent}
 pub use Rattle.world_script.specs.declared.fault.InputKind.{InputKind}

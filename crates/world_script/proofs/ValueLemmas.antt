@@ -1,63 +1,11 @@
--- Lemmas on numbers and other values: how a number is read, a digit at a time, and printed as the word that says it.
-use Rattle.std.proofs.Common.{◌≡◌, ℕ, suc, ◌+◌, ◌*◌, ◌<◌, ◌≤◌, nat_le, Bool, true, false, if◌then◌else◌, List, [], ◌∷◌, length, drop, get_or, Option, Some, None, refl, ap, sym, ◌∙◌, arith, ◌^◌, not, ◌==◌, option_and_then, subst, le-leb, Ok, Err, Result, ◌⊎◌}
-use Rattle.world_script.proofs.Names.{and_parts, at_drop_all, at_most, decimal, decimal-digits_value, decimal_digit, decimal_is_IsNumeral, digit_value, drop-cons, first_decimal, has_decimal_form, is_ascii_digit, is_decimal, leb-true, list_all, nat_tests, number_between, number_of, number_up_to, same_Some, with_digit}
-use Rattle.std.specs.Str.Parse.{digits_value_after, AllDigits, digits_value}
-use Rattle.route_filter.specs.Words.{◌>>=◌}
+-- Lemmas on numbers and other values: how a number is printed as the word that says it, and read from it.
+use Rattle.std.proofs.Common.{◌≡◌, ℕ, ◌<◌, ◌≤◌, nat_le, Bool, true, false, if◌then◌else◌, List, [], ◌∷◌, length, get_or, Option, Some, None, refl, ap, ◌∙◌, arith, ◌^◌, not, ◌==◌, option_and_then, subst, le-leb, Ok, Err, Result, ◌⊎◌}
+use Rattle.world_script.proofs.Names.{and_parts, at_most, decimal, decimal-digits_value, decimal_digit, decimal_is_IsNumeral, digit_value, first_decimal, has_decimal_form, is_ascii_digit, is_decimal, leb-true, list_all, nat_tests, number_between, number_of, number_up_to, same_Some}
+use Rattle.std.specs.Str.Parse.{AllDigits, digits_value}
 use Rattle.std.proofs.lemmas.Str.{digit_value_digit}
 use Rattle.std.proofs.lemmas.Str.Parse.{digit_from_value, numerals_by_value, tells_digits}
 use Rattle.std.specs.Int.{IsInRange}
 use Rattle.world_script.proofs.WordLemmas.{AllGlyphs, IsWord}
-
--- the number that the digits that are left say behind those of `n`, where it is at most `most`
-abbrev pub number_after : ℕ → ℕ → List ℕ → Option ℕ
-number_after most n rest = if list_all is_ascii_digit rest then at_most most (digits_value_after 10 n rest) else None
-
-grows : (n : ℕ) (ds : List ℕ) → n ≤ digits_value_after 10 n ds
-grows n [] = omega arith
-grows n (d ∷ ds) = let later = grows (n * 10 + digit_value d) ds in omega arith
-
-above : (most n : ℕ) → most < n → at_most most n ≡ None
-above most n h = grind (arith, nat_tests)
-
-too_large : (b : Bool) (most n : ℕ) → most < n → (if b then at_most most n else None) ≡ None
-too_large b most n h = grind (arith, above)
-
--- a number so large isn't followed by any that is small enough
-beyond : (most n : ℕ) (rest : List ℕ) → most < n → number_after most n rest ≡ None
-beyond most n rest h = search (arith, too_large, grows)
-
-one_more : (most n : ℕ) (rest : List ℕ) (small : Bool) → nat_le n 18446744073709551615 ≡ small → most ≤ 18446744073709551615 →
-    number_after most n rest ≡ ((if small then Some n else None) >>= (λ v. number_after most v rest))
-one_more most n rest small e h = grind (arith, nat_tests, beyond)
-
--- a digit more, or none that is small enough
-pub one_digit : (most n d : ℕ) (rest : List ℕ) → most ≤ 18446744073709551615 →
-    number_after most n (d ∷ rest) ≡ (with_digit n d >>= (λ v. number_after most v rest))
-one_digit most n d rest h = grind (arith, nat_tests, one_more)
-
--- the digit at this place is taken
-pub taken : (most n next : ℕ) (word : List ℕ) (i : ℕ) → most ≤ 18446744073709551615 → i < length word → Some next ≡ with_digit n (get_or word i 0) →
-    number_after most n (drop i word) ≡ number_after most next (drop (i + 1) word)
-taken most n next word i h within e =
-    let here : i + 1 ≡ suc i = omega arith in
-    rw here (ap (number_after most n) (drop-cons word i 0 within)
-    ∙ one_digit most n (get_or word i 0) (drop (suc i) word) h
-    ∙ ap (λ o. o >>= (λ v. number_after most v (drop (suc i) word))) (sym e))
-
--- it isn't
-pub refused : (most n : ℕ) (word : List ℕ) (i : ℕ) → most ≤ 18446744073709551615 → i < length word → None ≡ with_digit n (get_or word i 0) →
-    number_after most n (drop i word) ≡ None
-refused most n word i h within e = search (arith, drop-cons, one_digit)
-
-pub from_form : (most : ℕ) (word : List ℕ) → has_decimal_form word ≡ true → number_up_to most word ≡ number_after most 0 word
-from_form most word e = rw e
-
-pub no_form : (most : ℕ) (word : List ℕ) → has_decimal_form word ≡ false → number_up_to most word ≡ None
-no_form most word e = rw e
-
--- no digit is left
-pub ended : (most n : ℕ) (word : List ℕ) (i : ℕ) → length word ≤ i → number_after most n (drop i word) ≡ at_most most n
-ended most n word i h = at_drop_all (number_after most n) word i h
 
 -- Parts of what is read.
 

@@ -1,6 +1,6 @@
 -- Lemmas on the lines of a text, and on the words of a line.
-use Rattle.std.proofs.Common.{◌≡◌, ℕ, zero, suc, ◌+◌, ◌<◌, ◌≤◌, Bool, true, false, ◌&&◌, ◌==◌, if◌then◌else◌, List, [], ◌∷◌, length, take, drop, get_or, slice_index, Option, Some, None, option_map, refl, ap, sym, ◌∙◌, subst, arith, not, ◌++◌, append-nil, append_assoc, length-append, filter}
-use Rattle.world_script.proofs.Names.{and-true, and_parts, at_drop_all, cut_at, drop-cons, false_from_ne_true, is_empty, is_printable, leb-true, list_all-append, nat_tests, onto_first, onto_line, raw_lines, RawLine, slice_split, with_word, words_of, words_text}
+use Rattle.std.proofs.Common.{◌≡◌, ℕ, ◌+◌, ◌<◌, ◌≤◌, Bool, true, false, ◌&&◌, ◌==◌, if◌then◌else◌, List, [], ◌∷◌, length, drop, get_or, Option, Some, None, option_map, refl, ap, sym, ◌∙◌, subst, arith, not, ◌++◌, append-nil, length-append, filter}
+use Rattle.world_script.proofs.Names.{and-true, and_parts, at_drop_all, cut_at, drop-cons, is_empty, is_printable, leb-true, list_all-append, nat_tests, onto_first, onto_line, raw_lines, RawLine, slice_split, words_of, words_text}
 use Rattle.std.specs.Int.{is_in_range}
 
 -- a text without a line feed is one line, if it has an octet
@@ -31,35 +31,6 @@ lines_some xs before later e = subst (LinesAre xs) (sym e) (lines_at xs)
 -- none does
 pub lines_none : (xs : List ℕ) → 0 < length xs → None ≡ cut_at 10 xs → raw_lines xs ≡ record { octets = xs; ended = false } ∷ []
 lines_none xs h e = grind (arith, lines_at)
-
--- Cuts.
-
-cut_there : (separator : ℕ) (xs : List ℕ) (k : ℕ) → k < length xs →
-    ((j : ℕ) → 0 ≤ j → j < k → (slice_index xs j == separator) ≡ true → ⊥) → (slice_index xs k == separator) ≡ true →
-    cut_at separator xs ≡ Some (take k xs, drop (k + 1) xs)
-cut_there separator [] k h before is = absurd (omega arith)
-cut_there separator (x ∷ xs) zero h before is = rw is refl
-cut_there separator (x ∷ xs) (suc k) h before is =
-    let other : (x == separator) ≡ false = false_from_ne_true (x == separator) (before 0 (omega arith) (omega arith)) in
-    let later = cut_there separator xs k (omega arith) (λ j low high. before (suc j) (omega arith) (omega arith)) is in
-    let here : suc k + 1 ≡ suc (k + 1) = omega arith in
-    rw (here, other) (ap (option_map (λ parts. (x ∷ parts.0, parts.1))) later)
-
--- the first place of the separator is known
-pub cut_found : (separator : ℕ) (xs : List ℕ) (k : ℕ) (before later : List ℕ) → k < length xs →
-    ((j : ℕ) → 0 ≤ j → j < k → (slice_index xs j == separator) ≡ true → ⊥) → (slice_index xs k == separator) ≡ true →
-    before ≡ take k xs → later ≡ drop (k + 1) xs → Some (before, later) ≡ cut_at separator xs
-cut_found separator xs k before later h none is first second =
-    rw first (rw second (sym (cut_there separator xs k h none is)))
-
--- it stands nowhere
-pub cut_missing : (separator : ℕ) (xs : List ℕ) → ((j : ℕ) → 0 ≤ j → j < length xs → (slice_index xs j == separator) ≡ true → ⊥) →
-    cut_at separator xs ≡ None
-cut_missing separator [] nowhere = refl
-cut_missing separator (x ∷ xs) nowhere =
-    let other : (x == separator) ≡ false = false_from_ne_true (x == separator) (nowhere 0 (omega arith) (omega arith)) in
-    let later = cut_missing separator xs (λ j low high. nowhere (suc j) (omega arith) (omega arith)) in
-    rw other (ap (option_map (λ parts. (x ∷ parts.0, parts.1))) later)
 
 -- Printable octets.
 
@@ -207,30 +178,3 @@ pub joined_printable : (word : List ℕ) (words : List (List ℕ)) → IsWord wo
     is_printable (word ++ words_text words) ≡ true
 joined_printable word words h hs =
     both_printable word (words_text words) (glyphs_printable word h.1) (words_printable words hs)
-
--- A line that is cut at its spaces.
-
-abbrev pub PartsAre : List ℕ → Option (List ℕ × List ℕ) → Type 0
-PartsAre xs None = parts_of xs ≡ xs ∷ []
-PartsAre xs (Some p) = parts_of xs ≡ p.0 ∷ parts_of p.1
-
-parts_after : (x : ℕ) (xs : List ℕ) (b : Bool) → (x == 32) ≡ b → (parts : Option (List ℕ × List ℕ)) → PartsAre xs parts →
-    PartsAre (x ∷ xs) (if b then Some ([], xs) else option_map (λ p. (x ∷ p.0, p.1)) parts)
-parts_after x xs b e parts h = grind arith
-
-parts_at : (xs : List ℕ) → PartsAre xs (cut_at 32 xs)
-parts_at [] = refl
-parts_at (x ∷ xs) = parts_after x xs (x == 32) refl (cut_at 32 xs) (parts_at xs)
-
-with_first : (word : List ℕ) (words : List (List ℕ)) →
-    filter (λ w. not (is_empty w)) (word ∷ words) ≡ with_word word [] ++ filter (λ w. not (is_empty w)) words
-with_first word words = grind arith
-
--- a space stands in the rest of the line
-pub word_taken : (front new : List (List ℕ)) (xs before later : List ℕ) (all : List (List ℕ)) → Some (before, later) ≡ cut_at 32 xs →
-    new ≡ front ++ with_word before [] → front ++ words_of xs ≡ all → new ++ words_of later ≡ all
-word_taken front new xs before later all e grown so_far = search (arith, parts_at, with_first, append_assoc)
-
--- none does
-pub last_word : (xs : List ℕ) → None ≡ cut_at 32 xs → words_of xs ≡ with_word xs []
-last_word xs e = search (arith, parts_at, with_first, append-nil)

@@ -1,6 +1,6 @@
 -- The values that words say: bounded numbers, addresses, offsets, versions, records and modes.
 use Rattle.std.specs.Prelude.{ℕ, ◌+◌, ◌-◌, ◌*◌, ◌==◌, ◌&&◌, nat_le, if◌then◌else◌, List, [], ◌∷◌, Option, Some, None, ℤ, pos, neg_ℤ, codes}
-use Rattle.std.specs.Char.{is_ascii_digit, digit_value}
+use Rattle.std.specs.Char.{is_ascii_digit}
 use Rattle.std.specs.Str.{bytes_eq}
 use Rattle.gw_base.specs.declared.address.Addr.{Addr}
 use Rattle.route_filter.specs.Words.{at_most, cut_at, number_up_to, octets_in, ◌>>=◌}
@@ -10,11 +10,6 @@ use Rattle.world_script.specs.declared.mode.Mode.TheVariants as mode
 -- the number that a word says in decimal, where it is from `least` to `most`
 abbrev pub number_between : ℕ → ℕ → List ℕ → Option ℕ
 number_between least most word = number_up_to most word >>= λ n. if nat_le least n then Some n else None
-
--- the number that a digit makes behind others, where 64 bits hold it
-abbrev pub with_digit : ℕ → ℕ → Option ℕ
-with_digit value octet =
-    if is_ascii_digit octet then at_most 18446744073709551615 (value * 10 + digit_value octet) else None
 
 -- a number, where nothing else is said of its range
 abbrev pub number_of : List ℕ → Option ℕ

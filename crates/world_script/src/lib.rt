@@ -19,7 +19,6 @@ mod kind;
 pub mod laws;
 mod line;
 mod mode;
-mod numbers;
 mod printing;
 mod progress;
 mod records;
@@ -28,7 +27,6 @@ mod saying;
 mod script;
 mod text;
 mod values;
-mod words;
 
 pub use fault::{InputFault, InputKind};
 pub use kind::ScriptKind;

@@ -1,6 +1,7 @@
-ghost use Rattle.std.specs.Prelude.{◌≡◌, ◌+◌, ◌<◌, ◌^◌, [], map, IfOk};
+ghost use Rattle.std.specs.Prelude.{◌≡◌, ◌+◌, ◌<◌, ◌^◌, [], map, option_map, IfOk};
+ghost use Rattle.route_filter.specs.Words.{cut_parts};
 ghost use Rattle.world_script.specs.Outcome.{Says, progress_after};
-ghost use Rattle.world_script.specs.Saying.{one_datagram};
+ghost use Rattle.world_script.specs.Saying.{behind_in, one_datagram};
 ghost use Rattle.world_script.specs.Script.{formed, is_action_line, is_end_line, is_rule_line, is_setting_line, progress_of, reading_of};
 ghost use Rattle.world_script.specs.Text.{lent_line, line_size};
 
@@ -12,8 +13,8 @@ use crate::line::Line;
 use crate::saying::said_by;
 use crate::text::{TextLine, is_blank, is_printable};
 use crate::values::address;
-use crate::words::{behind_in, split};
 use gw_base::{NoMemory, Octets};
+use route_filter::{cut, split_words};
 use std::alloc::Global;
 
 /// The most octets that the text of a script may have.
@@ -94,7 +95,7 @@ impl Progress {
         if !is_printable(content) {
             return Err(LineFault::Refused(InputKind::Word));
         }
-        split(words, content)?;
+        split_words(words, content)?;
         let Some((first, rest)) = words.split_first() else {
             return Err(LineFault::Refused(InputKind::Word));
         };
@@ -142,6 +143,19 @@ fn one_datagram(alloc: Global, content: &[u8]) -> Result<Option<Line>, NoMemory>
     };
     let octets = Octets::from_vec(octets);
     Ok(Some(Line::Datagram { from, octets }))
+}
+
+/// What stands before the first space behind `in ` at the beginning of a line, and what follows it.
+fn behind_in(line: &[u8]) -> Option<(&[u8], &[u8])>
+    ensures { option_map cut_parts result ≡ behind_in line.now }
+{
+    let [i, n, space, rest @ ..] = line else {
+        return None;
+    };
+    if *i != b'i' || *n != b'n' || *space != b' ' {
+        return None;
+    }
+    cut(rest, b' ')
 }
 
 fn is_end(line: &Line) -> bool

@@ -9,10 +9,9 @@ use crate::hexadecimal::joined;
 use crate::keyword::Keyword;
 use crate::kind::ScriptKind;
 use crate::line::Line;
-use crate::numbers::number;
 use crate::values::{address, any_number, number_between, offset, records, version};
 use gw_base::{Moment, Octets};
-use route_filter::{Rule, Rules};
+use route_filter::{Rule, Rules, number};
 use std::alloc::Global;
 
 /// What a line of this form says, by its words after the first, where so many rules stand before it.

@@ -1,9 +1,8 @@
-ghost use Rattle.std.specs.Prelude.{◌≡◌, ◌+◌, ◌<◌, [], ◌∷◌, length, option_map, IfSome, MatchOption};
+ghost use Rattle.std.specs.Prelude.{◌≡◌, ◌+◌, ◌<◌, [], ◌∷◌, length, MatchOption};
 ghost use Rattle.std.specs.Int.{is_in_range};
-ghost use Rattle.route_filter.specs.Words.{cut_at, cut_parts};
 ghost use Rattle.world_script.specs.Text.{is_blank, is_printable, lent_line, line_size, raw_lines, without_return};
 
-use memchr::memchr;
+use route_filter::cut;
 
 const LINE_FEED: u8 = b'\n';
 
@@ -67,19 +66,6 @@ pub fn first_line(text: &[u8]) -> Option<(TextLine<'_>, &[u8])>
             &[],
         )),
     }
-}
-
-/// What stands before the first octet that is the separator, and what follows it. It is made for long texts.
-pub fn cut(octets: &[u8], separator: u8) -> Option<(&[u8], &[u8])>
-    ensures parts { option_map cut_parts result ≡ cut_at separator octets.now }
-    ensures whole { IfSome result (λ parts. length parts.0.now + 1 + length parts.1.now ≡ length octets.now) }
-{
-    let Some(place) = memchr(separator, octets) else {
-        return None;
-    };
-    let (before, _) = octets.split_at(place);
-    let (_, after) = octets.split_at(place + 1);
-    Some((before, after))
 }
 
 fn without_return(octets: &[u8]) -> &[u8]

@@ -3,10 +3,9 @@ ghost use Rattle.world_script.specs.Values.{address_of, ip_of, mode_of, number_b
 
 use crate::hexadecimal::decoded;
 use crate::mode::Mode;
-use crate::numbers::number;
 use crate::records::Records;
 use gw_base::{Addr, NoMemory, Octets};
-use route_filter::cut;
+use route_filter::{cut, number};
 use std::alloc::Global;
 
 /// The number that a word says in decimal, where it is from `least` to `most`.

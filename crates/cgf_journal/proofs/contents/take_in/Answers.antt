@@ -1,15 +1,11 @@
-use Rattle.std.proofs.Common.{sym, ap, ◌∙◌, arith, Ok}
+use Rattle.std.proofs.Common.{sym, ap, ◌∙◌, arith, Ok, rules}
 use Rattle.std.proofs.lemmas.Bool.{not-true}
 use Rattle.cgf_journal.proofs.Listings.{IsAllTaken, all_taken, costs_so_far, is_end, not_end, none_taken, one_taken}
 use Rattle.cgf_journal.proofs.Meanings.{all_judged, begins_judging, one_judged, one_unfit}
 use Rattle.cgf_journal.proofs.contents.take_in.Goals as goal
 
 pub loop-rest-init : goal.loop-rest-init
-loop-rest-init g c = record {
-  taken = none_taken c.args.content.now c.args.at c.args.places.now.items c.args.tally.now;
-  judged = begins_judging c.args.judge.now c.args.content.now;
-  reserved = cc;
-}
+loop-rest-init g c = search (rules, none_taken, begins_judging)
 
 pub take_entry-requires-clause-costs : goal.take_entry-requires-clause-costs
 take_entry-requires-clause-costs g c = omega (arith, c.requires.costs, costs_so_far c.loop-rest.invariant.taken)
@@ -20,11 +16,7 @@ returns-in_default-clause-unfit g c = λ same is h before.
     (c.take_entry.ensures.none (c.in_ok-count.was ∙ ap (λ x. Ok x) c.in_default.is)) is h before
 
 pub loop-rest-preserved : goal.loop-rest-preserved
-loop-rest-preserved g c = record {
-  taken = rw c.split_at.ensures.back (one_taken c.loop-rest.invariant.taken (rw c.in-Some.is at c.in_ok-count.ensures.some));
-  judged = rw c.split_at.ensures.back (one_judged c.loop-rest.invariant.judged (rw c.in-Some.is at c.in_ok-count.ensures.fit));
-  reserved = c.take_entry.ensures.reserved ∙ c.loop-rest.invariant.reserved;
-}
+loop-rest-preserved g c = search (rules, one_taken, one_judged)
 
 -- at the end all was taken in
 all : (g : _) (c : goal.After-is_empty-2 g) → IsAllTaken c.args.content.now c.args.at c.args.places.now.items c.loop-rest.places.items c.args.tally.now c.loop-rest.tally

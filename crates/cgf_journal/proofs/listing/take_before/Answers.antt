@@ -1,5 +1,5 @@
-use Rattle.std.proofs.Common.{◌≡◌, ℕ, ◌+◌, List, ◌∷◌, ◌++◌, length, take, ◌∙◌, ap, arith}
-use Rattle.cgf_journal.proofs.Names.{AreListedBefore, length-take-le, place_of}
+use Rattle.std.proofs.Common.{◌≡◌, ℕ, ◌+◌, List, ◌∷◌, ◌++◌, length, ◌∙◌, ap}
+use Rattle.cgf_journal.proofs.Names.{AreListedBefore, place_of}
 use Rattle.cgf_journal.proofs.Listings.{breaks_next, costs_within, goes_on, read_next, taken_next}
 use Rattle.cgf_journal.proofs.listing.take_before.Goals as goal
 
@@ -11,7 +11,7 @@ next g c all listed =
     let o = g.A.Area.octets c.args.area.now in
     let some = c.requires.taken.some in
     let at = c.requires.taken.taken_in.gate_is in
-    let room : length (take c.in-Some.length c.deref_mut.result.now) ≡ c.in-Some.length = length-take-le c.in-Some.length c.deref_mut.result.now (omega (arith, c.in-Ok-lengthen.ensures, c.lengthen.new.content.ok.0, ap (λ (o : List ℕ). length o) c.deref_mut.ensures.value)) in
+    let room = c.in-Ok-room_for.ensures.content in
     let begins = c.requires.taken.begins all listed in
     read_next all some begins.0 c.args.gate c.args.end begins.1 at (place_of listed.header listed.long o c.args.end all listed.before) c.requires.inside c.in-Ok.found c.in-Some.place c.in-Some.length c.read_before.new.into c.in-Some.is
     (λ batch rest is. c.in-Ok.ensures.found listed.told listed.header some batch rest listed.long (rw is at listed.before) at)

@@ -1,5 +1,5 @@
-use Rattle.std.proofs.Common.{◌≡◌, ℕ, ◌+◌, ◌-◌, List, length, take, refl, ◌∙◌, ap, arith, ◌++◌, ◌∷◌}
-use Rattle.cgf_journal.proofs.Names.{AreListed, batches, end, end_of, length-take-le, true≢false}
+use Rattle.std.proofs.Common.{◌≡◌, ℕ, ◌+◌, ◌-◌, List, length, refl, ◌∙◌, ap, arith, ◌++◌, ◌∷◌}
+use Rattle.cgf_journal.proofs.Names.{AreListed, batches, end, end_of, true≢false}
 use Rattle.area_disk.specs.CourseLaws.{read_runs, runs_on}
 use Rattle.cgf_journal.proofs.Listings.{breaks_next, costs_within, read_next, taken_next, whole_read}
 use Rattle.cgf_journal.proofs.listing.take_next.Goals as goal
@@ -20,12 +20,12 @@ next g c all listed =
     let j = c.args.journal.now in
     let some = c.requires.taken.some in
     let at = c.requires.taken.taken_in.gate_is in
-    let room : length (take c.in-Some.length c.deref_mut.result.now) ≡ c.in-Some.length = length-take-le c.in-Some.length c.deref_mut.result.now (omega (arith, c.in-Ok-lengthen.ensures, c.lengthen.new.content.ok.0, ap (λ (o : List ℕ). length o) c.deref_mut.ensures.value)) in
+    let room = c.in-Ok-room_for.ensures.content in
     let begins = c.requires.taken.begins all listed in
     read_next all some begins.0 c.args.gate (end j) begins.1 at (c.requires.ends listed.told ∙ ap end_of listed.same) c.requires.inside c.in-Ok.found c.in-Some.place c.in-Some.length c.read.new.into c.in-Some.is
     (λ batch rest is. c.in-Ok.ensures.found listed.told some batch rest (listed.same ∙ is) at)
     (λ batch rest is place size.
-    whole_read batch c.read.new.into (length (take c.in-Some.length c.deref_mut.result.now)) (c.in-Some.place - (end_of some + 5)) (room ∙ size) (omega (arith, place, at))
+    whole_read batch c.read.new.into (length c.in-Ok-room_for.content.now) (c.in-Some.place - (end_of some + 5)) (room ∙ size) (omega (arith, place, at))
     (c.in-Ok-read.ensures.content listed.told some batch rest
     (c.batch.ensures.kept.same.batches ∙ listed.same ∙ is) (omega (arith, place, at))
     (omega (arith, place, at, room, size))))

@@ -1,5 +1,4 @@
-use Rattle.std.proofs.Common.{ℕ, subst, arith}
-use Rattle.gateway_index.specs.WindowPairs.{AreKeptIn}
+use Rattle.std.proofs.Common.{arith, rules}
 use Rattle.gateway_index.proofs.PairLemmas.{kept_more, kept_none}
 use Rattle.gateway_index.proofs.windows.keep_from.Goals as goal
 
@@ -15,6 +14,4 @@ loop-place-preserved c =
     c.index_mut.ensures.value c.keep.ensures
 
 pub returns : goal.returns
-returns c =
-    subst (λ (n : ℕ). AreKeptIn c.args.from n c.args.firm c.args.pairs.now.items c.loop-place.pairs.items)
-    (omega (arith, c.requires.order, c.loop-place-test.false)) c.loop-place.invariant
+returns c = search rules

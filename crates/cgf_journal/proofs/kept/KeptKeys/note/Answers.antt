@@ -5,9 +5,7 @@ use Rattle.cgf_journal.proofs.KeptLemmas.{keeps_so, ready_held, ready_let_go, he
 use Rattle.cgf_journal.proofs.kept.KeptKeys.note.Goals as goal
 
 pub invariant_of-self-in-Hold : goal.invariant_of-self-in-Hold
-invariant_of-self-in-Hold c =
-    ready_held c.in-Hold.node c.in-Hold.number c.in-Hold.packet.now c.make_room.new.early c.make_room.new.late c.hold.new.early c.hold.new.late (vec_capacity c.make_room.new.spare)
-    c.hold.ensures.noted c.make_room.ensures.ready
+invariant_of-self-in-Hold c = search (rules, ready_held)
 
 pub invariant_of-self-in-Start : goal.invariant_of-self-in-Start
 invariant_of-self-in-Start c =

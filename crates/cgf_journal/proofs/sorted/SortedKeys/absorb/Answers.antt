@@ -1,20 +1,14 @@
-use Rattle.std.proofs.Common.{◌≡◌, List, length, true, false, ap, ◌∙◌, refl, arith}
+use Rattle.std.proofs.Common.{◌≡◌, List, length, true, false, ap, ◌∙◌, arith, rules}
 use Rattle.cgf_journal.proofs.Names.{KeptKey, length-map, merged, moved_key, moved_keys}
 use Rattle.cgf_journal.proofs.KeysLemmas.{counted_le}
 use Rattle.cgf_journal.proofs.MergedLemmas.{absorbed_all, absorbed_counted, absorbed_length, absorbed_up, absorbed_up_to, length-merged}
 use Rattle.cgf_journal.proofs.sorted.SortedKeys.absorb.Goals as goal
 
 pub overflow_add-self : goal.overflow_add-self
-overflow_add-self c =
-    let early = c.args.self.now in
-    let late = c.args.late.now in
-    omega (arith, early.firm_counted, counted_le true early.round early.keys.items, early.keys.ok, early.keys.small, late.firm_counted, counted_le true late.round late.keys.items, late.keys.ok, late.keys.small)
+overflow_add-self c = search (rules, counted_le)
 
 pub overflow_add-self-2 : goal.overflow_add-self-2
-overflow_add-self-2 c =
-    let early = c.args.self.now in
-    let late = c.args.late.now in
-    omega (arith, early.live_counted, counted_le false early.round early.keys.items, early.keys.ok, early.keys.small, late.live_counted, counted_le false late.round late.keys.items, late.keys.ok, late.keys.small)
+overflow_add-self-2 c = search (rules, counted_le)
 
 pub replace_from-requires : goal.replace_from-requires
 replace_from-requires c =
@@ -54,16 +48,4 @@ invariant_of-self c =
     }
 
 pub returns-clause-ok : goal.returns-clause-ok
-returns-clause-ok c =
-    let early = c.args.self.now in
-    let late = c.args.late.now in
-    let is : c.replace_from.new.keys.items ≡ merged early.round early.keys.items (moved_keys late.round early.round late.keys.items) =
-    c.replace_from.ensures.items ∙ rw (c.in_ok-merge.ensures.ok, c.split_at.ensures.back, c.deref-3.ensures.value, c.deref-4.ensures.value)
-    (rw (c.deref.ensures.value, c.deref-2.ensures.value) at (c.count_before-at.ensures.stay late.round early.round)) in
-    record {
-      held = absorbed_all early late c.replace_from.new.keys.items is c.requires.firm c.requires.live;
-      count = absorbed_length early late c.replace_from.new.keys.items is;
-      reserved = refl;
-      none = c.clear.ensures.none;
-      room = c.clear.ensures.reserved;
-    }
+returns-clause-ok c = search (rules, absorbed_all, absorbed_length)

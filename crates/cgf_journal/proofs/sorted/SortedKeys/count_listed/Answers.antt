@@ -20,16 +20,7 @@ next s firm node numbers index least gone now inside below le before here =
     ∙ one_more_gone node (slice_index_or numbers index 0) least (take index numbers) below le (keys_of firm s) gone now before here
 
 pub overflow_add-gone : goal.overflow_add-gone
-overflow_add-gone c =
-    let s = c.args.self.now in
-    let i = c.loop-number.number-index in
-    omega (
-      arith,
-      next s c.args.firm c.args.node c.args.numbers.now i c.loop-number.least c.loop-number.gone c.count_one-gone.result c.loop-number-test.true c.loop-number.invariant.below (omega (arith, c.if-number-least.false)) c.loop-number.invariant.counted c.count_one-gone.ensures,
-      counted_le c.args.firm s.round s.keys.items,
-      s.keys.ok,
-      s.keys.small,
-    )
+overflow_add-gone c = search (rules, next, counted_le)
 
 pub loop-number-preserved : goal.loop-number-preserved
 loop-number-preserved c =

@@ -1,6 +1,6 @@
-use Rattle.std.proofs.Common.{◌∷◌, List, length, take, drop, true, false, refl, sym, ap, ◌∙◌, arith}
+use Rattle.std.proofs.Common.{◌∷◌, List, length, take, drop, true, sym, ap, ◌∙◌, arith, rules}
 use Rattle.std.proofs.lemmas.List.Edits.{length-insert}
-use Rattle.cgf_journal.proofs.Names.{All-append, All-cons, All-drop, All-take, HeldKey, KeptKey}
+use Rattle.cgf_journal.proofs.Names.{All-append, All-cons, All-drop, All-take, HeldKey}
 use Rattle.cgf_journal.proofs.Changes.{changed_grows, firm_more, grows_more, length_more, live_after, live_more, new_key}
 use Rattle.cgf_journal.proofs.KeysLemmas.{counted_le}
 use Rattle.cgf_journal.proofs.Orders.{UpTo, ascending-insert}
@@ -17,9 +17,7 @@ returns-in-Ok-clause-grows c =
     c.change.ensures (rw c.deref.ensures.value at c.in-Ok.ensures.found).inside)
 
 pub overflow_add-self : goal.overflow_add-self
-overflow_add-self c =
-    let old = c.args.self.now in
-    omega (arith, old.live_counted, counted_le false old.round old.keys.items, old.keys.ok, old.keys.small)
+overflow_add-self c = search (rules, counted_le)
 
 pub invariant_of-self : goal.invariant_of-self
 invariant_of-self c =
@@ -38,15 +36,7 @@ invariant_of-self c =
     }
 
 pub returns-in-Ok-insert-clause-ok : goal.returns-in-Ok-insert-clause-ok
-returns-in-Ok-insert-clause-ok c =
-    let old = c.args.self.now in
-    live_more c.args.node c.args.number old.round old.keys.items c.insert.new.self.items c.in-Err.at (rw c.deref.ensures.value at c.in-Err.ensures.absent) c.in-Ok-insert.ensures.items
+returns-in-Ok-insert-clause-ok c = search (rules, live_more)
 
 pub returns-in-Ok-insert-clause-grows : goal.returns-in-Ok-insert-clause-grows
-returns-in-Ok-insert-clause-grows c =
-    let old = c.args.self.now in
-    record {
-      firm = firm_more c.args.node c.args.number old.round old.keys.items c.insert.new.self.items c.in-Err.at c.in-Ok-insert.ensures.items;
-      count = omega (arith, ap (λ (l : List KeptKey). length l) c.in-Ok-insert.ensures.items, length-insert old.keys.items c.in-Err.at (new_key c.args.node c.args.number old.round) (rw c.deref.ensures.value at c.in-Err.ensures.absent).inside);
-      reserved = refl;
-    }
+returns-in-Ok-insert-clause-grows c = search (rules, firm_more, length-insert)

@@ -12,16 +12,7 @@ anew : (s : Bool) (old : SortedKeys) (now : List KeptKey) → now ≡ map (λ (k
 anew s old now is = rw is (counted-settled s 0 false old.round old.keys.items)
 
 pub invariant_of-self : goal.invariant_of-self
-invariant_of-self c =
-    let old = c.args.self.now in
-    let more : c.in-Some.round ≡ old.round + 1 = search rules in
-    record {
-      enough = old.enough;
-      ascending = old.ascending;
-      up_to = λ j d lt. (omega (arith, more, (old.up_to j d lt).0), (old.up_to j d lt).1);
-      firm_counted = old.live_counted ∙ ap (λ (l : List HeldKey). length l) (sym (next old c.in-Some.round more));
-      live_counted = old.live_counted;
-    }
+invariant_of-self c = search (rules, next)
 
 pub returns-in-Some-clause-firm : goal.returns-in-Some-clause-firm
 returns-in-Some-clause-firm c = next c.args.self.now c.in-Some.round (search rules)

@@ -1,5 +1,5 @@
 use Rattle.std.proofs.Common.{◌≡◌, ◌≢◌, inl, ℕ, ◌+◌, ◌==◌, Bool, true, false, List, [], length, refl, sym, ◌∙◌, ap, arith, rules}
-use Rattle.cgf_journal.proofs.Names.{begin, Buffered, entries_in, entries_of, entries_of-nil, eqb-false, eqb-true, Err, firm_entries, is_founded, length_of, nil_from_length, Tallies, waiting}
+use Rattle.cgf_journal.proofs.Names.{begin, entries_in, entries_of-nil, eqb-false, eqb-true, Err, firm_entries, is_founded, nil_from_length, Tallies, waiting}
 use Rattle.gate_journal.specs.Journal as journal
 use Rattle.cgf_journal.proofs.Coming.{commit_planned}
 use Rattle.cgf_journal.proofs.Tallies.{entries_in-push, still_enough}
@@ -58,21 +58,7 @@ unreachable-requires g c =
 pub returns-in-Ok-clause-ok : goal.returns-in-Ok-clause-ok
 unfolding firm_entries waiting
 returns-in-Ok-clause-ok g c =
-    let t = c.args.self.now in
-    let ok = c.in-Ok.ensures.ok in
-    let counted : length t.places.items ≡ c.len-self.result = sym (search rules) in
-    let before : length_of t ≡ length t.places.items = rw c.requires.ready refl in
-    record {
-      listed = λ told. ap entries_in (rw c.octets-2.ensures at (ok.batches told)) ∙ entries_in-push (journal.batches t.journal) t.waiting.octets ∙ sym (entries_open t c.requires.ready);
-      none_waits = ap (λ (w : Buffered). entries_of w.octets) c.clear.ensures ∙ entries_of-nil;
-      emptied = ap (λ (w : Buffered). length w.octets) c.clear.ensures;
-      count = sym counted ∙ sym before;
-      firm_count = refl;
-      length = rw ok.ready counted;
-      room = same_room _ _ c.append.ensures.stays.size (rw (ok.ready, c.requires.ready) (ap (λ (v : Tallies). v.live) c.settle.ensures));
-      free = same_free _ _ c.append.ensures.stays.size (rw (ok.ready, c.requires.ready) (ap (λ (v : Tallies). v.live) c.settle.ensures));
-      settled = settled _ c.area_laws.ensures ok.settled;
-    }
+    search (rules, entries_in-push, entries_open, entries_of-nil, same_room, same_free, settled)
 
 pub returns-in-Ok-clause-any_moment : goal.returns-in-Ok-clause-any_moment
 returns-in-Ok-clause-any_moment g c = λ told.
@@ -89,8 +75,7 @@ returns-in-Err-Device-clause-any_moment g c = λ told.
     rw c.requires.ready (leaves_either c.args.self.now _ _ told c.octets-2.ensures some c.area_laws.ensures c.append.ensures.stays.size (c.append.ensures.any_moment told))
 
 pub returns-then-is_empty-clause-planned : goal.returns-then-is_empty-clause-planned
-returns-then-is_empty-clause-planned g c =
-    commit_planned _ _ _ (λ fate told some. absurd (some (none_wait c.octets.ensures c.is_empty.ensures c.if-is_empty.true)))
+returns-then-is_empty-clause-planned g c = search (rules, commit_planned, none_wait)
 
 pub returns-in-Ok-clause-planned : goal.returns-in-Ok-clause-planned
 returns-in-Ok-clause-planned g c =
@@ -103,11 +88,7 @@ returns-in-Err-Device-clause-planned g c =
     commit_planned _ _ _ (λ fate told waits. c.in-Err-Device.ensures.planned fate told (omega (arith, ap length c.octets-2.ensures, fits c.args.self.now some)))
 
 pub returns-in-Ok-clause-unmade : goal.returns-in-Ok-clause-unmade
-returns-in-Ok-clause-unmade g c =
-    let some = some_wait c.octets.ensures c.is_empty.ensures c.if-is_empty.false in
-    record { empty = waiting_octets-none c.args.self.now; unmade = λ none. absurd (some (nil_from_length _ none)) }
+returns-in-Ok-clause-unmade g c = search (rules, some_wait, waiting_octets-none, nil_from_length)
 
 pub returns-in-Err-Device-clause-unmade : goal.returns-in-Err-Device-clause-unmade
-returns-in-Err-Device-clause-unmade g c =
-    let some = some_wait c.octets.ensures c.is_empty.ensures c.if-is_empty.false in
-    record { empty = waiting_octets-none c.args.self.now; unmade = λ none. absurd (some (nil_from_length _ none)) }
+returns-in-Err-Device-clause-unmade g c = search (rules, some_wait, waiting_octets-none, nil_from_length)

@@ -1,11 +1,10 @@
-use Rattle.std.proofs.Common.{◌∙◌}
+use Rattle.std.proofs.Common.{◌∙◌, rules}
 use Rattle.cgf_journal.specs.Trail.{area_of}
 use Rattle.cgf_journal.proofs.Trails.{at_rest, stop_is}
 use Rattle.cgf_journal.proofs.trail.Trail.into_area.Goals as goal
 
 pub returns-clause-rests : goal.returns-clause-rests
-returns-clause-rests g c =
-    at_rest c.args.self c.area_laws.ensures (λ e. c.is_closed-closed.ensures.settled (c.is_closed-closed.ensures.closed ∙ e)) c.is_closed-closed.ensures.rests
+returns-clause-rests g c = search (rules, at_rest)
 
 pub returns-clause-stop : goal.returns-clause-stop
 returns-clause-stop g c = λ fate told outcome.

@@ -1,5 +1,5 @@
-use Rattle.std.proofs.Common.{◌≡◌, if◌then◌else◌, length, refl, ◌∙◌, ap, arith}
-use Rattle.cgf_journal.proofs.Names.{Buffered, entries_of, entries_of-nil, firm_entries, Tallies, waiting}
+use Rattle.std.proofs.Common.{◌≡◌, length, refl, ap, arith, rules}
+use Rattle.cgf_journal.proofs.Names.{entries_of-nil, firm_entries, Tallies, waiting}
 use Rattle.cgf_journal.proofs.Sounds.{all_batches, all_judged, made}
 use Rattle.cgf_journal.proofs.Tallies.{still_enough}
 use Rattle.cgf_journal.proofs.Trails.{entries_firm, settled}
@@ -16,18 +16,7 @@ invariant_of-result g c =
 
 pub returns-clause-fresh : goal.returns-clause-fresh
 unfolding waiting
-returns-clause-fresh g c =
-    let counted : length c.args.listing.places.items ≡ c.len.result = omega (arith, c.len.ensures) in
-    let emptied : length c.args.waiting.octets ≡ 0 = ap (λ (w : Buffered). length w.octets) c.requires.waiting in
-    record {
-      named = refl;
-      opened = c.requires.ready;
-      all = entries_firm _ emptied;
-      none_waits = ap (λ (w : Buffered). entries_of w.octets) c.requires.waiting ∙ entries_of-nil;
-      emptied = emptied;
-      length = ap (λ b. if b then c.len.result else length c.args.listing.places.items) c.requires.ready ∙ counted;
-      settled = settled _ c.area_laws.ensures c.requires.settled;
-    }
+returns-clause-fresh g c = search (rules, entries_firm, entries_of-nil, settled)
 
 pub returns-clause-taken : goal.returns-clause-taken
 unfolding firm_entries

@@ -1,5 +1,6 @@
 use Rattle.std.proofs.Common.{◌≡◌, ℕ, ◌+◌, ◌*◌, ◌-◌, ◌<◌, ◌≤◌, true, false, List, [], ◌∷◌, ◌++◌, length, refl, sym, ◌∙◌, ap, append_assoc, arith, length-append, slice_get}
-use Rattle.cgf_journal.proofs.Names.{area_of, Buffered, capacity_of, cheapest_hold, cost_of, entries_of, entry_length, entry_view, Err, firm_entries, Ghosts, has_room_of, HistoryEntry, is_closed, length_of_spelling, longest_batch, Ok, OnOk, Place, Result, slice_get_within, spelling, Tallies, Trail, waiting}
+use Rattle.cgf_journal.proofs.Names.{area_of, capacity_of, cheapest_hold, cost_of, entries_of, entry_length, entry_view, Err, firm_entries, Ghosts, has_room_of, HistoryEntry, is_closed, length_of_spelling, longest_batch, Ok, OnOk, Place, Result, slice_get_within, spelling, Tallies, Trail, waiting}
+use Rattle.gw_base.specs.Buffer.{Buffered}
 use Rattle.gate_journal.specs.Journal as journal
 use Rattle.gw_base.specs.declared.fault.Full.{Full}
 use Rattle.cgf_journal.proofs.Placing.{get_left}

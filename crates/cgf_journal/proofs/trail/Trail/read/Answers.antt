@@ -1,4 +1,4 @@
-use Rattle.std.proofs.Common.{ℕ, ◌+◌, ◌-◌, List, [], ◌∷◌, length, take, drop, refl, sym, subst, ◌∙◌, ap, arith}
+use Rattle.std.proofs.Common.{ℕ, ◌+◌, ◌-◌, List, [], ◌∷◌, length, take, drop, sym, subst, ◌∙◌, ap, arith, rules}
 use Rattle.std.proofs.lemmas.Result.{on_ok_weaker}
 use Rattle.cgf_journal.proofs.Names.{AreEntries, end_of, one_entry}
 use Rattle.gate_journal.specs.Reading.{IsRead}
@@ -33,9 +33,7 @@ returns-clause-read g c = λ told k e is get.
     (c.read.ensures.content told)
 
 pub returns-clause-kept : goal.returns-clause-kept
-returns-clause-kept g c =
-    let same = c.read.ensures.kept in
-    kept _ _ same.area.size same.same.header same.same.closed (λ told. same.same.batches) refl refl refl refl
+returns-clause-kept g c = search (rules, kept)
 
 pub returns-clause-planned : goal.returns-clause-planned
 returns-clause-planned g c = λ fate. record { planned = c.read.ensures.planned fate; stands = c.read.ensures.kept.same.stop_stands fate }

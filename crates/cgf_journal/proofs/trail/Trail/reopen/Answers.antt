@@ -1,5 +1,5 @@
-use Rattle.std.proofs.Common.{◌≡◌, ◌⊎◌, inl, inr, ◌+◌, true, false, List, [], ◌∷◌, ◌++◌, length, refl, sym, ◌∙◌, ap, arith, slice_get, rules}
-use Rattle.cgf_journal.proofs.Names.{Buffered, entries_in, entries_of, entries_of-nil, false_from_ne_true, firm_entries, Ghosts, is_closed, is_err, is_founded, Journal, length-take-le, Place, Tallies, torn_stands, Trail, true_from_ne_false, waiting}
+use Rattle.std.proofs.Common.{◌≡◌, ◌⊎◌, ◌+◌, true, false, List, [], ◌∷◌, ◌++◌, length, refl, sym, ◌∙◌, ap, arith, slice_get, rules}
+use Rattle.cgf_journal.proofs.Names.{entries_in, entries_of-nil, false_from_ne_true, firm_entries, Ghosts, is_closed, is_founded, Journal, length-take-le, Place, Tallies, torn_stands, Trail, true_from_ne_false, waiting}
 use Rattle.gate_journal.specs.Journal as journal
 use Rattle.cgf_journal.proofs.Coming.{reopen_failed, reopen_planned}
 use Rattle.cgf_journal.proofs.Tallies.{entries_in-push, still_enough}
@@ -21,8 +21,7 @@ module _ {A : Type 0} {tells : Ghosts A} (t : Trail A tells) (new : Journal A te
 
     end_goes : (journal.end new ≡ journal.end t.journal) ⊎ (journal.end new ≡ journal.end t.journal + 5 + length (journal.torn t.journal)) → (journal.end new ≡ journal.end t.journal → ⊥)
         → journal.end new ≡ journal.end t.journal + 5 + length t.waiting.octets
-    end_goes (inl same) other = absurd (other same)
-    end_goes (inr is) other = rw (t.sound.torn_waits closed) at is
+    end_goes one two = search rules
 
 pub returns-in_err-reopen-clause-err : goal.returns-in_err-reopen-clause-err
 returns-in_err-reopen-clause-err g c =
@@ -48,30 +47,11 @@ invariant_of-self-then-end g c =
 
 pub returns-then-end-clause-ok : goal.returns-then-end-clause-ok
 unfolding waiting
-returns-then-end-clause-ok g c =
-    let t = c.args.self.now in
-    let ok = c.in_ok-reopen.ensures.ok in
-    record {
-      gate = λ told. sym (stays t c.reopen.new.self (ok.place told) (sym c.end.ensures.place ∙ c.if-end.true ∙ c.end-end.ensures.place));
-      none_waits = ap (λ (w : Buffered). entries_of w.octets) c.clear.ensures ∙ entries_of-nil;
-      emptied = ap (λ (w : Buffered). length w.octets) c.clear.ensures;
-      opened = ok.ready;
-      length = rw (ok.ready, c.truncate.ensures.items) (length-take-le t.firm t.places.items t.sound.firm_places);
-      settled = settled _ c.area_laws.ensures ok.settled;
-    }
+returns-then-end-clause-ok g c = search (rules, stays, entries_of-nil, length-take-le, settled)
 
 pub returns-then-end-clause-dropped : goal.returns-then-end-clause-dropped
 unfolding firm_entries
-returns-then-end-clause-dropped g c = λ is.
-    let t = c.args.self.now in
-    let ok = c.in_ok-reopen.ensures.ok in
-    let same_end : journal.end c.reopen.new.self ≡ journal.end t.journal = sym c.end.ensures.place ∙ c.if-end.true ∙ c.end-end.ensures.place in
-    record {
-      listed = λ told. ap entries_in (rw (stays t c.reopen.new.self (ok.place told) same_end) at (ok.batches told));
-      count = refl;
-      room = same_room _ _ c.reopen.ensures.stays.size (rw (ok.ready, c.requires.closed) (ap (λ (v : Tallies). v.live) c.revert.ensures));
-      free = same_free _ _ c.reopen.ensures.stays.size (rw (ok.ready, c.requires.closed) (ap (λ (v : Tallies). v.live) c.revert.ensures));
-    }
+returns-then-end-clause-dropped g c = λ is. search (rules, stays, same_room, same_free)
 
 pub returns-then-end-clause-any_moment : goal.returns-then-end-clause-any_moment
 returns-then-end-clause-any_moment g c = λ told.
@@ -101,18 +81,7 @@ invariant_of-self-2 g c =
 
 pub returns-clause-ok : goal.returns-clause-ok
 unfolding waiting
-returns-clause-ok g c =
-    let t = c.args.self.now in
-    let ok = c.in_ok-reopen.ensures.ok in
-    let counted : length t.places.items ≡ c.len-self.result = sym (search rules) in
-    record {
-      gate = λ told. sym (goes t c.reopen.new.self (ok.place told) (λ e. c.if-end.false (c.end.ensures.place ∙ e ∙ sym c.end-end.ensures.place)));
-      none_waits = ap (λ (w : Buffered). entries_of w.octets) c.clear-2.ensures ∙ entries_of-nil;
-      emptied = ap (λ (w : Buffered). length w.octets) c.clear-2.ensures;
-      opened = ok.ready;
-      length = rw ok.ready counted;
-      settled = settled _ c.area_laws.ensures ok.settled;
-    }
+returns-clause-ok g c = search (rules, goes, entries_of-nil, settled)
 
 pub returns-clause-taken_in : goal.returns-clause-taken_in
 unfolding firm_entries waiting
@@ -129,14 +98,7 @@ returns-clause-taken_in g c = λ is.
     }
 
 pub returns-clause-stays : goal.returns-clause-stays
-returns-clause-stays g c =
-    let t = c.args.self.now in
-    let counted : c.len-self.result ≡ length t.places.items = search rules in
-    record {
-      size = c.reopen.ensures.stays.size;
-      header = c.reopen.ensures.stays.header;
-      places = λ k place is. (omega (arith, is.0, t.sound.firm_places, counted), is.1);
-    }
+returns-clause-stays g c = search rules
 
 pub returns-clause-any_moment : goal.returns-clause-any_moment
 returns-clause-any_moment g c = λ told.
@@ -144,9 +106,7 @@ returns-clause-any_moment g c = λ told.
     leaves_either t _ _ told (t.sound.torn_waits c.requires.closed) (t.sound.some_torn c.requires.closed) c.area_laws.ensures c.reopen.ensures.stays.size (c.reopen.ensures.any_moment.any told)
 
 pub returns-in_err-reopen-clause-planned : goal.returns-in_err-reopen-clause-planned
-returns-in_err-reopen-clause-planned g c =
-    let failing : is_err c.from_residual.result ≡ true = search rules in
-    reopen_failed _ _ _ failing c.in_err-reopen.ensures.planned
+returns-in_err-reopen-clause-planned g c = search (rules, reopen_failed)
 
 pub returns-then-end-clause-planned : goal.returns-then-end-clause-planned
 returns-then-end-clause-planned g c = reopen_planned _ _ _ c.in_ok-reopen.ensures.planned

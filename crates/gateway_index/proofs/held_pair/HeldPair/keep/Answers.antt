@@ -1,4 +1,4 @@
-use Rattle.std.proofs.Common.{sym, ◌∙◌}
+use Rattle.std.proofs.Common.{rules}
 use Rattle.gateway_index.specs.HeldPairs.{held_in}
 use Rattle.gateway_index.proofs.PairLemmas.{both_are, same_sides}
 use Rattle.gateway_index.proofs.held_pair.HeldPair.keep.Goals as goal
@@ -7,11 +7,7 @@ pub make_same-requires-clause-given : goal.make_same-requires-clause-given
 make_same-requires-clause-given c = λ e. rw c.deref.ensures.value (c.args.self.now.agree e)
 
 pub invariant_of-self : goal.invariant_of-self
-invariant_of-self c = record {
-  agree = λ e. rw c.clear.ensures.items (tt, c.make_same.ensures.firm ∙ sym c.make_same.ensures.live);
-  firm_room = c.make_same.ensures.firm_room;
-  live_room = c.make_same.ensures.live_room;
-}
+invariant_of-self c = search rules
 
 pub returns-then-is_same : goal.returns-then-is_same
 unfolding held_in

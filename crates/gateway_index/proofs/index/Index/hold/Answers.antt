@@ -1,4 +1,4 @@
-use Rattle.std.proofs.Common.{refl}
+use Rattle.std.proofs.Common.{refl, rules}
 use Rattle.gateway_index.specs.Index.{side_of}
 use Rattle.gateway_index.proofs.HeldStates.{both_told, copied_held}
 use Rattle.gateway_index.proofs.IndexLemmas.{few_held, new_facts, none_there, stepped}
@@ -16,9 +16,7 @@ hold-requires c = record {
 }
 
 pub invariant_of-self : goal.invariant_of-self
-invariant_of-self c = record {
-  told = both_told c.set.ensures.step c.hold.ensures (copied_held c.args.node c.args.number) c.args.self.now.told;
-}
+invariant_of-self c = search (rules, both_told, copied_held)
 
 pub returns : goal.returns
 unfolding side_of

@@ -1,4 +1,4 @@
-use Rattle.std.proofs.Common.{refl}
+use Rattle.std.proofs.Common.{refl, rules}
 use Rattle.gateway_index.specs.Index.{side_of}
 use Rattle.gateway_index.proofs.HeldStates.{both_told, numbered_held}
 use Rattle.gateway_index.proofs.IndexLemmas.{held_stays, new_facts, stepped}
@@ -10,9 +10,7 @@ set-requires c =
     record { place = new.place; not_below = new.not_below; high = new.high }
 
 pub invariant_of-self : goal.invariant_of-self
-invariant_of-self c = record {
-  told = both_told c.set.ensures.step held_stays (numbered_held c.args.node c.args.number c.args.state c.requires.other) c.args.self.now.told;
-}
+invariant_of-self c = search (rules, both_told, held_stays, numbered_held)
 
 pub returns : goal.returns
 unfolding side_of

@@ -1,5 +1,5 @@
-use Rattle.std.proofs.Common.{◌≡◌, List, sym, ap, subst, ◌∙◌, arith, length, map}
-use Rattle.gateway_index.proofs.Names.{AreBeside, kept_slots, settled_slot, Slot}
+use Rattle.std.proofs.Common.{◌≡◌, List, sym, ap, ◌∙◌, arith, length, map, rules}
+use Rattle.gateway_index.proofs.Names.{kept_slots, settled_slot, Slot}
 use Rattle.gateway_index.proofs.NodeLemmas.{settled_beside, settled_nodes}
 use Rattle.gateway_index.proofs.SlotLemmas.{all_same, count_still, settled, settled_length, settled_slots, settled_still}
 use Rattle.gateway_index.proofs.nodes.NodeTable.keep.Goals as goal
@@ -19,24 +19,10 @@ invariant_of-self-2 c =
     }
 
 pub invariant_of-self : goal.invariant_of-self
-invariant_of-self c =
-    let old = c.args.self.now in
-    let same = old.same c.if-self.true in
-    record {
-      room = old.room;
-      are_slots = old.are_slots;
-      same = old.same;
-      beside = subst (λ (xs : List Slot). AreBeside old.firm (length xs) c.keep.new.self.pairs.items)
-          (sym (settled_still c.args.firm old.firm old.slots.items same))
-          (settled_beside old.are_slots old.beside c.keep.ensures.kept old.firm (count_still c.args.firm old.firm old.slots.items same));
-    }
+invariant_of-self c = search (rules, settled_still, settled_beside, count_still)
 
 pub returns-then-self-clause-sides : goal.returns-then-self-clause-sides
-returns-then-self-clause-sides c =
-    let old = c.args.self.now in
-    let same = old.same c.if-self.true in
-    settled_nodes c.args.firm old _ (count_still c.args.firm old.firm old.slots.items same)
-    (settled_still c.args.firm old.firm old.slots.items same) c.keep.ensures.kept
+returns-then-self-clause-sides c = search (rules, settled_nodes, count_still, settled_still)
 
 pub returns-clause-sides : goal.returns-clause-sides
 returns-clause-sides c =

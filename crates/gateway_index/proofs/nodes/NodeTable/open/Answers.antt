@@ -1,4 +1,4 @@
-use Rattle.std.proofs.Common.{List, Some, length, refl, ap, arith, true≢false, sym, ◌≡◌}
+use Rattle.std.proofs.Common.{List, Some, length, ap, arith, true≢false, sym, ◌≡◌, rules}
 use Rattle.gateway_index.proofs.Names.{length-map, reopened, Slot}
 use Rattle.gateway_index.proofs.NodeLemmas.{learnt_are_slots, learnt_beside, learnt_inside, may_room, opened_step}
 use Rattle.gateway_index.proofs.SlotLemmas.{slots_reopened}
@@ -26,5 +26,4 @@ invariant_of-self c =
     }
 
 pub returns : goal.returns
-returns c =
-    opened_step c.args.node c.args.opening c.args.self.now _ refl c.learn-place.ensures.learnt c.reopen_all.ensures.items c.clear.ensures.step
+returns c = search (rules, opened_step)

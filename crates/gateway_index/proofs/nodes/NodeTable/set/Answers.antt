@@ -1,4 +1,4 @@
-use Rattle.std.proofs.Common.{refl, arith}
+use Rattle.std.proofs.Common.{refl, arith, rules}
 use Rattle.gateway_index.proofs.NodeLemmas.{both_still, learnt_are_slots, learnt_beside, learnt_inside, learnt_not_below, learnt_same, learnt_still, may_room, numbered_step}
 use Rattle.gateway_index.proofs.nodes.NodeTable.set.Goals as goal
 
@@ -28,6 +28,4 @@ pub returns-clause-step : goal.returns-clause-step
 returns-clause-step c = numbered_step c.args.node c.args.number c.args.state c.args.self.now _ refl c.learn-place.ensures.learnt c.set.ensures.step
 
 pub returns-clause-same : goal.returns-clause-same
-returns-clause-same c =
-    learnt_same c.learn-place.ensures.learnt c.args.self.now.is_same c.len-count.result c.is_still-self.result
-    (omega (arith, c.len-count.ensures)) c.is_still-self.ensures
+returns-clause-same c = search (rules, learnt_same)

@@ -1,4 +1,4 @@
-use Rattle.std.proofs.Common.{arith}
+use Rattle.std.proofs.Common.{arith, rules}
 use Rattle.gateway_index.proofs.PairLemmas.{kept_around, kept_same, same_behind}
 use Rattle.gateway_index.proofs.windows.WindowTable.keep.Goals as goal
 
@@ -10,6 +10,4 @@ invariant_of-self c =
     record { before = λ k low. same k; behind = λ k past. same k }
 
 pub returns-clause-kept : goal.returns-clause-kept
-returns-clause-kept c =
-    kept_around (λ k low. c.args.self.now.before k (omega (arith, low, c.min-from.ensures)))
-    (same_behind c.args.self.now.pairs.items (omega (arith, c.min-end.ensures, c.len.ensures)) c.args.self.now.behind) c.keep_from.ensures
+returns-clause-kept c = search (rules, kept_around, same_behind)

@@ -1,9 +1,6 @@
-use Rattle.std.proofs.Common.{arith}
+use Rattle.std.proofs.Common.{rules}
 use Rattle.gateway_index.proofs.PairLemmas.{same_after}
 use Rattle.gateway_index.proofs.windows.WindowTable.set.Goals as goal
 
 pub invariant_of-self : goal.invariant_of-self
-invariant_of-self c = record {
-  before = λ k low. same_after k c.set_at.ensures (λ same. omega (arith, same, low, c.min-self.ensures)) (c.args.self.now.before k (omega (arith, low, c.min-self.ensures)));
-  behind = λ k past. same_after k c.set_at.ensures (λ same. omega (arith, same, past, c.max-self.ensures)) (c.args.self.now.behind k (omega (arith, past, c.max-self.ensures)));
-}
+invariant_of-self c = search (rules, same_after)

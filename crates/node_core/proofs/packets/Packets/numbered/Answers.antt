@@ -1,5 +1,4 @@
-use Rattle.std.proofs.Common.{◌≡◌, ◌-◌, suc, length, sym, ap, ◌∙◌, arith, rules}
-use Rattle.std.specs.Prelude.{slice_get}
+use Rattle.std.proofs.Common.{◌≡◌, ◌-◌, suc, length, sym, arith, rules}
 use Rattle.node_core.proofs.NodeLemmas.{none_numbered, place_numbered}
 use Rattle.node_core.proofs.packets.Packets.numbered.Goals as goal
 

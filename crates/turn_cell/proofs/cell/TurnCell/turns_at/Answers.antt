@@ -1,4 +1,4 @@
-use Rattle.std.proofs.Common.{◌<◌, ◌+◌, [], length, take, arith, refl, rules, sym, subst, ap, ◌∙◌}
+use Rattle.std.proofs.Common.{◌<◌, ◌+◌, length, take, arith, refl, rules, sym, subst, ap, ◌∙◌}
 use Rattle.turn_cell.proofs.Names.{begun, Knowledge, known_at, made_by, take_all, TookMore}
 use Rattle.turn_cell.proofs.Each.{own_on, took_behind, took_none}
 use Rattle.turn_cell.proofs.cell.TurnCell.turns_at.Goals as goal

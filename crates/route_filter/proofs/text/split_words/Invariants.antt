@@ -1,6 +1,6 @@
 use Rattle.std.proofs.Common.{◌≡◌, ◌++◌, length, map}
 use Rattle.route_filter.specs.Words.{words_of}
-use Rattle.route_filter.proofs.text.words.Given as goal
+use Rattle.route_filter.proofs.text.split_words.Given as goal
 
 -- the words so far, and those of the rest, are all of them
 abbrev pub invariant-loop-word : goal.invariant-loop-word

@@ -1,7 +1,7 @@
 use Rattle.std.proofs.Common.{arith}
 use Rattle.std.proofs.lemmas.Bool.Decides.{nat_tests}
-use Rattle.world_script.proofs.ValueLemmas.{ended, refused, taken}
-use Rattle.world_script.proofs.numbers.number.Goals as goal
+use Rattle.route_filter.proofs.Digits.{ended, refused, taken}
+use Rattle.route_filter.proofs.text.number.Goals as goal
 
 pub returns-in_default : goal.returns-in_default
 returns-in_default c = search (arith, refused)

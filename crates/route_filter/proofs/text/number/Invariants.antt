@@ -1,7 +1,7 @@
 use Rattle.std.proofs.Common.{◌≡◌, drop}
 use Rattle.route_filter.specs.Words.{number_up_to}
-use Rattle.world_script.proofs.ValueLemmas.{number_after}
-use Rattle.world_script.proofs.numbers.number.Given as goal
+use Rattle.route_filter.proofs.Digits.{number_after}
+use Rattle.route_filter.proofs.text.number.Given as goal
 
 -- the digits that are left say the number, behind those before
 abbrev pub invariant-loop-octet : goal.invariant-loop-octet

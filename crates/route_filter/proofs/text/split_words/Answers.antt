@@ -1,6 +1,6 @@
 use Rattle.std.proofs.Common.{map}
 use Rattle.route_filter.proofs.Cuts.{step_words}
-use Rattle.route_filter.proofs.text.words.Goals as goal
+use Rattle.route_filter.proofs.text.split_words.Goals as goal
 
 pub loop-word-preserved : goal.loop-word-preserved
 loop-word-preserved c =
