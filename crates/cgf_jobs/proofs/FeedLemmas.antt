@@ -2,7 +2,7 @@
 use Rattle.std.proofs.Common.{◌≡◌, ℕ, ◌+◌, true, false, List, [], ◌∷◌, ◌++◌, drop, length, Option, Some, None, slice_get, Result, Ok, Err, refl, ap, subst, sym, ◌∙◌, append_assoc}
 use Rattle.std.specs.Prelude.{IfOk}
 use Rattle.gw_base.specs.declared.fault.NoMemory.{NoMemory}
-use Rattle.cgf_jobs.proofs.Names.{after_close, after_line, begun, counts_line, counts_of, counts_text, end_lines, ended_by, Fed, fed_from, fed_of, Feed, FeedState, file_lines, filed, HandsBack, HistoryEntry, is_earlier, IsFed, IsRefusal, IsReport, Item, items_of, Line, LineRefusal, lines_run, may_have_written, of_line, Played, printed_for, Refusal, refusal_at, Report, run_end, script_end, script_of, script_report, Setup, setup_of, setup_seen, standing_for, tally_by, with_print}
+use Rattle.cgf_jobs.proofs.Names.{after_close, after_line, begun, counts_line, counts_of, counts_text, end_lines, ended_by, Fed, fed_from, fed_of, Feed, FeedState, file_lines, filed, HandsBack, HistoryEntry, is_earlier, IsFed, IsRefusal, IsReport, Item, items_of, Line, LineRefusal, lines_run, may_have_written, of_line, Played, printed_for, Refusal, refusal_at, Report, run_end, script_end, script_of, script_report, Setup, setup_of, setup_seen, standing_for, with_print, gateway_counts_with}
 use Rattle.gateway_book.specs.declared.outcome.Counts.{Counts}
 use Rattle.cgf_jobs.proofs.KindLemmas.{line_not_of_run}
 use Rattle.replay_gateway.specs.Settings.{AreSet}
@@ -91,13 +91,13 @@ module _ (script : List Line) (at : ℕ) (s : FeedState) (printed : List ℕ) wh
 -- the lines of the files, and then the line of the counts
 pub end_printed : (setup : Setup) (h : List HistoryEntry) (size : ℕ) (items : List Item) (counts : Counts) (records : ℕ) (before middle now : List ℕ)
     → items ≡ items_of h → middle ≡ before ++ file_lines setup 0 items → counts ≡ counts_of (standing_for h) size
-    → records ≡ length (filed h) → now ≡ middle ++ counts_text 0 (tally_by counts records)
+    → records ≡ length (filed h) → now ≡ middle ++ counts_text 0 (gateway_counts_with counts records)
     → now ≡ before ++ end_lines setup h
 end_printed setup h size items counts records before middle now told written counted found more =
-    more ∙ ap (λ (m : List ℕ). m ++ counts_text 0 (tally_by counts records)) written
-    ∙ ap (λ (c : Counts). (before ++ file_lines setup 0 items) ++ counts_text 0 (tally_by c records)) counted
+    more ∙ ap (λ (m : List ℕ). m ++ counts_text 0 (gateway_counts_with counts records)) written
+    ∙ ap (λ (c : Counts). (before ++ file_lines setup 0 items) ++ counts_text 0 (gateway_counts_with c records)) counted
     ∙ ap (λ (n : ℕ). (before ++ file_lines setup 0 items)
-    ++ counts_text 0 (tally_by (counts_of (standing_for h) size) n)) found
+    ++ counts_text 0 (gateway_counts_with (counts_of (standing_for h) size) n)) found
     ∙ ap (λ (is : List Item). (before ++ file_lines setup 0 is) ++ counts_line 0 (standing_for h)) told
     ∙ append_assoc before (file_lines setup 0 (items_of h)) (counts_line 0 (standing_for h))
 

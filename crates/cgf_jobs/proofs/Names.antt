@@ -28,7 +28,7 @@ pub use Rattle.gateway_answer.specs.Filed.{filed}
 pub use Rattle.gateway_answer.specs.Items.{is_part, IsWritable, items_of}
 pub use Rattle.gateway_answer.specs.Value.{after_commit, BookValue, committed, Fortune, history_of, opened, recorded, recorded_if, standing_for}
 pub use Rattle.gateway_book.specs.Book.{fortune_of, open_time_of, size_of, Stays, value_of}
-pub use Rattle.gateway_book.specs.Calls.{counts_of, outcome_at, taken, tally_by}
+pub use Rattle.gateway_book.specs.Calls.{counts_of, outcome_at, taken, gateway_counts_with}
 pub use Rattle.gw_base.specs.Written.{AppendsFront}
 pub use Rattle.gw_base.specs.declared.history.HistoryEntry.{HistoryEntry}
 pub use Rattle.gw_base.specs.declared.item.Item.{Item}

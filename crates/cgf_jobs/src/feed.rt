@@ -157,7 +157,7 @@ impl Feed {
         let counts = gateway.counts();
         drop(gateway);
         print_files(alloc, &mut printed, &shelf)?;
-        print_counts(alloc, &mut printed, counts.tally(records))?;
+        print_counts(alloc, &mut printed, counts.gateway_counts(records))?;
         Ok(Report {
             printed,
             refused: None,

@@ -7,7 +7,7 @@ ghost use Rattle.cgf_jobs.specs.FeedReport.{lines_size, octets_line};
 ghost use Rattle.cgf_jobs.specs.Steps.{outcome_line};
 
 use cdr_shelf::{FileName, QuietShelf, Shelf};
-use gateway_book::{Outcome, Tally};
+use gateway_book::{GatewayCounts, Outcome};
 use gw_base::{NoMemory, Octets};
 use std::alloc::Global;
 
@@ -141,7 +141,11 @@ fn print_name(alloc: Global, printed: &mut Vec<u8>, name: FileName) -> Result<()
 }
 
 /// Appends the line of a gateway's counts. The only gateway is the first.
-pub fn print_counts(alloc: Global, printed: &mut Vec<u8>, tally: Tally) -> Result<(), NoMemory>
+pub fn print_counts(
+    alloc: Global,
+    printed: &mut Vec<u8>,
+    tally: GatewayCounts,
+) -> Result<(), NoMemory>
     ensures { OnOk result (printed.new.items ≡ printed.old.items ++ counts_text 0 tally) }
 {
     let mut line = Octets::from_vec(Vec::new(alloc));

@@ -4,7 +4,7 @@ use Rattle.cgf_service.proofs.Names.{area_of, base, Book, BookValue, closed_behi
 use Rattle.area_disk.specs.declared.area.Area as areas
 use Rattle.cdr_shelf.specs.declared.shelf.Shelf as shelves
 use Rattle.gateway_answer.specs.Filed.{filed}
-use Rattle.gateway_book.specs.Calls.{tally_by}
+use Rattle.gateway_book.specs.Calls.{gateway_counts_with}
 use Rattle.gateway_book.specs.Read.{IsUnchanged}
 use Rattle.gateway_book.specs.declared.outcome.Counts.{Counts}
 use Rattle.node_session.specs.Writing.{KeepsFiles}
@@ -14,10 +14,11 @@ use Rattle.replay_gateway.specs.GatewayReport.{counts_text}
 -- the counts of a book in which nothing waits, and that isn't broken, are those of its history
 pub line_is : (v : BookValue) (size : ℕ) (counts : Counts) (records : ℕ) → v.is_broken ≡ false → v.rest ≡ [] → counts ≡ counts_of v size
     → records ≡ part_count (items_of v.firm) → ((h : List HistoryEntry) → count_by is_part (items_of h) ≡ length (filed h))
-    → counts_text 0 (tally_by counts records) ≡ served_line v.firm
+    → counts_text 0 (gateway_counts_with counts records) ≡ served_line v.firm
 line_is v size counts records whole none is counted parts =
-    ap (λ (c : Counts). counts_text 0 (tally_by c records)) (is ∙ ap (λ (w : BookValue). counts_of w size) same)
-    ∙ ap (λ (n : ℕ). counts_text 0 (tally_by (counts_of standing size) n)) (counted ∙ parts v.firm)
+    ap (λ (c : Counts). counts_text 0 (gateway_counts_with c records))
+    (is ∙ ap (λ (w : BookValue). counts_of w size) same)
+    ∙ ap (λ (n : ℕ). counts_text 0 (gateway_counts_with (counts_of standing size) n)) (counted ∙ parts v.firm)
   where
     standing : BookValue
     standing = record { firm = v.firm; rest = []; cuts = v.cuts; is_broken = false }

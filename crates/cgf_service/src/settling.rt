@@ -311,7 +311,7 @@ fn line_of<A: Area>(alloc: Global, book: &mut Book<A>, counts: Counts) -> Result
     a_history_filed_its_parts();
     let records = records_of(alloc, book)?;
     let mut line = Vec::new(alloc);
-    match print_counts(alloc, &mut line, counts.tally(records)) {
+    match print_counts(alloc, &mut line, counts.gateway_counts(records)) {
         Ok(()) => Ok(line),
         Err(NoMemory) => Err(Status::Memory),
     }

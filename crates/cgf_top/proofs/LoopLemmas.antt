@@ -5,9 +5,9 @@ use Rattle.std.specs.Io.KnownBytes.{Appends}
 use Rattle.area_disk.specs.contracts.quiet.QuietAreaArea.TheImpl.{ghosts as quiet_area}
 use Rattle.area_disk.specs.declared.quiet.QuietArea.{QuietArea}
 use Rattle.gateway_book.specs.Book.{value_of}
-use Rattle.gateway_book.specs.Calls.{tally_of}
+use Rattle.gateway_book.specs.Calls.{gateway_counts_of}
 use Rattle.gateway_book.specs.declared.book.Book.{Book}
-use Rattle.gateway_book.specs.declared.outcome.Tally.{Tally}
+use Rattle.gateway_book.specs.declared.outcome.GatewayCounts.{GatewayCounts}
 use Rattle.gw_base.specs.Written.{AppendsFront}
 use Rattle.gw_base.specs.Faults.{Rose}
 use Rattle.loop_run.specs.Ending.{EndsAs}
@@ -39,15 +39,15 @@ abbrev LoopBook : Type 0
 LoopBook = Book QuietArea quiet_area
 
 gateway_lines : (at : ℕ) (books : List LoopBook)
-    → lines_from counts_text at (map (λ (book : LoopBook). tally_of (value_of book)) books)
+    → lines_from counts_text at (map (λ (book : LoopBook). gateway_counts_of (value_of book)) books)
     ≡ lines_from (λ place book. counts_line place (value_of book)) at books
 gateway_lines at [] = refl
 gateway_lines at (book ∷ books) =
     ap (λ (rest : List ℕ). counts_line at (value_of book) ++ rest) (gateway_lines (at + 1) books)
 
-pub sums_are : (nodes : List NodeCounts) (gateways : List Tally) (looped : Looped)
+pub sums_are : (nodes : List NodeCounts) (gateways : List GatewayCounts) (looped : Looped)
     → nodes ≡ map counts_of looped.nodes.items
-    → gateways ≡ map (λ (book : LoopBook). tally_of (value_of book)) looped.books.items
+    → gateways ≡ map (λ (book : LoopBook). gateway_counts_of (value_of book)) looped.books.items
     → sums_text nodes gateways ≡ loop_report looped
 sums_are nodes gateways looped of_nodes of_books =
     (λ i. sums_text (of_nodes i) (of_books i))
@@ -105,7 +105,7 @@ module _ (setup : LoopSetup) (links links' : LinksState) (before after : Option 
   abbrev Writes : Status → Type 0
   Writes ended = WritesLoop setup links links' before after faults faults' ended looped
 
-  wrote_sums : (ended : Status) (nodes : List NodeCounts) (gateways : List Tally)
+  wrote_sums : (ended : Status) (nodes : List NodeCounts) (gateways : List GatewayCounts)
       → IsFine setup links links' looped → sums_text nodes gateways ≡ loop_report looped
       → WritesSums nodes gateways before after faults faults' ended → Writes ended
   wrote_sums ended nodes gateways fine says (inl done) =
@@ -117,9 +117,9 @@ module _ (setup : LoopSetup) (links links' : LinksState) (before after : Option 
 
   pub wrote_end : (how : LoopEnd) (ended : Status) → EndsAs setup links links' looped how
       → WritesEnd before after faults faults' how ended → Writes ended
-  wrote_end (end.Fine node_counts tallies) ended (hands, counts) wrote =
-      wrote_sums ended node_counts.items tallies.items (hands, counts.0, counts.1)
-      (sums_are node_counts.items tallies.items looped counts.2.0 counts.2.1) wrote
+  wrote_end (end.Fine node_counts gateway_counts) ended (hands, counts) wrote =
+      wrote_sums ended node_counts.items gateway_counts.items (hands, counts.0, counts.1)
+      (sums_are node_counts.items gateway_counts.items looped counts.2.0 counts.2.1) wrote
   wrote_end (end.Wrong packet places wanted) ended (hands, counts) wrote =
       subst Writes (sym wrote.0) (hands, counts.0, counts.1, wrote.1)
   wrote_end (end.Unfinished turns packet count) ended (hands, counts, taken) wrote =

@@ -2,7 +2,7 @@
 use Rattle.std.specs.Prelude.{◌≡◌, ◌⊎◌, ℕ, List, [], ◌∷◌, ◌++◌, Option, Some, codes, length, slice_get}
 use Rattle.std.specs.Io.KnownBytes.{Appends}
 use Rattle.std.specs.List.{enumerate_from, flat_map}
-use Rattle.gateway_book.specs.declared.outcome.Tally.{Tally}
+use Rattle.gateway_book.specs.declared.outcome.GatewayCounts.{GatewayCounts}
 use Rattle.gw_base.specs.Faults.{Rose}
 use Rattle.gw_base.specs.Written.{AppendsFront}
 use Rattle.loop_audit.specs.declared.audited.Audited.TheVariants as audited
@@ -24,7 +24,7 @@ abbrev pub lines_from : {A : Type 0} → (ℕ → A → List ℕ) → ℕ → Li
 lines_from line at all = flat_map (λ one. line one.0 one.1) (enumerate_from at all)
 
 -- all lines, and that the audit is fine
-abbrev pub sums_text : List NodeCounts → List Tally → List ℕ
+abbrev pub sums_text : List NodeCounts → List GatewayCounts → List ℕ
 sums_text nodes gateways =
     lines_from node_text 0 nodes ++ lines_from counts_text 0 gateways ++ codes "audit fine" ++ 10 ∷ []
 
@@ -35,7 +35,8 @@ WritesText text before after faults faults' ended =
     ⊎ (((ended ≡ status.Write) × AppendsFront before after text × Rose faults faults')
     ⊎ ((ended ≡ status.Memory) × (faults' ≡ faults)))
 
-abbrev pub WritesSums : List NodeCounts → List Tally → Option (List ℕ) → Option (List ℕ) → ℕ → ℕ → Status → Type 0
+abbrev pub WritesSums : List NodeCounts → List GatewayCounts → Option (List ℕ) → Option (List ℕ) → ℕ → ℕ → Status
+    → Type 0
 WritesSums nodes gateways = WritesText (sums_text nodes gateways)
 
 -- What is written of an end, and the status that tells it.

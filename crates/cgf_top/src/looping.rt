@@ -11,7 +11,7 @@ ghost use Rattle.replay_world.specs.Report.{node_text};
 use crate::watch::LoopWatch;
 use cgf_jobs::{Status, Watch, write_all};
 use gw_base::{NoMemory, Octets, Sink};
-use loop_run::{LoopEnd, LoopSetup, Looped, NodeCounts, Tally, run_loop_watched};
+use loop_run::{GatewayCounts, LoopEnd, LoopSetup, Looped, NodeCounts, run_loop_watched};
 use net_link::Links;
 use replay_gateway::print_counts;
 use replay_world::print_node;
@@ -134,7 +134,7 @@ fn write_sums<K: Sink>(
     alloc: Global,
     sink: &mut K,
     nodes: &[NodeCounts],
-    gateways: &[Tally],
+    gateways: &[GatewayCounts],
 ) -> Status
     ensures wrote { WritesSums nodes.now gateways.now (K.written sink.old) (K.written sink.new) (K.faults sink.old)
         (K.faults sink.new) result }
@@ -150,7 +150,11 @@ fn write_sums<K: Sink>(
 }
 
 /// The lines of what nodes and gateways count, and that the audit is fine.
-fn sums_text(alloc: Global, nodes: &[NodeCounts], gateways: &[Tally]) -> Result<Octets, NoMemory>
+fn sums_text(
+    alloc: Global,
+    nodes: &[NodeCounts],
+    gateways: &[GatewayCounts],
+) -> Result<Octets, NoMemory>
     ensures { IfOk result (λ text. text ≡ sums_text nodes.now gateways.now) }
 {
     let mut text = Octets::from_vec(Vec::new(alloc));
@@ -171,7 +175,11 @@ fn print_nodes(alloc: Global, text: &mut Octets, nodes: &[NodeCounts]) -> Result
 }
 
 /// Appends the lines of what gateways count.
-fn print_gateways(alloc: Global, text: &mut Octets, gateways: &[Tally]) -> Result<(), NoMemory>
+fn print_gateways(
+    alloc: Global,
+    text: &mut Octets,
+    gateways: &[GatewayCounts],
+) -> Result<(), NoMemory>
     ensures { OnOk result (text.new ≡ text.old ++ lines_from counts_text 0 gateways.now) }
 {
     for at in 0..gateways.len() {

@@ -22,7 +22,7 @@ use Rattle.gateway_book.specs.declared.outcome.Outcome.TheVariants as outcome
 use Rattle.gateway_book.specs.declared.outcome.Settled.{Settled}
 use Rattle.gateway_book.specs.declared.outcome.Settled.TheVariants as settled
 use Rattle.gateway_book.specs.declared.outcome.Counts.{Counts}
-use Rattle.gateway_book.specs.declared.outcome.Tally.{Tally}
+use Rattle.gateway_book.specs.declared.outcome.GatewayCounts.{GatewayCounts}
 
 -- A datagram is taken.
 
@@ -129,8 +129,8 @@ counts_of v size = record {
 -- What is reported of a gateway.
 
 -- by what its book counts, and how many records were filed
-abbrev pub tally_by : Counts → ℕ → Tally
-tally_by counts records = record {
+abbrev pub gateway_counts_with : Counts → ℕ → GatewayCounts
+gateway_counts_with counts records = record {
   entries = counts.entries;
   records = records;
   held = counts.held;
@@ -139,8 +139,8 @@ tally_by counts records = record {
 
 -- of its book: the entries, the records that the firm ones filed, the copies that are held, and those of earlier epochs
 -- that were neither released nor cancelled
-abbrev pub tally_of : BookValue → Tally
-tally_of v = let h = history_of v in record {
+abbrev pub gateway_counts_of : BookValue → GatewayCounts
+gateway_counts_of v = let h = history_of v in record {
   entries = length h;
   records = length (filed v.firm);
   held = (copies_of h).held;

@@ -38,6 +38,6 @@ mod taking;
 pub use book::Book;
 pub use gateway_answer::{Key, Prepared, failure, prepare};
 pub use outcome::{
-    BookFault, Broken, Counts, ItemsFault, Marked, Outcome, Receipt, Settled, Setup, Tally,
+    BookFault, Broken, Counts, GatewayCounts, ItemsFault, Marked, Outcome, Receipt, Settled, Setup,
 };
 pub use records::{count_records, record_count};

@@ -1,5 +1,5 @@
 ghost use Rattle.std.specs.Prelude.{◌≡◌};
-ghost use Rattle.gateway_book.specs.Calls.{tally_by};
+ghost use Rattle.gateway_book.specs.Calls.{gateway_counts_with};
 
 use gtpp_message::Why;
 use gw_base::Short;
@@ -117,7 +117,7 @@ pub struct Counts {
 
 /// What is reported of a gateway.
 #[derive(Clone, Copy)]
-pub struct Tally {
+pub struct GatewayCounts {
     /// The entries of its history.
     pub entries: u64,
     /// The records that its firm entries have filed.
@@ -130,10 +130,10 @@ pub struct Tally {
 
 impl Counts {
     /// What is reported of a gateway that counts this, and whose firm entries have filed so many records.
-    pub fn tally(self, records: usize) -> Tally
-        ensures { result ≡ tally_by self records }
+    pub fn gateway_counts(self, records: usize) -> GatewayCounts
+        ensures { result ≡ gateway_counts_with self records }
     {
-        Tally {
+        GatewayCounts {
             entries: self.entries,
             records,
             held: self.held,

@@ -1,6 +1,6 @@
 -- Books of which the same is told, as they are counted one after the other.
 use Rattle.std.proofs.Common.{◌≡◌, ◌∙◌, ℕ, zero, suc, ◌+◌, ◌<◌, List, [], ◌∷◌, ◌++◌, get_or, length, map, take, refl, sym, ap, arith}
-use Rattle.loop_run.proofs.Names.{AreAlike, BookValue, LoopBook, shown, slice_set, take_more, Tally, tally_of, value_of}
+use Rattle.loop_run.proofs.Names.{AreAlike, BookValue, GatewayCounts, LoopBook, gateway_counts_of, shown, slice_set, take_more, value_of}
 
 abbrev Shown : Type 0
 Shown = BookValue × (ℕ × List ℕ)
@@ -32,8 +32,8 @@ by_place (o ∷ old) [] k d e less = absurd (cc)
 by_place (o ∷ old) (b ∷ books) zero d e less = cc
 by_place (o ∷ old) (b ∷ books) (suc k) d e less = by_place old books k d (cc) (omega arith)
 
-abbrev sum_of : LoopBook → Tally
-sum_of book = tally_of (value_of book)
+abbrev sum_of : LoopBook → GatewayCounts
+sum_of book = gateway_counts_of (value_of book)
 
 sums_both : (xs ys : List LoopBook) → map sum_of (xs ++ ys) ≡ map sum_of xs ++ map sum_of ys
 sums_both [] ys = refl
@@ -42,9 +42,9 @@ sums_both (x ∷ xs) ys = cc (sums_both xs ys)
 -- with the next one
 pub counted_next : (old books : List LoopBook) (k : ℕ) (book : LoopBook) → AreAlike old books → k < length old
     → book ≡ get_or books k book
-    → map (λ (b : LoopBook). tally_of (value_of b)) (take k old) ++ tally_of (value_of book) ∷ []
-    ≡ map (λ (b : LoopBook). tally_of (value_of b)) (take (k + 1) old)
+    → map (λ (b : LoopBook). gateway_counts_of (value_of b)) (take k old) ++ gateway_counts_of (value_of book) ∷ []
+    ≡ map (λ (b : LoopBook). gateway_counts_of (value_of b)) (take (k + 1) old)
 counted_next old books k book alike less is = sym (ap (map sum_of) (take_more old k book less)
     ∙ sums_both (take k old) (get_or old k book ∷ [])
-    ∙ ap (λ (s : Shown). map sum_of (take k old) ++ tally_of s.0 ∷ [])
+    ∙ ap (λ (s : Shown). map sum_of (take k old) ++ gateway_counts_of s.0 ∷ [])
     (sym (by_place old _ k book alike less) ∙ ap shown (sym is)))

@@ -1,6 +1,6 @@
 -- How a loop ends, by what was collected.
 use Rattle.std.proofs.Common.{◌≡◌, ◌∙◌, ℕ, zero, suc, ◌+◌, ◌^◌, ◌<◌, List, [], ◌∷◌, length, map, Option, None, Some, refl, sym, ap, subst, arith}
-use Rattle.loop_run.proofs.Names.{Addr, AllRan, AreAlike, BookValue, CarriedAt, Collected, CountsAs, EndsAs, Finishes, First, gateway_at, HasCollected, HasTakenAll, history_of, IsLoopBook, IsLooped, IsLoopNode, Keeps, length-map, LinksState, LoopBook, Looped, LoopSetup, MakesSeats, node_at, NodeValue, same_Some, Seat, Second, shown, slice_get, Stop, tally_of, value_of, verdict}
+use Rattle.loop_run.proofs.Names.{Addr, AllRan, AreAlike, BookValue, CarriedAt, Collected, CountsAs, EndsAs, Finishes, First, gateway_at, HasCollected, HasTakenAll, gateway_counts_of, history_of, IsLoopBook, IsLooped, IsLoopNode, Keeps, length-map, LinksState, LoopBook, Looped, LoopSetup, MakesSeats, node_at, NodeValue, same_Some, Seat, Second, shown, slice_get, Stop, value_of, verdict}
 use Rattle.net_link.specs.declared.link.Link as paths
 use Rattle.loop_run.specs.declared.end.LoopEnd.{LoopEnd}
 use Rattle.loop_run.specs.declared.end.LoopEnd.TheVariants as end
@@ -117,12 +117,12 @@ module _ (setup : LoopSetup) (links links' : LinksState) (old new : List LoopBoo
   same_verdict = cc (alike_by (λ (v : BookValue). history_of v) old new alike)
 
   pub alike_counts : (how : LoopEnd) → CountsAs setup old nodes how → CountsAs setup new nodes how
-  alike_counts (end.Fine node_counts tallies) (none, fine, sums) = (
+  alike_counts (end.Fine node_counts gateway_counts) (none, fine, sums) = (
     none,
     same_verdict ∙ fine,
     (
       sums.0,
-      sums.1 ∙ sym (alike_by (λ (v : BookValue). tally_of v) old new alike),
+      sums.1 ∙ sym (alike_by (λ (v : BookValue). gateway_counts_of v) old new alike),
     ),
   )
   alike_counts (end.Wrong packet places wanted) (none, wrong) = (none, same_verdict ∙ wrong)
@@ -137,12 +137,12 @@ module _ (setup : LoopSetup) (old mid new : LinksState) (keeps : Keeps old mid) 
   out alike nodes = rw nodes (alike_looped _ old new _ _ _ alike (looped_from _ old mid new keeps has.hands))
 
   pub ends_finished : (how : LoopEnd) → Finishes setup collected.looped now how → EndsAs setup old new now how
-  ends_finished (end.Fine node_counts tallies) (counts, alike, nodes) = (
+  ends_finished (end.Fine node_counts gateway_counts) (counts, alike, nodes) = (
     out alike nodes,
     subst
-        (λ (l : List NodeValue). CountsAs setup now.books.items l (end.Fine node_counts tallies)) (sym nodes)
+        (λ (l : List NodeValue). CountsAs setup now.books.items l (end.Fine node_counts gateway_counts)) (sym nodes)
         (alike_counts setup mid new collected.looped.books.items now.books.items collected.looped.nodes.items alike
-        (end.Fine node_counts tallies) counts),
+        (end.Fine node_counts gateway_counts) counts),
   )
   ends_finished (end.Wrong packet places wanted) (counts, alike, nodes) = (
     out alike nodes,

@@ -3,8 +3,8 @@ pub use Rattle.gate_journal.specs.Format.{Starts}
 unfoldable pub use Rattle.gate_journal.specs.Format.{header, spelled}
 pub use Rattle.gateway_answer.specs.Value.{after_commit, BookValue, Fortune, history_of, opened, standing_for}
 pub use Rattle.gateway_book.specs.Book.{fortune_of, header_of, reopening_of, size_of, Stays, value_of}
-pub use Rattle.gateway_book.specs.Calls.{tally_of}
-pub use Rattle.gateway_book.specs.declared.outcome.Tally.{Tally}
+pub use Rattle.gateway_book.specs.Calls.{gateway_counts_of}
+pub use Rattle.gateway_book.specs.declared.outcome.GatewayCounts.{GatewayCounts}
 pub use Rattle.gw_base.specs.Faults.{Rose}
 pub use Rattle.gw_base.specs.Owes.{Begins}
 pub use Rattle.gw_base.specs.declared.address.Addr.{Addr}

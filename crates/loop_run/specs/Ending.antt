@@ -4,7 +4,7 @@ use Rattle.std.specs.List.{flat_map, range_with_len}
 use Rattle.area_disk.specs.contracts.quiet.QuietAreaArea.TheImpl.{ghosts as quiet_area}
 use Rattle.area_disk.specs.declared.quiet.QuietArea.{QuietArea}
 use Rattle.gateway_book.specs.Book.{value_of}
-use Rattle.gateway_book.specs.Calls.{tally_of}
+use Rattle.gateway_book.specs.Calls.{gateway_counts_of}
 use Rattle.gateway_answer.specs.Value.{standing_for}
 use Rattle.gateway_book.specs.declared.book.Book.{Book}
 use Rattle.gw_base.specs.Faults.{Rose}
@@ -64,8 +64,8 @@ AreAllFirm books = All (λ book. value_of book ≡ standing_for (value_of book).
 module _ (books : List (Book QuietArea quiet_area)) (nodes : List NodeValue) where
   -- these are the counts of all nodes and gateways, in their order
   abbrev pub SumsAs : LoopEnd → Type 0
-  SumsAs (end.Fine node_counts tallies) = (node_counts.items ≡ map counts_of nodes)
-      × (tallies.items ≡ map (λ book. tally_of (value_of book)) books)
+  SumsAs (end.Fine node_counts gateway_counts) = (node_counts.items ≡ map counts_of nodes)
+      × (gateway_counts.items ≡ map (λ book. gateway_counts_of (value_of book)) books)
   SumsAs (end.Wrong packet places wanted) = ⊥
   SumsAs (end.Unfinished turns packet count) = ⊥
   SumsAs end.Link = ⊥
@@ -82,8 +82,8 @@ module _ (setup : LoopSetup) (books : List (Book QuietArea quiet_area)) (nodes :
 
   -- Packets that aren't done decide first, then the audit.
   abbrev pub CountsAs : LoopEnd → Type 0
-  CountsAs (end.Fine node_counts tallies) = (still_open ≡ []) × (verdict books nodes ≡ audited.Fine)
-      × SumsAs books nodes (end.Fine node_counts tallies)
+  CountsAs (end.Fine node_counts gateway_counts) = (still_open ≡ []) × (verdict books nodes ≡ audited.Fine)
+      × SumsAs books nodes (end.Fine node_counts gateway_counts)
   CountsAs (end.Wrong packet places wanted) =
       (still_open ≡ []) × (verdict books nodes ≡ audited.Wrong packet places wanted)
   CountsAs (end.Unfinished turns packet count) = (turns ≡ setup.turns)
@@ -103,8 +103,8 @@ module _ (setup : LoopSetup) (links links' : LinksState) (looped : Looped) where
   -- What is handed out decides the end, and a node with a packet that isn't done took all its turns. A link that
   -- failed, and want of memory, end a loop that hands out nothing.
   abbrev pub EndsAs : LoopEnd → Type 0
-  EndsAs (end.Fine node_counts tallies) = HandsOut
-      × CountsAs setup looped.books.items looped.nodes.items (end.Fine node_counts tallies)
+  EndsAs (end.Fine node_counts gateway_counts) = HandsOut
+      × CountsAs setup looped.books.items looped.nodes.items (end.Fine node_counts gateway_counts)
   EndsAs (end.Wrong packet places wanted) = HandsOut
       × CountsAs setup looped.books.items looped.nodes.items (end.Wrong packet places wanted)
   EndsAs (end.Unfinished turns packet count) = HandsOut

@@ -1,4 +1,4 @@
-use gateway_book::Tally;
+use gateway_book::GatewayCounts;
 use gw_base::PacketId;
 use node_core::NodeCounts;
 
@@ -8,7 +8,7 @@ pub enum LoopEnd {
     /// All packets are done, and each stands once.
     Fine {
         nodes: Vec<NodeCounts>,
-        gateways: Vec<Tally>,
+        gateways: Vec<GatewayCounts>,
     },
     /// All packets are done, and this is the first, by node and number, that doesn't stand once: so many of its copies
     /// stand, and so many may.

@@ -10,7 +10,7 @@ ghost use Rattle.loop_run.specs.Finishing.{AreAlike, Finishes, UpTo, open_at, op
 use crate::end::LoopEnd;
 use crate::looped::Looped;
 use crate::setup::LoopSetup;
-use crate::sums::{gateway_tallies, node_counts};
+use crate::sums::{gateway_counts, node_counts};
 use area_disk::QuietArea;
 use gateway_book::Book;
 use gw_base::{NoMemory, PacketId};
@@ -175,7 +175,7 @@ fn fine(alloc: Global, books: &mut [Book<QuietArea>], nodes: &[Node]) -> LoopEnd
     let Ok(nodes) = node_counts(alloc, nodes) else {
         return LoopEnd::NoMemory;
     };
-    match gateway_tallies(alloc, books) {
+    match gateway_counts(alloc, books) {
         Ok(gateways) => LoopEnd::Fine { nodes, gateways },
         Err(NoMemory) => LoopEnd::NoMemory,
     }

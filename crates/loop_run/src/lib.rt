@@ -27,7 +27,7 @@ mod setup;
 mod sums;
 
 pub use end::LoopEnd;
-pub use gateway_book::Tally;
+pub use gateway_book::GatewayCounts;
 pub use laws::nodes_of_a_loop_keep_all;
 pub use loop_audit::{Audited, audit};
 pub use looped::Looped;

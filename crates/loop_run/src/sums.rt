@@ -1,14 +1,14 @@
 // What nodes and gateways count.
 ghost use Rattle.std.specs.Prelude.{◌≡◌, IfOk, map};
 ghost use Rattle.gateway_book.specs.Book.{value_of};
-ghost use Rattle.gateway_book.specs.Calls.{tally_of};
+ghost use Rattle.gateway_book.specs.Calls.{gateway_counts_of};
 ghost use Rattle.loop_run.specs.Ending.{AreAllFirm};
 ghost use Rattle.loop_run.specs.Finishing.{AreAlike, shown};
 ghost use Rattle.node_core.specs.Counting.{counts_of};
 
 use area_disk::QuietArea;
 use gateway_answer::laws::a_history_filed_its_parts;
-use gateway_book::{Book, ItemsFault, Tally, count_records};
+use gateway_book::{Book, GatewayCounts, ItemsFault, count_records};
 use gw_base::NoMemory;
 use node_core::{Node, NodeCounts};
 use std::alloc::Global;
@@ -25,24 +25,24 @@ pub(crate) fn node_counts(alloc: Global, nodes: &[Node]) -> Result<Vec<NodeCount
 }
 
 /// What each gateway counts.
-pub(crate) fn gateway_tallies(
+pub(crate) fn gateway_counts(
     alloc: Global,
     books: &mut [Book<QuietArea>],
-) -> Result<Vec<Tally>, NoMemory>
+) -> Result<Vec<GatewayCounts>, NoMemory>
     requires { AreAllFirm books.old }
-    ensures tallies { IfOk result (λ tallies. tallies.items ≡ map (λ book. tally_of (value_of book)) books.old) }
+    ensures tallies { IfOk result (λ all. all.items ≡ map (λ book. gateway_counts_of (value_of book)) books.old) }
     ensures same { AreAlike books.old books.new }
 {
     let mut tallies = Vec::with_capacity(alloc, books.len())?;
     for place in 0..books.len() {
-        let tally = gateway_tally(alloc, &mut books[place])?;
+        let tally = book_counts(alloc, &mut books[place])?;
         tallies.push(tally)?;
     }
     Ok(tallies)
 }
 
-fn gateway_tally(alloc: Global, book: &mut Book<QuietArea>) -> Result<Tally, NoMemory>
-    ensures tally { IfOk result (λ tally. tally ≡ tally_of (value_of book.old)) }
+fn book_counts(alloc: Global, book: &mut Book<QuietArea>) -> Result<GatewayCounts, NoMemory>
+    ensures tally { IfOk result (λ tally. tally ≡ gateway_counts_of (value_of book.old)) }
     ensures same { shown book.new ≡ shown book.old }
 {
     a_history_filed_its_parts();
@@ -53,5 +53,5 @@ fn gateway_tally(alloc: Global, book: &mut Book<QuietArea>) -> Result<Tally, NoM
         // The area never fails.
         Err(ItemsFault::Device) => unreachable!(),
     };
-    Ok(counts.tally(records))
+    Ok(counts.gateway_counts(records))
 }

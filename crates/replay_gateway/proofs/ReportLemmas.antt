@@ -5,10 +5,10 @@ use Rattle.std.proofs.lemmas.List.Concat.{flat_map-append}
 use Rattle.gateway_answer.specs.Filed.{filed}
 use Rattle.gw_base.specs.History.{copies_of, fate_of, with_entry}
 use Rattle.once_core.specs.Gateway.{opened as reopened}
-use Rattle.gateway_book.specs.Calls.{tally_by, tally_of}
+use Rattle.gateway_book.specs.Calls.{gateway_counts_of, gateway_counts_with}
 use Rattle.gateway_book.specs.declared.outcome.Counts as told
-use Rattle.gateway_book.specs.declared.outcome.Tally.{Tally}
-use Rattle.replay_gateway.specs.Tally.{Tells}
+use Rattle.gateway_book.specs.declared.outcome.GatewayCounts.{GatewayCounts}
+use Rattle.replay_gateway.specs.Tells.{Tells}
 use Rattle.replay_gateway.specs.declared.machine.Machine as real
 use Rattle.replay_gateway.proofs.OpeningLemmas.{firm_again, site_later}
 use Rattle.replay_gateway.proofs.WriterLemmas.{files_count}
@@ -64,15 +64,15 @@ started_by b h = grind (arith, append-nil, copies_start)
 module _ (setup : Setup) (place : ℕ) (g : Gateway) (m : Machine) where
   -- of one that is up
   pub tallied_up : {n : _} {k : told.Counts} → g.is_down ≡ false → Tells g.book setup.size n k →
-      tally_by k n ≡ tally_of (book_of g)
+      gateway_counts_with k n ≡ gateway_counts_of (book_of g)
   tallied_up runs tells =
-      (λ i. tally_by (tells.counts i) (tells.records i))
-      ∙ ap (λ b. tally_of (if b then standing_for (history_of g.book) else g.book)) (sym runs)
+      (λ i. gateway_counts_with (tells.counts i) (tells.records i))
+      ∙ ap (λ b. gateway_counts_of (if b then standing_for (history_of g.book) else g.book)) (sym runs)
 
   -- of one that is down
   pub tallied_down : {n : ℕ} {k : told.Counts} → g.is_down ≡ true →
       Tells (reopened (rules_in setup) g).book setup.size n k →
-      record { entries = k.firm; records = n; held = k.held; stranded = k.stranded } ≡ tally_of (book_of g)
+      record { entries = k.firm; records = n; held = k.held; stranded = k.stranded } ≡ gateway_counts_of (book_of g)
   tallied_down {n} {k} down tells =
       let h = history_of g.book in
       let firm = firm_again setup place g m in
@@ -82,7 +82,7 @@ module _ (setup : Setup) (place : ℕ) (g : Gateway) (m : Machine) where
       let held : k.held ≡ (copies_of (history_of (standing_for h))).held = cc tells.counts in
       let stranded : k.stranded ≡ (copies_of (history_of (standing_for h))).stranded = cc tells.counts in
       (λ i. record { entries = entries i; records = records i; held = held i; stranded = stranded i })
-      ∙ ap (λ b. tally_of (if b then standing_for h else g.book)) (sym down)
+      ∙ ap (λ b. gateway_counts_of (if b then standing_for h else g.book)) (sym down)
 
   pub site_opened : (s : Option Site) → SiteIsOpened setup place g s →
       SiteStands setup place (reopened (rules_in setup) g) first_machine s
@@ -95,7 +95,7 @@ module _ (setup : Setup) (place : ℕ) (g : Gateway) (m : Machine) where
       record { site = grind arith; rest = site_later before new is_opened.rest rest }
 
   -- the lines of its files, and then of its counts
-  pub reported : (tally : Tally) (before : List ℕ) {middle after : _} → tally ≡ tally_of (book_of g) →
+  pub reported : (tally : GatewayCounts) (before : List ℕ) {middle after : _} → tally ≡ gateway_counts_of (book_of g) →
       middle ≡ before ++ sealed_lines setup place g m →
       after ≡ middle ++ counts_text place tally →
       after ≡ before ++ gateway_text setup place g m

@@ -8,8 +8,8 @@ use Rattle.file_writer.specs.Files.{files_of, stream_files}
 use Rattle.file_writer.specs.Streams.{Settings, stream_count}
 use Rattle.gateway_answer.specs.Items.{items_of}
 use Rattle.gateway_answer.specs.Value.{BookValue, history_of, standing_for}
-use Rattle.gateway_book.specs.Calls.{tally_of}
-use Rattle.gateway_book.specs.declared.outcome.Tally.{Tally}
+use Rattle.gateway_book.specs.Calls.{gateway_counts_of}
+use Rattle.gateway_book.specs.declared.outcome.GatewayCounts.{GatewayCounts}
 use Rattle.gw_base.specs.declared.item.Item.{Item}
 use Rattle.hex.specs.Hex.{encode_upper}
 use Rattle.once_core.specs.Gateway.{Gateway}
@@ -42,14 +42,14 @@ file_lines setup place items = flat_map (file_line place) (files_of (files_in se
 abbrev pub book_of : Gateway → BookValue
 book_of g = if g.is_down then standing_for (history_of g.book) else g.book
 
-abbrev pub counts_text : ℕ → Tally → List ℕ
+abbrev pub counts_text : ℕ → GatewayCounts → List ℕ
 counts_text place tally =
     codes "gateway " ++ decimal (suc place) ++ codes " entries " ++ decimal tally.entries ++ codes " records "
     ++ decimal tally.records ++ codes " held " ++ decimal tally.held ++ codes " stranded " ++ decimal tally.stranded
     ++ 10 ∷ []
 
 abbrev pub counts_line : ℕ → BookValue → List ℕ
-counts_line place book = counts_text place (tally_of book)
+counts_line place book = counts_text place (gateway_counts_of book)
 
 -- What is reported of the gateway in a place: the files that these items close, and what this book counts. A feed
 -- reports its gateway as the first of a network, too.

@@ -15,7 +15,7 @@ pub mod Filing
 pub mod Written
 pub mod WritingFiles
 pub mod GatewayReport
-pub mod Tally
+pub mod Tells
 pub mod HandedOut
 pub mod AtRest
 -- What inner calls and steps of proofs cite.

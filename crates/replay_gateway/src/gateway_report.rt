@@ -3,19 +3,19 @@ ghost use Rattle.std.specs.Prelude.{◌≡◌, ◌+◌, ◌<◌, ◌^◌, ◌++�
 ghost use Rattle.std.specs.List.{flat_map};
 ghost use Rattle.file_writer.specs.Files.{stream_files};
 ghost use Rattle.file_writer.specs.Streams.{stream_count};
-ghost use Rattle.gateway_book.specs.Calls.{counts_of, tally_of};
+ghost use Rattle.gateway_book.specs.Calls.{counts_of, gateway_counts_of};
 ghost use Rattle.gateway_answer.specs.Items.{items_of};
 ghost use Rattle.once_core.specs.Gateway.{Gateway};
 ghost use Rattle.replay_gateway.specs.GatewayReport.{book_of, counts_text, digits, file_line, file_name, gateway_text, sealed_lines};
 ghost use Rattle.replay_gateway.specs.Machine.{Machine as MachineValue};
 ghost use Rattle.replay_gateway.specs.Setup.{Setup, files_in};
 ghost use Rattle.replay_gateway.specs.Standing.{MachineStands, SiteStands};
-ghost use Rattle.replay_gateway.specs.Tally.{Tells};
+ghost use Rattle.replay_gateway.specs.Tells.{Tells};
 
 use crate::machine::Machine;
 use crate::site::Site;
 use cdr_shelf::FileName;
-use gateway_book::{Counts, Tally, record_count};
+use gateway_book::{Counts, GatewayCounts, record_count};
 use gw_base::{NoMemory, Octets};
 use std::alloc::Global;
 
@@ -38,30 +38,30 @@ impl Machine {
 
     /// What it counts. One that is down is opened for this, and its area is left as it was. `NoMemory`: there was no
     /// memory to read it.
-    pub fn tally(&mut self, alloc: Global) -> Result<Tally, NoMemory>
+    pub fn tally(&mut self, alloc: Global) -> Result<GatewayCounts, NoMemory>
         ensures { (setup : Setup) (place : ℕ) (g : Gateway) (m : MachineValue) →
             MachineStands setup place g m self.old →
-            IfOk result (λ tally. (tally ≡ tally_of (book_of g)) × MachineStands setup place g m self.new) }
+            IfOk result (λ tally. (tally ≡ gateway_counts_of (book_of g)) × MachineStands setup place g m self.new) }
     {
         if self.is_down() {
             return self.tally_down(alloc);
         }
         let told = self.tell(alloc)?;
         let (records, counts) = told;
-        Ok(counts.tally(records))
+        Ok(counts.gateway_counts(records))
     }
 
     // The same of one that is down. The Start of the opening isn't firm, and doesn't count.
-    fn tally_down(&mut self, alloc: Global) -> Result<Tally, NoMemory>
+    fn tally_down(&mut self, alloc: Global) -> Result<GatewayCounts, NoMemory>
         ensures { (setup : Setup) (place : ℕ) (g : Gateway) (m : MachineValue) →
             MachineStands setup place g m self.old → g.is_down ≡ true →
-            IfOk result (λ tally. (tally ≡ tally_of (book_of g)) × MachineStands setup place g m self.new) }
+            IfOk result (λ tally. (tally ≡ gateway_counts_of (book_of g)) × MachineStands setup place g m self.new) }
     {
         self.open_book(alloc)?;
         let told = self.tell(alloc)?;
         self.close_book();
         let (records, counts) = told;
-        Ok(Tally {
+        Ok(GatewayCounts {
             entries: counts.firm,
             records,
             held: counts.held,
@@ -184,12 +184,12 @@ pub fn print_counts(
     alloc: Global,
     out: &mut Octets,
     place: usize,
-    tally: Tally,
+    tally: GatewayCounts,
 ) -> Result<(), NoMemory>
     requires { place + 1 < 2 ^ 64 }
     ensures { OnOk result (out.new ≡ out.old ++ counts_text place tally) }
 {
-    let Tally {
+    let GatewayCounts {
         entries,
         records,
         held,

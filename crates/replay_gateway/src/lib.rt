@@ -28,7 +28,7 @@ mod writing;
 
 pub use calls::GatewayCall;
 pub use files::Wrote;
-pub use gateway_book::Tally;
+pub use gateway_book::GatewayCounts;
 pub use gateway_report::{print_counts, print_name};
 pub use machine::{Came, Machine, Sent};
 pub use messages::Ends;

@@ -2,7 +2,7 @@
 use Rattle.std.proofs.Common.{◌≡◌, ◌∙◌, refl, ap, ℕ, zero, suc, ◌+◌, ◌-◌, ◌*◌, ◌<◌, ◌^◌, List, [], ◌∷◌, ◌++◌, take, sum_by, Option, Some, None, slice_get, arith, sym, ◌%◌, ◌≤◌, length, set, append_assoc, append-nil, length-set}
 use Rattle.replay_world.proofs.Names.{AreGatewaySums, AreNodeSums, counts_at, counts_of, enumerate_from, filed_of, flat_map, flat_map-append, Gateway, gateway_lines, gateway_sums, gateway_text, held_of, LogEntry, MachineStands, node_line, node_sums, node_text, node_value, option_map_or, range_with_len, Replay, ReplayValue, report_of, Stands, stranded_of, sum_by-append, sum_by-cons, TalliesIf}
 use Rattle.node_core.specs.declared.counts.NodeCounts.{NodeCounts}
-use Rattle.gateway_book.specs.declared.outcome.Tally.{Tally}
+use Rattle.gateway_book.specs.declared.outcome.GatewayCounts.{GatewayCounts}
 use Rattle.replay_world.specs.declared.summary.GatewaySums.{GatewaySums}
 use Rattle.replay_world.specs.declared.summary.NodeSums.{NodeSums}
 use Rattle.replay_world.proofs.NodeEventLemmas.{set_same}
@@ -22,7 +22,7 @@ sum_next f xs k {x} is =
     cc (sum_by-append f (take k xs) (x ∷ []), take_next xs k x is)
 
 -- Gateways.
-module _ (gs : List Gateway) (k : ℕ) (tally : Tally) (sums more : GatewaySums) where
+module _ (gs : List Gateway) (k : ℕ) (tally : GatewayCounts) (sums more : GatewaySums) where
   pub sums_next : TalliesIf (slice_get gs k) tally →
       sums ≡ gateway_sums (take k gs) →
       more ≡ record {

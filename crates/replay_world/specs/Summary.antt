@@ -2,8 +2,8 @@
 use Rattle.std.specs.Prelude.{◌≡◌, ℕ, ◌≤◌, List, [], ◌∷◌, ◌++◌, length, sum_by, slice_get, Option, Some, None, codes}
 use Rattle.std.specs.Fmt.{decimal}
 use Rattle.std.specs.List.{enumerate_from}
-use Rattle.gateway_book.specs.Calls.{tally_of}
-use Rattle.gateway_book.specs.declared.outcome.Tally.{Tally}
+use Rattle.gateway_book.specs.Calls.{gateway_counts_of}
+use Rattle.gateway_book.specs.declared.outcome.GatewayCounts.{GatewayCounts}
 use Rattle.node_core.specs.Counting.{counts_of}
 use Rattle.node_core.specs.Log.{LogEntry}
 use Rattle.node_core.specs.declared.counts.NodeCounts.{NodeCounts}
@@ -18,13 +18,13 @@ use Rattle.replay_world.specs.declared.summary.Summary.{Summary}
 -- Gateways: of one that is down its book is meant as it would be opened, but for its Start.
 
 abbrev pub filed_of : Gateway → ℕ
-filed_of g = (tally_of (book_of g)).records
+filed_of g = (gateway_counts_of (book_of g)).records
 
 abbrev pub held_of : Gateway → ℕ
-held_of g = (tally_of (book_of g)).held
+held_of g = (gateway_counts_of (book_of g)).held
 
 abbrev pub stranded_of : Gateway → ℕ
-stranded_of g = (tally_of (book_of g)).stranded
+stranded_of g = (gateway_counts_of (book_of g)).stranded
 
 abbrev pub gateway_sums : List Gateway → GatewaySums
 gateway_sums gs = record {
@@ -40,11 +40,11 @@ pub record AreGatewaySums (most : ℕ) (sums : GatewaySums) : Type 0 where
   pub stranded : sums.stranded ≤ most
 
 -- the gateway in this place counts this
-abbrev pub TalliesIf : Option Gateway → Tally → Type 0
+abbrev pub TalliesIf : Option Gateway → GatewayCounts → Type 0
 TalliesIf None tally = ⊥
-TalliesIf (Some g) tally = tally ≡ tally_of (book_of g)
+TalliesIf (Some g) tally = tally ≡ gateway_counts_of (book_of g)
 
-abbrev pub TalliesAt : ReplayValue → ℕ → Tally → Type 0
+abbrev pub TalliesAt : ReplayValue → ℕ → GatewayCounts → Type 0
 TalliesAt v place tally = TalliesIf (slice_get v.world.gateways place) tally
 
 -- Nodes.

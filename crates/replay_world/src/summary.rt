@@ -9,7 +9,7 @@ ghost use Rattle.replay_world.specs.Value.{ReplayValue};
 use crate::replay::Replay;
 use gw_base::{NoMemory, Octets};
 use node_core::NodeCounts;
-use replay_gateway::Tally;
+use replay_gateway::GatewayCounts;
 use std::alloc::Global;
 
 /// What all nodes count together: packets that were submitted, that became resolved, and that became done.
@@ -86,7 +86,7 @@ impl Replay {
     }
 
     // What the gateway in this place counts.
-    fn tally_gateway(&mut self, alloc: Global, index: usize) -> Result<Tally, NoMemory>
+    fn tally_gateway(&mut self, alloc: Global, index: usize) -> Result<GatewayCounts, NoMemory>
         requires { index < length self.old.gateways.items }
         ensures count { length self.new.gateways.items ≡ length self.old.gateways.items }
         ensures tallies { (v : ReplayValue) → Stands v self.old →
@@ -122,7 +122,7 @@ fn plus(sum: u128, more: u64) -> u128
 }
 
 /// Sums with what one more gateway counts.
-fn with_tally(sums: GatewaySums, tally: &Tally) -> GatewaySums
+fn with_tally(sums: GatewaySums, tally: &GatewayCounts) -> GatewaySums
     requires { AreGatewaySums (2 ^ 128 - 2 ^ 64) sums }
     ensures sums { result ≡ record {
       records = sums.records + tally.now.records;

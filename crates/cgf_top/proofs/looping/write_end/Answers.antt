@@ -1,5 +1,5 @@
 use Rattle.std.proofs.Common.{List, subst, sym}
-use Rattle.gateway_book.specs.declared.outcome.Tally.{Tally}
+use Rattle.gateway_book.specs.declared.outcome.GatewayCounts.{GatewayCounts}
 use Rattle.loop_run.specs.declared.end.LoopEnd.{LoopEnd}
 use Rattle.node_core.specs.declared.counts.NodeCounts.{NodeCounts}
 use Rattle.cgf_top.specs.LoopSteps.{WritesEnd, WritesSums}
@@ -13,7 +13,7 @@ returns-in-Fine-clause-ends g c =
     (subst (λ (nodes : List NodeCounts). WritesSums nodes c.in-Fine.gateways.items (g.K.Sink.written c.args.sink.now)
     (g.K.Sink.written c.write_sums.new.sink) (g.K.Sink.faults c.args.sink.now) (g.K.Sink.faults c.write_sums.new.sink)
     c.write_sums.result) c.as_slice.ensures.value
-    (subst (λ (gateways : List Tally). WritesSums c.as_slice.result.now gateways
+    (subst (λ (gateways : List GatewayCounts). WritesSums c.as_slice.result.now gateways
     (g.K.Sink.written c.args.sink.now) (g.K.Sink.written c.write_sums.new.sink) (g.K.Sink.faults c.args.sink.now)
     (g.K.Sink.faults c.write_sums.new.sink) c.write_sums.result) c.as_slice-in-Fine.ensures.value
     c.write_sums.ensures.wrote))

@@ -1,6 +1,6 @@
 use Rattle.std.proofs.Common.{length, refl, ap, ◌∙◌, ◌++◌}
 use Rattle.cgf_jobs.proofs.Names.{after_close, counts_of, counts_text, filed, files_in, GatewayValue, items_of, Setup, setup_seen, standing_for, stream_files}
-use Rattle.gateway_book.specs.declared.outcome.Tally.{Tally}
+use Rattle.gateway_book.specs.declared.outcome.GatewayCounts.{GatewayCounts}
 use Rattle.cgf_jobs.proofs.FeedLemmas.{end_printed}
 use Rattle.cgf_jobs.proofs.feed.Feed.end.Goals as goal
 
@@ -18,4 +18,4 @@ returns-clause-printed c =
     (c.in_ok-shelf.ensures.same ∙ c.close.ensures))
     (c.in_ok-shelf.ensures.records ∙ ap (λ (g : GatewayValue). length (filed g.history)) c.close.ensures)
     (c.in_ok-print_counts.ensures
-    ∙ ap (λ (t : Tally). c.print_files.new.printed.items ++ counts_text 0 t) c.tally.ensures)
+    ∙ ap (λ (t : GatewayCounts). c.print_files.new.printed.items ++ counts_text 0 t) c.gateway_counts.ensures)

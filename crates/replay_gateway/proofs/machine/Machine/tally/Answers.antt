@@ -11,6 +11,6 @@ pub returns : goal.returns
 returns c = λ setup place g m stands.
     let runs = sym (c.is_down.ensures setup place g m stands) ∙ c.if-is_down.false in
     let told = c.in_ok-told.ensures.told setup place g m stands.site runs in (
-      c.tally.ensures ∙ tallied_up setup place g m runs told.0,
+      c.gateway_counts.ensures ∙ tallied_up setup place g m runs told.0,
       site_set stands told.1 c.in_ok-told.ensures.rest,
     )
