@@ -178,8 +178,8 @@ fn print_digits(out: &mut Octets, count: u32, number: u32) -> Result<(), NoMemor
     Ok(())
 }
 
-/// Appends the line of what the gateway in this place counts, from 0: its entries, the records that they file, and the
-/// copies that are held and stranded. `NoMemory`: a part of it may have been appended.
+/// Appends the line of what the gateway in this place counts, from 0: its entries, the records that the firm ones have
+/// filed, and the copies that are held and stranded. `NoMemory`: a part of it may have been appended.
 pub fn print_counts(
     alloc: Global,
     out: &mut Octets,
