@@ -144,12 +144,12 @@ fn print_name(alloc: Global, printed: &mut Vec<u8>, name: FileName) -> Result<()
 pub fn print_counts(
     alloc: Global,
     printed: &mut Vec<u8>,
-    tally: GatewayCounts,
+    counts: GatewayCounts,
 ) -> Result<(), NoMemory>
-    ensures { OnOk result (printed.new.items ≡ printed.old.items ++ counts_text 0 tally) }
+    ensures { OnOk result (printed.new.items ≡ printed.old.items ++ counts_text 0 counts) }
 {
     let mut line = Octets::from_vec(Vec::new(alloc));
-    replay_gateway::print_counts(alloc, &mut line, 0, tally)?;
+    replay_gateway::print_counts(alloc, &mut line, 0, counts)?;
     printed.extend_from_slice(line.octets())?;
     Ok(())
 }

@@ -24,11 +24,11 @@ use Rattle.replay_world.specs.Report.{node_text}
 use Rattle.cgf_jobs.specs.Ending.{HasCause}
 use Rattle.cgf_jobs.specs.Job.{Job}
 use Rattle.cgf_top.specs.LoopEnds.{IsCalmEnd, IsFine, IsLoopEnd, Loops, loop_report}
-use Rattle.cgf_top.specs.LoopSteps.{WritesEnd, WritesLoop, WritesSums, lines_from, sums_text}
+use Rattle.cgf_top.specs.LoopSteps.{WritesEnd, WritesLoop, WritesReport, lines_from, report_text}
 use Rattle.cgf_jobs.specs.declared.status.Status.{Status}
 use Rattle.cgf_jobs.specs.declared.status.Status.TheVariants as status
 
--- What the sums say is what the nodes and the books count.
+-- What the report says is what the nodes and the books count.
 
 node_lines : (at : ℕ) (nodes : List NodeValue) → lines_from node_text at (map counts_of nodes)
     ≡ lines_from (λ place node. node_text place (counts_of node)) at nodes
@@ -45,12 +45,12 @@ gateway_lines at [] = refl
 gateway_lines at (book ∷ books) =
     ap (λ (rest : List ℕ). counts_line at (value_of book) ++ rest) (gateway_lines (at + 1) books)
 
-pub sums_are : (nodes : List NodeCounts) (gateways : List GatewayCounts) (looped : Looped)
+pub report_is : (nodes : List NodeCounts) (gateways : List GatewayCounts) (looped : Looped)
     → nodes ≡ map counts_of looped.nodes.items
     → gateways ≡ map (λ (book : LoopBook). gateway_counts_of (value_of book)) looped.books.items
-    → sums_text nodes gateways ≡ loop_report looped
-sums_are nodes gateways looped of_nodes of_books =
-    (λ i. sums_text (of_nodes i) (of_books i))
+    → report_text nodes gateways ≡ loop_report looped
+report_is nodes gateways looped of_nodes of_books =
+    (λ i. report_text (of_nodes i) (of_books i))
     ∙ (λ i. node_lines 0 looped.nodes.items i ++ gateway_lines 0 looped.books.items i ++ codes "audit fine" ++ 10 ∷ [])
 
 module _ (setup : LoopSetup) (job : Job) (links links' : LinksState) (looped : Looped) where
@@ -105,21 +105,21 @@ module _ (setup : LoopSetup) (links links' : LinksState) (before after : Option 
   abbrev Writes : Status → Type 0
   Writes ended = WritesLoop setup links links' before after faults faults' ended looped
 
-  wrote_sums : (ended : Status) (nodes : List NodeCounts) (gateways : List GatewayCounts)
-      → IsFine setup links links' looped → sums_text nodes gateways ≡ loop_report looped
-      → WritesSums nodes gateways before after faults faults' ended → Writes ended
-  wrote_sums ended nodes gateways fine says (inl done) =
+  wrote_report : (ended : Status) (nodes : List NodeCounts) (gateways : List GatewayCounts)
+      → IsFine setup links links' looped → report_text nodes gateways ≡ loop_report looped
+      → WritesReport nodes gateways before after faults faults' ended → Writes ended
+  wrote_report ended nodes gateways fine says (inl done) =
       subst Writes (sym done.0) (fine, subst (λ (text : List ℕ). Appends before after text) says done.1, done.2)
-  wrote_sums ended nodes gateways fine says (inr (inl front)) =
+  wrote_report ended nodes gateways fine says (inr (inl front)) =
       subst Writes (sym front.0)
       (fine, subst (λ (text : List ℕ). AppendsFront before after text) says front.1, front.2)
-  wrote_sums ended nodes gateways fine says (inr (inr none)) = subst Writes (sym none.0) (inr fine, none.1)
+  wrote_report ended nodes gateways fine says (inr (inr none)) = subst Writes (sym none.0) (inr fine, none.1)
 
   pub wrote_end : (how : LoopEnd) (ended : Status) → EndsAs setup links links' looped how
       → WritesEnd before after faults faults' how ended → Writes ended
   wrote_end (end.Fine node_counts gateway_counts) ended (hands, counts) wrote =
-      wrote_sums ended node_counts.items gateway_counts.items (hands, counts.0, counts.1)
-      (sums_are node_counts.items gateway_counts.items looped counts.2.0 counts.2.1) wrote
+      wrote_report ended node_counts.items gateway_counts.items (hands, counts.0, counts.1)
+      (report_is node_counts.items gateway_counts.items looped counts.2.0 counts.2.1) wrote
   wrote_end (end.Wrong packet places wanted) ended (hands, counts) wrote =
       subst Writes (sym wrote.0) (hands, counts.0, counts.1, wrote.1)
   wrote_end (end.Unfinished turns packet count) ended (hands, counts, taken) wrote =

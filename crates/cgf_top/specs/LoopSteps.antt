@@ -24,8 +24,8 @@ abbrev pub lines_from : {A : Type 0} → (ℕ → A → List ℕ) → ℕ → Li
 lines_from line at all = flat_map (λ one. line one.0 one.1) (enumerate_from at all)
 
 -- all lines, and that the audit is fine
-abbrev pub sums_text : List NodeCounts → List GatewayCounts → List ℕ
-sums_text nodes gateways =
+abbrev pub report_text : List NodeCounts → List GatewayCounts → List ℕ
+report_text nodes gateways =
     lines_from node_text 0 nodes ++ lines_from counts_text 0 gateways ++ codes "audit fine" ++ 10 ∷ []
 
 -- a text is written, or a front of it, and then the sink has failed; or there is no memory for it
@@ -35,14 +35,14 @@ WritesText text before after faults faults' ended =
     ⊎ (((ended ≡ status.Write) × AppendsFront before after text × Rose faults faults')
     ⊎ ((ended ≡ status.Memory) × (faults' ≡ faults)))
 
-abbrev pub WritesSums : List NodeCounts → List GatewayCounts → Option (List ℕ) → Option (List ℕ) → ℕ → ℕ → Status
+abbrev pub WritesReport : List NodeCounts → List GatewayCounts → Option (List ℕ) → Option (List ℕ) → ℕ → ℕ → Status
     → Type 0
-WritesSums nodes gateways = WritesText (sums_text nodes gateways)
+WritesReport nodes gateways = WritesText (report_text nodes gateways)
 
 -- What is written of an end, and the status that tells it.
 module _ (before after : Option (List ℕ)) (faults faults' : ℕ) where
   abbrev pub WritesEnd : LoopEnd → Status → Type 0
-  WritesEnd (end.Fine nodes gateways) ended = WritesSums nodes.items gateways.items before after faults faults' ended
+  WritesEnd (end.Fine nodes gateways) ended = WritesReport nodes.items gateways.items before after faults faults' ended
   WritesEnd (end.Wrong packet places wanted) ended =
       (ended ≡ status.Audit packet places wanted) × (faults' ≡ faults)
   WritesEnd (end.Unfinished turns packet count) ended =

@@ -2,7 +2,7 @@
 ghost use Rattle.std.specs.Prelude.{◌≡◌, ◌+◌, ◌<◌, ◌^◌, ◌++◌, ◌∷◌, [], false, IfOk, IfSome, OnOk, map, string_bytes};
 ghost use Rattle.gw_base.specs.declared.address.Addr.{Addr};
 ghost use Rattle.loop_run.specs.Addresses.{IsLoop};
-ghost use Rattle.cgf_top.specs.LoopSteps.{WritesEnd, WritesLoop, WritesSums, lines_from, sums_text};
+ghost use Rattle.cgf_top.specs.LoopSteps.{WritesEnd, WritesLoop, WritesReport, lines_from, report_text};
 ghost use Rattle.cgf_top.specs.Looping.{looping_by, looping_of};
 ghost use Rattle.cgf_jobs.specs.Run.{may_have_written};
 ghost use Rattle.replay_gateway.specs.GatewayReport.{counts_text};
@@ -100,7 +100,7 @@ fn write_end<K: Sink>(alloc: Global, sink: &mut K, end: LoopEnd) -> Status
     ensures untouched { may_have_written result ≡ false → sink.new ≡ sink.old }
 {
     match end {
-        LoopEnd::Fine { nodes, gateways } => write_sums(
+        LoopEnd::Fine { nodes, gateways } => write_report(
             alloc,
             sink,
             nodes.as_slice(),
@@ -130,17 +130,17 @@ fn write_end<K: Sink>(alloc: Global, sink: &mut K, end: LoopEnd) -> Status
 }
 
 /// Writes what nodes and gateways count, and that the audit is fine.
-fn write_sums<K: Sink>(
+fn write_report<K: Sink>(
     alloc: Global,
     sink: &mut K,
     nodes: &[NodeCounts],
     gateways: &[GatewayCounts],
 ) -> Status
-    ensures wrote { WritesSums nodes.now gateways.now (K.written sink.old) (K.written sink.new) (K.faults sink.old)
+    ensures wrote { WritesReport nodes.now gateways.now (K.written sink.old) (K.written sink.new) (K.faults sink.old)
         (K.faults sink.new) result }
     ensures untouched { may_have_written result ≡ false → sink.new ≡ sink.old }
 {
-    let Ok(text) = sums_text(alloc, nodes, gateways) else {
+    let Ok(text) = report_text(alloc, nodes, gateways) else {
         return Status::Memory;
     };
     match write_all(sink, text.octets()) {
@@ -150,12 +150,12 @@ fn write_sums<K: Sink>(
 }
 
 /// The lines of what nodes and gateways count, and that the audit is fine.
-fn sums_text(
+fn report_text(
     alloc: Global,
     nodes: &[NodeCounts],
     gateways: &[GatewayCounts],
 ) -> Result<Octets, NoMemory>
-    ensures { IfOk result (λ text. text ≡ sums_text nodes.now gateways.now) }
+    ensures { IfOk result (λ text. text ≡ report_text nodes.now gateways.now) }
 {
     let mut text = Octets::from_vec(Vec::new(alloc));
     print_nodes(alloc, &mut text, nodes)?;

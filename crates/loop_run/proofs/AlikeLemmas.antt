@@ -32,19 +32,19 @@ by_place (o ∷ old) [] k d e less = absurd (cc)
 by_place (o ∷ old) (b ∷ books) zero d e less = cc
 by_place (o ∷ old) (b ∷ books) (suc k) d e less = by_place old books k d (cc) (omega arith)
 
-abbrev sum_of : LoopBook → GatewayCounts
-sum_of book = gateway_counts_of (value_of book)
+abbrev counted_of : LoopBook → GatewayCounts
+counted_of book = gateway_counts_of (value_of book)
 
-sums_both : (xs ys : List LoopBook) → map sum_of (xs ++ ys) ≡ map sum_of xs ++ map sum_of ys
-sums_both [] ys = refl
-sums_both (x ∷ xs) ys = cc (sums_both xs ys)
+counted_both : (xs ys : List LoopBook) → map counted_of (xs ++ ys) ≡ map counted_of xs ++ map counted_of ys
+counted_both [] ys = refl
+counted_both (x ∷ xs) ys = cc (counted_both xs ys)
 
 -- with the next one
 pub counted_next : (old books : List LoopBook) (k : ℕ) (book : LoopBook) → AreAlike old books → k < length old
     → book ≡ get_or books k book
     → map (λ (b : LoopBook). gateway_counts_of (value_of b)) (take k old) ++ gateway_counts_of (value_of book) ∷ []
     ≡ map (λ (b : LoopBook). gateway_counts_of (value_of b)) (take (k + 1) old)
-counted_next old books k book alike less is = sym (ap (map sum_of) (take_more old k book less)
-    ∙ sums_both (take k old) (get_or old k book ∷ [])
-    ∙ ap (λ (s : Shown). map sum_of (take k old) ++ gateway_counts_of s.0 ∷ [])
+counted_next old books k book alike less is = sym (ap (map counted_of) (take_more old k book less)
+    ∙ counted_both (take k old) (get_or old k book ∷ [])
+    ∙ ap (λ (s : Shown). map counted_of (take k old) ++ gateway_counts_of s.0 ∷ [])
     (sym (by_place old _ k book alike less) ∙ ap shown (sym is)))

@@ -63,13 +63,13 @@ AreAllFirm books = All (λ book. value_of book ≡ standing_for (value_of book).
 
 module _ (books : List (Book QuietArea quiet_area)) (nodes : List NodeValue) where
   -- these are the counts of all nodes and gateways, in their order
-  abbrev pub SumsAs : LoopEnd → Type 0
-  SumsAs (end.Fine node_counts gateway_counts) = (node_counts.items ≡ map counts_of nodes)
+  abbrev pub TellsCounts : LoopEnd → Type 0
+  TellsCounts (end.Fine node_counts gateway_counts) = (node_counts.items ≡ map counts_of nodes)
       × (gateway_counts.items ≡ map (λ book. gateway_counts_of (value_of book)) books)
-  SumsAs (end.Wrong packet places wanted) = ⊥
-  SumsAs (end.Unfinished turns packet count) = ⊥
-  SumsAs end.Link = ⊥
-  SumsAs end.NoMemory = ⊤
+  TellsCounts (end.Wrong packet places wanted) = ⊥
+  TellsCounts (end.Unfinished turns packet count) = ⊥
+  TellsCounts end.Link = ⊥
+  TellsCounts end.NoMemory = ⊤
 
   -- what the audit finds of them
   abbrev pub verdict : Audited
@@ -83,7 +83,7 @@ module _ (setup : LoopSetup) (books : List (Book QuietArea quiet_area)) (nodes :
   -- Packets that aren't done decide first, then the audit.
   abbrev pub CountsAs : LoopEnd → Type 0
   CountsAs (end.Fine node_counts gateway_counts) = (still_open ≡ []) × (verdict books nodes ≡ audited.Fine)
-      × SumsAs books nodes (end.Fine node_counts gateway_counts)
+      × TellsCounts books nodes (end.Fine node_counts gateway_counts)
   CountsAs (end.Wrong packet places wanted) =
       (still_open ≡ []) × (verdict books nodes ≡ audited.Wrong packet places wanted)
   CountsAs (end.Unfinished turns packet count) = (turns ≡ setup.turns)

@@ -2,15 +2,15 @@
 ghost use Rattle.std.specs.Prelude.{◌≡◌, ℕ, ◌+◌, ◌^◌, ◌≤◌, ◌∷◌, ◌++◌, [], List, Some, length};
 ghost use Rattle.gw_base.specs.declared.packet.PacketId.{PacketId as Id};
 ghost use Rattle.loop_audit.specs.Standing.{AllKeepAll};
-ghost use Rattle.loop_run.specs.Ending.{AreAllFirm, CountsAs, SumsAs, open_packets, packets_open};
+ghost use Rattle.loop_run.specs.Ending.{AreAllFirm, CountsAs, TellsCounts, open_packets, packets_open};
 ghost use Rattle.loop_run.specs.declared.looped.Looped.{Looped as Ran};
 ghost use Rattle.loop_run.specs.declared.setup.LoopSetup.{LoopSetup as Setup};
 ghost use Rattle.loop_run.specs.Finishing.{AreAlike, Finishes, UpTo, open_at, open_of};
 
+use crate::counts::{gateway_counts, node_counts};
 use crate::end::LoopEnd;
 use crate::looped::Looped;
 use crate::setup::LoopSetup;
-use crate::sums::{gateway_counts, node_counts};
 use area_disk::QuietArea;
 use gateway_book::Book;
 use gw_base::{NoMemory, PacketId};
@@ -169,7 +169,7 @@ fn with_one(found: Option<Open>, packet: PacketId) -> Open
 /// The end of a loop in which each packet stands once.
 fn fine(alloc: Global, books: &mut [Book<QuietArea>], nodes: &[Node]) -> LoopEnd
     requires { AreAllFirm books.old }
-    ensures ends { SumsAs books.old nodes.now result }
+    ensures ends { TellsCounts books.old nodes.now result }
     ensures same { AreAlike books.old books.new }
 {
     let Ok(nodes) = node_counts(alloc, nodes) else {

@@ -14,6 +14,7 @@ mod addresses;
 mod books;
 mod clock;
 mod collecting;
+mod counts;
 mod end;
 mod ending;
 mod laws;
@@ -24,7 +25,6 @@ mod running;
 mod seat;
 mod seating;
 mod setup;
-mod sums;
 
 pub use end::LoopEnd;
 pub use gateway_book::GatewayCounts;

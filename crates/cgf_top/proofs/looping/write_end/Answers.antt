@@ -2,18 +2,18 @@ use Rattle.std.proofs.Common.{List, subst, sym}
 use Rattle.gateway_book.specs.declared.outcome.GatewayCounts.{GatewayCounts}
 use Rattle.loop_run.specs.declared.end.LoopEnd.{LoopEnd}
 use Rattle.node_core.specs.declared.counts.NodeCounts.{NodeCounts}
-use Rattle.cgf_top.specs.LoopSteps.{WritesEnd, WritesSums}
+use Rattle.cgf_top.specs.LoopSteps.{WritesEnd, WritesReport}
 use Rattle.cgf_top.proofs.looping.write_end.Goals as goal
 
 pub returns-in-Fine-clause-ends : goal.returns-in-Fine-clause-ends
 returns-in-Fine-clause-ends g c =
-    subst (λ (how : LoopEnd). WritesEnd (g.K.Sink.written c.args.sink.now) (g.K.Sink.written c.write_sums.new.sink)
-    (g.K.Sink.faults c.args.sink.now) (g.K.Sink.faults c.write_sums.new.sink) how c.write_sums.result)
+    subst (λ (how : LoopEnd). WritesEnd (g.K.Sink.written c.args.sink.now) (g.K.Sink.written c.write_report.new.sink)
+    (g.K.Sink.faults c.args.sink.now) (g.K.Sink.faults c.write_report.new.sink) how c.write_report.result)
     (sym c.in-Fine.is)
-    (subst (λ (nodes : List NodeCounts). WritesSums nodes c.in-Fine.gateways.items (g.K.Sink.written c.args.sink.now)
-    (g.K.Sink.written c.write_sums.new.sink) (g.K.Sink.faults c.args.sink.now) (g.K.Sink.faults c.write_sums.new.sink)
-    c.write_sums.result) c.as_slice.ensures.value
-    (subst (λ (gateways : List GatewayCounts). WritesSums c.as_slice.result.now gateways
-    (g.K.Sink.written c.args.sink.now) (g.K.Sink.written c.write_sums.new.sink) (g.K.Sink.faults c.args.sink.now)
-    (g.K.Sink.faults c.write_sums.new.sink) c.write_sums.result) c.as_slice-in-Fine.ensures.value
-    c.write_sums.ensures.wrote))
+    (subst (λ (nodes : List NodeCounts). WritesReport nodes c.in-Fine.gateways.items (g.K.Sink.written c.args.sink.now)
+    (g.K.Sink.written c.write_report.new.sink) (g.K.Sink.faults c.args.sink.now) (g.K.Sink.faults c.write_report.new.sink)
+    c.write_report.result) c.as_slice.ensures.value
+    (subst (λ (gateways : List GatewayCounts). WritesReport c.as_slice.result.now gateways
+    (g.K.Sink.written c.args.sink.now) (g.K.Sink.written c.write_report.new.sink) (g.K.Sink.faults c.args.sink.now)
+    (g.K.Sink.faults c.write_report.new.sink) c.write_report.result) c.as_slice-in-Fine.ensures.value
+    c.write_report.ensures.wrote))

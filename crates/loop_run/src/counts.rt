@@ -30,19 +30,19 @@ pub(crate) fn gateway_counts(
     books: &mut [Book<QuietArea>],
 ) -> Result<Vec<GatewayCounts>, NoMemory>
     requires { AreAllFirm books.old }
-    ensures tallies { IfOk result (λ all. all.items ≡ map (λ book. gateway_counts_of (value_of book)) books.old) }
+    ensures counts { IfOk result (λ all. all.items ≡ map (λ book. gateway_counts_of (value_of book)) books.old) }
     ensures same { AreAlike books.old books.new }
 {
-    let mut tallies = Vec::with_capacity(alloc, books.len())?;
+    let mut counts = Vec::with_capacity(alloc, books.len())?;
     for place in 0..books.len() {
-        let tally = book_counts(alloc, &mut books[place])?;
-        tallies.push(tally)?;
+        let one = book_counts(alloc, &mut books[place])?;
+        counts.push(one)?;
     }
-    Ok(tallies)
+    Ok(counts)
 }
 
 fn book_counts(alloc: Global, book: &mut Book<QuietArea>) -> Result<GatewayCounts, NoMemory>
-    ensures tally { IfOk result (λ tally. tally ≡ gateway_counts_of (value_of book.old)) }
+    ensures counts { IfOk result (λ counts. counts ≡ gateway_counts_of (value_of book.old)) }
     ensures same { shown book.new ≡ shown book.old }
 {
     a_history_filed_its_parts();
