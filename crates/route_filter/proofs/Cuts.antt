@@ -1,9 +1,8 @@
--- Lemmas on texts that are cut at a separator, and on words of octets.
-use Rattle.std.proofs.Common.{◌≡◌, ℕ, suc, ◌+◌, ◌<◌, ◌≤◌, Bool, true, false, ◌==◌, if◌then◌else◌, not, filter, List, [], ◌∷◌, ◌++◌, length, take, drop, drop-cons, get_or, slice_index, map, Option, Some, None, option_map, option_and_then, refl, ap, sym, ◌∙◌, arith, append_assoc, subst, is_some, unwrap_or, zero}
+-- Lemmas on texts that are cut at a separator, and on the words of a line.
+use Rattle.std.proofs.Common.{◌≡◌, ℕ, suc, ◌+◌, ◌<◌, ◌≤◌, Bool, true, false, ◌==◌, if◌then◌else◌, not, filter, List, [], ◌∷◌, ◌++◌, length, take, drop, slice_index, Option, Some, None, option_map, refl, ap, sym, ◌∙◌, arith, append_assoc, subst, zero}
 use Rattle.std.proofs.lemmas.Bool.{false_from_ne_true}
 use Rattle.std.specs.List.{onto_first, slice_split}
-use Rattle.std.specs.Borrow.{Bor}
-use Rattle.route_filter.specs.Words.{cut_at, is_empty, octets_in, octets_of, with_word, words_of}
+use Rattle.route_filter.specs.Words.{cut_at, is_empty, with_word, words_of}
 
 -- the octet at this place is the separator, and none before it
 cut_there : (separator : ℕ) (xs : List ℕ) (k : ℕ) → k < length xs →
@@ -80,54 +79,3 @@ pub words_none : (xs : List ℕ) → None ≡ cut_at 32 xs → words_of xs ≡ w
 words_none xs e =
     let h : spaces xs ≡ xs ∷ [] = subst (SplitIs xs) (sym e) (split_at xs) in
     ap (filter (λ w. not (is_empty w))) h ∙ filtered xs []
-
--- Octets in hexadecimal.
-
--- octets in front of those of the words that are left
-abbrev pub after_octets : List ℕ → Option (List ℕ) → Option (List ℕ)
-after_octets front more = option_map (λ octets. front ++ octets) more
-
-one_word : (front octets : List ℕ) (more : Option (List ℕ)) →
-    after_octets front (option_and_then (λ rest. Some (octets ++ rest)) more) ≡ after_octets (front ++ octets) more
-one_word front octets None = refl
-one_word front octets (Some rest) = ap Some (sym (append_assoc front octets rest))
-
-first_octets : (front : List ℕ) (octets : Option (List ℕ)) (more : Option (List ℕ)) → is_some octets ≡ true →
-    after_octets front (option_and_then (λ found. option_and_then (λ rest. Some (found ++ rest)) more) octets) ≡ after_octets (front ++ unwrap_or octets []) more
-first_octets front None more e = cc
-first_octets front (Some octets) more e = one_word front octets more
-
--- the first word is octets
-pub step_octets : (front new word : List ℕ) (words : List (List ℕ)) → is_some (octets_in word) ≡ true → new ≡ front ++ unwrap_or (octets_in word) [] →
-    after_octets new (octets_of words) ≡ after_octets front (octets_of (word ∷ words))
-step_octets front new word words e grown = rw grown (sym (first_octets front (octets_in word) (octets_of words) e))
-
-no_first : (octets : Option (List ℕ)) (more : Option (List ℕ)) → is_some octets ≡ false →
-    option_and_then (λ found. option_and_then (λ rest. Some (found ++ rest)) more) octets ≡ None
-no_first None more e = refl
-no_first (Some octets) more e = cc
-
--- the first word is no octets
-pub no_octets : (word : List ℕ) (words : List (List ℕ)) → is_some (octets_in word) ≡ false → octets_of (word ∷ words) ≡ None
-no_octets word words e = no_first (octets_in word) (octets_of words) e
-
--- the words from a place on begin with the one at that place
-words_from : (words : List (Bor (List ℕ))) (i : ℕ) (d : Bor (List ℕ)) → i < length words →
-    map (λ word. word.now) (drop i words) ≡ (get_or words i d).now ∷ map (λ word. word.now) (drop (i + 1) words)
-words_from words i d h =
-    let next : i + 1 ≡ suc i = omega arith in rw next (ap (map (λ word. word.now)) (drop-cons words i d h))
-
-pub octets_step : (words : List (Bor (List ℕ))) (i : ℕ) (word : Bor (List ℕ)) (front new : List ℕ) → i < length words → word ≡ get_or words i word →
-    is_some (octets_in word.now) ≡ true → new ≡ front ++ unwrap_or (octets_in word.now) [] →
-    after_octets new (octets_of (map (λ w. w.now) (drop (i + 1) words))) ≡ after_octets front (octets_of (map (λ w. w.now) (drop i words)))
-octets_step words i word front new h here e grown =
-    let first : map (λ w. w.now) (drop i words) ≡ word.now ∷ map (λ w. w.now) (drop (i + 1) words) =
-    words_from words i word h ∙ ap (λ (w : Bor (List ℕ)). w.now ∷ map (λ w. w.now) (drop (i + 1) words)) (sym here) in
-    step_octets front new word.now (map (λ w. w.now) (drop (i + 1) words)) e grown ∙ ap (λ ws. after_octets front (octets_of ws)) (sym first)
-
-pub octets_none : (words : List (Bor (List ℕ))) (i : ℕ) (word : Bor (List ℕ)) (front : List ℕ) → i < length words → word ≡ get_or words i word →
-    is_some (octets_in word.now) ≡ false → after_octets front (octets_of (map (λ w. w.now) (drop i words))) ≡ None
-octets_none words i word front h here e =
-    let first : map (λ w. w.now) (drop i words) ≡ word.now ∷ map (λ w. w.now) (drop (i + 1) words) =
-    words_from words i word h ∙ ap (λ (w : Bor (List ℕ)). w.now ∷ map (λ w. w.now) (drop (i + 1) words)) (sym here) in
-    ap (λ ws. after_octets front (octets_of ws)) first ∙ ap (after_octets front) (no_octets word.now (map (λ w. w.now) (drop (i + 1) words)) e)

@@ -1,4 +1,5 @@
 pub mod Cuts
 pub mod Digits
+pub mod HexadecimalLemmas
 pub mod RuleWords
 pub mod StartLemmas

@@ -9,10 +9,12 @@
 //!     let stream = rules.stream(Some(tag), 1);
 #![tactic(auto)]
 
+mod hexadecimal;
 mod rule;
 mod rules;
 mod text;
 
+pub use hexadecimal::{decoded, octets};
 pub use rule::Rule;
 pub use rules::{RuleFault, Rules};
-pub use text::{cut, decoded, number, octets, split_words, words};
+pub use text::{cut, number, split_words, words};

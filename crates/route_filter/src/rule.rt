@@ -1,7 +1,8 @@
 ghost use Rattle.std.specs.Prelude.{◌≡◌, map, Some, IfOk, IfSome, ◌≤◌};
 ghost use Rattle.route_filter.specs.Rules.{any_or, format_in, last_stream, matches, matches_format, matches_tag, rule_by, rule_of, same_tag, tag_in};
 
-use crate::text::{decoded, number, words};
+use crate::hexadecimal::decoded;
+use crate::text::{number, words};
 use ber_frame::identifier;
 use gw_base::{NoMemory, Tag};
 use std::alloc::Global;

@@ -1,5 +1,5 @@
-ghost use Rattle.std.specs.Prelude.{◌≡◌, ◌+◌, ◌++◌, [], length, map, option_map, IfOk, IfSome, OnOk, true, is_some, unwrap_or};
-ghost use Rattle.route_filter.specs.Words.{cut_at, cut_parts, has_decimal_form, number_up_to, octets_in, octets_of, with_digit, with_word, words_of};
+ghost use Rattle.std.specs.Prelude.{◌≡◌, ◌+◌, ◌++◌, [], length, map, option_map, IfOk, IfSome, OnOk, true};
+ghost use Rattle.route_filter.specs.Words.{cut_at, cut_parts, has_decimal_form, number_up_to, with_digit, with_word, words_of};
 
 use gw_base::NoMemory;
 use memchr::memchr;
@@ -89,44 +89,4 @@ fn with_digit(value: u64, octet: u8) -> Option<u64>
         return None;
     }
     value.checked_mul(10)?.checked_add(u64::from(octet - b'0'))
-}
-
-/// The octets that words spell in hexadecimal, joined; `None` where a word isn't whole octets.
-#[tactic(auto, using(crate::proofs::Cuts::octets_step, crate::proofs::Cuts::octets_none))]
-pub fn octets(alloc: Global, words: &[&[u8]]) -> Result<Option<Vec<u8>>, NoMemory>
-    ensures { IfOk result (λ octets.
-        option_map (λ found. found.items) octets ≡ octets_of (map (λ word. word.now) words.now)) }
-{
-    let mut octets = Vec::new(alloc);
-    for word in words {
-        if !append_decoded(alloc, &mut octets, word)? {
-            return Ok(None);
-        }
-    }
-    Ok(Some(octets))
-}
-
-/// Appends the octets that a word spells in hexadecimal, and says whether it spells any.
-fn append_decoded(alloc: Global, octets: &mut Vec<u8>, word: &[u8]) -> Result<bool, NoMemory>
-    ensures whole { IfOk result (λ whole. whole ≡ is_some (octets_in word.now)) }
-    ensures appended { OnOk result (octets.new.items ≡ octets.old.items ++ unwrap_or (octets_in word.now) []) }
-{
-    match decoded(alloc, word)? {
-        Some(more) => {
-            octets.extend_from_slice(&more)?;
-            Ok(true)
-        }
-        None => Ok(false),
-    }
-}
-
-/// The octets that a word spells in hexadecimal; `None` where it isn't whole octets.
-pub fn decoded(alloc: Global, word: &[u8]) -> Result<Option<Vec<u8>>, NoMemory>
-    ensures { IfOk result (λ octets. option_map (λ found. found.items) octets ≡ octets_in word.now) }
-{
-    match hex::decode(alloc, word) {
-        Ok(octets) => Ok(Some(octets)),
-        Err(hex::FromHexError::OutOfMemory) => Err(NoMemory),
-        Err(_) => Ok(None),
-    }
 }

@@ -1,77 +1,12 @@
--- Lemmas on octets in hexadecimal: how they are read from pairs of digits, and printed as words that say them again.
-use Rattle.std.proofs.Common.{◌≡◌, ◌≢◌, ℕ, ◌+◌, ◌*◌, ◌%◌, ◌<◌, ◌≤◌, List, [], ◌∷◌, ◌++◌, length, take, drop, slice_index, slice_set, Option, Some, None, unwrap_or, option_and_then, Result, Ok, Err, refl, ap, sym, ◌∙◌, arith, append-nil, zero, suc, ◌/◌, map, length-append}
+-- Lemmas on octets in hexadecimal, which are printed as words that say them again.
+use Rattle.std.proofs.Common.{◌≡◌, ℕ, ◌+◌, ◌*◌, ◌%◌, ◌<◌, ◌≤◌, List, [], ◌∷◌, ◌++◌, length, Some, Result, Ok, refl, ap, sym, ◌∙◌, arith, append-nil, zero, suc, ◌/◌, map, length-append}
 use Rattle.world_script.proofs.Names.{decode_of, decode_pairs, decoded, encode_upper, encode_with, hex_digit_value, IsBytes, nat_tests, octets_in, octets_of, pair_value, records_of, same_Some, two_octets, upper_digits, value_at, version_of, version_text, ◌>>=◌}
-use Rattle.std.specs.Result.{result_ok}
-use Rattle.hex.proofs.HexLemmas.{decode_of-even, IsDigits-upper_digits, decode_of-encode_upper, decode_of-ok, length-encode_with}
-use Rattle.hex.proofs.Pairs.{decode_done, decode_err, decode_step, prepend}
+use Rattle.hex.proofs.HexLemmas.{IsDigits-upper_digits, decode_of-encode_upper, decode_of-ok, length-encode_with}
 use Rattle.hex.specs.declared.error.FromHexError.{FromHexError}
 use Rattle.world_script.proofs.WordLemmas.{AllGlyphs, AreWords, IsWord, span}
 use Rattle.world_script.proofs.ValueLemmas.{passed, then_some}
 
--- Digits.
-
-is_digit : (o : Option ℕ) (n : ℕ) → n ≡ unwrap_or o 16 → n < 16 → o ≡ Some n
-is_digit o n e h = grind arith
-
-pub both_digits : (high low a b place : ℕ) → a ≡ unwrap_or (hex_digit_value high) 16 → b ≡ unwrap_or (hex_digit_value low) 16 →
-    a < 16 → b < 16 → Some (16 * a + b) ≡ result_ok (pair_value high low place)
-both_digits high low a b place e f h k = search (arith, is_digit)
-
-no_digit : (c : ℕ) → 16 ≤ unwrap_or (hex_digit_value c) 16 → hex_digit_value c ≡ None
-no_digit c h = grind (arith, h)
-
-pub no_high : (high low a place : ℕ) → a ≡ unwrap_or (hex_digit_value high) 16 → 16 ≤ a → None ≡ result_ok (pair_value high low place)
-no_high high low a place e h = search (arith, no_digit)
-
-refused_second : (r : Result ℕ FromHexError) (e : FromHexError) → result_ok (r >>= (λ h. Err e >>= (λ l. Ok (h * 16 + l)))) ≡ None
-refused_second r e = grind arith
-
-pub no_low : (high low b place : ℕ) → b ≡ unwrap_or (hex_digit_value low) 16 → 16 ≤ b → None ≡ result_ok (pair_value high low place)
-no_low high low b place e h = search (arith, no_digit, refused_second)
-
--- Pairs.
-
--- the octets of so many pairs are written, and those of the rest would follow them
-abbrev pub IsSpelt : List ℕ → List ℕ → ℕ → Type 0
-IsSpelt digits octets k = decode_pairs 0 digits ≡ prepend (take k octets) (decode_pairs (2 * k) (drop (2 * k) digits))
-
-is_ok : (r : Result ℕ FromHexError) (v : ℕ) → Some v ≡ result_ok r → r ≡ Ok v
-is_ok r v e = grind arith
-
-is_err : (r : Result ℕ FromHexError) → None ≡ result_ok r → (d : FromHexError) × (r ≡ Err d)
-is_err r e = grind arith
-
-pub spelt_more : (digits octets : List ℕ) (k v : ℕ) → length digits ≡ 2 * length octets → k < length octets →
-    Some v ≡ result_ok (pair_value (slice_index digits (2 * k)) (slice_index digits (2 * k + 1)) (2 * k)) →
-    IsSpelt digits octets k → IsSpelt digits (slice_set octets k v) (k + 1)
-spelt_more digits octets k v twice within e so_far =
-    decode_step digits octets k v (omega arith) within (is_ok _ v e) so_far
-
-even_octets : (digits : List ℕ) (n : ℕ) → length digits ≡ 2 * n → octets_in digits ≡ decoded (decode_pairs 0 digits)
-even_octets digits n twice = ap decoded (decode_of-even digits (omega arith))
-
-pub spelt_not : (digits octets : List ℕ) (k : ℕ) → length digits ≡ 2 * length octets → k < length octets →
-    None ≡ result_ok (pair_value (slice_index digits (2 * k)) (slice_index digits (2 * k + 1)) (2 * k)) →
-    IsSpelt digits octets k → octets_in digits ≡ None
-spelt_not digits octets k twice within e so_far = search (arith, is_err, even_octets, decode_err)
-
-pub spelt_all : (digits octets : List ℕ) (k : ℕ) → length digits ≡ 2 * length octets → length octets ≤ k →
-    IsSpelt digits octets k → octets_in digits ≡ Some octets
-spelt_all digits octets k twice whole so_far = search (arith, even_octets, decode_done)
-
--- Words.
-
-pub odd : (word : List ℕ) → length word % 2 ≢ 0 → None ≡ octets_in word
-odd word h = let one : length word % 2 ≡ 1 = omega arith in rw one refl
-
-joined_one : (octets : Option (List ℕ)) →
-    octets ≡ option_and_then (λ found. option_and_then (λ rest. Some (found ++ rest)) (Some [])) octets
-joined_one octets = grind (arith, append-nil)
-
-pub one_word : (word : List ℕ) → octets_in word ≡ octets_of (word ∷ [])
-one_word word = joined_one (octets_in word)
-
--- Their digits are printable.
+-- Digits are printable.
 
 then_ok : {A B : Type 0} (r : Result A FromHexError) (f : A → Result B FromHexError) (y : B) → (r >>= f) ≡ Ok y →
     (x : A) × (r ≡ Ok x) × (f x ≡ Ok y)
@@ -167,6 +102,10 @@ words_room : (words : List (List ℕ)) → AreWords words → 2 * length words �
 words_room [] are = omega arith
 words_room (word ∷ words) are = omega (arith, are.0.0, words_room words are.1)
 
+-- octets that a word says are those that it says alone
+pub said_alone : (word octets : List ℕ) → octets_in word ≡ Some octets → octets_of (word ∷ []) ≡ Some octets
+said_alone word octets h = rw h (ap Some (append-nil octets))
+
 pub record IsPrinted (words : List (List ℕ)) (octets : List ℕ) : Type 0 where
   pub is : IsWord (encode_upper octets)
   pub short : 1 + length (encode_upper octets) ≤ span words
@@ -181,7 +120,7 @@ datagram_printed word words octets are h =
     record {
       is = hex_word octets (omega (arith, said.0, room)) said.1;
       short = omega (arith, said.0, printed_length octets);
-      again = rw (printed_octets octets said.1) (ap Some (append-nil octets));
+      again = said_alone (encode_upper octets) octets (printed_octets octets said.1);
     }
 
 -- Versions.

@@ -6,7 +6,7 @@ pub use Rattle.rand_pcg.specs.Lcg.{Lcg}
 pub use Rattle.route_filter.specs.Words.{at_most, cut_at, decoded, has_decimal_form, is_decimal, is_empty, number_up_to, octets_in, octets_of, words_of}
 pub use Rattle.std.proofs.Math.Bool.{and-true, or-false, or-true}
 pub use Rattle.std.proofs.Math.Seq.{drop-cons}
-pub use Rattle.std.proofs.lemmas.Bool.{and_from, and_parts, cases_Bool, cases_eq, cases_lt, cond_both, eqb-true, false_from_ne_true, le-leb, le-ltb, leb-true, lt-leb, ltb-false, ne_eqb, not-true, or_from, or_parts}
+pub use Rattle.std.proofs.lemmas.Bool.{and_from, and_parts, cases_Bool, cases_lt, cond_both, eqb-true, le-leb, le-ltb, leb-true, lt-leb, ltb-false, ne_eqb, not-true, or_from, or_parts}
 pub use Rattle.std.proofs.lemmas.Bool.Decides.{nat_tests}
 pub use Rattle.std.proofs.lemmas.Fmt.{decimal-digits_value, decimal_digit, decimal_is_IsNumeral, first_decimal, length-decimal-le}
 pub use Rattle.std.proofs.lemmas.Grind.{flat_map-append}

@@ -8,7 +8,7 @@ use Rattle.world_script.specs.declared.fault.InputKind.TheVariants as kind
 use Rattle.world_script.specs.declared.keyword.Keyword.TheVariants.{In}
 use Rattle.world_script.specs.declared.line.Line.TheVariants as line
 use Rattle.world_script.proofs.AddressLemmas.{address_word, cut_joined}
-use Rattle.world_script.proofs.HexadecimalLemmas.{octets_glyphs, one_word}
+use Rattle.world_script.proofs.HexadecimalLemmas.{octets_glyphs, said_alone}
 use Rattle.world_script.proofs.LineLemmas.{again_by_words, line_printed, onward_ok}
 use Rattle.world_script.proofs.ValueLemmas.{then_some, where_some, ok_if, passed}
 use Rattle.world_script.proofs.WordLemmas.{AreWords, IsWord, joined_printable, words_of_joined}
@@ -115,7 +115,7 @@ contented_datagram before text from word octets sender feed going is some addres
     let split : words_of text ≡ codes "in" ∷ from ∷ word ∷ [] = ap words_of is ∙ words_of_joined (codes "in") (from ∷ word ∷ []) name words in
     again_by_words before In (line.Datagram sender octets) text (codes "in") (from ∷ word ∷ []) going refl blank printable
     split (ap (λ (k : ScriptKind). keyword_of k (codes "in")) feed)
-    (λ i. read_then kind.Number (address i) (λ (found : Addr). read_or kind.Hex (line.Datagram found) ((sym (one_word word) ∙ spelt) i)))
+    (λ i. read_then kind.Number (address i) (λ (found : Addr). read_or kind.Hex (line.Datagram found) (said_alone word octets spelt i)))
 
 some_word : (word found : List ℕ) → (if is_empty word then None else Some word) ≡ Some found → (word ≡ found) × (0 < length word)
 some_word word found h = grind (arith, same_Some)

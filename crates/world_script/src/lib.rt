@@ -13,7 +13,6 @@
 mod arming;
 mod extent;
 mod fault;
-mod hexadecimal;
 mod keyword;
 mod kind;
 pub mod laws;

@@ -6,7 +6,6 @@ ghost use Rattle.world_script.specs.Script.{formed, is_action_line, is_end_line,
 ghost use Rattle.world_script.specs.Text.{lent_line, line_size};
 
 use crate::fault::{InputKind, LineFault};
-use crate::hexadecimal::decoded;
 use crate::keyword::Keyword;
 use crate::kind::ScriptKind;
 use crate::line::Line;
@@ -14,7 +13,7 @@ use crate::saying::said_by;
 use crate::text::{TextLine, is_blank, is_printable};
 use crate::values::address;
 use gw_base::{NoMemory, Octets};
-use route_filter::{cut, split_words};
+use route_filter::{cut, decoded, split_words};
 use std::alloc::Global;
 
 /// The most octets that the text of a script may have.

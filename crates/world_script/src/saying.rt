@@ -5,13 +5,12 @@ ghost use Rattle.world_script.specs.Saying.{at_said, datagram_said, in_said, lim
 
 use crate::arming::{arm, arm_shelf, fail, fail_shelf};
 use crate::fault::{InputKind, LineFault};
-use crate::hexadecimal::joined;
 use crate::keyword::Keyword;
 use crate::kind::ScriptKind;
 use crate::line::Line;
 use crate::values::{address, any_number, number_between, offset, records, version};
 use gw_base::{Moment, Octets};
-use route_filter::{Rule, Rules, number};
+use route_filter::{Rule, Rules, number, octets};
 use std::alloc::Global;
 
 /// What a line of this form says, by its words after the first, where so many rules stand before it.
@@ -167,7 +166,7 @@ fn datagram_from(alloc: Global, from: &[u8], words: &[&[u8]]) -> Result<Line, Li
     let Some(from) = address(from) else {
         return Err(LineFault::Refused(InputKind::Number));
     };
-    let Some(octets) = joined(alloc, words)? else {
+    let Some(octets) = octets(alloc, words)? else {
         return Err(LineFault::Refused(InputKind::Hex));
     };
     let octets = Octets::from_vec(octets);

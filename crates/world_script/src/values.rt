@@ -1,11 +1,10 @@
 ghost use Rattle.std.specs.Prelude.{◌≡◌, ◌<◌, ◌≤◌, map, IfOk, IfSome};
 ghost use Rattle.world_script.specs.Values.{address_of, ip_of, mode_of, number_between, number_of, offset_of, records_of, signed, two_digits, version_of};
 
-use crate::hexadecimal::decoded;
 use crate::mode::Mode;
 use crate::records::Records;
 use gw_base::{Addr, NoMemory, Octets};
-use route_filter::{cut, number};
+use route_filter::{cut, decoded, number};
 use std::alloc::Global;
 
 /// The number that a word says in decimal, where it is from `least` to `most`.

@@ -1,8 +1,9 @@
 -- The table is held against the definition at each of the 256 octets, by computing.
 use Rattle.std.proofs.Common.{◌≡◌, ℕ, zero, suc, ◌<◌, ◌==◌, Bool, true, ◌&&◌, List, get_or, unwrap_or, refl, arith, inl, inr}
-use Rattle.world_script.proofs.Names.{and_parts, cases_eq, eqb-true, hex_digit_value}
-use Rattle.world_script.specs.declared.hexadecimal.TheConstants.{DIGITS}
-use Rattle.world_script.proofs.hexadecimal.digit.Goals as goal
+use Rattle.std.proofs.lemmas.Bool.{and_parts, cases_eq, eqb-true}
+use Rattle.hex.specs.Hex.{hex_digit_value}
+use Rattle.route_filter.specs.declared.hexadecimal.TheConstants.{DIGITS}
+use Rattle.route_filter.proofs.hexadecimal.digit.Goals as goal
 
 -- the two are the same below n
 same_below : (ℕ → ℕ) → (ℕ → ℕ) → ℕ → Bool

@@ -1,6 +1,6 @@
 use Rattle.std.proofs.Common.{arith}
-use Rattle.world_script.proofs.HexadecimalLemmas.{spelt_all, spelt_more, spelt_not}
-use Rattle.world_script.proofs.hexadecimal.spell.Goals as goal
+use Rattle.route_filter.proofs.HexadecimalLemmas.{spelt_all, spelt_more, spelt_not}
+use Rattle.route_filter.proofs.hexadecimal.spell.Goals as goal
 
 pub returns-in-None-clause-refused : goal.returns-in-None-clause-refused
 returns-in-None-clause-refused c e = search (arith, spelt_not, c.in-None.ensures)

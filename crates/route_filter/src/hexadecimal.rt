@@ -1,6 +1,6 @@
 //! Octets that words spell in hexadecimal.
 
-ghost use Rattle.std.specs.Prelude.{◌≡◌, ◌*◌, ℕ, Some, None, false, length, map, option_map, unwrap_or, IfOk, IsTrue};
+ghost use Rattle.std.specs.Prelude.{◌≡◌, ◌*◌, ◌++◌, ℕ, [], Some, None, false, length, map, option_map, is_some, unwrap_or, IfOk, IsTrue, OnOk};
 ghost use Rattle.std.specs.Result.{result_ok};
 ghost use Rattle.hex.specs.Hex.{hex_digit_value, pair_value};
 ghost use Rattle.route_filter.specs.Words.{octets_in, octets_of};
@@ -25,15 +25,35 @@ static DIGITS: [u8; 256] = [
 ];
 
 /// The octets that words spell in hexadecimal, joined; `None` where a word isn't whole octets.
-#[tactic(auto, using(crate::proofs::HexadecimalLemmas::one_word))]
-pub fn joined(alloc: Global, words: &[&[u8]]) -> Result<Option<Vec<u8>>, NoMemory>
+#[tactic(auto, using(crate::proofs::HexadecimalLemmas::one_word, crate::proofs::HexadecimalLemmas::octets_step, crate::proofs::HexadecimalLemmas::octets_none))]
+pub fn octets(alloc: Global, words: &[&[u8]]) -> Result<Option<Vec<u8>>, NoMemory>
     ensures { IfOk result (λ octets.
         option_map (λ found. found.items) octets ≡ octets_of (map (λ word. word.now) words.now)) }
 {
-    let &[word] = words else {
-        return route_filter::octets(alloc, words);
-    };
-    decoded(alloc, word)
+    if let &[word] = words {
+        return decoded(alloc, word);
+    }
+    let mut octets = Vec::new(alloc);
+    for word in words {
+        if !append_decoded(alloc, &mut octets, word)? {
+            return Ok(None);
+        }
+    }
+    Ok(Some(octets))
+}
+
+/// Appends the octets that a word spells in hexadecimal, and says whether it spells any.
+fn append_decoded(alloc: Global, octets: &mut Vec<u8>, word: &[u8]) -> Result<bool, NoMemory>
+    ensures whole { IfOk result (λ whole. whole ≡ is_some (octets_in word.now)) }
+    ensures appended { OnOk result (octets.new.items ≡ octets.old.items ++ unwrap_or (octets_in word.now) []) }
+{
+    match decoded(alloc, word)? {
+        Some(more) => {
+            octets.extend_from_slice(&more)?;
+            Ok(true)
+        }
+        None => Ok(false),
+    }
 }
 
 /// The octets that a word spells in hexadecimal; `None` where it isn't whole octets.
