@@ -1,12 +1,12 @@
 -- What an area in memory tells, from its octets and its past.
-use Rattle.std.proofs.Common.{◌≡◌, ◌⊎◌, inl, inr, ⊎_elim, ℕ, ◌+◌, ◌-◌, ◌<◌, ◌≤◌, min, max, true, false, drop, List, [], ◌∷◌, ◌++◌, length, replicate, refl, sym, ◌∙◌, ap, subst, arith}
+use Rattle.std.proofs.Common.{◌≡◌, inl, inr, ⊎_elim, ℕ, ◌+◌, ◌-◌, ◌≤◌, min, max, true, false, drop, List, [], ◌∷◌, ◌++◌, length, replicate, refl, sym, ◌∙◌, ap, subst, arith}
 use Rattle.std.proofs.lemmas.List.{length-replicate, length-take}
 use Rattle.area_disk.specs.Disk.{overwritten, Torn, Follows, Within, Only, last_count}
 use Rattle.area_disk.specs.Octets.{torn_overwritten, torn_same}
 use Rattle.area_disk.specs.Plan.{Prospect, most_unsynced, rot, written_as}
 use Rattle.area_disk.specs.Stretch.{SameOutside, filled, left_as, low_of, high_of, hull_of}
 use Rattle.area_disk.specs.Outside.{same_refl, same_everywhere, same_filled, filled_written, follows_write}
-use Rattle.area_disk.specs.Past.{Change, Past, all_room, image_after, IsOutcome, LeftSince, moment_of, moments_of, most_calls, most_octets, told_of, noted, stop_change, room_for_calls, room_for_octets}
+use Rattle.area_disk.specs.Past.{Change, Past, all_room, image_after, IsOutcome, LeftSince, moment_of, moments_of, told_of, noted, stop_change, room_for_calls, room_for_octets}
 use Rattle.area_disk.specs.PastLaws.{past_counts_now, past_only_now, past_same_size, Began, Begins, Goes, Keeps, goes_noted, goes_same, noted_begins, noted_stays}
 use Rattle.area_disk.specs.Hull.{low_of_least, low_of-push, high_of-push}
 use Rattle.area_disk.specs.Record.{Moments, Room, Step, Takes, Elapses, StaysTold, BeganAnew, GoesOn, nothing, stopped_at, stopped, write_of, sync_of}
