@@ -1,6 +1,6 @@
 -- A stream from its beginning to its end.
 use Rattle.std.proofs.Common.{◌≡◌, ℕ, ◌+◌, ◌<◌, ◌≤◌, ◌⊎◌, ⊎_elim, inl, inr, true, Bool, if◌then◌else◌, List, [], ◌∷◌, ◌++◌, length, length-append, take, Option, Some, None, Result, Ok, Err, IfErr, refl, sym, ap, subst, ◌∙◌, append-nil, arith}
-use Rattle.cgf_service.proofs.Names.{Appends, AppendsFront, Book, cases_lt, Connection, Consumes, counted, end_by, end_of_result, ends_serving, first_fault, Follows, FrameKind, frames, HasGoneTo, HasServedStream, InputKind, IsAtEnd, IsBegunOn, IsGoingOn, IsSome, IsStreamRead, Keeps, last_count, le-ltb, LeavesUnanswered, most_stream, no_stream, rest_end, rest_of, rest_place, Rose, Status, StopsIn, Stream, stream_end}
+use Rattle.cgf_service.proofs.Names.{Appends, AppendsFront, Book, cases_lt, Connection, Consumes, counted, end_by, end_of_result, ends_serving, first_fault, Follows, FrameKind, HasGoneTo, HasServedStream, InputKind, IsAtEnd, IsBegunOn, IsGoingOn, IsSome, IsStreamRead, Keeps, last_count, le-ltb, LeavesUnanswered, most_stream, no_stream, rest_end, rest_of, rest_place, Rose, Status, StopsIn, Stream, stream_end}
 use Rattle.std.proofs.Math.Seq.{take-append-add}
 use Rattle.area_disk.specs.declared.area.Area as areas
 use Rattle.cgf_jobs.specs.declared.input_kind.InputKind.TheVariants as input

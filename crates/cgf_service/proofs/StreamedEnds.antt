@@ -5,7 +5,6 @@ use Rattle.area_disk.specs.Disk as disk
 use Rattle.area_disk.specs.declared.area.Area as areas
 use Rattle.cdr_shelf.specs.declared.shelf.Shelf as shelves
 use Rattle.gateway_book.specs.declared.outcome.BookFault.TheVariants as of_book
-use Rattle.gw_base.specs.Faults.{Rose}
 use Rattle.replay_gateway.specs.Settings.{AreSet}
 use Rattle.replay_world.specs.declared.replay.Played.{Played}
 use Rattle.replay_gateway.specs.declared.settings.Settings.{Settings as ReplaySettings}

@@ -1,6 +1,6 @@
 -- What a gateway answers to the messages of a stream, which all count as sent from one address: message after message,
 -- each at the history that the ones before it leave (3GPP TS 32.295, clauses 5.1.3 and 6.2, over a path of TCP).
-use Rattle.std.specs.Prelude.{◌≡◌, ℕ, if◌then◌else◌, List, [], ◌∷◌, ◌++◌, map, Option, None, Some}
+use Rattle.std.specs.Prelude.{ℕ, if◌then◌else◌, List, [], ◌∷◌, ◌++◌, Option, None, Some}
 use Rattle.std.specs.Option.{option_or}
 use Rattle.gw_base.specs.declared.address.Addr.{Addr}
 use Rattle.gw_base.specs.declared.history.HistoryEntry.{HistoryEntry}

@@ -10,7 +10,6 @@ use Rattle.cdr_file.specs.FileHeader.{IsFileHeader, extends}
 use Rattle.cdr_file.specs.Laws.{extends_one, in_profile-fits}
 use Rattle.cdr_file.specs.Reading as reading
 use Rattle.cdr_file.specs.Timestamp.{stamp_of}
-use Rattle.cdr_file.specs.declared.closure.ClosureReason.TheVariants as reason
 use Rattle.file_rotate.specs.Items as stream
 use Rattle.file_writer.specs.Reading.{IsStamped, ReadsAt}
 

@@ -23,7 +23,7 @@ pub use Rattle.gateway_index.specs.declared.nodes.Slot.{Slot}
 pub use Rattle.gateway_index.specs.declared.totals.Totals.{Totals}
 pub use Rattle.gateway_index.specs.declared.window_pair.WindowPair.{WindowPair}
 pub use Rattle.gw_base.specs.HeldKeys.{held_by, held_keys, holds, is_key}
-pub use Rattle.gw_base.specs.History.{begins_epoch, copies_of, due_after, epoch_of, is_close_due, present_state, state_of, top_of, with_entry, with_fate}
+pub use Rattle.gw_base.specs.History.{begins_epoch, copies_of, due_after, epoch_of, present_state, state_of, top_of, with_entry, with_fate}
 pub use Rattle.gw_base.specs.Known.{is_known, named_node, with_node}
 pub use Rattle.gw_base.specs.Observed.{Observed, observed}
 pub use Rattle.gw_base.specs.declared.address.NodeId.{NodeId}

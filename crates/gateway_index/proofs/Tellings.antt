@@ -1,13 +1,13 @@
 -- What a side says of a history it says, after one more entry, of the history with that entry.
 use Rattle.std.proofs.Common.{◌≡◌, ℕ, ◌+◌, ◌^◌, ◌<◌, ◌==◌, ◌&&◌, Bool, true, false, if◌then◌else◌, List, [], ◌∷◌, ◌++◌, Option, Some, None, is_some, length, count_by, refl, sym, ap, ◌∙◌, true≢false, arith, inl, inr, rules}
-use Rattle.gateway_index.proofs.Names.{acted, and_parts, any_packet, begins_epoch, copies_of, due_after, epoch_of, eqb-true, fits_with, Fresh, half, has_place, Held, held_keys, HeldKey, HistoryAct, HistoryEntry, holds, if_held, is_close_due, is_fresh, is_in_range, is_in_window, is_list_fit, is_new, is_within, IsFreshAbove, KeyState, leb-false, list_all, list_any, listed_nodes, named_node, NamesHeld, narrowed, nat_le, NodeId, numbered_nodes, Observed, observed, observed_in, opened_nodes, Opening, or_cases, Path, present_state, Seen, seen_after, Side, side_after, state_in, state_of, top_of, Totals, window_of, with_node}
+use Rattle.gateway_index.proofs.Names.{acted, and_parts, any_packet, begins_epoch, copies_of, due_after, epoch_of, eqb-true, fits_with, Fresh, half, has_place, Held, held_keys, HeldKey, HistoryAct, HistoryEntry, holds, if_held, is_fresh, is_in_range, is_in_window, is_list_fit, is_new, is_within, IsFreshAbove, KeyState, leb-false, list_all, list_any, listed_nodes, named_node, NamesHeld, narrowed, nat_le, NodeId, numbered_nodes, Observed, observed, observed_in, opened_nodes, Opening, or_cases, Path, present_state, Seen, seen_after, Side, side_after, state_in, state_of, top_of, Totals, window_of, with_node}
 use Rattle.std.proofs.lemmas.List.Sums.{count_by-le-length}
 use Rattle.gw_base.specs.EntryLaws.{is_close_due-append, known_nodes-append, last_moment-append, last_tick-append, opening_of-append, start_count-append}
 use Rattle.gw_base.specs.Faults.{next_count}
 use Rattle.gw_base.specs.HeldKeys.{is_held}
 use Rattle.gw_base.specs.HeldLaws.{stranded-append}
 use Rattle.gw_base.specs.Starts.{is_start, opening_after, start_count}
-use Rattle.gw_base.specs.TickDue.{last_tick, tick_after}
+use Rattle.gw_base.specs.TickDue.{tick_after}
 use Rattle.gw_base.specs.View.{strands}
 use Rattle.transfer_cmd.specs.Lists.{is_held as is_held_state}
 use Rattle.gateway_index.specs.Tells.{Tells}

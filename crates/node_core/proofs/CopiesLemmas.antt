@@ -3,7 +3,6 @@ use Rattle.std.proofs.Common.{◌≡◌, ℕ, ◌+◌, ◌<◌, ◌==◌, ◌||�
 use Rattle.node_core.proofs.Names.{at_drop_all, at_drop_more, cases_Bool, Command, command_hearing, commanded, copy_hearing, copy_hearing_own, first_told, least, map_over_more, names, numbers_at, option_map, or-false, PacketCopy, Port, told, told_if, Verdict}
 use Rattle.gw_base.specs.declared.cause.TheConstants.{SYSTEM_FAILURE}
 use Rattle.node_core.specs.declared.copy.Verdict.TheVariants as verdict
-use Rattle.node_core.specs.declared.port.Port.TheVariants as port
 use Rattle.node_core.proofs.CaseLemmas.{either_hears}
 
 pub hearing_more : (port : Port) (gateway cause : ℕ) (numbers : List ℕ) (xs ys : List PacketCopy) (i : ℕ) (x : PacketCopy) → i < length xs →

@@ -1,6 +1,6 @@
 -- What holds of each message that may be due for a packet holds of all that are due for it.
 use Rattle.std.proofs.Common.{◌≡◌, ℕ, suc, Bool, true, List, [], ◌∷◌, Option, Some, None, refl, subst, arith}
-use Rattle.node_core.proofs.Names.{again, all_drawn, AllByRecursion, appointing, befallen, Cancel, chosen, Command, command_of, cond_both, Contains, copy_to, due, due_by_copies, due_by_verdict, due_for, due_for_all, due_now, flat_map, is_done, IsChoice, IsChoiceOf, moved, moved_at_tick, nat_tests, next_number, NodeValue, Order, PacketCopy, PacketState, PathsOfNode, Peer, probes_from, Release, releasing, Sealed, Sending, settling, settling_beside, settling_by, test_of, Verdict}
+use Rattle.node_core.proofs.Names.{again, all_drawn, AllByRecursion, appointing, befallen, Cancel, chosen, command_of, cond_both, Contains, copy_to, due, due_by_copies, due_by_verdict, due_for, due_for_all, due_now, flat_map, is_done, IsChoice, IsChoiceOf, moved, moved_at_tick, nat_tests, next_number, NodeValue, Order, PacketCopy, PacketState, PathsOfNode, Peer, probes_from, Release, releasing, Sealed, Sending, settling, settling_beside, settling_by, test_of, Verdict}
 use Rattle.node_core.specs.declared.sending.Sending.TheVariants as send
 use Rattle.node_core.proofs.CaseLemmas.{contains_more, each_append, each_contains, in_head}
 

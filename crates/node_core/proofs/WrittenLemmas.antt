@@ -4,7 +4,6 @@ use Rattle.gtpp_message.specs.Message.{MessageValue, TransferRequest, Possible}
 use Rattle.node_core.proofs.Names.{Empty, Order, path_octets, PathEvent}
 use Rattle.gtpp_message.specs.PathMessages.{path_message, path_number}
 use Rattle.gtpp_message.specs.Writing.{body_octets, written}
-use Rattle.node_core.specs.declared.copy.Order.TheVariants as order
 use Rattle.node_core.specs.Octets.{order_of, wire}
 use Rattle.node_core.specs.Patterns.{numbered_at, order_pattern, test_pattern}
 

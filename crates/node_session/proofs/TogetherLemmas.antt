@@ -1,7 +1,6 @@
 -- What a session tells of jobs that it served together, by what it did step by step.
 use Rattle.std.proofs.Common.{◌≡◌, ◌⊎◌, inl, inr, ℕ, suc, Bool, true, List, [], ◌∷◌, ◌++◌, ◌+◌, ◌<◌, length, take, Option, Some, refl, sym, ap, subst, ◌∙◌, append_assoc, arith}
 use Rattle.node_session.proofs.Names.{AddsAnswers, All, All-append, All-cons, All-nil, append-nil, AreFirstsOf, AreServed, AreTaken, Book, book_facts, called_at, caller_of, Contains, Contains-append_left, Contains-push, EachMayHave, EachTells, Facts, FirstAreTaken, Ghosts, Go, GoesFrom, GoesOn, GoOn, HasTurnFor, HaveTurnsFor, history_at, HistoryEntry, IsAnswerTo, Job, KeepsTurns, KeepsTurnsOf, kept, KeptTurn, Knowledge, knowledge, known_by, length-append, LinkState, Outcome, Pass, Served, slice_index_or, take_more, TakesIn, tells_lists, TellTogether}
-use Rattle.gateway_book.specs.declared.outcome.Outcome.TheVariants as outcome
 use Rattle.turn_cell.specs.Passes.{TookEach, TookMore}
 use Rattle.node_session.specs.Turns as turns
 use Rattle.node_session.proofs.ServedLemmas.{Laters, adds_first, goes_none, goes_then, goes_turn, later_none, later_on, may_on, more_jobs, none_added, own_turn, tells_behind}

@@ -2,7 +2,7 @@
 -- on the way, and the requests of a redirection, which tell nodes nothing of a copy.
 pub use Rattle.once_core.proofs.PartLemmas.{ready_history}
 use Rattle.std.proofs.Common.{◌≡◌, ℕ, ◌%◌, ◌==◌, not, nat_lt, Bool, true, false, List, [], ◌∷◌, ◌++◌, Option, Some, None, Contains, refl, sym, ap, subst, ◌∙◌, ◌≤◌, arith, map, ◌+◌, option_map, IfSome}
-use Rattle.once_core.proofs.Names.{about, acting, after_coming, AliveAsked, AliveTold, answer_by, answer_of, answered, answering, Answers, big_bytes, CDR_DECODING_ERROR, Comes, coming, cond-true, Decided, decided, EchoAsked, EchoRequest, EchoResponse, EchoTold, entry_by, failed, failed_by, failure_answer, for_role, framed, Gateway, gateway_address, Given, given, happened_all, Happening, has_type, history, history_of, HistoryAct, HistoryEntry, is_expired, is_idle, is_spoken, is_timely, Letter, letter_of, Meaning, meaning_in, meaning_of, MessageValue, nat_tests, no_caller, NO_RESOURCES, node_address, node_id, node_ip, NodeAliveRequest, NodeId, noting_if, Observed, observed, opened_by, Opening, opening, opening_epoch, opening_of, Opens, option_map_or, PathEvent, paths_of, port_number, Post, post_of, prepared_of, PreparedValue, recorded, recorded_if, RedirectionRequest, request_in, responding, RolesRead, Rules, Scene, Send, sends_values, Settled, speaks, start_by, start_of, still, SYSTEM_FAILURE, tabled, TRANSFER_REQUEST, TransferRequest, TransferResponse, TransferValue, waiting_for, waiting_letters, with_one, with_post, with_settled, written}
+use Rattle.once_core.proofs.Names.{about, acting, after_coming, AliveAsked, AliveTold, answer_by, answer_of, answered, answering, Answers, big_bytes, CDR_DECODING_ERROR, Comes, coming, cond-true, Decided, decided, EchoAsked, EchoRequest, EchoResponse, EchoTold, entry_by, failed, failed_by, failure_answer, for_role, framed, Gateway, gateway_address, Given, given, happened_all, Happening, has_type, history, history_of, HistoryAct, HistoryEntry, is_expired, is_idle, is_spoken, is_timely, Letter, letter_of, Meaning, meaning_in, meaning_of, MessageValue, nat_tests, no_caller, NO_RESOURCES, node_address, node_id, node_ip, NodeAliveRequest, NodeId, noting_if, Observed, observed, opened_by, Opening, opening, opening_epoch, opening_of, Opens, option_map_or, PathEvent, paths_of, port_number, Post, post_of, prepared_of, PreparedValue, recorded_if, RedirectionRequest, request_in, responding, RolesRead, Rules, Scene, Send, sends_values, Settled, speaks, start_by, start_of, still, SYSTEM_FAILURE, tabled, TRANSFER_REQUEST, TransferRequest, TransferResponse, TransferValue, waiting_for, waiting_letters, with_one, with_post, with_settled, written}
 use Rattle.gtpp_message.specs.declared.role.Role.TheVariants as role
 use Rattle.gateway_answer.specs.Answer.{asked_by, replying}
 use Rattle.gateway_answer.specs.Preparing.{Refused, Request, Path}

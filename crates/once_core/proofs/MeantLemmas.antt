@@ -1,7 +1,7 @@
 -- The number of an open copy is read as it is meant, where the gateway's present epoch is that of the node's start: by the
 -- greatest number of that epoch, and by what the laws of nodes say of numbers and of what a node knows.
 use Rattle.std.proofs.Common.{◌≡◌, ◌⊎◌, inl, inr, ℕ, max, ◌≤◌, ◌==◌, ◌&&◌, Bool, true, false, if◌then◌else◌, List, [], ◌∷◌, Option, Some, None, refl, sym, ap, subst, ◌∙◌, arith, ⊎_elim, eqb-true, ◌↔◌, ◌+◌, ◌<◌, ◌%◌, Contains, length, ◌≢◌, All, ne_eqb}
-use Rattle.once_core.proofs.Names.{All-contains, AllRestOn, AnyHasCopyAt, Asks, cases_lt, cond-false, Deed, deeds_of, drawn, epoch_of, false≢true, Follows, Fresh, given_state, GrowsTo, Happening, HasCopy, HasOneRole, HasOpenCopy, Held, history, HistoryAct, HistoryEntry, is_done, is_fresh, IsAsked, IsBetween, IsCopyOrBase, IsKnown, IsNearest, IsRising, IsSingle, KeyState, Knows, length-map, Letter, list_any, log_of, LogEntry, MaySend, Meaning, nat_tests, nearest, next_number, NodeCall, NodeId, NodeSetup, none-some, opening_after, opening_of, opening_of-append, Orders, PacketCopy, packets_in, packets_of, PacketState, Peer, peers_of, Port, present_state, present_state-append, present_state_is, raised, reached, ReleasesChoice, Request, Rests, RestsBy, runs, same_Some, Scene, scene_after, SceneHolds, Sends, since_start, start_by, start_of, starts_in, Tests, top_after, top_of, top_of-append, uses, uses_by_copies, uses_by_copy}
+use Rattle.once_core.proofs.Names.{All-contains, AllRestOn, AnyHasCopyAt, Asks, cases_lt, cond-false, Deed, deeds_of, epoch_of, false≢true, Follows, Fresh, given_state, GrowsTo, Happening, HasCopy, HasOneRole, HasOpenCopy, Held, history, HistoryAct, HistoryEntry, is_done, is_fresh, IsAsked, IsBetween, IsCopyOrBase, IsKnown, IsNearest, IsRising, IsSingle, KeyState, Knows, length-map, Letter, list_any, log_of, LogEntry, MaySend, Meaning, nat_tests, nearest, next_number, NodeCall, NodeId, NodeSetup, none-some, opening_after, opening_of, opening_of-append, Orders, PacketCopy, packets_in, packets_of, PacketState, Peer, peers_of, Port, present_state, present_state-append, present_state_is, raised, reached, ReleasesChoice, Request, Rests, RestsBy, runs, same_Some, Scene, scene_after, SceneHolds, Sends, since_start, start_by, start_of, starts_in, Tests, top_after, top_of, top_of-append, uses, uses_by_copies, uses_by_copy}
 use Rattle.gw_base.specs.View.{present_after}
 use Rattle.gw_base.specs.declared.history.HistoryAct.TheVariants as act
 use Rattle.once_core.specs.Happenings.{about}

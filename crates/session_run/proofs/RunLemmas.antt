@@ -1,6 +1,6 @@
 -- What a gateway that served hands back, by what each of its parts has done.
 use Rattle.std.proofs.Common.{◌≡◌, ◌⊎◌, ℕ, zero, suc, ◌≤◌, Bool, true, List, [], ◌∷◌, ◌++◌, length, Option, None, Some, refl, sym, subst, ◌∙◌, arith}
-use Rattle.session_run.proofs.Names.{added_by, Addr, All, All-contains, All-contains_itself, All-nil, AnswersJob, AreAllSettled, ArePushed, AreSettled, began_at, by_session, caller_of, Contains, Datagram, datagram_of, Desk, Facts, facts_of, Follows, GoesOnUntil, Hand, hand_at, hands_of, HasFailedSince, HasWorked, HaveReplied, HaveServed, IfSome, IfSome_then, InTurn, IsAnswered, IsCalledFor, IsFor, IsHeard, IsJobOf, IsLegal, IsReply, IsReplyTo, Job, KeepsWriter, KeptTurn, Knowledge, known_among, known_at, last_among, latest, latest_of, link_at, link_of, links_of, placed, PushedOf, Reception, RepliesTo, session_count, StaysAs, Team, TellsFailure, WhereTold, Writer}
+use Rattle.session_run.proofs.Names.{added_by, Addr, All, All-contains, All-contains_itself, All-nil, AnswersJob, AreAllSettled, ArePushed, AreSettled, began_at, by_session, caller_of, Contains, Datagram, datagram_of, Desk, Facts, facts_of, Follows, GoesOnUntil, Hand, hand_at, hands_of, HasFailedSince, HasWorked, HaveReplied, HaveServed, IfSome, IfSome_then, InTurn, IsAnswered, IsCalledFor, IsFor, IsHeard, IsJobOf, IsLegal, IsReply, IsReplyTo, Job, KeepsWriter, KeptTurn, Knowledge, known_among, known_at, last_among, latest_of, link_at, link_of, links_of, placed, PushedOf, Reception, RepliesTo, session_count, StaysAs, Team, TellsFailure, WhereTold, Writer}
 use Rattle.area_disk.specs.Disk.{Rose}
 use Rattle.cdr_shelf.specs.declared.shelf.Shelf as shelves
 use Rattle.gw_base.specs.Facts.{joined}

@@ -2,7 +2,6 @@
 use Rattle.std.specs.Prelude.{◌≡◌, Bool}
 use Rattle.area_disk.specs.declared.area.Area as area
 use Rattle.job_inbox.specs.Inbox.{knowledge}
-use Rattle.net_link.specs.declared.link.Link as link
 use Rattle.node_session.specs.Batches.{AreAllTaken, jobs_of, outcomes_of}
 use Rattle.node_session.specs.Passes.{knowledge_of, session_of}
 use Rattle.node_session.specs.Together.{AreTaken, HaveTurnsFor}

@@ -1,4 +1,4 @@
-use Rattle.std.proofs.Common.{◌++◌, ◌∙◌, ℕ, List, [], length, length-append, refl, sym, subst, arith}
+use Rattle.std.proofs.Common.{◌++◌, ◌∙◌, ℕ, List, [], length-append, refl, sym, subst, arith}
 use Rattle.cgf_service.proofs.Names.{Consumes, err_from_is_err_and}
 use Rattle.cgf_jobs.specs.declared.status.Status.TheVariants as status
 use Rattle.cgf_service.proofs.ConnectionLemmas.{came_is}

@@ -1,5 +1,5 @@
 use Rattle.replay_world.proofs.Names.{DoesAll, IfOk-weaker}
-use Rattle.std.proofs.Common.{sym, subst, true}
+use Rattle.std.proofs.Common.{sym, subst}
 use Rattle.replay_world.proofs.DeliverLemmas.{does_lose, lot_comes, lot_lost, lot_twice, lot_waits}
 use Rattle.replay_world.proofs.StepsLemmas.{does_none, does_one}
 use Rattle.replay_world.proofs.replay.Replay.draw.Goals as goal
