@@ -9,8 +9,9 @@
 ghost use Rattle.std.specs.Prelude.{◌+◌, ◌≤◌, OnOk};
 
 use crate::plans::{no_plan, outcome_of};
-use crate::words::{MOST, bad, first_word, number, octets};
+use crate::words::{MOST, octets};
 use area_disk::{Area, Drill, Failed, MemoryArea};
+use run_lines::{bad, first_word, next, number};
 use std::io;
 
 pub(crate) fn begin(
@@ -47,16 +48,14 @@ fn write_at<A: Area>(area: &mut A, at: u64, octets: &[u8]) -> io::Result<Result<
 }
 
 pub(crate) fn write(rt: &HostRuntime, area: &mut MemoryArea, words: &str) -> io::Result<()> {
-    let (at, word) = first_word(words);
-    let at = number(at, MOST)?;
+    let (at, word) = next(words, MOST)?;
     let octets = octets(rt.alloc(), word)?;
     print!(rt; "{:?}", write_at(area, at, &octets)?)
 }
 
 pub(crate) fn again(rt: &HostRuntime, area: &mut MemoryArea, words: &str) -> io::Result<()> {
     let (count, words) = first_word(words);
-    let (at, word) = first_word(words);
-    let at = number(at, MOST)?;
+    let (at, word) = next(words, MOST)?;
     let octets = octets(rt.alloc(), word)?;
     let mut last = Ok(());
     for _ in 0..number(count, MOST)? {
@@ -72,8 +71,7 @@ fn read_at<A: Area>(area: &mut A, at: u64, into: &mut [u8]) -> io::Result<Result
 }
 
 pub(crate) fn read(rt: &HostRuntime, area: &mut MemoryArea, words: &str) -> io::Result<()> {
-    let (at, count) = first_word(words);
-    let at = number(at, MOST)?;
+    let (at, count) = next(words, MOST)?;
     let count = number(count, MOST)? as usize;
     let mut into = vec![in rt.alloc(); 0; count]?;
     let answer = read_at(area, at, &mut into)?;

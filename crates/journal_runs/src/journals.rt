@@ -7,9 +7,10 @@
 //! - `journal end`, `journal calls`, `journal stopped`, `journal closed`: what it says. `journal reopen`: what comes of it.
 
 use crate::scene::Scene;
-use crate::words::{bad, octets};
+use crate::words::octets;
 use area_disk::{Area, MemoryArea};
 use gate_journal::{Journal, LONGEST_BATCH, OpenFault};
+use run_lines::bad;
 use std::alloc::Global;
 use std::io;
 

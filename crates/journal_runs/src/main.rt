@@ -1,9 +1,9 @@
 //! Calls of areas, journals, trails and shelves in memory, a line each: what each leaves octet by octet, and after a call
 //! that stops or fails. The gate compares what they answer with the file `stdout`.
 //!
-//! The standard input is a text about the lines, and then groups of them: a line `== NAME`, and lines up to the empty
-//! one in front of the next name. A line is a form and its words; the first lines of each module say which forms it has.
-//! Octets are numbers with commas between them, or as `8x255` so many that are the same. A group begins with nothing.
+//! The standard input is groups of lines, as `run_lines` reads them. A line is a form and its words; the first lines of
+//! each module say which forms it has. Octets are numbers with commas between them, or as `8x255` so many that are the
+//! same.
 #![tactic(auto)]
 
 mod areas;
@@ -15,58 +15,37 @@ mod trails;
 mod words;
 
 use crate::scene::Scene;
-use crate::words::{bad, first_word, there};
+use run_lines::{Answer, bad, first_word, tell_lines, there};
 use std::io;
 
-/// What stands in front of the name of each group.
-const NAME: &str = "\n== ";
-
 fn main(rt: HostRuntime) -> io::Result<()> {
-    let text = io::read_to_string(rt.alloc(), rt.stdin())?;
-    println!(rt;
-        "What areas, journals, trails and shelves answer to each line of the file stdin."
-    )?;
-    for group in text.split(NAME).skip(1) {
-        tell(&rt, group)?;
+    tell_lines::<Scene, _>(
+        &rt,
+        "What areas, journals, trails and shelves answer to each line of the file stdin.",
+    )
+}
+
+impl Answer<HostRuntime> for Scene {
+    fn begin(_: &HostRuntime) -> io::Result<Scene> {
+        Ok(Scene::new())
     }
-    Ok(())
-}
 
-/// Prints the name of a group, and each of its lines with what it is answered.
-fn tell(rt: &HostRuntime, group: &str) -> io::Result<()> {
-    let Some((name, lines)) = group.split_once('\n') else {
-        return Err(bad());
-    };
-    println!(rt; "{NAME}{name}")?;
-    let mut scene = Scene::new();
-    tell_lines(rt, &mut scene, lines)
-}
-
-fn tell_lines(rt: &HostRuntime, scene: &mut Scene, lines: &str) -> io::Result<()> {
-    for line in lines.lines() {
-        print!(rt; "{line} => ")?;
-        answer(rt, scene, line)?;
-        println!(rt; "")?;
-    }
-    Ok(())
-}
-
-/// Prints what a line is answered.
-fn answer(rt: &HostRuntime, scene: &mut Scene, line: &str) -> io::Result<()> {
-    let (form, words) = first_word(line);
-    match form {
-        "area" => areas::begin(rt, &mut scene.area, words),
-        "write" => areas::write(rt, there(&mut scene.area)?, words),
-        "again" => areas::again(rt, there(&mut scene.area)?, words),
-        "read" => areas::read(rt, there(&mut scene.area)?, words),
-        "crash" => areas::crash(rt, there(&mut scene.area)?, words),
-        "device" => areas::tell(rt, there(&mut scene.area)?, words),
-        "open" => journals::open(rt, scene),
-        "draft" => journals::draft(rt, scene, words),
-        "append" => journals::append(rt, there(&mut scene.journal)?, words),
-        "batch" => journals::batch(rt, there(&mut scene.journal)?),
-        "journal" => journals::tell(rt, there(&mut scene.journal)?, words),
-        _ => answer_further(rt, scene, form, words),
+    fn answer(&mut self, rt: &HostRuntime, line: &str) -> io::Result<()> {
+        let (form, words) = first_word(line);
+        match form {
+            "area" => areas::begin(rt, &mut self.area, words),
+            "write" => areas::write(rt, there(&mut self.area)?, words),
+            "again" => areas::again(rt, there(&mut self.area)?, words),
+            "read" => areas::read(rt, there(&mut self.area)?, words),
+            "crash" => areas::crash(rt, there(&mut self.area)?, words),
+            "device" => areas::tell(rt, there(&mut self.area)?, words),
+            "open" => journals::open(rt, self),
+            "draft" => journals::draft(rt, self, words),
+            "append" => journals::append(rt, there(&mut self.journal)?, words),
+            "batch" => journals::batch(rt, there(&mut self.journal)?),
+            "journal" => journals::tell(rt, there(&mut self.journal)?, words),
+            _ => answer_further(rt, self, form, words),
+        }
     }
 }
 

@@ -1,8 +1,9 @@
 //! What is armed: `CALLS READS`, or `CALLS READS CALL OUTCOME`. The counted calls of the first list fail and the reads of
 //! the second, and the call CALL stops and leaves what its outcome says: `old`, `new` or `rot`.
 
-use crate::words::{MOST, bad, first_word, number, numbers};
+use crate::words::{MOST, numbers};
 use area_disk::{Outcome3, Plan, Stop};
+use run_lines::{bad, first_word, number};
 use std::alloc::Global;
 use std::io;
 

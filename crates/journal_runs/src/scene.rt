@@ -4,11 +4,11 @@
 //! - `close`: the journal or the trail is given up, and its area stands alone; how many octets that has.
 
 use crate::plans::plan_of;
-use crate::words::bad;
 use area_disk::{Area, Drill, MemoryArea};
 use cdr_shelf::MemoryShelf;
 use cgf_journal::Trail;
 use gate_journal::Journal;
+use run_lines::bad;
 use std::io;
 
 #[derive(Drop)]

@@ -15,9 +15,9 @@ ghost use Rattle.std.specs.Prelude.{IsTrue};
 ghost use Rattle.cdr_shelf.specs.Files.{IsFresh};
 
 use crate::plans::no_plan;
-use crate::words::{bad, first_word, number};
 use area_disk::{Drill, Outcome3};
 use cdr_shelf::{FileName, MemoryShelf, QuietShelf, Shelf, ShelfStop};
+use run_lines::{bad, first_word, number};
 use std::alloc::Global;
 use std::io;
 

@@ -11,11 +11,12 @@
 //!   `trail waiting`: how many octets wait, and behind how many. `trail reopen`: what comes of it.
 
 use crate::scene::Scene;
-use crate::words::{MOST, bad, first_word, number};
+use crate::words::MOST;
 use area_disk::{Area, MemoryArea};
 use cgf_journal::{Judge, OpenFault, Trail};
 use entry_codec::read;
 use gw_base::{Act, Caller, Entry, Moment, NoMemory, NodeId};
+use run_lines::{bad, first_word, number};
 use std::alloc::Global;
 use std::io;
 

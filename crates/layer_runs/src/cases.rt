@@ -3,8 +3,8 @@
 //! - `doubled KEY KEY ..`: the least of two or four keys that stands twice.
 //! - `row KEY`: the row of the table `5 => 50, 1; 0 => 7, 2; 4294967295 => 9, 3` under this key.
 
-use crate::words::{first_word, number};
 use case_table::{Cases, Row, cases};
+use run_lines::{first_word, number};
 use std::io;
 
 /// The greatest key.

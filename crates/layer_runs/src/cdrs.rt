@@ -18,7 +18,7 @@ ghost use Rattle.cdr_file.specs.FileHeader.{IsFileHeader};
 ghost use Rattle.cdr_file.specs.Profile.{IsFiledKind, in_profile};
 ghost use Rattle.cdr_file.specs.Timestamp.{stamp_of};
 
-use crate::words::{bad, first_word, moment, next, no_memory, number, octets, print_octets};
+use crate::words::{moment, octets, print_octets};
 use byteorder::{BigEndian, ByteOrder};
 use cdr_file::{
     Cdr, CdrFile, CdrHeader, ClosureReason, FileHeader, FiledKind, Offset16, RunFacts, StampFields,
@@ -26,6 +26,7 @@ use cdr_file::{
     write_header,
 };
 use gw_base::{CdrKind, GatewayId, Moment, cdr_kind};
+use run_lines::{bad, first_word, next, no_memory, number};
 use std::alloc::{AllocError, Global};
 use std::io;
 

@@ -14,10 +14,11 @@ ghost use Rattle.gtpp_message.specs.Values.{message_value, packet_value};
 ghost use Rattle.gtpp_message.specs.Writing.{body_octets};
 
 use crate::paths::event_of;
-use crate::words::{bad, first_word, octets, print_octets};
+use crate::words::{octets, print_octets};
 use gtpp_message::{Message, Packet, Reading, Role, Transfer, read, read_as, write, write_short};
 use gw_base::{Buffer, Full};
 use path_mgmt::PathEvent;
+use run_lines::{bad, first_word};
 use std::io;
 
 pub(crate) fn read_one(rt: &HostRuntime, words: &str) -> io::Result<()> {

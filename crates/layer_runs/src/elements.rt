@@ -6,10 +6,11 @@
 //! - `numbers OCTETS`: the numbers that they are.
 //! - `put KIND OCTETS`: whether the buffer has room for an element, and what it holds then.
 
-use crate::words::{bad, first_word, number, octets, print_octets};
+use crate::words::{octets, print_octets};
 use gtpp_elements::Numbers;
 use gtpp_header::Header;
 use gw_base::Buffer;
+use run_lines::{bad, first_word, number};
 use std::io;
 
 pub(crate) fn header(rt: &HostRuntime, words: &str) -> io::Result<()> {

@@ -3,9 +3,10 @@
 //! - `entry OCTETS`: the entry that they begin with, how many octets it has and what it costs, or the first wrong octet.
 //! - `spell OCTETS`: whether the buffer has room for the entry that they are, and what it holds then.
 
-use crate::words::{bad, octets, print_octets};
+use crate::words::{octets, print_octets};
 use entry_codec::{cost, read, write};
 use gw_base::Buffer;
+use run_lines::bad;
 use std::io;
 
 /// The most octets of an entry of a line.

@@ -7,9 +7,10 @@
 ghost use Rattle.std.specs.Prelude.{IfOk};
 ghost use Rattle.file_rotate.specs.Items.{AreLimits};
 
-use crate::words::{bad, moment, next, number};
+use crate::words::moment;
 use file_rotate::{Cutter, Limits};
 use gw_base::CdrKind;
+use run_lines::{bad, next, number};
 use std::io;
 
 /// The most octets of a file, and the most records.
@@ -45,7 +46,7 @@ pub(crate) fn limits(rt: &HostRuntime, cutter: &mut Option<Cutter>, words: &str)
     print!(rt; "{limits:?}")
 }
 
-pub(crate) fn record(rt: &HostRuntime, cutter: &mut Option<Cutter>, words: &str) -> io::Result<()> {
+pub(crate) fn record(rt: &HostRuntime, cutter: &mut Cutter, words: &str) -> io::Result<()> {
     let (format, words) = next(words, 7)?;
     let (length, at) = next(words, 65_535)?;
     let at = moment(at)?;
@@ -55,21 +56,15 @@ pub(crate) fn record(rt: &HostRuntime, cutter: &mut Option<Cutter>, words: &str)
         format: format as u8,
         extension: 0,
     };
-    match cutter {
-        Some(cutter) => print!(rt; "{:?}", cutter.put(kind, length as u16, at)),
-        None => Err(bad()),
-    }
+    print!(rt; "{:?}", cutter.put(kind, length as u16, at))
 }
 
 pub(crate) fn mark(
     rt: &HostRuntime,
-    cutter: &mut Option<Cutter>,
+    cutter: &mut Cutter,
     closes: bool,
     words: &str,
 ) -> io::Result<()> {
     let at = moment(words)?;
-    match cutter {
-        Some(cutter) => print!(rt; "{:?}", cutter.mark(closes, at)),
-        None => Err(bad()),
-    }
+    print!(rt; "{:?}", cutter.mark(closes, at))
 }

@@ -5,9 +5,9 @@
 //! - `find NODE NUMBER`, `take NODE NUMBER`: where it lies, and that it is held no more.
 //! - `drop NODE`: how many of a node were held, which are held no more.
 
-use crate::words::{next, number};
 use dup_buffer::{Held, HoldFault};
 use gw_base::{NodeId, Place};
+use run_lines::{next, number};
 use std::io;
 
 /// Holds a copy that isn't held yet.

@@ -12,12 +12,12 @@
 //! - `owned K`: the entry at place K, lent, owned and lent again.
 
 use crate::words;
-use crate::words::{bad, first_word, next, no_memory, number};
 use gw_base::scan::{
     copies_of, epoch, held_keys, is_close_due, is_tick_due, known_nodes, last_tick, moment_after,
     opening, promised_octets, start, start_count, state, top,
 };
 use gw_base::{Absolutes, Caller, HistoryAct, HistoryEntry, NodeId, Octets, PacketKey};
+use run_lines::{bad, first_word, next, no_memory, number};
 use std::alloc::Global;
 use std::io;
 

@@ -26,64 +26,45 @@ mod values;
 mod words;
 
 use crate::scene::Scene;
-use crate::words::{bad, first_word};
+use run_lines::{Answer, bad, first_word, tell_lines, there};
 use std::io;
 
-/// What stands in front of the name of each group.
-const NAME: &str = "\n== ";
-
 fn main(rt: HostRuntime) -> io::Result<()> {
-    let text = io::read_to_string(rt.alloc(), rt.stdin())?;
-    println!(rt; "What the lower layers answer to each line of the file stdin.")?;
-    for group in text.split(NAME).skip(1) {
-        tell(&rt, group)?;
+    tell_lines::<Scene, _>(
+        &rt,
+        "What the lower layers answer to each line of the file stdin.",
+    )
+}
+
+impl Answer<HostRuntime> for Scene {
+    fn begin(rt: &HostRuntime) -> io::Result<Scene> {
+        Scene::new(rt.alloc())
     }
-    Ok(())
-}
 
-/// Prints the name of a group, and each of its lines with what it is answered.
-fn tell(rt: &HostRuntime, group: &str) -> io::Result<()> {
-    let Some((name, lines)) = group.split_once('\n') else {
-        return Err(bad());
-    };
-    println!(rt; "{NAME}{name}")?;
-    let mut scene = Scene::new(rt.alloc())?;
-    tell_lines(rt, &mut scene, lines)
-}
-
-fn tell_lines(rt: &HostRuntime, scene: &mut Scene, lines: &str) -> io::Result<()> {
-    for line in lines.lines() {
-        print!(rt; "{line} => ")?;
-        answer(rt, scene, line)?;
-        println!(rt; "")?;
-    }
-    Ok(())
-}
-
-/// Prints what a line is answered.
-fn answer(rt: &HostRuntime, scene: &mut Scene, line: &str) -> io::Result<()> {
-    let (form, words) = first_word(line);
-    match form {
-        "kind" => values::kind(rt, words),
-        "near" => values::near(rt, words),
-        "ber" => values::ber(rt, words),
-        "identifier" => values::identifier(rt, words),
-        "header" => elements::header(rt, words),
-        "headed" => elements::headed(rt, words),
-        "element" => elements::element(rt, words),
-        "numbers" => elements::numbers(rt, words),
-        "put" => elements::put_one(rt, &mut scene.buffer, words),
-        "decide" => transfers::decided(rt, words),
-        "judge" => transfers::judged(rt, words),
-        "read" => datagrams::read_one(rt, words),
-        "write" => datagrams::write_one(rt, &mut scene.buffer, words),
-        "short" => datagrams::short(rt, words),
-        "packet" => datagrams::packet(rt, words),
-        "event" => datagrams::event(rt, words),
-        "message" => datagrams::message(rt, words),
-        "entry" => entries::entry(rt, words),
-        "spell" => entries::spell(rt, &mut scene.buffer, words),
-        _ => answer_of_scene(rt, scene, form, words),
+    fn answer(&mut self, rt: &HostRuntime, line: &str) -> io::Result<()> {
+        let (form, words) = first_word(line);
+        match form {
+            "kind" => values::kind(rt, words),
+            "near" => values::near(rt, words),
+            "ber" => values::ber(rt, words),
+            "identifier" => values::identifier(rt, words),
+            "header" => elements::header(rt, words),
+            "headed" => elements::headed(rt, words),
+            "element" => elements::element(rt, words),
+            "numbers" => elements::numbers(rt, words),
+            "put" => elements::put_one(rt, &mut self.buffer, words),
+            "decide" => transfers::decided(rt, words),
+            "judge" => transfers::judged(rt, words),
+            "read" => datagrams::read_one(rt, words),
+            "write" => datagrams::write_one(rt, &mut self.buffer, words),
+            "short" => datagrams::short(rt, words),
+            "packet" => datagrams::packet(rt, words),
+            "event" => datagrams::event(rt, words),
+            "message" => datagrams::message(rt, words),
+            "entry" => entries::entry(rt, words),
+            "spell" => entries::spell(rt, &mut self.buffer, words),
+            _ => answer_of_scene(rt, self, form, words),
+        }
     }
 }
 
@@ -101,9 +82,9 @@ fn answer_of_scene(rt: &HostRuntime, scene: &mut Scene, form: &str, words: &str)
         "gateway" => paths::gateway(rt, words),
         "node" => paths::node(rt, &mut scene.path, words),
         "limits" => files::limits(rt, &mut scene.cutter, words),
-        "record" => files::record(rt, &mut scene.cutter, words),
-        "tick" => files::mark(rt, &mut scene.cutter, false, words),
-        "close" => files::mark(rt, &mut scene.cutter, true, words),
+        "record" => files::record(rt, there(&mut scene.cutter)?, words),
+        "tick" => files::mark(rt, there(&mut scene.cutter)?, false, words),
+        "close" => files::mark(rt, there(&mut scene.cutter)?, true, words),
         "hold" => held::hold(rt, &mut scene.held, words),
         "hold-first" => held::hold_first(rt, &mut scene.held, words),
         "find" => held::find(rt, &scene.held, words),
@@ -127,11 +108,11 @@ fn answer_of_node(rt: &HostRuntime, scene: &mut Scene, form: &str, words: &str) 
     match form {
         "serving" => nodes::serving(rt, &mut scene.serving, words),
         "ready" => nodes::ready(rt, &mut scene.serving, words),
-        "submit" => nodes::submit(rt, &mut scene.serving),
-        "turn" => nodes::turn(rt, &mut scene.serving),
-        "hears" => nodes::hears(rt, &mut scene.serving, words),
-        "restart" => nodes::restart(rt, &mut scene.serving),
-        "packets" => nodes::packets(rt, &scene.serving),
+        "submit" => nodes::submit(rt, there(&mut scene.serving)?),
+        "turn" => nodes::turn(rt, there(&mut scene.serving)?),
+        "hears" => nodes::hears(rt, there(&mut scene.serving)?, words),
+        "restart" => nodes::restart(rt, there(&mut scene.serving)?),
+        "packets" => nodes::packets(rt, there(&mut scene.serving)?),
         "draft" => nodes::begin_draft(rt, &mut scene.draft, words),
         "grow" => nodes::grow(rt, &mut scene.draft, words),
         "grow-zeros" => nodes::grow_zeros(rt, &mut scene.draft, words),
@@ -147,7 +128,7 @@ fn answer_outside(rt: &HostRuntime, scene: &mut Scene, form: &str, words: &str) 
         "sink" => outside::sink(rt, &mut scene.sink, words),
         "push" => outside::push(rt, &mut scene.sink, words),
         "clock" => outside::clock(rt, &mut scene.clock, words),
-        "now" => outside::now(rt, &mut scene.clock),
+        "now" => outside::now(rt, there(&mut scene.clock)?),
         "stamp" => cdrs::stamped(rt, words),
         "fields" => cdrs::fields(rt, words),
         "file" => cdrs::file(rt, words),

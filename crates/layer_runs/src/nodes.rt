@@ -12,9 +12,10 @@
 //! - `draft FORMAT VERSION`: begins a draft. `grow OCTETS`: whether it takes a record, and the octets of its value.
 //!   `grow-zeros COUNT LENGTH`: the same of so many records of so many zeros, of the last, and how many octets there are.
 
-use crate::words::{bad, first_word, next, no_memory, number, octets, print_octets};
+use crate::words::{octets, print_octets};
 use gw_base::{Addr, PacketId};
 use node_core::{Draft, DraftFault, Heeded, Node, Outgoing, Port};
+use run_lines::{bad, first_word, next, no_memory, number};
 use std::alloc::Global;
 use std::io;
 
@@ -116,11 +117,8 @@ fn submitted(alloc: Global, node: &mut Node) -> io::Result<Result<u64, node_core
     }
 }
 
-pub(crate) fn submit(rt: &HostRuntime, node: &mut Option<Node>) -> io::Result<()> {
-    match node {
-        Some(node) => print!(rt; "{:?}", submitted(rt.alloc(), node)?),
-        None => Err(bad()),
-    }
+pub(crate) fn submit(rt: &HostRuntime, node: &mut Node) -> io::Result<()> {
+    print!(rt; "{:?}", submitted(rt.alloc(), node)?)
 }
 
 /// What a tick sends.
@@ -134,10 +132,7 @@ fn ticked(alloc: Global, node: &mut Node) -> io::Result<Vec<Outgoing>> {
     }
 }
 
-pub(crate) fn turn(rt: &HostRuntime, node: &mut Option<Node>) -> io::Result<()> {
-    let Some(node) = node else {
-        return Err(bad());
-    };
+pub(crate) fn turn(rt: &HostRuntime, node: &mut Node) -> io::Result<()> {
     let sent = ticked(rt.alloc(), node)?;
     print!(rt; "{}", sent.len())?;
     for datagram in &sent {
@@ -156,13 +151,10 @@ fn number_of(packet: Option<PacketId>) -> Option<u64> {
     }
 }
 
-pub(crate) fn hears(rt: &HostRuntime, node: &mut Option<Node>, words: &str) -> io::Result<()> {
+pub(crate) fn hears(rt: &HostRuntime, node: &mut Node, words: &str) -> io::Result<()> {
     let (port, words) = first_word(words);
     let port = port_of(port)?;
     let (gateway, datagram) = next(words, MOST_GATEWAYS)?;
-    let Some(node) = node else {
-        return Err(bad());
-    };
     if !node.runs() {
         return Err(bad());
     }
@@ -183,10 +175,7 @@ fn print_heeded(rt: &HostRuntime, heeded: &Heeded) -> io::Result<()> {
     )
 }
 
-pub(crate) fn restart(rt: &HostRuntime, node: &mut Option<Node>) -> io::Result<()> {
-    let Some(node) = node else {
-        return Err(bad());
-    };
+pub(crate) fn restart(rt: &HostRuntime, node: &mut Node) -> io::Result<()> {
     node.halt();
     print!(rt; "{:?}, ", node.phase(1))?;
     if node.runs() {
@@ -196,10 +185,7 @@ pub(crate) fn restart(rt: &HostRuntime, node: &mut Option<Node>) -> io::Result<(
     print!(rt; "counter {} of {:?}", node.counter(), node.id())
 }
 
-pub(crate) fn packets(rt: &HostRuntime, node: &Option<Node>) -> io::Result<()> {
-    let Some(node) = node else {
-        return Err(bad());
-    };
+pub(crate) fn packets(rt: &HostRuntime, node: &Node) -> io::Result<()> {
     print!(rt; "{:?}, ", node.counts())?;
     print!(rt;
         "{:?}, {:?}, {}",

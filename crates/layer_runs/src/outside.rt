@@ -5,8 +5,9 @@
 //! - `sink FAIL ROOM`: an output with so much room. `push OCTETS`: what comes of a call, and all that was written.
 //! - `clock FAIL SECONDS ..`: a clock of these moments. `now`: what comes of a call.
 
-use crate::words::{bad, first_word, moment, next, no_memory, number, octets, print_octets};
+use crate::words::{moment, octets, print_octets};
 use gw_base::{Clock, Failed, MemoryClock, MemorySink, MemorySource, Moment, Octets, Sink, Source};
+use run_lines::{bad, first_word, next, no_memory, number};
 use std::alloc::Global;
 use std::io;
 
@@ -110,9 +111,6 @@ fn ask_once<C: Clock>(clock: &mut C) -> Result<u64, Failed> {
     Ok(clock.now()?.seconds())
 }
 
-pub(crate) fn now(rt: &HostRuntime, clock: &mut Option<MemoryClock>) -> io::Result<()> {
-    match clock {
-        Some(clock) => print!(rt; "{:?}", ask_once(clock)),
-        None => Err(bad()),
-    }
+pub(crate) fn now(rt: &HostRuntime, clock: &mut MemoryClock) -> io::Result<()> {
+    print!(rt; "{:?}", ask_once(clock))
 }

@@ -6,8 +6,8 @@
 //! - `node GATEWAY EVENT`: the answer of the node, whose counter is 6, to this gateway, and which of the gateways 0, 1
 //!   and 255 are alive then.
 
-use crate::words::{bad, first_word, number};
 use path_mgmt::{GatewayPath, NodePath, PathEvent};
+use run_lines::{bad, first_word, number};
 use std::io;
 
 /// The restart counter of the gateway.

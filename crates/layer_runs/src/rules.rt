@@ -4,9 +4,10 @@
 //! - `fill COUNT LINE`: the same of so many such lines, of the last.
 //! - `stream OCTETS FORMAT`: the stream of a record with this identifier, or with none, of a packet of this format.
 
-use crate::words::{bad, first_word, number, octets};
+use crate::words::octets;
 use gw_base::Tag;
 use route_filter::Rules;
+use run_lines::{bad, first_word, number};
 use std::io;
 
 pub(crate) fn add(rt: &HostRuntime, rules: &mut Rules, line: &str) -> io::Result<()> {

@@ -4,13 +4,14 @@
 //! `room N OCTETS` begins the buffer anew, with so many octets of room and these in it.
 
 use crate::outside::{no_sink, no_source};
-use crate::words::{bad, next, no_memory, octets};
+use crate::words::octets;
 use dup_buffer::Held;
 use file_rotate::Cutter;
 use gw_base::{Buffer, HistoryEntry, MemoryClock, MemorySink, MemorySource};
 use node_core::{Draft, Node};
 use path_mgmt::NodePath;
 use route_filter::Rules;
+use run_lines::{bad, next, no_memory};
 use std::alloc::Global;
 use std::io;
 

@@ -8,8 +8,9 @@
 //! - `sample SEED NODES GATEWAYS PACKETS`: how many lines and octets the text of a sample has, the sum of its octets,
 //!   each times its place from 1, modulo 2^32, and whether it reads as a script that is printed so.
 
-use crate::words::{bad, first_word, next, no_memory, number, unescaped};
+use crate::words::unescaped;
 use gw_base::Octets;
+use run_lines::{bad, first_word, next, no_memory, number};
 use std::alloc::Global;
 use std::io;
 use world_script::{Script, ScriptKind, print, read, sample};

@@ -3,8 +3,8 @@
 //! - `decide ASK STATE`: the cause, and the state that the number is given.
 //! - `judge release STATE ..`, `judge cancel STATE ..`: the verdict on numbers in these states.
 
-use crate::words::bad;
 use gw_base::KeyState;
+use run_lines::bad;
 use std::io;
 use transfer_cmd::{Ask, decide, judge};
 

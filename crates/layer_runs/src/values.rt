@@ -8,8 +8,9 @@ ghost use Rattle.std.specs.Prelude.{◌≡◌, ◌<◌, ◌^◌, IfOk, IfSome, N
 ghost use Rattle.gw_base.specs.CdrKind.{kind_of};
 ghost use Rattle.gw_base.specs.Nearest.{nearest};
 
-use crate::words::{bad, first_word, number, octets};
+use crate::words::octets;
 use gw_base::{cdr_kind, nearest_number};
+use run_lines::{bad, first_word, number};
 use std::io;
 
 /// The definition gives these kinds.
