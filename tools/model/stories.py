@@ -12,6 +12,7 @@ import feed
 import loops
 import sample
 import script
+import serve
 import show
 import streams
 import world
@@ -47,6 +48,9 @@ def model(command, numbers, text):
     if command == "stream":
         ended = streams.run([command, *numbers], text, None, {})
         return b"octets %s\n" % ended.output.hex().upper().encode(), ended.status, ended.error, sealed(ended.folder)
+    if command == "serve":
+        ended = serve.serve([command, *numbers], text, None, {})
+        return ended.output, ended.status, ended.error, []
     if command == "loopback":
         return loops.run(numbers)
     if command == "replay":
