@@ -7,9 +7,9 @@ use cdr_shelf::QuietShelf;
 use cgf_top::{Ended, Played, Status, run_cgf, stream_places};
 use gw_base::{MemoryClock, MemorySink, MemorySource, Moment, Octets};
 use net_link::MemoryLinks;
+use run_lines::{bad, no_memory};
 use std::alloc::Global;
 use std::io;
-use std::io::{Error, ErrorKind};
 use std::sync::Wait;
 use std::thread::Threads;
 use std::time::Clock;
@@ -79,13 +79,13 @@ pub(crate) fn run<R: Threads + Wait + Clock + Sync + Alloc<A = Global>>(
     let Outside { length, piece } = outside_of(&given);
     let mut source = MemorySource::new(input, piece, Vec::new(alloc));
     let sink = MemorySink::new(alloc, MOST_WRITTEN, Vec::new(alloc));
-    let mut sink = sink.map_err(|_| Error::from(ErrorKind::OutOfMemory))?;
+    let mut sink = sink.map_err(|_| no_memory())?;
     let Ok(area) = QuietArea::new(alloc, length) else {
-        return Err(Error::from(ErrorKind::OutOfMemory));
+        return Err(no_memory());
     };
     let shelf = QuietShelf::new(alloc);
     let links = MemoryLinks::new(alloc, Vec::new(alloc), ROOM, Vec::new(alloc));
-    let mut links = links.map_err(|_| Error::from(ErrorKind::OutOfMemory))?;
+    let mut links = links.map_err(|_| no_memory())?;
     let mut clock = MemoryClock::new(vec![in alloc; first_moment()]?, Vec::new(alloc));
     let Ended {
         status,
@@ -126,7 +126,7 @@ fn octets_of(alloc: Global, input: &str) -> io::Result<Vec<u8>> {
     let Some(digits) = input.strip_prefix(OCTETS) else {
         return Ok(input.as_bytes().to_vec(alloc)?);
     };
-    hex::decode(alloc, digits.trim_end()).map_err(|_| Error::from(ErrorKind::InvalidData))
+    hex::decode(alloc, digits.trim_end()).map_err(|_| bad())
 }
 
 /// How many areas, shelves and nodes there are.

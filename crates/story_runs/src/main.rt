@@ -1,20 +1,20 @@
 //! Stories of the job: for each the words and the input, and what the job writes for them and how it ends. They are the
 //! tests of `run_cgf` that say no more than that, and the gate compares them all at once with the file `stdout`.
 //!
-//! The standard input is a text about the stories, and then the stories: a line `== NAME`, a line with the words, and
-//! the input, which is all up to the empty line in front of the next name. Where that empty line lacks, the last line of
-//! the input lacks its line feed. An input that isn't text is `octets ` and its octets in hexadecimal; so is what is
-//! written for a stream, whose last word says how many octets its source gives a call. The files of the shelf that a
-//! stream leaves follow, and how many books and nodes a loop hands back.
+//! Each story is a group of the standard input, as `run_lines` reads them: a line with the words, and the input, which is
+//! all up to the empty line in front of the next name. Where that empty line lacks, the last line of the input lacks its
+//! line feed. An input that isn't text is `octets ` and its octets in hexadecimal; so is what is written for a stream,
+//! whose last word says how many octets its source gives a call. The files of the shelf that a stream leaves follow, and
+//! how many books and nodes a loop hands back.
 #![tactic(auto)]
 
 mod job;
 
 use crate::job::{Done, run};
 use cdr_shelf::QuietShelf;
+use run_lines::{first_line, tell_groups};
 use std::alloc::Global;
 use std::io;
-use std::io::{Error, ErrorKind};
 use std::sync::Wait;
 use std::thread::Threads;
 use std::time::Clock;
@@ -25,25 +25,20 @@ const STREAM: &str = "stream ";
 /// How many files are told of a story, at most.
 const MOST_FILES: usize = 100;
 
-/// What stands in front of the name of each story.
-const NAME: &str = "\n== ";
-
 fn main(rt: HostRuntime) -> io::Result<()> {
-    let text = io::read_to_string(rt.alloc(), rt.stdin())?;
-    println!(rt; "What the job writes for each story of the file stdin, and how it ends.")?;
-    for story in text.split(NAME).skip(1) {
-        tell(&rt, story)?;
-    }
-    Ok(())
+    tell_groups(
+        &rt,
+        "What the job writes for each story of the file stdin, and how it ends.",
+        |story| tell(&rt, story),
+    )
 }
 
-/// Runs a story and prints its name, what the job writes, its status, and what it hands back.
+/// Runs a story and prints what the job writes, its status, and what it hands back.
 fn tell<R: Threads + Wait + Clock + Sync + Print + Alloc<A = Global>>(
     rt: &R,
     story: &str,
 ) -> io::Result<()> {
-    let (name, rest) = first_line(story)?;
-    let (words, input) = first_line(rest)?;
+    let (words, input) = first_line(story)?;
     let Done {
         status,
         printed,
@@ -51,7 +46,6 @@ fn tell<R: Threads + Wait + Clock + Sync + Print + Alloc<A = Global>>(
         looped,
         played,
     } = run(rt, words, input)?;
-    print!(rt; "{NAME}{name}\n")?;
     if words.starts_with(STREAM) {
         println!(rt; "octets {}", hex::encode_upper(rt.alloc(), &printed)?)?;
     } else {
@@ -82,10 +76,4 @@ fn tell_files<R: Print + Alloc<A = Global>>(rt: &R, shelf: &QuietShelf) -> io::R
         )?;
     }
     Ok(())
-}
-
-/// The first line of a text, and what stands behind its line feed.
-fn first_line(text: &str) -> io::Result<(&str, &str)> {
-    text.split_once('\n')
-        .ok_or(Error::from(ErrorKind::InvalidData))
 }
