@@ -6,7 +6,7 @@
 //! - `crash OUTCOME`: stops it between two calls, and revives it.
 //! - `device sync`: what comes of a sync. `device calls`, `device stopped`: what it says. `device revive` revives it.
 
-ghost use Rattle.std.specs.Prelude.{◌+◌, ◌≤◌, OnOk};
+ghost use Rattle.std.specs.Prelude.{◌+◌, ◌<◌, ◌≤◌, OnErr, OnOk};
 
 use crate::plans::{no_plan, outcome_of};
 use crate::words::{MOST, octets};
@@ -29,7 +29,8 @@ pub(crate) fn begin(
 
 /// Refuses octets that there aren't.
 fn bound<A: Area>(area: &A, at: u64, count: usize) -> io::Result<()>
-    ensures { OnOk result (at + count ≤ A.size area.now) }
+    ensures inside { OnOk result (at + count ≤ A.size area.now) }
+    ensures outside { OnErr result (A.size area.now < at + count) }
 {
     let length = area.length();
     if at > length {
