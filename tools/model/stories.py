@@ -2,7 +2,8 @@
 
     python3 stories.py
 
-Stories that differ are told with what a model writes. The exit status is 1 where one differs.
+Stories that differ are told with what a model writes. The exit status is 1 where one differs. A drill of more than 2,000
+packets is left out: the model takes minutes for it.
 """
 
 import sys
@@ -19,6 +20,7 @@ import world
 
 FOLDER = Path(__file__).resolve().parents[2] / "crates" / "story_runs"
 NAME = b"\n== "
+LONGEST = 2_000
 
 
 def stories(part):
@@ -75,9 +77,17 @@ def told(text):
     return out + end + (handed_back(lines) if lines else b"")
 
 
+def is_left_out(text):
+    """Whether a story is a drill of more packets than the model runs in a moment."""
+    words = text.partition(b"\n")[0].split(b" ")
+    return words[0] == b"drill" and int(words[4]) > LONGEST
+
+
 def main():
     differ, stands = 0, stories("stdout")
     for name, text in stories("stdin").items():
+        if is_left_out(text):
+            continue
         wanted = told(text)
         if stands.pop(name, b"") != wanted:
             differ += 1
