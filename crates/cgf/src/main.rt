@@ -5,7 +5,7 @@
 //! code is the number of the status.
 #![tactic(auto)]
 
-ghost use Rattle.std.specs.Prelude.{◌≡◌, ◌≢◌, ◌⊎◌, ◌≤◌, None, map, string_bytes, true};
+ghost use Rattle.std.specs.Prelude.{◌≡◌, ◌≢◌, ◌⊎◌, ◌≤◌, None, Some, map, string_bytes, true};
 ghost use Rattle.std.specs.Io.KnownBytes.{Appends};
 ghost use Rattle.std.specs.Process.{exit_status};
 ghost use Rattle.gate_journal.specs.Format.{fewest_octets, most_octets};
@@ -13,7 +13,10 @@ ghost use Rattle.cgf_jobs.specs.Command.{command_of};
 ghost use Rattle.cgf_jobs.specs.Ending.{HasCause, WordsDecide};
 ghost use Rattle.cgf_jobs.specs.Job.{job_of};
 ghost use Rattle.cgf_jobs.specs.Run.{HasRead, is_reported, report_of, status_number};
+ghost use Rattle.cgf_service.specs.ServeEnds.{IsGatewayEnd};
 ghost use Rattle.cgf_service.specs.Serving.{serving_of};
+ghost use Rattle.cgf_service.specs.declared.serving.Serving.{Serving};
+ghost use Rattle.cgf_service.specs.declared.streaming.Streaming.{Streaming};
 ghost use Rattle.cgf_top.specs.OverFiles.{is_over_files};
 ghost use Rattle.cgf_service.specs.Streaming.{streaming_of};
 
@@ -89,6 +92,8 @@ fn run<R: Threads + Wait + Clock + Sync>(threads: &R, rt: &HostRuntime, words: &
         × (is_over_files (map string_bytes words.now) ≡ true) }
     ensures told { command_of (map string_bytes words.now) ≡ None → is_over_files (map string_bytes words.now) ≡ true →
         (result ≡ Status.Words) ⊎ (result ≡ Status.Memory) }
+    ensures serves { (of : Serving) → serving_of (map string_bytes words.now) ≡ Some of → IsGatewayEnd result }
+    ensures streams { (of : Streaming) → streaming_of (map string_bytes words.now) ≡ Some of → IsGatewayEnd result }
 {
     if let Some(places) = serve_places(words) {
         let places = StreamPlaces {
@@ -137,6 +142,8 @@ fn run_placed<R: Threads + Wait + Clock + Sync>(
     requires short { places.length ≤ most_octets }
     ensures words { result ≡ Status.Words → (command_of (map string_bytes words.now) ≡ None)
         × (is_over_files (map string_bytes words.now) ≡ true) }
+    ensures serves { (of : Serving) → serving_of (map string_bytes words.now) ≡ Some of → IsGatewayEnd result }
+    ensures streams { (of : Streaming) → streaming_of (map string_bytes words.now) ≡ Some of → IsGatewayEnd result }
 {
     let Ok(shelf) = FolderShelf::new(rt.alloc(), rt, places.folder) else {
         return Status::Memory;
@@ -190,6 +197,8 @@ fn run_with<A: Area + Send, F: Shelf + Send, R: Threads + Wait + Clock + Sync>(
         × (is_over_files (map string_bytes words.now) ≡ true) }
     ensures told { command_of (map string_bytes words.now) ≡ None → is_over_files (map string_bytes words.now) ≡ true →
         (result.status ≡ Status.Words) ⊎ (result.status ≡ Status.Memory) }
+    ensures serves { (of : Serving) → serving_of (map string_bytes words.now) ≡ Some of → IsGatewayEnd result.status }
+    ensures streams { (of : Streaming) → streaming_of (map string_bytes words.now) ≡ Some of → IsGatewayEnd result.status }
 {
     let line = Line::new();
     let mut sink = BehindProgress::new(WriterSink::new(rt.stdout()), &line, terminal(rt));
@@ -253,6 +262,8 @@ fn run_over<
         Appends (K.written sink.old) (K.written sink.new) (report_of input.command input.octets) }
     ensures cause { HasCause result.status (S.faults source.old) (S.faults source.new) (K.faults sink.old)
         (K.faults sink.new) }
+    ensures serves { (of : Serving) → serving_of (map string_bytes words.now) ≡ Some of → IsGatewayEnd result.status }
+    ensures streams { (of : Streaming) → streaming_of (map string_bytes words.now) ≡ Some of → IsGatewayEnd result.status }
 {
     let mut links = UdpLinks::new(rt.alloc(), rt);
     let mut clock = SystemClock::new(rt);

@@ -35,3 +35,9 @@ returns-clause-cause g c =
     (λ of is. (c.run_watched-ended.ensures.loops.loops of is).cause))
     (λ of is. (c.run_watched-ended.ensures.streams of is).1.cause))
     (λ of is. (c.run_watched-ended.ensures.serves of is).cause)
+
+pub returns-clause-serves : goal.returns-clause-serves
+returns-clause-serves g c of is = (c.run_watched-ended.ensures.serves of is).known
+
+pub returns-clause-streams : goal.returns-clause-streams
+returns-clause-streams g c of is = (c.run_watched-ended.ensures.streams of is).1.known
